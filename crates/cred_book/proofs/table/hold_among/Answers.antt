@@ -1,0 +1,11 @@
+use Rattle.std.proofs.Common.{◌==◌, ◌∙◌, rules, tests}
+use Rattle.std.proofs.lemmas.Iterator.{YieldsList-from_slice}
+use Rattle.std.proofs.lemmas.Iterator.Search.{find_from_yields_List}
+use Rattle.cred_model.specs.State.{Hold}
+use Rattle.cred_book.proofs.table.hold_among.Goals as goal
+
+pub returns : goal.returns
+returns c =
+    c.copied.ensures
+    ∙ find_from_yields_List (λ (h : Hold). h.label == c.args.label) _ _ _ c.find.ensures.ran
+    (YieldsList-from_slice c.args.holds.now c.iter.ensures.rest) (λ x b q k. search (rules, tests))

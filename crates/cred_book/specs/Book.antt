@@ -1,0 +1,30 @@
+-- What a book keeps.
+use Rattle.std.specs.Prelude.{ℕ, ◌+◌, List, [], ◌∷◌, ◌++◌, slice_get}
+use Rattle.std.specs.declared.option.Option.{Option}
+use Rattle.std.specs.Option.{option_and_then, option_map_or}
+use Rattle.cred_event.specs.declared.content.Stage.{Stage}
+use Rattle.cred_event.specs.declared.content.Stage.TheVariants.{Ended}
+use Rattle.cred_event.specs.declared.event.Event.{Event}
+use Rattle.cred_event.specs.declared.answer.Answer.{Answer}
+use Rattle.cred_event.specs.declared.entry.Entry.{Entry}
+use Rattle.cred_model.specs.Script.{Script}
+use Rattle.cred_model.specs.Course.{event_at, after}
+use Rattle.cred_model.specs.Journal.{Due, entry_of}
+
+-- a script, and the journal of its run so far
+pub record Recorded : Type 0 where
+  pub script : Script
+  pub journal : List Entry
+
+-- the book in which an event of a line is entered, with its answer
+abbrev pub with_event : Recorded → ℕ → Event → Recorded
+with_event book line event =
+    record book { journal = book.journal ++ entry_of book.script book.journal (record { line = line; event = event }) ∷ [] }
+
+-- the event that the line at this place makes where it stands, or none
+abbrev pub event_of : Script → ℕ → Stage → Option Event
+event_of script place stage = option_and_then (λ line. event_at (place + 1) line.content stage) (slice_get script.lines place)
+
+-- where the line at this place stands after the answer
+abbrev pub stage_of : Script → ℕ → Stage → Answer → Stage
+stage_of script place stage answer = option_map_or (λ line. after line.content stage answer) (slice_get script.lines place) Ended

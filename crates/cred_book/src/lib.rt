@@ -1,0 +1,11 @@
+//! The book: the journal of a run, with the state that it leads to.
+#![tactic(auto)]
+
+mod book;
+mod course;
+mod sequence;
+mod state;
+mod table;
+
+pub use book::Book;
+pub use sequence::run;

@@ -1,0 +1,5 @@
+pub mod Caps
+pub mod Names
+pub mod Numbers
+pub mod Secure
+pub mod Sets

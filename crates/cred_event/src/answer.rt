@@ -1,0 +1,132 @@
+//! What an event is answered.
+ghost use Rattle.std.specs.Prelude.{◌≡◌, IfOk, OnErr};
+ghost use Rattle.cred_event.specs.Lists.{HoldsList};
+
+use cred_caps::{CapSet, SecureBits};
+use cred_ids::{Id, Ids4, NoMemory};
+use cred_record::{Gains, IdList};
+
+/// What a question is told.
+#[derive(Clone, Drop, Debug)]
+pub enum Told {
+    Ids {
+        uid: Ids4,
+        gid: Ids4,
+    },
+    Caps {
+        perm: CapSet,
+        inh: CapSet,
+        eff: CapSet,
+        bound: CapSet,
+        amb: CapSet,
+    },
+    Groups(IdList),
+    Bits {
+        bits: SecureBits,
+        nnp: bool,
+    },
+    Flag(bool),
+}
+
+/// What a number that stands already is the number of.
+#[derive(Clone, Copy, PartialEq, Eq, Debug)]
+pub enum Named {
+    Task,
+    Process,
+    Label,
+    File,
+    Broadcast,
+}
+
+/// What there are too many of.
+#[derive(Clone, Copy, PartialEq, Eq, Debug)]
+pub enum Counted {
+    Tasks,
+    Files,
+    Holds,
+    Prepared,
+}
+
+/// Why a thread could not follow a broadcast.
+#[derive(Clone, Copy, PartialEq, Eq, Debug)]
+pub enum AbortCause {
+    /// The call was refused on its own credential.
+    Perm,
+    /// There was no slot for its new credential.
+    Full,
+}
+
+/// What an event is answered.
+///
+/// `cred` is the number of a sealed credential: the first that was sealed has number 0. `slot` is
+/// the slot that it stands in, below 256.
+#[derive(Clone, Drop, Debug)]
+pub enum Answer {
+    Done,
+    Sealed {
+        cred: u64,
+        slot: u32,
+    },
+    Kept {
+        slot: u32,
+    },
+    Was {
+        previous: Id,
+    },
+    Executed {
+        cred: u64,
+        slot: u32,
+        ended: u32,
+        gains: Gains,
+    },
+    Began {
+        cred: u64,
+        slot: u32,
+        left: u32,
+    },
+    Acted {
+        task: u32,
+        cred: u64,
+        slot: u32,
+        left: u32,
+    },
+    Told(Told),
+    Eperm,
+    Einval,
+    Eacces,
+    Ebadf,
+    NoTask(u32),
+    NoHold(u32),
+    NoPrepared(u32),
+    NoBroadcast(u32),
+    Busy(u32),
+    Exists {
+        what: Named,
+        number: u32,
+    },
+    Overridden(u32),
+    NotOverridden,
+    TooDeep,
+    Stale {
+        base: u64,
+        now: u64,
+    },
+    TooMany(Counted),
+    TableFull,
+    Aborted {
+        task: u32,
+        cause: AbortCause,
+    },
+}
+
+/// An equal answer.
+///
+/// # Errors
+///
+/// `NoMemory` where the list of a `Told::Groups` could not be copied; no other answer takes memory.
+pub fn copy_answer(a: &Answer) -> Result<Answer, NoMemory>
+    ensures equal { IfOk result (λ copied. copied ≡ a.now) }
+    ensures refusal { OnErr result (HoldsList a.now) }
+{
+    Ok(a.clone()?)
+}

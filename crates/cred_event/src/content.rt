@@ -1,0 +1,44 @@
+//! What a line of a script holds, and where a line stands between its events.
+use crate::event::{Change, Event, Query};
+use cred_record::{IdCall, Want};
+
+/// What a line of a script holds.
+#[derive(Drop, Debug)]
+pub enum Content {
+    /// The line makes no event.
+    Nothing,
+    /// The line is this event.
+    One(Event),
+    /// An id call, which all threads of the task's process make.
+    Id { task: u32, call: IdCall },
+    /// A question about the credential that the task acts with.
+    Question { task: u32, query: Query },
+    /// The task opens a file.
+    Open {
+        task: u32,
+        file: u32,
+        want: Want,
+        fd: u32,
+    },
+    /// Has the opener of an open file the capability?
+    Fcap { task: u32, fd: u32, cap: u32 },
+    /// The task signals another.
+    Signal { task: u32, to: u32 },
+    /// The task changes its own credential.
+    Change { task: u32, change: Change },
+    /// access(2).
+    Access { task: u32, file: u32, want: Want },
+}
+
+/// Where a line stands: which of its events comes next.
+#[derive(Clone, Copy, PartialEq, Eq, Debug)]
+pub enum Stage {
+    /// Its first event.
+    First,
+    /// The question on the hold that it took.
+    Asking,
+    /// The release of that hold.
+    Releasing,
+    /// No event: the line has ended.
+    Ended,
+}

@@ -1,0 +1,17 @@
+//! The data of a run: what a script's line holds, the events that it makes one after another,
+//! the answer that each event gets, and the entry of the journal that keeps the two.
+//!
+//! Everything here is plain data. What an event does and answers is defined in `cred_model`.
+#![tactic(auto)]
+
+mod answer;
+mod content;
+mod entry;
+mod event;
+
+
+
+pub use answer::{AbortCause, Answer, Counted, Named, Told, copy_answer};
+pub use content::{Content, Stage};
+pub use entry::Entry;
+pub use event::{Change, Event, Query, Side, copy_event};

@@ -1,0 +1,14 @@
+-- The supplementary groups of a task (setgroups(2), credentials(7)).
+use Rattle.std.specs.Prelude.{ℕ, ◌≤◌, List, length, All}
+use Rattle.std.specs.List.Sorted.{IsNonDecreasing}
+use Rattle.cred_ids.specs.Id.{IsId}
+
+-- the largest number of groups, as on Linux before 2.6.4
+abbrev pub LIMIT : ℕ
+LIMIT = 32
+
+-- at most 32 ids, sorted, with their repeats
+pub record IsGroupList (ids : List ℕ) : Type 0 where
+  pub ordered : IsNonDecreasing ids
+  pub each : All IsId ids
+  pub few : length ids ≤ LIMIT

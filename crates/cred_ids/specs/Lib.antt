@@ -1,0 +1,4 @@
+pub mod Groups
+pub mod Id
+pub mod Ids4
+pub mod Ordered

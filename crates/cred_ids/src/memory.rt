@@ -1,0 +1,18 @@
+//! Want of memory.
+use std::alloc::{AllocError, AllocFailed};
+
+/// Memory ran out. Whatever was handed to the call is as it was.
+#[derive(Clone, Copy, PartialEq, Eq, Debug)]
+pub struct NoMemory;
+
+impl From<AllocError> for NoMemory {
+    fn from(_e: AllocError) -> NoMemory {
+        NoMemory
+    }
+}
+
+impl<T: Drop> From<AllocFailed<T>> for NoMemory {
+    fn from(_e: AllocFailed<T>) -> NoMemory {
+        NoMemory
+    }
+}

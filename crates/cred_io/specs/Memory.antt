@@ -1,0 +1,21 @@
+-- What sources and sinks in memory hold, and which of their calls fail.
+use Rattle.std.specs.Prelude.{ℕ, List, Contains}
+use Rattle.cred_io.specs.Causes.{next_count}
+
+-- the bytes not yet read, how many reads there were, which reads fail, and how many have failed
+pub record SourceState : Type 0 where
+  pub left : List ℕ
+  pub calls : ℕ
+  pub failing : List ℕ
+  pub faults : ℕ
+
+-- the bytes written, how many writes there were, which writes fail, and how many have failed
+pub record SinkState : Type 0 where
+  pub bytes : List ℕ
+  pub calls : ℕ
+  pub failing : List ℕ
+  pub faults : ℕ
+
+-- after so many calls, the next is one of those that fail
+abbrev pub FailsNext : List ℕ → ℕ → Type 0
+FailsNext failing calls = Contains failing (next_count calls)

@@ -1,0 +1,107 @@
+//! A sink in memory of which chosen calls fail, to try code at each fault of a sink.
+ghost use Rattle.std.specs.Prelude.{◌≡◌, ◌<◌, ◌↔◌, ◌++◌, [], length, Some, IfOk, OnOk, IsOk};
+ghost use Rattle.std.specs.Io.{WritesAtMost};
+ghost use Rattle.std.specs.Io.KnownBytes.{WriteAppends, Keeps};
+ghost use Rattle.cred_io.specs.Causes.{HasSinkCause, next_count};
+ghost use Rattle.cred_io.specs.Memory.{FailsNext};
+
+use crate::{Sink, SinkRefusal};
+use cred_ids::NoMemory;
+use std::alloc::Global;
+use std::marker::Model;
+
+/// Bytes in memory, to which the listed calls of `write` fail. Clauses see a `SinkState`.
+#[derive(Drop, Debug)]
+pub struct MemorySink {
+    bytes: Vec<u8>,
+    calls: u64,
+    failing: Vec<u64>,
+    faults: u64,
+}
+
+impl Model for MemorySink {
+    ghost use Rattle.cred_io.specs.Memory.{SinkState};
+
+    ghost Value = { SinkState };
+
+    ghost view = { λ s. record {
+      bytes = s.bytes.items;
+      calls = s.calls;
+      failing = s.failing.items;
+      faults = s.faults;
+    } };
+}
+
+impl MemorySink {
+    /// A sink to which nothing was written, and whose calls with these numbers fail. The first call
+    /// is 1, and the number stays at the greatest `u64`. It is refused only for want of memory.
+    pub fn of(alloc: Global, failing: &[u64]) -> Result<Self, NoMemory>
+        ensures { IfOk result (λ s. s ≡ record {
+          bytes = [];
+          calls = 0;
+          failing = failing.now;
+          faults = 0;
+        }) }
+    {
+        Ok(MemorySink {
+            bytes: Vec::new(alloc),
+            calls: 0,
+            failing: failing.to_vec(alloc)?,
+            faults: 0,
+        })
+    }
+
+    /// What was written.
+    pub fn bytes(&self) -> &[u8]
+        ensures { result.now ≡ self.now.bytes }
+    {
+        &self.bytes
+    }
+}
+
+impl Sink for MemorySink {
+    ghost written = { λ s. Some s.bytes };
+
+    ghost faults = { λ s. s.faults };
+
+    /// Appends the whole piece, unless no memory is found, or this call is one of those that fail:
+    /// such a call is counted as a fault, and appends nothing.
+    fn write(&mut self, piece: &[u8]) -> Result<usize, SinkRefusal>
+        ensures bound { WritesAtMost result piece.now }
+        ensures some { IfOk result (λ n. 0 < length piece.now → 0 < n) }
+        ensures bytes { WriteAppends (Some self.old.bytes) (Some self.new.bytes) result piece.now }
+        ensures cause { HasSinkCause self.old.faults self.new.faults result }
+        ensures fails { (result ≡ Err SinkRefusal.Failed)
+            ↔ FailsNext self.old.failing self.old.calls }
+        ensures count { IfOk result (λ n. n ≡ length piece.now) }
+        ensures ok { OnOk result (self.new ≡ record self.old {
+          bytes = self.old.bytes ++ piece.now;
+          calls = next_count self.old.calls;
+        }) }
+        ensures failed { result ≡ Err SinkRefusal.Failed → self.new ≡ record self.old {
+          calls = next_count self.old.calls;
+          faults = next_count self.old.faults;
+        } }
+        ensures memory { result ≡ Err SinkRefusal.Memory → self.new ≡ record self.old {
+          calls = next_count self.old.calls;
+        } }
+    {
+        self.calls = self.calls.saturating_add(1);
+        if self.failing.contains(&self.calls) {
+            self.faults = self.faults.saturating_add(1);
+            return Err(SinkRefusal::Failed);
+        }
+        self.bytes.extend_from_slice(piece)?;
+        Ok(piece.len())
+    }
+
+    /// Nothing is kept back, so there is nothing to do. It is not counted as a call.
+    fn flush(&mut self) -> Result<(), SinkRefusal>
+        ensures bytes { Keeps (Some self.old.bytes) (Some self.new.bytes) }
+        ensures cause { HasSinkCause self.old.faults self.new.faults result }
+        ensures sure { IsOk result }
+        ensures unchanged { self.new ≡ self.old }
+    {
+        Ok(())
+    }
+}

@@ -1,0 +1,70 @@
+ghost use Rattle.std.specs.Prelude.{◌≡◌, ◌<◌, List, ℕ, length, IfOk, OnOk, OnErr};
+ghost use Rattle.std.specs.declared.option.Option.{Option};
+ghost use Rattle.std.specs.Io.{WritesAtMost};
+ghost use Rattle.std.specs.Io.KnownBytes.{WriteAppends, Appends, Keeps};
+ghost use Rattle.cred_io.specs.Causes.{HasSinkCause};
+ghost use Rattle.cred_io.specs.Ends.{AppendsPrefix};
+ghost use Rattle.cred_io.specs.declared.sink.SinkRefusal.TheVariants.{Memory};
+
+use std::alloc::AllocError;
+
+/// Where bytes go.
+///
+/// A real stream does not tell what was written to it. So that is optional, and the clauses on the
+/// bytes hold where it is told.
+pub trait Sink {
+    /// The bytes that were written, where the sink tells them.
+    ghost written: { Self → Option (List ℕ) };
+
+    /// How many calls have failed, at most the greatest `u64`. It never falls.
+    ghost faults: { Self → ℕ };
+
+    /// Appends the first bytes of `piece`, and answers how many: one at least, unless it is empty.
+    ///
+    /// A refusal appends nothing. `Failed` comes only where the count of faults rose in this call.
+    fn write(&mut self, piece: &[u8]) -> Result<usize, SinkRefusal>
+        ensures bound { WritesAtMost result piece.now }
+        ensures some { IfOk result (λ n. 0 < length piece.now → 0 < n) }
+        ensures bytes { WriteAppends (written self.old) (written self.new) result piece.now }
+        ensures cause { HasSinkCause (faults self.old) (faults self.new) result };
+
+    /// Hands on what a buffer below has kept back. What was written stays, also after a refusal.
+    ///
+    /// `Failed` comes only where the count of faults rose in this call.
+    fn flush(&mut self) -> Result<(), SinkRefusal>
+        ensures bytes { Keeps (written self.old) (written self.new) }
+        ensures cause { HasSinkCause (faults self.old) (faults self.new) result };
+}
+
+/// Why a sink took nothing.
+#[derive(Clone, Copy, Debug, PartialEq, Eq)]
+pub enum SinkRefusal {
+    /// The sink failed, and its count of faults rose.
+    Failed,
+    /// The sink found no memory.
+    Memory,
+}
+
+impl From<AllocError> for SinkRefusal {
+    ghost from_gives = { λ _ e. e ≡ Memory };
+
+    fn from(_: AllocError) -> Self {
+        SinkRefusal::Memory
+    }
+}
+
+/// Appends the whole piece. After a refusal, which is the sink's own, a front of it was written.
+///
+/// Each turn of the loop writes a byte at least, or ends.
+pub fn write_all<K: Sink>(sink: &mut K, piece: &[u8]) -> Result<(), SinkRefusal>
+    ensures ok { OnOk result (Appends (K.written sink.old) (K.written sink.new) piece.now) }
+    ensures err { OnErr result
+        (AppendsPrefix (K.written sink.old) (K.written sink.new) piece.now) }
+    ensures cause { HasSinkCause (K.faults sink.old) (K.faults sink.new) result }
+{
+    let mut at = 0;
+    while at < piece.len() {
+        at += sink.write(&piece[at..])?;
+    }
+    Ok(())
+}

@@ -1,0 +1,129 @@
+//! Ends over std's readers and writers. Each counts the errors of its stream, so that a caller can
+//! tell a fault of the outside from code that gives up.
+ghost use Rattle.std.specs.Prelude.{◌≡◌, ◌<◌, ◌≤◌, length, IfOk, OnOk, OnErr, IfErr};
+ghost use Rattle.std.specs.Io.{ReadsAtMost, WritesAtMost};
+ghost use Rattle.std.specs.Io.KnownBytes.{ReadConsumes, WriteAppends, Keeps};
+ghost use Rattle.cred_io.specs.Causes.{HasCause, HasSinkCause, next_count};
+ghost use Rattle.cred_io.specs.Standard.{std_reader, std_source_faults, std_writer, std_sink_faults};
+
+use crate::{Failed, Sink, SinkRefusal, Source};
+use std::io::{Read, Write};
+
+/// A reader of std, with a count of its errors.
+#[derive(Drop)]
+pub struct StdSource<R: Read> {
+    reader: R,
+    faults: u64,
+}
+
+impl<R: Read> StdSource<R> {
+    /// A source over this reader, which has not failed.
+    pub fn new(reader: R) -> Self
+        ensures reader { std_reader result ≡ reader }
+        ensures fresh { std_source_faults result ≡ 0 }
+    {
+        StdSource { reader, faults: 0 }
+    }
+}
+
+impl<R: Read> Source for StdSource<R> {
+    ghost left = { λ s. R.remaining (std_reader s) };
+
+    ghost faults = { std_source_faults };
+
+    /// One read of the reader. Each of its errors is counted and answered as `Failed`.
+    fn read(&mut self, buf: &mut [u8]) -> Result<usize, Failed>
+        ensures bound { ReadsAtMost result buf.new }
+        ensures bytes { ReadConsumes (R.remaining (std_reader self.old))
+            (R.remaining (std_reader self.new)) result buf.new }
+        ensures cause { HasCause (std_source_faults self.old) (std_source_faults self.new) result }
+        ensures ok { OnOk result (std_source_faults self.new ≡ std_source_faults self.old) }
+        ensures err { OnErr result
+            (std_source_faults self.new ≡ next_count (std_source_faults self.old)) }
+    {
+        match self.reader.read(buf) {
+            Ok(count) => Ok(count),
+            Err(_) => {
+                self.faults = self.faults.saturating_add(1);
+                Err(Failed)
+            }
+        }
+    }
+}
+
+/// A writer of std, with a count of its errors. It never answers `Memory`.
+#[derive(Drop)]
+pub struct StdSink<W: Write> {
+    writer: W,
+    faults: u64,
+}
+
+impl<W: Write> StdSink<W> {
+    /// A sink over this writer, which has not failed.
+    pub fn new(writer: W) -> Self
+        ensures writer { std_writer result ≡ writer }
+        ensures fresh { std_sink_faults result ≡ 0 }
+    {
+        StdSink { writer, faults: 0 }
+    }
+
+    /// Counts an error of the writer.
+    fn count_fault(&mut self)
+        ensures writer { std_writer self.new ≡ std_writer self.old }
+        ensures count { std_sink_faults self.new ≡ next_count (std_sink_faults self.old) }
+        ensures later { std_sink_faults self.old ≤ std_sink_faults self.new }
+    {
+        self.faults = self.faults.saturating_add(1);
+    }
+}
+
+impl<W: Write> Sink for StdSink<W> {
+    ghost written = { λ s. W.contents (std_writer s) };
+
+    ghost faults = { std_sink_faults };
+
+    /// One write of the writer. An error, or a writer that takes nothing of a piece, is counted and
+    /// answered as `Failed`.
+    fn write(&mut self, piece: &[u8]) -> Result<usize, SinkRefusal>
+        ensures bound { WritesAtMost result piece.now }
+        ensures some { IfOk result (λ n. 0 < length piece.now → 0 < n) }
+        ensures bytes { WriteAppends (W.contents (std_writer self.old))
+            (W.contents (std_writer self.new)) result piece.now }
+        ensures cause { HasSinkCause (std_sink_faults self.old) (std_sink_faults self.new) result }
+        ensures ok { OnOk result (std_sink_faults self.new ≡ std_sink_faults self.old) }
+        ensures err { OnErr result
+            (std_sink_faults self.new ≡ next_count (std_sink_faults self.old)) }
+        ensures never_memory { IfErr result (λ e. e ≡ SinkRefusal.Failed) }
+    {
+        match self.writer.write(piece) {
+            Ok(0) if !piece.is_empty() => {
+                self.count_fault();
+                Err(SinkRefusal::Failed)
+            }
+            Ok(count) => Ok(count),
+            Err(_) => {
+                self.count_fault();
+                Err(SinkRefusal::Failed)
+            }
+        }
+    }
+
+    /// The writer's flush. Its error is counted and answered as `Failed`.
+    fn flush(&mut self) -> Result<(), SinkRefusal>
+        ensures bytes { Keeps (W.contents (std_writer self.old))
+            (W.contents (std_writer self.new)) }
+        ensures cause { HasSinkCause (std_sink_faults self.old) (std_sink_faults self.new) result }
+        ensures ok { OnOk result (std_sink_faults self.new ≡ std_sink_faults self.old) }
+        ensures err { OnErr result
+            (std_sink_faults self.new ≡ next_count (std_sink_faults self.old)) }
+        ensures never_memory { IfErr result (λ e. e ≡ SinkRefusal.Failed) }
+    {
+        match self.writer.flush() {
+            Ok(()) => Ok(()),
+            Err(_) => {
+                self.count_fault();
+                Err(SinkRefusal::Failed)
+            }
+        }
+    }
+}

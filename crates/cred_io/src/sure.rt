@@ -1,0 +1,120 @@
+//! Ends in memory that never fail.
+ghost use Rattle.std.specs.Prelude.{◌≡◌, ◌<◌, ◌++◌, [], length, take, drop, min, Some, IfOk, OnOk, OnErr, IfErr, IsOk};
+ghost use Rattle.std.specs.Io.{ReadsAtMost, WritesAtMost};
+ghost use Rattle.std.specs.Io.KnownBytes.{ReadConsumes, WriteAppends, Keeps};
+ghost use Rattle.cred_io.specs.Causes.{HasCause, HasSinkCause};
+
+use crate::memory_source::copy_front;
+use crate::{Failed, Sink, SinkRefusal, Source};
+use cred_ids::NoMemory;
+use std::alloc::Global;
+use std::marker::Model;
+
+/// Bytes in memory, which reading never fails to give. Clauses see the bytes that are left.
+#[derive(Drop, Debug)]
+pub struct SureSource {
+    bytes: Vec<u8>,
+    at: usize,
+}
+
+impl Model for SureSource {
+    ghost use Rattle.std.specs.Prelude.{ℕ, ◌≤◌, List, drop, vec_len};
+
+    ghost Value = { List ℕ };
+
+    ghost view = { λ s. drop s.at s.bytes.items };
+
+    ghost invariant = { λ s. s.at ≤ vec_len s.bytes };
+}
+
+impl SureSource {
+    /// A source of these bytes. It is refused only for want of memory.
+    pub fn of(alloc: Global, bytes: &[u8]) -> Result<Self, NoMemory>
+        ensures { IfOk result (λ s. s ≡ bytes.now) }
+    {
+        Ok(SureSource {
+            bytes: bytes.to_vec(alloc)?,
+            at: 0,
+        })
+    }
+}
+
+impl Source for SureSource {
+    ghost left = { λ s. Some s };
+
+    ghost faults = { λ _. 0 };
+
+    /// Moves as many bytes as are left and fit.
+    fn read(&mut self, buf: &mut [u8]) -> Result<usize, Failed>
+        ensures bound { ReadsAtMost result buf.new }
+        ensures bytes { ReadConsumes (Some self.old) (Some self.new) result buf.new }
+        ensures cause { HasCause 0 0 result }
+        ensures count { result ≡ Ok (min (length buf.old) (length self.old)) }
+        ensures copied { IfOk result (λ n. buf.new ≡ take n self.old ++ drop n buf.old) }
+        ensures rest { IfOk result (λ n. self.new ≡ drop n self.old) }
+    {
+        let count = copy_front(&self.bytes[self.at..], buf);
+        self.at += count;
+        Ok(count)
+    }
+}
+
+/// Bytes in memory, to which writing never fails. Clauses see the bytes that were written.
+#[derive(Drop, Debug)]
+pub struct SureSink {
+    bytes: Vec<u8>,
+}
+
+impl Model for SureSink {
+    ghost use Rattle.std.specs.Prelude.{ℕ, List};
+
+    ghost Value = { List ℕ };
+
+    ghost view = { λ s. s.bytes.items };
+}
+
+impl SureSink {
+    /// A sink to which nothing was written.
+    pub fn new(alloc: Global) -> Self
+        ensures { result ≡ [] }
+    {
+        SureSink {
+            bytes: Vec::new(alloc),
+        }
+    }
+
+    /// What was written.
+    pub fn bytes(&self) -> &[u8]
+        ensures { result.now ≡ self.now }
+    {
+        &self.bytes
+    }
+}
+
+impl Sink for SureSink {
+    ghost written = { λ s. Some s };
+
+    ghost faults = { λ _. 0 };
+
+    /// Appends the whole piece, unless no memory is found.
+    fn write(&mut self, piece: &[u8]) -> Result<usize, SinkRefusal>
+        ensures bound { WritesAtMost result piece.now }
+        ensures some { IfOk result (λ n. 0 < length piece.now → 0 < n) }
+        ensures bytes { WriteAppends (Some self.old) (Some self.new) result piece.now }
+        ensures cause { HasSinkCause 0 0 result }
+        ensures count { IfOk result (λ n. n ≡ length piece.now) }
+        ensures never_failed { IfErr result (λ e. e ≡ SinkRefusal.Memory) }
+    {
+        self.bytes.extend_from_slice(piece)?;
+        Ok(piece.len())
+    }
+
+    /// Nothing is kept back, so there is nothing to do.
+    fn flush(&mut self) -> Result<(), SinkRefusal>
+        ensures bytes { Keeps (Some self.old) (Some self.new) }
+        ensures cause { HasSinkCause 0 0 result }
+        ensures sure { IsOk result }
+    {
+        Ok(())
+    }
+}

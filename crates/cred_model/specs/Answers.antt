@@ -1,0 +1,33 @@
+-- What a rule and a question answer, and which answers are refusals.
+use Rattle.std.specs.Prelude.{Bool, true, false, Result, Ok, Err}
+use Rattle.cred_record.specs.Credential.{Credential}
+use Rattle.cred_record.specs.declared.refusal.Denial.{Denial}
+use Rattle.cred_record.specs.declared.refusal.Denial.TheVariants.{Perm, Invalid}
+use Rattle.cred_event.specs.declared.answer.Answer.{Answer}
+use Rattle.cred_event.specs.declared.answer.Answer.TheVariants as answer
+use Rattle.cred_event.specs.declared.answer.Told.TheVariants as told
+use Rattle.cred_event.specs.declared.event.Query.{Query}
+use Rattle.cred_event.specs.declared.event.Query.TheVariants.{Ids, Caps}
+
+-- a rule's refusal, as the manual's error
+abbrev pub refusal : Denial → Answer
+refusal Perm = answer.Eperm
+refusal Invalid = answer.Einval
+
+-- What a question about a credential is told. A question that no line asks yet is refused.
+abbrev pub reply : Credential → Query → Answer
+reply c Ids = answer.Told (told.Ids c.uid c.gid)
+reply c Caps = answer.Told (told.Caps c.perm c.inh c.eff c.bound c.amb)
+reply c query = answer.Einval
+
+-- the event did what it says
+abbrev pub is_ok : Answer → Bool
+is_ok answer.Done = true
+is_ok (answer.Sealed cred slot) = true
+is_ok (answer.Kept slot) = true
+is_ok (answer.Was previous) = true
+is_ok (answer.Executed cred slot ended gains) = true
+is_ok (answer.Began cred slot left) = true
+is_ok (answer.Acted task cred slot left) = true
+is_ok (answer.Told told) = true
+is_ok answer = false

@@ -1,0 +1,7 @@
+pub mod Script
+pub mod State
+pub mod Slots
+pub mod Answers
+pub mod Step
+pub mod Course
+pub mod Journal

@@ -1,0 +1,47 @@
+-- Which slots are in use, and which one is taken next.
+use Rattle.std.specs.Prelude.{ℕ, ◌==◌, Bool, false, not, List, [], ◌++◌, map, find, count_by, slice_get, is_some, if◌then◌else◌}
+use Rattle.std.specs.declared.option.Option.{Option}
+use Rattle.std.specs.List.{list_any, range_with_len}
+use Rattle.std.specs.Option.{option_map_or}
+use Rattle.cred_model.specs.State.{State, Sealing}
+
+-- how many slots there are
+abbrev pub SLOTS : ℕ
+SLOTS = 256
+
+-- Every reference to a credential, by its number: one for each task's current credential, one for each hold, and one for
+-- each that was given up since the last sweep.
+abbrev pub refs : State → List ℕ
+refs s = map (λ t. t.current) s.tasks ++ map (λ h. h.number) s.holds ++ s.deferred
+
+-- the credential of this number stands in the slot
+abbrev pub stands_in : List Sealing → ℕ → ℕ → Bool
+stands_in creds slot number = option_map_or (λ sealing. sealing.slot == slot) (slice_get creds number) false
+
+-- how many references there are to credentials in the slot
+abbrev pub uses : State → ℕ → ℕ
+uses s slot = count_by (λ number. stands_in s.creds slot number) (refs s)
+
+-- A slot is live if something refers to a credential in it.
+abbrev pub is_live : State → ℕ → Bool
+is_live s slot = list_any (λ number. stands_in s.creds slot number) (refs s)
+
+-- 0 to 255
+unfoldable pub slots : List ℕ
+slots = range_with_len 0 SLOTS
+
+-- the least slot that isn't live
+abbrev pub least_free : State → Option ℕ
+least_free s = find (λ slot. not (is_live s slot)) slots
+
+-- The sweep lets go of all that was given up.
+abbrev pub swept : State → State
+swept s = record s { deferred = [] }
+
+-- Where all slots are live, a sweep makes room, if there is any to be made.
+abbrev pub room : State → State
+room s = if is_some (least_free s) then s else swept s
+
+-- the slot that a new credential takes, in the state with room
+abbrev pub free : State → Option ℕ
+free s = least_free (room s)

@@ -1,0 +1,57 @@
+-- The state of the kernel (credentials(7); Documentation/security/credentials.rst).
+use Rattle.std.specs.Prelude.{ℕ, ◌==◌, List, [], find, slice_get}
+use Rattle.std.specs.declared.option.Option.{Option}
+use Rattle.std.specs.Option.{option_map, option_and_then}
+use Rattle.cred_record.specs.Credential.{Credential}
+
+-- A task (a thread) belongs to a process, and has the number of its current credential.
+pub record Task : Type 0 where
+  pub number : ℕ
+  pub process : ℕ
+  pub current : ℕ
+
+-- A hold keeps the number of a credential under a label.
+pub record Hold : Type 0 where
+  pub label : ℕ
+  pub number : ℕ
+
+-- A sealed credential stands in a slot.
+pub record Sealing : Type 0 where
+  pub cred : Credential
+  pub slot : ℕ
+
+-- The live tasks, the holds, the numbers that were given up since the last sweep, and all credentials that were ever
+-- sealed. The place of a credential in that list is its number.
+pub record State : Type 0 where
+  pub tasks : List Task
+  pub holds : List Hold
+  pub deferred : List ℕ
+  pub creds : List Sealing
+
+-- the state before the first event
+abbrev pub opening : State
+opening = record { tasks = []; holds = []; deferred = []; creds = [] }
+
+abbrev pub task_of : State → ℕ → Option Task
+task_of s number = find (λ t. t.number == number) s.tasks
+
+abbrev pub hold_of : State → ℕ → Option Hold
+hold_of s label = find (λ h. h.label == label) s.holds
+
+-- a sealed credential with its number
+pub record Numbered : Type 0 where
+  pub number : ℕ
+  pub cred : Credential
+  pub slot : ℕ
+
+abbrev pub numbered : List Sealing → ℕ → Option Numbered
+numbered creds number =
+    option_map (λ sealing. record { number = number; cred = sealing.cred; slot = sealing.slot }) (slice_get creds number)
+
+-- the current credential of a task
+abbrev pub current_of : State → ℕ → Option Numbered
+current_of s task = option_and_then (λ t. numbered s.creds t.current) (task_of s task)
+
+-- the credential that a label holds
+abbrev pub held_by : State → ℕ → Option Numbered
+held_by s label = option_and_then (λ h. numbered s.creds h.number) (hold_of s label)

@@ -1,0 +1,106 @@
+-- What each event answers, and the state after it.
+use Rattle.std.specs.Prelude.{ℕ, ◌==◌, nat_lt, [], ◌∷◌, ◌++◌, length, map, position, remove, slice_get, Result, Ok, Err, ok_or, is_some, if◌then◌else◌, List}
+use Rattle.std.specs.declared.option.Option.{Option}
+use Rattle.std.specs.Option.{option_map_or}
+use Rattle.cred_record.specs.Credential.{Credential, first_credential}
+use Rattle.cred_record.specs.declared.refusal.Denial.{Denial}
+use Rattle.cred_rules.specs.SetId.{set_id}
+use Rattle.cred_event.specs.declared.event.Event.{Event}
+use Rattle.cred_event.specs.declared.event.Event.TheVariants.{Init, Take, Release, Ask, Begin, Sweep}
+use Rattle.cred_event.specs.declared.answer.Answer.{Answer}
+use Rattle.cred_event.specs.declared.answer.Answer.TheVariants.{Done, Sealed, Began, Einval, NoTask, NoHold, Exists, TooMany, TableFull}
+use Rattle.cred_event.specs.declared.answer.Named.TheVariants as named
+use Rattle.cred_event.specs.declared.answer.Counted.TheVariants as counted
+use Rattle.cred_model.specs.Script.{Script}
+use Rattle.cred_model.specs.State.{State, Task, task_of, hold_of, numbered, current_of, held_by}
+use Rattle.cred_model.specs.Slots.{room, free, swept}
+use Rattle.cred_model.specs.Answers.{refusal, reply}
+
+-- how many tasks may live, and how many holds may stand
+abbrev pub TASKS : ℕ
+TASKS = 64
+
+abbrev pub HOLDS : ℕ
+HOLDS = 512
+
+-- An event's tests come in order: the first that refuses gives the answer.
+infixl 10 ◌>>=◌
+abbrev pub ◌>>=◌ : {A B : Type 0} → Result A Answer → (A → Result B Answer) → Result B Answer
+(Ok x) >>= f = f x
+(Err answer) >>= f = Err answer
+
+-- the answer comes where there is a value
+abbrev pub none_or : {A : Type 0} → Option A → Answer → Result (Unit {0}) Answer
+none_or found answer = if is_some found then Err answer else Ok tt
+
+-- the answer comes where there are as many as there may be
+abbrev pub fewer_or : ℕ → ℕ → Answer → Result (Unit {0}) Answer
+fewer_or count limit answer = if nat_lt count limit then Ok tt else Err answer
+
+-- what a rule gives, or its refusal
+abbrev pub by_rule : Result Credential Denial → Result Credential Answer
+by_rule (Ok c) = Ok c
+by_rule (Err denial) = Err (refusal denial)
+
+-- What happens where a slot is free, or that the table is full. The sweep that was made to find one stands either way.
+abbrev pub in_slot : State → (State → ℕ → Answer × State) → Answer × State
+in_slot s does = option_map_or (does (room s)) (free s) (TableFull, room s)
+
+-- the state in which one more credential is sealed
+abbrev pub sealed : State → Credential → ℕ → State
+sealed s c slot = record s { creds = s.creds ++ record { cred = c; slot = slot } ∷ [] }
+
+-- the tasks, where this one has another current credential
+abbrev pub renewed : ℕ → ℕ → Task → Task
+renewed task number t = if t.number == task then record t { current = number } else t
+
+abbrev pub with_current : List Task → ℕ → ℕ → List Task
+with_current tasks task number = map (renewed task number) tasks
+
+-- A first task is born with its first credential.
+abbrev pub born : State → Task → Credential → ℕ → State
+born s task c slot =
+    let now = sealed s c slot in
+    record now { tasks = s.tasks ++ task ∷ [] }
+
+-- The task's credential is replaced: the new one is sealed and becomes its current one, and the old one is given up.
+abbrev pub replaced : State → ℕ → ℕ → Credential → ℕ → State
+replaced s task old c slot =
+    let now = sealed s c slot in
+    record now { tasks = with_current s.tasks task (length s.creds); deferred = s.deferred ++ old ∷ [] }
+
+-- what an event does if nothing refuses it, with its answer
+abbrev pub done : State → Event → Result (Answer × State) Answer
+done s (Init task process user group ns) = do
+  new ← none_or (task_of s task) (Exists named.Task task)
+  few ← fewer_or (length s.tasks) TASKS (TooMany counted.Tasks)
+  Ok (in_slot s (λ s slot.
+    let number = length s.creds in
+    (Sealed number slot, born s (record { number = task; process = process; current = number }) (first_credential user group ns) slot)))
+done s (Take label task side) = do
+  taken ← ok_or (current_of s task) (NoTask task)
+  new ← none_or (hold_of s label) (Exists named.Label label)
+  few ← fewer_or (length s.holds) HOLDS (TooMany counted.Holds)
+  Ok (Sealed taken.number taken.slot, record s { holds = s.holds ++ record { label = label; number = taken.number } ∷ [] })
+done s (Release label) = do
+  place ← ok_or (position (λ h. h.label == label) s.holds) (NoHold label)
+  hold ← ok_or (slice_get s.holds place) (NoHold label)
+  Ok (Done, record s { holds = remove s.holds place; deferred = s.deferred ++ hold.number ∷ [] })
+done s (Ask label query) = do
+  held ← ok_or (held_by s label) (NoHold label)
+  Ok (reply held.cred query, s)
+done s (Begin task call) = do
+  old ← ok_or (current_of s task) (NoTask task)
+  new ← by_rule (set_id old.cred call)
+  Ok (in_slot s (λ s slot. (Began (length s.creds) slot 0, replaced s task old.number new slot)))
+done s Sweep = Ok (Done, swept s)
+done s event = Err Einval
+
+-- A refusal leaves the state.
+abbrev pub settled : State → Result (Answer × State) Answer → Answer × State
+settled s (Ok after) = after
+settled s (Err answer) = (answer, s)
+
+-- What a line's event answers in a state, and the state after it.
+abbrev pub step : Script → State → ℕ → Event → Answer × State
+step script s line event = settled s (done s event)

@@ -1,0 +1,50 @@
+-- Fronts of a text that was to be written.
+use Rattle.std.proofs.Common.{◌≡◌, ℕ, ◌+◌, ◌<◌, List, [], ◌++◌, length, take, drop, get_or, Option, Result, Ok, Err, refl, arith}
+use Rattle.std.proofs.lemmas.List.{take_all, take_at}
+use Rattle.std.specs.Io.KnownBytes.{Appends, Keeps}
+use Rattle.std.specs.Result.{OnOk, OnErr}
+use Rattle.cred_io.specs.Ends.{AppendsPrefix}
+use Rattle.cred_io.specs.declared.sink.SinkRefusal.{SinkRefusal}
+use Rattle.cred_io.proofs.Known.{appends_more, appends_kept}
+use Rattle.cred_event.specs.declared.entry.Entry.{Entry}
+use Rattle.cred_model.specs.Script.{Script}
+use Rattle.cred_report.specs.Text.{entry_text, text}
+use Rattle.cred_report.proofs.Journals.{text_at, take_past}
+
+-- a whole text is one of its fronts
+pub whole : (a b : Option (List ℕ)) (bytes : List ℕ) → Appends a b bytes → AppendsPrefix a b bytes
+whole a b bytes all = record { count = length bytes; written = rw (take_all (length bytes) bytes (omega arith)) all }
+
+pub prefix_either : (a b : Option (List ℕ)) (bytes : List ℕ) (r : Result (Unit {0}) SinkRefusal) → OnOk r (Appends a b bytes)
+    → OnErr r (AppendsPrefix a b bytes) → AppendsPrefix a b bytes
+prefix_either a b bytes (Ok done) all front = whole a b bytes all
+prefix_either a b bytes (Err refusal) all front = front
+
+-- a whole text that was written, and then kept
+pub whole_kept : (a b c : Option (List ℕ)) (bytes : List ℕ) → Appends a b bytes → Keeps b c → AppendsPrefix a c bytes
+whole_kept a b c bytes all kept = whole a c bytes (appends_kept a b c bytes all kept)
+
+-- the entries before one, and a front of that one's text
+pub prefix_at : (a b c : Option (List ℕ)) (script : Script) (journal : List Entry) (i : ℕ) (entry : Entry) → i < length journal
+    → entry ≡ get_or journal i entry → Appends a b (text script (take i journal)) → AppendsPrefix b c (entry_text script entry)
+    → AppendsPrefix a c (text script journal)
+prefix_at a b c script journal i entry lt e before this =
+    let done : List ℕ = text script (take i journal) in
+    let front : List ℕ = take this.count (entry_text script entry) in
+    let here : take (length done + length front) (text script journal) ≡ done ++ front
+    = rw (text_at script journal i entry lt e) (take_past this.count done (entry_text script entry) (text script (drop (i + 1) journal))) in
+    record { count = length done + length front; written = rw here (appends_more a b c done front before this.written) }
+
+-- the entries before one
+pub prefix_before : (a b : Option (List ℕ)) (script : Script) (journal : List Entry) (i : ℕ) (entry : Entry) → i < length journal
+    → entry ≡ get_or journal i entry → Appends a b (text script (take i journal)) → AppendsPrefix a b (text script journal)
+prefix_before a b script journal i entry lt e before =
+    let done : List ℕ = text script (take i journal) in
+    let here : take (length done) (text script journal) ≡ done = rw (text_at script journal i entry lt e) (take_at done _ _ refl) in
+    record { count = length done; written = rw here before }
+
+-- what a flush after the whole text leaves
+pub flushed : (a b c : Option (List ℕ)) (bytes : List ℕ) (r : Result (Unit {0}) SinkRefusal) → Appends a b bytes → Keeps b c
+    → OnErr r (AppendsPrefix a c bytes)
+flushed a b c bytes (Ok done) all kept = tt
+flushed a b c bytes (Err refusal) all kept = whole_kept a b c bytes all kept

@@ -1,0 +1,22 @@
+use Rattle.std.proofs.Common.{◌∙◌}
+use Rattle.cred_report.specs.Text.{text}
+use Rattle.cred_program.specs.Texts.{bad_text}
+use Rattle.cred_program.proofs.Fronts.{prefix_either}
+use Rattle.cred_program.proofs.script.run_script.Goals as goal
+
+pub returns-in-Ok-run-clause-front : goal.returns-in-Ok-run-clause-front
+returns-in-Ok-run-clause-front g c =
+    let front = prefix_either _ _ (text c.script.result.now c.journal.result.now) c.write_report.result c.write_report.ensures.ok c.write_report.ensures.err in
+    let same = c.script.ensures ∙ c.in-Ok-run.ensures.script in
+    rw c.in-Ok.ensures.given
+    (
+      c.in-Ok-run.book.journal,
+      rw c.in-Ok-run.ensures.script at c.in-Ok-run.ensures.sequence.in_order,
+      rw (same, c.journal.ensures) at front,
+    )
+
+pub returns-in-Err-Bad-clause-front : goal.returns-in-Err-Bad-clause-front
+returns-in-Err-Bad-clause-front g c =
+    let front = prefix_either _ _ (bad_text (c.in-Err-Bad.line, c.in-Err-Bad.reason)) c.write_bad.result c.write_bad.ensures.ok c.write_bad.ensures.err in
+    let given = rw c.in-Err-Bad.field-0-is at c.in-Err-Bad.ensures.given in
+    rw given front

@@ -1,0 +1,82 @@
+-- What a run of the program leaves at its source and its sink, by the status that it answers.
+use Rattle.std.specs.Prelude.{◌≡◌, ◌≤◌, ◌<◌, ◌⊎◌, ℕ, length, List, Result, Ok, Err}
+use Rattle.std.specs.Result.{MatchResult}
+use Rattle.std.specs.declared.option.Option.{Option}
+use Rattle.std.specs.Io.KnownBytes.{Appends}
+use Rattle.cred_io.specs.Ends.{ReadsAll, AppendsPrefix}
+use Rattle.cred_io.specs.declared.sink.SinkRefusal.{SinkRefusal}
+use Rattle.cred_io.specs.declared.sink.SinkRefusal.TheVariants as sink
+use Rattle.cred_event.specs.declared.entry.Entry.{Entry}
+use Rattle.cred_model.specs.Script.{Script}
+use Rattle.cred_model.specs.Journal.{IsInOrder, IsSequence}
+use Rattle.cred_script.specs.declared.refusal.Reason.{Reason}
+use Rattle.cred_script.specs.Grammar.{script_of}
+use Rattle.cred_report.specs.Text.{text}
+use Rattle.cred_program.specs.declared.status.Status.{Status}
+use Rattle.cred_program.specs.declared.status.Status.TheVariants as status
+use Rattle.cred_program.specs.Words.{IsCommand}
+use Rattle.cred_program.specs.Texts.{usage_text, bad_text}
+
+-- how many bytes an input may have
+abbrev pub LIMIT : ℕ
+LIMIT = 1048576
+
+-- All that was left was read. It is no more than the limit, and P holds of it.
+pub record Reads (before after : Option (List ℕ)) (P : List ℕ → Type 0) : Type 0 where
+  pub input : List ℕ
+  pub read : ReadsAll before after input
+  pub within : length input ≤ LIMIT
+  pub so : P input
+
+-- The input is a script, and the text of the journal in which its lines run whole and in order was written.
+pub record Reports (before after : Option (List ℕ)) (input : List ℕ) : Type 0 where
+  pub script : Script
+  pub read : script_of input ≡ Ok script
+  pub journal : List Entry
+  pub run : IsSequence script journal
+  pub written : Appends before after (text script journal)
+
+-- The input is no script, and its first bad line was written, with the reason.
+pub record Refuses (before after : Option (List ℕ)) (input : List ℕ) : Type 0 where
+  pub bad : ℕ × Reason
+  pub read : script_of input ≡ Err bad
+  pub written : Appends before after (bad_text bad)
+
+-- A front of the text that the input has was written, and nothing else.
+abbrev pub Begins : Option (List ℕ) → Option (List ℕ) → List ℕ → Type 0
+Begins before after input =
+    MatchResult (script_of input)
+    (λ script. (journal : List Entry) × IsInOrder script journal × AppendsPrefix before after (text script journal))
+    (λ bad. AppendsPrefix before after (bad_text bad))
+
+-- What may have been written when the program ends, whatever its status: nothing, or a front of what the words and the
+-- input have, and of the latter only when the input was read to its end.
+abbrev pub WritesFront : List (List ℕ) → Option (List ℕ) → Option (List ℕ) → Option (List ℕ) → Option (List ℕ) → Type 0
+WritesFront words left_before left_after before after =
+    (after ≡ before)
+    ⊎ ((IsCommand words → ⊥) × AppendsPrefix before after usage_text)
+    ⊎ (IsCommand words × Reads left_before left_after (Begins before after))
+
+-- The statuses that an input may have: which of Done, Bad and TooLarge it is, the input alone decides, and nothing but a
+-- fault or want of memory takes their place.
+abbrev pub Suits : List ℕ → Status → Type 0
+Suits input status.Done = (length input ≤ LIMIT) × MatchResult (script_of input) (λ script. Unit {0}) (λ bad. ⊥)
+Suits input status.Bad = (length input ≤ LIMIT) × MatchResult (script_of input) (λ script. ⊥) (λ bad. Unit {0})
+Suits input status.TooLarge = LIMIT < length input
+Suits input status.Usage = ⊥
+Suits input status.ReadFault = Unit {0}
+Suits input status.WriteFault = Unit {0}
+Suits input status.Memory = Unit {0}
+
+-- The statuses of words that are no command.
+abbrev pub IsForNoCommand : Status → Type 0
+IsForNoCommand status.Usage = Unit {0}
+IsForNoCommand status.WriteFault = Unit {0}
+IsForNoCommand status.Memory = Unit {0}
+IsForNoCommand other = ⊥
+
+-- the status after a text was written or refused
+abbrev pub finished : Result (Unit {0}) SinkRefusal → Status → Status
+finished (Ok done) answer = answer
+finished (Err sink.Failed) answer = status.WriteFault
+finished (Err sink.Memory) answer = status.Memory

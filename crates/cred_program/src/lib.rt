@@ -1,0 +1,11 @@
+//! The program, over its words, its input and its output.
+#![tactic(auto)]
+
+mod program;
+mod script;
+mod status;
+mod words;
+mod writing;
+
+pub use program::credtrace;
+pub use status::Status;

@@ -1,0 +1,44 @@
+//! Running a script from its bytes.
+ghost use Rattle.std.specs.Prelude.{◌≡◌, ◌≢◌, ◌≤◌, length};
+ghost use Rattle.cred_io.specs.Causes.{Rose};
+ghost use Rattle.cred_program.specs.Ends.{Reports, Refuses, Begins, Suits};
+
+use crate::status::{Status, finish};
+use crate::writing::{write_bad, write_report};
+use cred_book::run;
+use cred_io::Sink;
+use cred_script::{ScriptRefusal, read};
+use std::alloc::Global;
+
+/// How many bytes a script may have.
+pub const LIMIT: u32 = 1_048_576;
+
+/// Runs the script that these bytes are, and writes its report, or its first bad line.
+pub fn run_script<K: Sink>(alloc: Global, bytes: &[u8], sink: &mut K) -> Status
+    requires { length bytes.now ≤ LIMIT }
+    ensures done { result ≡ Status.Done
+        → Reports (K.written sink.old) (K.written sink.new) bytes.now }
+    ensures bad { result ≡ Status.Bad
+        → Refuses (K.written sink.old) (K.written sink.new) bytes.now }
+    ensures write_fault { result ≡ Status.WriteFault
+        → Rose (K.faults sink.old) (K.faults sink.new) }
+    ensures no_read_fault { result ≢ Status.ReadFault }
+    ensures suits { Suits bytes.now result }
+    ensures front { Begins (K.written sink.old) (K.written sink.new) bytes.now }
+    ensures later { K.faults sink.old ≤ K.faults sink.new }
+{
+    let script = match read(alloc, bytes) {
+        Ok(script) => script,
+        Err(ScriptRefusal::Bad { line, reason }) => {
+            return finish(write_bad(alloc, sink, line, reason), Status::Bad);
+        }
+        Err(ScriptRefusal::Memory) => return Status::Memory,
+    };
+    match run(alloc, script) {
+        Ok(book) => finish(
+            write_report(alloc, sink, book.script(), book.journal()),
+            Status::Done,
+        ),
+        Err(_) => Status::Memory,
+    }
+}

@@ -1,0 +1,35 @@
+//! How a run of the program ended.
+ghost use Rattle.std.specs.Prelude.{◌≡◌};
+ghost use Rattle.cred_program.specs.Ends.{finished};
+
+use cred_io::SinkRefusal;
+
+/// How a run of the program ended. The number of its place, from 0, is the process's exit status.
+#[derive(Clone, Copy, PartialEq, Eq, Debug)]
+pub enum Status {
+    /// The whole text was written.
+    Done,
+    /// The words are no command, and the usage line was written.
+    Usage,
+    /// The input is no script, and its first bad line was written.
+    Bad,
+    /// The input could not be read.
+    ReadFault,
+    /// The text could not be written.
+    WriteFault,
+    /// Memory ran out.
+    Memory,
+    /// The input is larger than the limit.
+    TooLarge,
+}
+
+/// The status, if its text was written.
+pub fn finish(written: Result<(), SinkRefusal>, status: Status) -> Status
+    ensures { result ≡ finished written status }
+{
+    match written {
+        Ok(()) => status,
+        Err(SinkRefusal::Failed) => Status::WriteFault,
+        Err(SinkRefusal::Memory) => Status::Memory,
+    }
+}

@@ -1,0 +1,52 @@
+-- The credential of a task (credentials(7), capabilities(7)).
+use Rattle.std.specs.Prelude.{ℕ, List, [], Bool, false, ◌==◌, if◌then◌else◌}
+use Rattle.cred_ids.specs.declared.id.Ids4.{Ids4}
+use Rattle.cred_ids.specs.Ids4.{all_four}
+use Rattle.cred_caps.specs.Caps.{Caps, empty, full, has, IsWithin}
+
+-- user ids and group ids, the sorted supplementary groups, the permitted, inheritable, effective,
+-- bounding and ambient sets, the securebits, no_new_privs, and the number of the user namespace
+pub record Credential : Type 0 where
+  pub uid : Ids4
+  pub gid : Ids4
+  pub groups : List ℕ
+  pub perm : Caps
+  pub inh : Caps
+  pub eff : Caps
+  pub bound : Caps
+  pub amb : Caps
+  pub bits : ℕ
+  pub nnp : Bool
+  pub ns : ℕ
+
+-- no capability is effective that is not permitted, and none ambient that is not permitted and
+-- inheritable (capabilities(7), "Thread capability sets")
+pub record AreValidSets (perm inh eff amb : Caps) : Type 0 where
+  pub effective : IsWithin eff perm
+  pub ambient : IsWithin amb perm
+  pub inheritable : IsWithin amb inh
+
+-- the user id of root, from and to which a change moves capabilities
+abbrev pub ROOT : ℕ
+ROOT = 0
+
+-- the task has capability n, as a check of its rights asks: it is in the effective set
+abbrev pub has_cap : Credential → ℕ → Bool
+has_cap c n = has c.eff n
+
+-- what a first task has: root's permitted and effective sets are full, all others' are empty,
+-- nothing is bounded
+abbrev pub first_credential : ℕ → ℕ → ℕ → Credential
+first_credential user group ns = record {
+  uid = all_four user;
+  gid = all_four group;
+  groups = [];
+  perm = if user == ROOT then full else empty;
+  inh = empty;
+  eff = if user == ROOT then full else empty;
+  bound = full;
+  amb = empty;
+  bits = 0;
+  nnp = false;
+  ns = ns;
+}

@@ -1,0 +1,37 @@
+//! The calls that set ids.
+ghost use Rattle.std.specs.Prelude.{◌≡◌, IfOk};
+
+use crate::list::IdList;
+use cred_ids::{Arg, NoMemory};
+
+/// A call that sets the real, effective or saved ids of a task, or its supplementary groups.
+#[derive(Clone, Drop, Debug)]
+pub enum IdCall {
+    /// setuid(2).
+    SetUid(Arg),
+    /// seteuid(2).
+    SetEuid(Arg),
+    /// setreuid(2): the real id, the effective id.
+    SetReuid(Arg, Arg),
+    /// setresuid(2): the real id, the effective id, the saved id.
+    SetResuid(Arg, Arg, Arg),
+    /// setgid(2).
+    SetGid(Arg),
+    /// setegid(2).
+    SetEgid(Arg),
+    /// setregid(2): the real id, the effective id.
+    SetRegid(Arg, Arg),
+    /// setresgid(2): the real id, the effective id, the saved id.
+    SetResgid(Arg, Arg, Arg),
+    /// setgroups(2).
+    SetGroups(IdList),
+}
+
+impl IdCall {
+    /// An equal call.
+    pub fn copy(&self) -> Result<IdCall, NoMemory>
+        ensures { IfOk result (λ c. c ≡ self.now) }
+    {
+        Ok(self.clone()?)
+    }
+}

@@ -1,0 +1,7 @@
+pub mod Numbers
+pub mod Questions
+pub mod Calls
+pub mod Events
+pub mod Told
+pub mod Answers
+pub mod Text

@@ -1,0 +1,18 @@
+//! The text of a run's report: one line for each entry of the journal.
+//!
+//! What the text of an entry is is defined in `specs/`, case by case. `append` adds it to what is
+//! written already, so that one buffer serves a whole report, and `print` gives it alone.
+#![tactic(auto)]
+
+mod answers;
+mod calls;
+mod entry;
+mod events;
+mod numbers;
+mod questions;
+mod text;
+mod told;
+mod words;
+
+pub use entry::{append, print};
+pub use text::Text;

@@ -1,0 +1,4 @@
+pub mod Fix
+pub mod SetFs
+pub mod SetId
+pub use Rattle.cred_record.specs.Credential

@@ -1,0 +1,3 @@
+//! What the calls on a credential do, as definitions: `specs/SetId.antt`, `specs/Fix.antt` and
+//! `specs/SetFs.antt`. There is no code here. The crates that do the work are proved against them.
+#![tactic(auto)]

@@ -1,0 +1,27 @@
+-- What reading a script may answer.
+use Rattle.std.specs.Prelude.{◌≡◌, ℕ, List, map, Result, Ok, Err}
+use Rattle.std.specs.Borrow.{Bor}
+use Rattle.cred_event.specs.declared.content.Content.{Content}
+use Rattle.cred_model.specs.Script.{Line}
+use Rattle.cred_script.specs.declared.refusal.Reason.{Reason}
+use Rattle.cred_script.specs.declared.refusal.ScriptRefusal.{ScriptRefusal}
+use Rattle.cred_script.specs.declared.refusal.ScriptRefusal.TheVariants.{Bad, Memory}
+
+-- what was answered is what the definition gives, unless memory ran out
+abbrev pub Gives : {V A : Type 0} → (V → A) → Result V ScriptRefusal → Result A (ℕ × Reason) → Type 0
+Gives view (Ok v) given = given ≡ Ok (view v)
+Gives view (Err (Bad line reason)) given = given ≡ Err (line, reason)
+Gives view (Err Memory) given = Unit {0}
+
+-- the same, where no memory is needed
+abbrev pub Says : {V A : Type 0} → (V → A) → Result V Reason → Result A Reason → Type 0
+Says view (Ok v) given = given ≡ Ok (view v)
+Says view (Err reason) given = given ≡ Err reason
+
+-- what the words are, wherever they lie
+abbrev pub nows : List (Bor (List ℕ)) → List (List ℕ)
+nows words = map (λ word. word.now) words
+
+-- the line that a lane and a content make
+abbrev pub seen : ℕ × Bor Content → Line
+seen found = record { lane = found.0; content = found.1.now }

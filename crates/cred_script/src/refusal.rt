@@ -1,0 +1,47 @@
+//! Why a text is no script.
+ghost use Rattle.std.specs.Prelude.{◌≡◌};
+ghost use Rattle.cred_script.specs.declared.refusal.ScriptRefusal.TheVariants.{Memory};
+
+use std::alloc::{AllocError, AllocFailed};
+
+/// What is wrong with a line.
+#[derive(Clone, Copy, PartialEq, Eq, Debug)]
+pub enum Reason {
+    /// It has a byte outside 0x20 to 0x7E.
+    Byte,
+    /// A word is none of those that may stand at its place.
+    Word,
+    /// It has too many words, or too few.
+    Count,
+    /// It declares something, and stands after a line that uses what was declared.
+    Order,
+    /// A name is used before it is declared, or declared a second time.
+    Name,
+    /// It names what a line of another lane has named.
+    Lane,
+}
+
+/// Why no script was read.
+#[derive(Clone, Copy, PartialEq, Eq, Debug)]
+pub enum ScriptRefusal {
+    /// The first bad line, counted from 1.
+    Bad { line: u32, reason: Reason },
+    /// Memory ran out.
+    Memory,
+}
+
+impl From<AllocError> for ScriptRefusal {
+    ghost from_gives = { λ _ e. e ≡ Memory };
+
+    fn from(_: AllocError) -> Self {
+        ScriptRefusal::Memory
+    }
+}
+
+impl<T: Drop> From<AllocFailed<T>> for ScriptRefusal {
+    ghost from_gives = { λ _ e. e ≡ Memory };
+
+    fn from(_: AllocFailed<T>) -> Self {
+        ScriptRefusal::Memory
+    }
+}

@@ -1,0 +1,74 @@
+//! The nine calls that set ids.
+ghost use Rattle.std.specs.Prelude.{◌≡◌, IfOk, IfErr};
+ghost use Rattle.cred_rules.specs.SetId.{after_setgroups, set_id};
+ghost use Rattle.cred_record.specs.Answer.{AnswersBy};
+
+use crate::fix::with_user_ids;
+use crate::ids::{after_seteuid, after_setresuid, after_setreuid, after_setuid};
+use cred_caps::Cap;
+use cred_ids::{Groups, GroupsRefusal, Id, Ids4};
+use cred_record::{Cred, IdCall, Refusal, copy};
+use std::alloc::Global;
+
+/// The credential after a call that sets ids or groups (setuid(2), seteuid(2), setreuid(2),
+/// setresuid(2), their group forms, setgroups(2)). The filesystem id of a kind follows its
+/// effective id, and a change of user ids also changes the capability sets (capabilities(7)). All
+/// else is as in `cred`, which stays as it is.
+///
+/// `Invalid` comes where setuid, seteuid, setgid or setegid is given no id, tested first, and where
+/// setgroups is given more than 32 groups, tested last. `Perm` comes where a caller without the
+/// capability, CAP_SETUID or CAP_SETGID, gives an id that the call lets it have only with it, and
+/// for setgroups where the caller is without it.
+pub fn apply(alloc: Global, cred: &Cred, call: &IdCall) -> Result<Cred, Refusal>
+    ensures { AnswersBy result (set_id cred.now call.now) }
+{
+    let setuid = cred.eff.has(Cap::SETUID);
+    let setgid = cred.eff.has(Cap::SETGID);
+    match call {
+        IdCall::SetUid(a) => Ok(with_user_ids(cred, after_setuid(setuid, cred.uid, *a)?)?),
+        IdCall::SetEuid(a) => Ok(with_user_ids(cred, after_seteuid(setuid, cred.uid, *a)?)?),
+        IdCall::SetReuid(a, b) => Ok(with_user_ids(
+            cred,
+            after_setreuid(setuid, cred.uid, *a, *b)?,
+        )?),
+        IdCall::SetResuid(a, b, d) => Ok(with_user_ids(
+            cred,
+            after_setresuid(setuid, cred.uid, *a, *b, *d)?,
+        )?),
+        IdCall::SetGid(a) => with_group_ids(cred, after_setuid(setgid, cred.gid, *a)?),
+        IdCall::SetEgid(a) => with_group_ids(cred, after_seteuid(setgid, cred.gid, *a)?),
+        IdCall::SetRegid(a, b) => with_group_ids(cred, after_setreuid(setgid, cred.gid, *a, *b)?),
+        IdCall::SetResgid(a, b, d) => {
+            with_group_ids(cred, after_setresuid(setgid, cred.gid, *a, *b, *d)?)
+        }
+        IdCall::SetGroups(list) => after_setgroups(alloc, cred, list.items()),
+    }
+}
+
+/// The credential with these group ids. The capability sets stay.
+fn with_group_ids(cred: &Cred, ids: Ids4) -> Result<Cred, Refusal>
+    ensures ok { IfOk result (λ new. new ≡ record cred.now { gid = ids }) }
+    ensures memory { IfErr result (λ e. e ≡ Refusal.Memory) }
+{
+    let mut new = copy(cred)?;
+    new.gid = ids;
+    Ok(new)
+}
+
+/// setgroups(2).
+#[tactic(auto, unfolding(cred_rules::specs::SetId::after_setgroups))]
+fn after_setgroups(alloc: Global, cred: &Cred, list: &[Id]) -> Result<Cred, Refusal>
+    ensures { AnswersBy result (after_setgroups cred.now list.now) }
+{
+    if !cred.eff.has(Cap::SETGID) {
+        return Err(Refusal::Perm);
+    }
+    let groups = match Groups::from_list(alloc, list) {
+        Ok(groups) => groups,
+        Err(GroupsRefusal::TooMany(_)) => return Err(Refusal::Invalid),
+        Err(GroupsRefusal::Memory) => return Err(Refusal::Memory),
+    };
+    let mut new = copy(cred)?;
+    new.groups = groups;
+    Ok(new)
+}

@@ -1,0 +1,38 @@
+//! Runs a trace script over a book of Linux task credentials, and writes the report.
+#![tactic(auto)]
+
+use cred_io::{StdSink, StdSource};
+use cred_program::{Status, credtrace};
+use std::io::{BufWriter, ErrorKind};
+use std::process::ExitCode;
+use std::rt::Runtime;
+use std::{env, io};
+
+/// How many bytes of the report are gathered for one write to standard output.
+const GATHERED: usize = 64 * 1024;
+
+/// The words after the program's name. Words that are not all text are no command: they count as
+/// none.
+fn words<R: Runtime + AllocGlobal>(rt: &R) -> io::Result<Vec<String>> {
+    match env::args(rt) {
+        Ok(args) => Ok(args.skip(1).collect(rt.alloc())?),
+        Err(e) if e.kind() == ErrorKind::OutOfMemory => Err(e),
+        Err(_) => Ok(Vec::new(rt.alloc())),
+    }
+}
+
+fn run<R: Runtime + AllocGlobal>(rt: &R) -> Status {
+    let Ok(words) = words(rt) else {
+        return Status::Memory;
+    };
+    let Ok(writer) = BufWriter::with_capacity(rt.alloc(), GATHERED, io::writer(rt)) else {
+        return Status::Memory;
+    };
+    let mut source = StdSource::new(rt.reader());
+    let mut sink = StdSink::new(writer);
+    credtrace(rt.alloc(), &words, &mut source, &mut sink)
+}
+
+fn main(rt: HostRuntime) -> ExitCode {
+    ExitCode::from(run(&rt) as u8)
+}
