@@ -68,7 +68,7 @@ goes_on script journal place stage event line entry here due is at =
     let number : entry.line ≡ place + 1 = ap (λ (e : Entry). e.line) is in
     let same = answers_of-push_same journal entry (place + 1) number in
     let first = first_due_at journal 1 script.lines place line event at.ended here
-        (ap (event_at (place + 1) line.content) (sym (at.stands line here)) ∙ due) in
+    (ap (event_at (place + 1) line.content) (sym (at.stands line here)) ∙ due) in
     record {
       in_order = IsInOrder-push script journal entry at.in_order
           (ap (option_map (entry_of script journal)) first ∙ ap Some (sym is));

@@ -10,9 +10,15 @@ pub enum Content {
     /// The line is this event.
     One(Event),
     /// An id call, which all threads of the task's process make.
-    Id { task: u32, call: IdCall },
+    Id {
+        task: u32,
+        call: IdCall,
+    },
     /// A question about the credential that the task acts with.
-    Question { task: u32, query: Query },
+    Question {
+        task: u32,
+        query: Query,
+    },
     /// The task opens a file.
     Open {
         task: u32,
@@ -21,13 +27,27 @@ pub enum Content {
         fd: u32,
     },
     /// Has the opener of an open file the capability?
-    Fcap { task: u32, fd: u32, cap: u32 },
+    Fcap {
+        task: u32,
+        fd: u32,
+        cap: u32,
+    },
     /// The task signals another.
-    Signal { task: u32, to: u32 },
+    Signal {
+        task: u32,
+        to: u32,
+    },
     /// The task changes its own credential.
-    Change { task: u32, change: Change },
+    Change {
+        task: u32,
+        change: Change,
+    },
     /// access(2).
-    Access { task: u32, file: u32, want: Want },
+    Access {
+        task: u32,
+        file: u32,
+        want: Want,
+    },
 }
 
 /// Where a line stands: which of its events comes next.

@@ -60,13 +60,25 @@ pub enum Event {
         ns: u32,
     },
     /// The label takes hold of a credential of the task.
-    Take { label: u32, task: u32, side: Side },
+    Take {
+        label: u32,
+        task: u32,
+        side: Side,
+    },
     /// The label takes hold of the credential of the open file's opener.
-    TakeFile { label: u32, fd: u32 },
+    TakeFile {
+        label: u32,
+        fd: u32,
+    },
     /// The label lets go of what it holds.
-    Release { label: u32 },
+    Release {
+        label: u32,
+    },
     /// A question about the credential that the label holds.
-    Ask { label: u32, query: Query },
+    Ask {
+        label: u32,
+        query: Query,
+    },
     /// May the one task, on the credential that `hold` holds, signal the other, on `target`'s?
     Signal {
         from: u32,
@@ -75,21 +87,42 @@ pub enum Event {
         target: u32,
     },
     /// The label prepares a new credential for the task, based on the one that `hold` holds.
-    Prepare { label: u32, task: u32, hold: u32 },
+    Prepare {
+        label: u32,
+        task: u32,
+        hold: u32,
+    },
     /// The prepared credential is the base, changed so.
-    Alter { label: u32, change: Change },
+    Alter {
+        label: u32,
+        change: Change,
+    },
     /// The prepared credential is sealed and becomes its task's current one.
-    Commit { label: u32 },
+    Commit {
+        label: u32,
+    },
     /// The prepared credential is given up.
-    Abort { label: u32 },
+    Abort {
+        label: u32,
+    },
     /// The task acts with the label's credential from now on.
-    Override { task: u32, label: u32 },
+    Override {
+        task: u32,
+        label: u32,
+    },
     /// The task acts with the credential that it had before its last override.
-    Revert { task: u32 },
+    Revert {
+        task: u32,
+    },
     /// The task makes an id call, which the other threads of its process will follow.
-    Begin { task: u32, call: IdCall },
+    Begin {
+        task: u32,
+        call: IdCall,
+    },
     /// The next of the threads that wait in the broadcast follows it.
-    Act { cast: u32 },
+    Act {
+        cast: u32,
+    },
     /// The file is opened under the descriptor, by the credential that `hold` holds.
     OpenFile {
         hold: u32,
@@ -98,13 +131,24 @@ pub enum Event {
         fd: u32,
     },
     /// The descriptor is closed.
-    CloseFile { fd: u32 },
+    CloseFile {
+        fd: u32,
+    },
     /// The task makes a thread of its process.
-    Spawn { task: u32, child: u32 },
+    Spawn {
+        task: u32,
+        child: u32,
+    },
     /// The task makes a process with one thread.
-    Fork { task: u32, child: u32, process: u32 },
+    Fork {
+        task: u32,
+        child: u32,
+        process: u32,
+    },
     /// The task ends.
-    Exit { task: u32 },
+    Exit {
+        task: u32,
+    },
     /// Every reference that was given up lets go of its credential.
     Sweep,
 }

@@ -9,8 +9,6 @@ mod content;
 mod entry;
 mod event;
 
-
-
 pub use answer::{AbortCause, Answer, Counted, Named, Told, copy_answer};
 pub use content::{Content, Stage};
 pub use entry::Entry;

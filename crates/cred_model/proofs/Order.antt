@@ -17,8 +17,8 @@ rest_from script done [] each over = ap (next_in_order script) (sym (append-nil 
 rest_from script done (e ∷ es) each over = (
   ap (next_in_order script) (sym (append-nil done)) ∙ each zero (omega arith),
   rest_from script (done ++ e ∷ []) es
-  (λ k lt. ap (next_in_order script) (append_assoc done (e ∷ []) (take k es)) ∙ each (suc k) (omega arith))
-  (ap (next_in_order script) (append_assoc done (e ∷ []) es) ∙ over),
+      (λ k lt. ap (next_in_order script) (append_assoc done (e ∷ []) (take k es)) ∙ each (suc k) (omega arith))
+      (ap (next_in_order script) (append_assoc done (e ∷ []) es) ∙ over),
 )
 
 one_rest : (script : Script) (done a b : List Entry) → Rest script done a → Rest script done b → a ≡ b

@@ -75,8 +75,8 @@ done s (Init task process user group ns) = do
   new ← none_or (task_of s task) (Exists named.Task task)
   few ← fewer_or (length s.tasks) TASKS (TooMany counted.Tasks)
   Ok (in_slot s (λ s slot.
-    let number = length s.creds in
-    (Sealed number slot, born s (record { number = task; process = process; current = number }) (first_credential user group ns) slot)))
+      let number = length s.creds in
+      (Sealed number slot, born s (record { number = task; process = process; current = number }) (first_credential user group ns) slot)))
 done s (Take label task side) = do
   taken ← ok_or (current_of s task) (NoTask task)
   new ← none_or (hold_of s label) (Exists named.Label label)

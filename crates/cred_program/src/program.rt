@@ -27,12 +27,12 @@ pub fn credtrace<S: Source, K: Sink>(
     // The input was read to its end, it is a script, and the whole text of its journal was written.
     ensures done { result ≡ Status.Done → IsCommand (texts words.now)
         × Reads (S.left source.old) (S.left source.new)
-            (Reports (K.written sink.old) (K.written sink.new)) }
+        (Reports (K.written sink.old) (K.written sink.new)) }
 
     // The input was read to its end, it is no script, and its first bad line was written.
     ensures bad { result ≡ Status.Bad → IsCommand (texts words.now)
         × Reads (S.left source.old) (S.left source.new)
-            (Refuses (K.written sink.old) (K.written sink.new)) }
+        (Refuses (K.written sink.old) (K.written sink.new)) }
 
     // Words that are no command, and no others, get the usage line; they leave the source.
     ensures usage { result ≡ Status.Usage → (IsCommand (texts words.now) → ⊥)

@@ -1,6 +1,7 @@
 //! Answers.
 ghost use Rattle.std.specs.Prelude.{◌≡◌, ◌++◌, OnOk};
-ghost use Rattle.cred_report.specs.Answers.{exists_text, too_many_text, cause_text, sealed_text, answer_text};
+ghost use Rattle.cred_report.specs.Answers.{exists_text, too_many_text, cause_text};
+ghost use Rattle.cred_report.specs.Answers.{sealed_text, answer_text};
 
 use crate::numbers::append_sets;
 use crate::told::append_told;
@@ -95,6 +96,24 @@ fn append_acted(
     append_number(out, " left ", left)
 }
 
+/// Appends the answer to a commit on another base than the task's current credential.
+fn append_stale(out: &mut Vec<u8>, base: u64, now: u64) -> Result<(), NoMemory>
+    ensures { OnOk result (out.new.items
+        ≡ out.old.items ++ answer_text (Answer.Stale base now)) }
+{
+    append_long(out, "stale c", base)?;
+    append_long(out, " c", now)
+}
+
+/// Appends the answer of a thread that could not follow a broadcast.
+fn append_aborted(out: &mut Vec<u8>, task: u32, cause: AbortCause) -> Result<(), NoMemory>
+    ensures { OnOk result (out.new.items
+        ≡ out.old.items ++ answer_text (Answer.Aborted task cause)) }
+{
+    append_number(out, "aborted t", task)?;
+    append_word(out, cause_word(cause))
+}
+
 /// Appends the answer.
 pub(crate) fn append_answer(out: &mut Vec<u8>, answer: &Answer) -> Result<(), NoMemory>
     ensures { OnOk result (out.new.items ≡ out.old.items ++ answer_text answer.now) }
@@ -131,15 +150,9 @@ pub(crate) fn append_answer(out: &mut Vec<u8>, answer: &Answer) -> Result<(), No
         Answer::Overridden(depth) => append_number(out, "overridden ", *depth),
         Answer::NotOverridden => append_word(out, "not overridden"),
         Answer::TooDeep => append_word(out, "too deep"),
-        Answer::Stale { base, now } => {
-            append_long(out, "stale c", *base)?;
-            append_long(out, " c", *now)
-        }
+        Answer::Stale { base, now } => append_stale(out, *base, *now),
         Answer::TooMany(counted) => append_word(out, too_many_words(*counted)),
         Answer::TableFull => append_word(out, "table full"),
-        Answer::Aborted { task, cause } => {
-            append_number(out, "aborted t", *task)?;
-            append_word(out, cause_word(*cause))
-        }
+        Answer::Aborted { task, cause } => append_aborted(out, *task, *cause),
     }
 }

@@ -38,6 +38,14 @@ fn take_word(side: Side) -> &'static str
     }
 }
 
+/// Appends the taking of a credential of a task.
+fn append_take(out: &mut Vec<u8>, label: u32, task: u32, side: Side) -> Result<(), NoMemory>
+    ensures { OnOk result (out.new.items
+        ≡ out.old.items ++ (take_text side ++ decimal label ++ codes " t" ++ decimal task)) }
+{
+    append_two(out, (take_word(side), label), (" t", task))
+}
+
 /// Appends the question on a label's credential.
 fn append_ask(out: &mut Vec<u8>, script: &Script, label: u32, query: Query) -> Result<(), NoMemory>
     ensures { OnOk result (out.new.items
@@ -125,9 +133,7 @@ pub(crate) fn append_event(
             group,
             ns,
         } => { append_init(out, *task, *process, *user, *group, *ns) }
-        Event::Take { label, task, side } => {
-            append_two(out, (take_word(*side), *label), (" t", *task))
-        }
+        Event::Take { label, task, side } => append_take(out, *label, *task, *side),
         Event::TakeFile { label, fd } => append_two(out, ("takefile h", *label), (" f", *fd)),
         Event::Release { label } => append_number(out, "drop h", *label),
         Event::Ask { label, query } => append_ask(out, script, *label, *query),

@@ -33,7 +33,8 @@ pub(crate) fn append_two(
     second: (&str, u32),
 ) -> Result<(), NoMemory>
     ensures { OnOk result (out.new.items ≡ out.old.items
-        ++ (first.entry.0.now ++ decimal first.entry.1 ++ second.entry.0.now ++ decimal second.entry.1)) }
+        ++ (first.entry.0.now ++ decimal first.entry.1
+        ++ second.entry.0.now ++ decimal second.entry.1)) }
 {
     append_number(out, first.0, first.1)?;
     append_number(out, second.0, second.1)
@@ -47,7 +48,8 @@ pub(crate) fn append_three(
     third: (&str, u32),
 ) -> Result<(), NoMemory>
     ensures { OnOk result (out.new.items ≡ out.old.items
-        ++ (first.entry.0.now ++ decimal first.entry.1 ++ second.entry.0.now ++ decimal second.entry.1
+        ++ (first.entry.0.now ++ decimal first.entry.1
+        ++ second.entry.0.now ++ decimal second.entry.1
         ++ third.entry.0.now ++ decimal third.entry.1)) }
 {
     append_two(out, first, second)?;

@@ -8,8 +8,7 @@ pub returns-in-Ok-run-clause-front : goal.returns-in-Ok-run-clause-front
 returns-in-Ok-run-clause-front g c =
     let front = prefix_either _ _ (text c.script.result.now c.journal.result.now) c.write_report.result c.write_report.ensures.ok c.write_report.ensures.err in
     let same = c.script.ensures ∙ c.in-Ok-run.ensures.script in
-    rw c.in-Ok.ensures.given
-    (
+    rw c.in-Ok.ensures.given (
       c.in-Ok-run.book.journal,
       rw c.in-Ok-run.ensures.script at c.in-Ok-run.ensures.sequence.in_order,
       rw (same, c.journal.ensures) at front,

@@ -15,8 +15,7 @@ one_text (w ∷ v ∷ ws) word some one e = absurd (omega arith)
 is_word : (words : List (String Global)) (bytes word : List ℕ) (answer : Bool) → texts words ≡ bytes ∷ [] → answer ≡ bytes_eq bytes word
     → (IsTrue answer → texts words ≡ word ∷ []) × (texts words ≡ word ∷ [] → IsTrue answer)
 is_word words bytes word answer one e =
-    let decides = bytes_eq-Decides bytes word in
-    (
+    let decides = bytes_eq-Decides bytes word in (
       λ yes. one ∙ ap (λ bs. bs ∷ []) (decides.0 (sym e ∙ yes)),
       λ same. let heads : bytes ≡ word = cc in e ∙ decides.1 heads,
     )

@@ -5,7 +5,7 @@ use Rattle.cred_book.proofs.book.Book.enter.Goals as goal
 pub invariant_of-self-2 : goal.invariant_of-self-2
 invariant_of-self-2 c =
     let longer =
-        c.in_ok-push.ensures.items
-        ∙ ap (λ js. js ++ record { line = c.args.line; event = c.args.event; answer = c.in_ok-answer.answer } ∷ []) c.in_ok-reserve.ensures.items in
+    c.in_ok-push.ensures.items
+    ∙ ap (λ js. js ++ record { line = c.args.line; event = c.args.event; answer = c.in_ok-answer.answer } ∷ []) c.in_ok-reserve.ensures.items in
     entered c.self.inside.script c.self.inside.state c.step.new.self c.self.inside.journal.items c.push.new.self.items _
     c.self.invariant c.in_ok-answer.ensures.ok longer

@@ -22,8 +22,8 @@ returns-clause-ok c =
     let creds : c.push.new.self.items ≡ s.creds ++ record { cred = c.in-Ok.cred; slot = c.in-Some-free.slot } ∷ [] = grind (arith, common_steps) in
     let holds : c.self.inside.holds.items ≡ s.holds = grind (arith, common_steps) in
     let made = begun s c.args.task c.args.call.now old c.in-Ok.cred c.in-Some-free.slot c.free-sweeps.result.0 c.len-number.result
-        c.set_current.new.tasks c.self.inside.holds.items c.push-2.new.self.items c.push.new.self.items
-        has rule c.free-sweeps.ensures.sweeps takes number tasks holds deferred creds in
+    c.set_current.new.tasks c.self.inside.holds.items c.push-2.new.self.items c.push.new.self.items
+    has rule c.free-sweeps.ensures.sweeps takes number tasks holds deferred creds in
     let refill : c.set_current.new.tasks ≡ (with_items c.self.inside.tasks c.set_current.new.tasks).items = grind (arith, common_steps) in
     made
     ∙ ap (λ (ts : List Task). (

@@ -1,0 +1,76 @@
+//! What the program does where its words, its input or its ends are not as they should be.
+use crate::runs::{ran, words_of};
+use cred_io::{MemorySink, MemorySource};
+use cred_program::{Status, credtrace};
+use std::alloc::Global;
+use std::test::Fail;
+
+const USAGE: &str = "usage: credtrace run|lanes|audit|gen N|decode HEX\n";
+
+const SCRIPT: &str = "init t1 p1 0 0 n0\nt1 setresuid 1000 1000 1000\nt1 caps\nt1 ids\n";
+
+/// The script's report, an entry in each.
+const ENTRIES: [&str; 8] = [
+    "1 init t1 p1 0 0 n0 -> ok c0 s0\n",
+    "2 begin t1 setresuid 1000 1000 1000 -> ok c1 s1 left 0\n",
+    "3 take h100030 t1 -> ok c1 s1\n",
+    "3 ask h100030 caps -> ok 0 0 0 1ffffffffff 0\n",
+    "3 drop h100030 -> ok\n",
+    "4 take h100040 t1 -> ok c1 s1\n",
+    "4 ask h100040 ids -> ok 1000 1000 1000 1000 0 0 0 0\n",
+    "4 drop h100040 -> ok\n",
+];
+
+#[test]
+fn other_words_get_the_usage_line(rt: HostRuntime) -> Result<(), Fail> {
+    let table: [&[&str]; 5] = [&[], &["frob"], &["run", "run"], &["-"], &["lanes"]];
+    for texts in table {
+        let (status, sink) = ran(rt.alloc(), texts, SCRIPT.as_bytes())?;
+        assert!(rt; status == Status::Usage);
+        assert!(rt; sink.bytes() == USAGE.as_bytes());
+    }
+    Ok(())
+}
+
+#[test]
+fn one_byte_above_the_limit_is_too_large(rt: HostRuntime) -> Result<(), Fail> {
+    let comment = vec![in rt.alloc(); b'#'; 1_048_577]?;
+    let (status, sink) = ran(rt.alloc(), &["run"], &comment)?;
+    assert!(rt; status == Status::TooLarge);
+    assert!(rt; sink.bytes().is_empty());
+    Ok(())
+}
+
+/// How the program ends where these reads and these writes fail, and what it has written.
+fn failing(alloc: Global, reads: &[u64], writes: &[u64]) -> Result<(Status, MemorySink), Fail> {
+    let words = words_of(alloc, &["run"])?;
+    let mut source = MemorySource::of(alloc, SCRIPT.as_bytes(), reads)?;
+    let mut sink = MemorySink::of(alloc, writes)?;
+    let status = credtrace(alloc, &words, &mut source, &mut sink);
+    Ok((status, sink))
+}
+
+#[test]
+fn a_failed_read_leaves_nothing_written(rt: HostRuntime) -> Result<(), Fail> {
+    for read in [1, 2] {
+        let (status, sink) = failing(rt.alloc(), &[read], &[])?;
+        assert!(rt; status == Status::ReadFault);
+        assert!(rt; sink.bytes().is_empty());
+    }
+    Ok(())
+}
+
+#[test]
+fn a_failed_write_leaves_the_entries_before(rt: HostRuntime) -> Result<(), Fail> {
+    let mut written = String::new(rt.alloc());
+    for (done, entry) in ENTRIES.iter().enumerate() {
+        let (status, sink) = failing(rt.alloc(), &[], &[done as u64 + 1])?;
+        assert!(rt; status == Status::WriteFault);
+        assert!(rt; sink.bytes() == written.as_bytes());
+        written.push_str(entry)?;
+    }
+    let (status, sink) = failing(rt.alloc(), &[], &[9])?;
+    assert!(rt; status == Status::Done);
+    assert!(rt; sink.bytes() == written.as_bytes());
+    Ok(())
+}

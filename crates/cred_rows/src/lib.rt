@@ -1,0 +1,10 @@
+//! Worked examples of the whole program, as tests of its top call over ends in memory. There is no
+//! code here beside the tests.
+#![tactic(auto)]
+
+#[cfg(test)]
+mod ends;
+#[cfg(test)]
+mod rows;
+#[cfg(test)]
+mod runs;

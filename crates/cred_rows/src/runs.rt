@@ -1,0 +1,23 @@
+//! One run of the program over ends in memory.
+use cred_ids::NoMemory;
+use cred_io::{SureSink, SureSource};
+use cred_program::{Status, credtrace};
+use std::alloc::Global;
+
+/// The words of a command line.
+pub fn words_of(alloc: Global, texts: &[&str]) -> Result<Vec<String>, NoMemory> {
+    let mut words = Vec::new(alloc);
+    for text in texts {
+        words.push(String::from_str(alloc, text)?)?;
+    }
+    Ok(words)
+}
+
+/// How the program ends with these words on this input, and what it has written.
+pub fn ran(alloc: Global, texts: &[&str], input: &[u8]) -> Result<(Status, SureSink), NoMemory> {
+    let words = words_of(alloc, texts)?;
+    let mut source = SureSource::of(alloc, input)?;
+    let mut sink = SureSink::new(alloc);
+    let status = credtrace(alloc, &words, &mut source, &mut sink);
+    Ok((status, sink))
+}
