@@ -1,2 +1,7 @@
-pub mod Begun
 pub mod Cursors
+pub mod LabelMap
+pub mod Bags
+pub mod Free
+pub mod Counts
+pub mod Changes
+pub mod Results

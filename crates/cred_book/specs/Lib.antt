@@ -1,2 +1,4 @@
 pub mod Book
 pub mod Cursor
+pub mod Holds
+pub mod Kept

@@ -1,6 +1,8 @@
 //! The journal of a run.
 ghost use Rattle.std.specs.Prelude.{◌≡◌, ◌+◌, ◌<◌, ◌≤◌, [], ◌∷◌, ◌++◌, List, length, IfOk, OnOk, OnErr};
 ghost use Rattle.cred_event.specs.declared.entry.Entry.{Entry};
+ghost use Rattle.cred_model.specs.Journal.{replay};
+ghost use Rattle.cred_model.specs.Slots.{uses};
 ghost use Rattle.cred_book.specs.Book.{with_event, event_of, stage_of};
 
 use crate::course::{after, event_at};
@@ -35,15 +37,15 @@ impl Model for Book {
 }
 
 impl Book {
-    /// The book of a script of which nothing has run. It takes no memory.
-    pub fn new(alloc: Global, script: Script) -> Book
-        ensures { result ≡ record { script = script; journal = [] } }
+    /// The book of a script of which nothing has run.
+    pub fn new(alloc: Global, script: Script) -> Result<Book, NoMemory>
+        ensures { IfOk result (λ book. book ≡ record { script = script; journal = [] }) }
     {
-        Book {
+        Ok(Book {
             script,
-            state: State::new(alloc),
+            state: State::new(alloc)?,
             journal: Vec::new(alloc),
-        }
+        })
     }
 
     /// The script that it is the book of.
@@ -58,6 +60,14 @@ impl Book {
         ensures { result.now ≡ self.now.journal }
     {
         &self.journal
+    }
+
+    /// How many references there are to credentials in the slot, those that were given up since the
+    /// last sweep among them.
+    pub fn uses(&self, slot: u32) -> u64
+        ensures { result ≡ uses (replay self.now.script self.now.journal) slot }
+    {
+        self.state.uses(slot)
     }
 
     /// How many lines the script has.

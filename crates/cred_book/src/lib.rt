@@ -3,6 +3,8 @@
 
 mod book;
 mod course;
+mod holds;
+mod seal;
 mod sequence;
 mod state;
 mod table;

@@ -34,7 +34,7 @@ pub fn run(alloc: Global, script: Script) -> Result<Book, NoMemory>
     ensures script { IfOk result (λ book. book.script ≡ script) }
     ensures sequence { IfOk result (λ book. IsSequence book.script book.journal) }
 {
-    let mut book = Book::new(alloc, script);
+    let mut book = Book::new(alloc, script)?;
     for place in 0..book.lines() {
         run_line(&mut book, place)?;
     }

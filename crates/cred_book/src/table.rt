@@ -1,10 +1,12 @@
-//! The rows of the state's lists, and what is found among them.
-ghost use Rattle.std.specs.Prelude.{◌≡◌, ◌==◌, find, position};
+//! The tasks and the credentials, and what is found among them.
+ghost use Rattle.std.specs.Prelude.{◌≡◌, ◌==◌, find, length};
 ghost use Rattle.std.specs.Option.{option_map};
 ghost use Rattle.cred_model.specs.State as model;
 ghost use Rattle.cred_model.specs.Step as spec;
+ghost use Rattle.cred_book.specs.Kept.{sealings};
 
 use cred_record::Cred;
+use cred_slots::Slots;
 use std::marker::Model;
 
 /// A task, its process, and the number of its current credential.
@@ -25,38 +27,6 @@ impl Model for Task {
     ghost inverse = { λ t. record { number = t.number; process = t.process; current = t.current } };
 }
 
-/// A hold: the number of a credential under a label.
-#[derive(Clone, Copy, Debug)]
-pub struct Hold {
-    pub label: u32,
-    pub number: u64,
-}
-
-impl Model for Hold {
-    ghost use Rattle.cred_model.specs.State as model;
-
-    ghost Value = { model.Hold };
-
-    ghost view = { λ h. record { label = h.label; number = h.number } };
-
-    ghost inverse = { λ h. record { label = h.label; number = h.number } };
-}
-
-/// A sealed credential in its slot.
-#[derive(Drop, Debug)]
-pub struct Sealing {
-    pub cred: Cred,
-    pub slot: u32,
-}
-
-impl Model for Sealing {
-    ghost use Rattle.cred_model.specs.State as model;
-
-    ghost Value = { model.Sealing };
-
-    ghost view = { λ s. record { cred = s.cred; slot = s.slot } };
-}
-
 /// The task of this number.
 pub fn task_among(tasks: &[Task], number: u32) -> Option<Task>
     ensures { result ≡ find (λ t. t.number == number) tasks.now }
@@ -64,27 +34,28 @@ pub fn task_among(tasks: &[Task], number: u32) -> Option<Task>
     tasks.iter().find(|t| t.number == number).copied()
 }
 
-/// The hold of this label.
-pub fn hold_among(holds: &[Hold], label: u32) -> Option<Hold>
-    ensures { result ≡ find (λ h. h.label == label) holds.now }
-{
-    holds.iter().find(|h| h.label == label).copied()
+/// A sealed credential, with its number and its slot.
+#[derive(Clone, Copy)]
+pub struct Numbered<'a> {
+    pub number: u64,
+    pub cred: &'a Cred,
+    pub slot: u32,
 }
 
-/// The place of the hold of this label.
-pub fn hold_place(holds: &[Hold], label: u32) -> Option<usize>
-    ensures { result ≡ position (λ h. h.label == label) holds.now }
+/// The sealed credential of this number.
+pub fn sealed_at<'a>(creds: &'a [Cred], slots: &Slots, number: u64) -> Option<Numbered<'a>>
+    requires { length creds.now ≡ length slots.now.sealed }
+    ensures { option_map (λ n. record { number = n.number; cred = n.cred.now; slot = n.slot }) result
+        ≡ model.numbered (sealings creds.now slots.now.sealed) number }
 {
-    holds.iter().position(|h| h.label == label)
-}
-
-/// The sealed credential of this number, with the number.
-pub fn numbered(creds: &[Sealing], number: u64) -> Option<(u64, &Sealing)>
-    ensures { option_map (λ n. record { number = n.0; cred = n.1.now.cred; slot = n.1.now.slot }) result
-        ≡ model.numbered creds.now number }
-{
-    let sealing = creds.get(number as usize)?;
-    Some((number, sealing))
+    match creds.get(number as usize) {
+        Some(cred) => Some(Numbered {
+            number,
+            cred,
+            slot: slots.slot_of(number),
+        }),
+        None => None,
+    }
 }
 
 fn renewed(t: Task, task: u32, number: u64) -> Task

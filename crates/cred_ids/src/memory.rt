@@ -1,7 +1,7 @@
 //! Want of memory.
 use std::alloc::{AllocError, AllocFailed};
 
-/// Memory ran out. Whatever was handed to the call is as it was.
+/// Memory ran out. What was handed to the call is as it was, unless the call says otherwise.
 #[derive(Clone, Copy, PartialEq, Eq, Debug)]
 pub struct NoMemory;
 

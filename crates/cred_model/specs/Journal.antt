@@ -65,11 +65,11 @@ next script journal lane =
 abbrev pub lane_of : Script → ℕ → Option ℕ
 lane_of script number = if number == 0 then None else option_map (λ line. line.lane) (slice_get script.lines (number - 1))
 
--- Each entry is the next one of its line's lane, after the entries before it.
+-- Each entry is of a line of the script, and is the next one of that line's lane after the entries before it.
 abbrev pub SoFar : Script → List Entry → Type 0
 SoFar script journal =
     (k : ℕ) → k < length journal
-    → IfSome (slice_get journal k) (λ entry. IfSome (lane_of script entry.line) (λ lane. next script (take k journal) lane ≡ Some entry))
+    → IfSome (slice_get journal k) (λ entry. (lane : ℕ) × (lane_of script entry.line ≡ Some lane) × (next script (take k journal) lane ≡ Some entry))
 
 -- A journal is legal for a script if it is one so far, and no lane has a next entry.
 pub record IsLegal (script : Script) (journal : List Entry) : Type 0 where

@@ -1,5 +1,5 @@
 -- Fronts of a text that was to be written.
-use Rattle.std.proofs.Common.{◌≡◌, ℕ, ◌+◌, ◌<◌, List, [], ◌++◌, length, take, drop, get_or, Option, Result, Ok, Err, refl, arith}
+use Rattle.std.proofs.Common.{◌≡◌, ℕ, ◌+◌, ◌<◌, List, ◌++◌, length, take, drop, get_or, Option, Result, Ok, Err, refl, arith}
 use Rattle.std.proofs.lemmas.List.{take_all, take_at}
 use Rattle.std.specs.Io.KnownBytes.{Appends, Keeps}
 use Rattle.std.specs.Result.{OnOk, OnErr}
@@ -7,7 +7,13 @@ use Rattle.cred_io.specs.Ends.{AppendsPrefix}
 use Rattle.cred_io.specs.declared.sink.SinkRefusal.{SinkRefusal}
 use Rattle.cred_io.proofs.Known.{appends_more, appends_kept}
 use Rattle.cred_event.specs.declared.entry.Entry.{Entry}
+use Rattle.cred_io.specs.declared.sink.SinkRefusal.TheVariants as sink
 use Rattle.cred_model.specs.Script.{Script}
+use Rattle.cred_model.specs.Journal.{IsSequence}
+use Rattle.cred_laws.proofs.Lawful.{lawful}
+use Rattle.cred_script.specs.Grammar.{script_of}
+use Rattle.cred_program.specs.Ends.{Reports, finished}
+use Rattle.cred_program.specs.declared.status.Status.TheVariants as status
 use Rattle.cred_report.specs.Text.{entry_text, text}
 use Rattle.cred_report.proofs.Journals.{text_at, take_past}
 
@@ -48,3 +54,12 @@ pub flushed : (a b c : Option (List ℕ)) (bytes : List ℕ) (r : Result (Unit {
     → OnErr r (AppendsPrefix a c bytes)
 flushed a b c bytes (Ok done) all kept = tt
 flushed a b c bytes (Err refusal) all kept = whole_kept a b c bytes all kept
+
+-- a whole report that was written, and the laws of its journal
+pub reported : (before after : Option (List ℕ)) (input : List ℕ) (script : Script) (journal : List Entry) (r : Result (Unit {0}) SinkRefusal)
+    → script_of input ≡ Ok script → IsSequence script journal → OnOk r (Appends before after (text script journal))
+    → finished r status.Done ≡ status.Done → Reports before after input
+reported before after input script journal (Ok whole) read run all done =
+    record { script = script; read = read; journal = journal; run = run; lawful = lawful script journal; written = all }
+reported before after input script journal (Err sink.Failed) read run all done = cc
+reported before after input script journal (Err sink.Memory) read run all done = cc

@@ -3,13 +3,15 @@ use Rattle.std.specs.Prelude.{◌≡◌, ◌≤◌, ◌<◌, ◌⊎◌, ℕ, len
 use Rattle.std.specs.Result.{MatchResult}
 use Rattle.std.specs.declared.option.Option.{Option}
 use Rattle.std.specs.Io.KnownBytes.{Appends}
-use Rattle.cred_io.specs.Ends.{ReadsAll, AppendsPrefix}
+use Rattle.cred_io.specs.Ends.{ReadsAll, ReadsMoreThan, AppendsPrefix}
 use Rattle.cred_io.specs.declared.sink.SinkRefusal.{SinkRefusal}
 use Rattle.cred_io.specs.declared.sink.SinkRefusal.TheVariants as sink
 use Rattle.cred_event.specs.declared.entry.Entry.{Entry}
 use Rattle.cred_model.specs.Script.{Script}
 use Rattle.cred_model.specs.Journal.{IsInOrder, IsSequence}
+use Rattle.cred_laws.specs.Journals.{IsLawful}
 use Rattle.cred_script.specs.declared.refusal.Reason.{Reason}
+use Rattle.cred_script.specs.Lines.{lines_of}
 use Rattle.cred_script.specs.Grammar.{script_of}
 use Rattle.cred_report.specs.Text.{text}
 use Rattle.cred_program.specs.declared.status.Status.{Status}
@@ -18,22 +20,49 @@ use Rattle.cred_program.specs.Words.{IsCommand}
 use Rattle.cred_program.specs.Texts.{usage_text, bad_text}
 
 -- how many bytes an input may have
-abbrev pub LIMIT : ℕ
-LIMIT = 1048576
+abbrev pub BYTE_LIMIT : ℕ
+BYTE_LIMIT = 1048576
 
--- All that was left was read. It is no more than the limit, and P holds of it.
+-- how many lines an input may have
+abbrev pub LINE_LIMIT : ℕ
+LINE_LIMIT = 20000
+
+-- an input that has no more bytes and no more lines than it may have
+pub record IsWithin (input : List ℕ) : Type 0 where
+  pub bytes : length input ≤ BYTE_LIMIT
+  pub lines : length (lines_of input) ≤ LINE_LIMIT
+
+-- an input that has more bytes, or more lines, than it may have
+abbrev pub IsTooLarge : List ℕ → Type 0
+IsTooLarge input = (BYTE_LIMIT < length input) ⊎ (LINE_LIMIT < length (lines_of input))
+
+-- All that was left was read. It is within both limits, and P holds of it.
 pub record Reads (before after : Option (List ℕ)) (P : List ℕ → Type 0) : Type 0 where
   pub input : List ℕ
   pub read : ReadsAll before after input
-  pub within : length input ≤ LIMIT
+  pub within : IsWithin input
   pub so : P input
 
--- The input is a script, and the text of the journal in which its lines run whole and in order was written.
+-- All that was left was read, and it has more lines than an input may have.
+pub record ReadsMoreLines (before after : Option (List ℕ)) : Type 0 where
+  pub input : List ℕ
+  pub read : ReadsAll before after input
+  pub above : LINE_LIMIT < length (lines_of input)
+
+-- More bytes were read than an input may have, or all was read and it has more lines.
+abbrev pub ReadsTooMuch : Option (List ℕ) → Option (List ℕ) → Type 0
+ReadsTooMuch before after =
+    ReadsMoreThan BYTE_LIMIT before after ⊎ ReadsMoreLines before after
+
+-- The input is a script, and the text of the journal in which its lines run whole and in order
+-- was written. The laws hold of it: no slot is rewritten while something refers to it, a hold keeps
+-- its credential, and no permitted set grows.
 pub record Reports (before after : Option (List ℕ)) (input : List ℕ) : Type 0 where
   pub script : Script
   pub read : script_of input ≡ Ok script
   pub journal : List Entry
   pub run : IsSequence script journal
+  pub lawful : IsLawful script journal
   pub written : Appends before after (text script journal)
 
 -- The input is no script, and its first bad line was written, with the reason.
@@ -46,23 +75,28 @@ pub record Refuses (before after : Option (List ℕ)) (input : List ℕ) : Type 
 abbrev pub Begins : Option (List ℕ) → Option (List ℕ) → List ℕ → Type 0
 Begins before after input =
     MatchResult (script_of input)
-    (λ script. (journal : List Entry) × IsInOrder script journal × AppendsPrefix before after (text script journal))
+    (λ script. (journal : List Entry) × IsInOrder script journal
+    × AppendsPrefix before after (text script journal))
     (λ bad. AppendsPrefix before after (bad_text bad))
 
--- What may have been written when the program ends, whatever its status: nothing, or a front of what the words and the
--- input have, and of the latter only when the input was read to its end.
-abbrev pub WritesFront : List (List ℕ) → Option (List ℕ) → Option (List ℕ) → Option (List ℕ) → Option (List ℕ) → Type 0
+-- What may have been written when the program ends, whatever its status: nothing, or a front of
+-- what the words and the input have, and of the latter only when the input was read to its end and
+-- is within the limits.
+abbrev pub WritesFront : List (List ℕ) → Option (List ℕ) → Option (List ℕ) → Option (List ℕ)
+    → Option (List ℕ) → Type 0
 WritesFront words left_before left_after before after =
     (after ≡ before)
     ⊎ ((IsCommand words → ⊥) × AppendsPrefix before after usage_text)
     ⊎ (IsCommand words × Reads left_before left_after (Begins before after))
 
--- The statuses that an input may have: which of Done, Bad and TooLarge it is, the input alone decides, and nothing but a
--- fault or want of memory takes their place.
+-- The statuses that an input may have: which of Done, Bad and TooLarge it is, the input alone
+-- decides, and nothing but a fault or want of memory takes their place.
 abbrev pub Suits : List ℕ → Status → Type 0
-Suits input status.Done = (length input ≤ LIMIT) × MatchResult (script_of input) (λ script. Unit {0}) (λ bad. ⊥)
-Suits input status.Bad = (length input ≤ LIMIT) × MatchResult (script_of input) (λ script. ⊥) (λ bad. Unit {0})
-Suits input status.TooLarge = LIMIT < length input
+Suits input status.Done =
+    IsWithin input × MatchResult (script_of input) (λ script. Unit {0}) (λ bad. ⊥)
+Suits input status.Bad =
+    IsWithin input × MatchResult (script_of input) (λ script. ⊥) (λ bad. Unit {0})
+Suits input status.TooLarge = IsTooLarge input
 Suits input status.Usage = ⊥
 Suits input status.ReadFault = Unit {0}
 Suits input status.WriteFault = Unit {0}

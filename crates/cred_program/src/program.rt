@@ -2,12 +2,12 @@
 ghost use Rattle.std.specs.Prelude.{◌≡◌, ◌⊎◌, ℕ, List, Some};
 ghost use Rattle.std.specs.Io.KnownBytes.{Appends};
 ghost use Rattle.cred_io.specs.Causes.{Rose};
-ghost use Rattle.cred_io.specs.Ends.{ReadsMoreThan};
 ghost use Rattle.cred_program.specs.Words.{IsCommand, texts};
 ghost use Rattle.cred_program.specs.Texts.{usage_text};
-ghost use Rattle.cred_program.specs.Ends.{Reads, Reports, Refuses, WritesFront, Suits, IsForNoCommand};
+ghost use Rattle.cred_program.specs.Ends.{IsForNoCommand, Reads, ReadsTooMuch, Refuses, Reports};
+ghost use Rattle.cred_program.specs.Ends.{Suits, WritesFront};
 
-use crate::script::{LIMIT, run_script};
+use crate::script::{BYTE_LIMIT, run_script};
 use crate::status::{Status, finish};
 use crate::words::is_command;
 use crate::writing::write_text;
@@ -24,12 +24,14 @@ pub fn credtrace<S: Source, K: Sink>(
     source: &mut S,
     sink: &mut K,
 ) -> Status
-    // The input was read to its end, it is a script, and the whole text of its journal was written.
+    // The input was read to its end and is within the limits, it is a script, and the whole text of
+    // its journal was written.
     ensures done { result ≡ Status.Done → IsCommand (texts words.now)
         × Reads (S.left source.old) (S.left source.new)
         (Reports (K.written sink.old) (K.written sink.new)) }
 
-    // The input was read to its end, it is no script, and its first bad line was written.
+    // The input was read to its end and is within the limits, it is no script, and its first bad
+    // line was written.
     ensures bad { result ≡ Status.Bad → IsCommand (texts words.now)
         × Reads (S.left source.old) (S.left source.new)
         (Refuses (K.written sink.old) (K.written sink.new)) }
@@ -45,8 +47,10 @@ pub fn credtrace<S: Source, K: Sink>(
         × Rose (S.faults source.old) (S.faults source.new) }
     ensures write_fault { result ≡ Status.WriteFault
         → Rose (K.faults sink.old) (K.faults sink.new) }
+
+    // More bytes were read than an input may have; or it was read to its end, and has more lines.
     ensures too_large { result ≡ Status.TooLarge → IsCommand (texts words.now)
-        × ReadsMoreThan LIMIT (S.left source.old) (S.left source.new) }
+        × ReadsTooMuch (S.left source.old) (S.left source.new) }
 
     // What is left at the source decides which of Done, Bad and TooLarge it is.
     ensures suits { IsCommand (texts words.now) → (input : List ℕ)
@@ -61,7 +65,7 @@ pub fn credtrace<S: Source, K: Sink>(
     if !is_command(words) {
         return finish(write_text(sink, USAGE.as_bytes()), Status::Usage);
     }
-    match read_all(alloc, source, LIMIT) {
+    match read_all(alloc, source, BYTE_LIMIT) {
         Ok(bytes) => run_script(alloc, bytes.items(), sink),
         Err(ReadRefusal::Fault) => Status::ReadFault,
         Err(ReadRefusal::TooLarge) => Status::TooLarge,

@@ -1,32 +1,43 @@
 //! Running a script from its bytes.
-ghost use Rattle.std.specs.Prelude.{◌≡◌, ◌≢◌, ◌≤◌, length};
+ghost use Rattle.std.specs.Prelude.{◌≡◌, ◌≢◌, ◌≤◌, ◌<◌, ◌⊎◌, length};
 ghost use Rattle.cred_io.specs.Causes.{Rose};
-ghost use Rattle.cred_program.specs.Ends.{Reports, Refuses, Begins, Suits};
+ghost use Rattle.cred_script.specs.Lines.{lines_of};
+ghost use Rattle.cred_program.specs.Ends.{Begins, IsWithin, Refuses, Reports, Suits};
 
 use crate::status::{Status, finish};
 use crate::writing::{write_bad, write_report};
 use cred_book::run;
 use cred_io::Sink;
-use cred_script::{ScriptRefusal, read};
+use cred_script::{ScriptRefusal, line_count, read};
 use std::alloc::Global;
 
-/// How many bytes a script may have.
-pub const LIMIT: u32 = 1_048_576;
+/// How many bytes an input may have.
+pub const BYTE_LIMIT: u32 = 1_048_576;
 
-/// Runs the script that these bytes are, and writes its report, or its first bad line.
+/// How many lines an input may have.
+pub const LINE_LIMIT: usize = 20_000;
+
+/// Runs the script that these bytes are, and writes its report, or its first bad line; nothing
+/// where there are too many lines.
 pub fn run_script<K: Sink>(alloc: Global, bytes: &[u8], sink: &mut K) -> Status
-    requires { length bytes.now ≤ LIMIT }
+    requires { length bytes.now ≤ BYTE_LIMIT }
     ensures done { result ≡ Status.Done
         → Reports (K.written sink.old) (K.written sink.new) bytes.now }
     ensures bad { result ≡ Status.Bad
         → Refuses (K.written sink.old) (K.written sink.new) bytes.now }
+    ensures too_large { result ≡ Status.TooLarge
+        → (LINE_LIMIT < length (lines_of bytes.now)) × (sink.new ≡ sink.old) }
     ensures write_fault { result ≡ Status.WriteFault
         → Rose (K.faults sink.old) (K.faults sink.new) }
     ensures no_read_fault { result ≢ Status.ReadFault }
     ensures suits { Suits bytes.now result }
-    ensures front { Begins (K.written sink.old) (K.written sink.new) bytes.now }
+    ensures front { (sink.new ≡ sink.old)
+        ⊎ (IsWithin bytes.now × Begins (K.written sink.old) (K.written sink.new) bytes.now) }
     ensures later { K.faults sink.old ≤ K.faults sink.new }
 {
+    if line_count(bytes) > LINE_LIMIT {
+        return Status::TooLarge;
+    }
     let script = match read(alloc, bytes) {
         Ok(script) => script,
         Err(ScriptRefusal::Bad { line, reason }) => {

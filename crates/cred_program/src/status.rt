@@ -19,7 +19,7 @@ pub enum Status {
     WriteFault,
     /// Memory ran out.
     Memory,
-    /// The input is larger than the limit.
+    /// The input has more bytes, or more lines, than it may have.
     TooLarge,
 }
 

@@ -15,7 +15,7 @@ use std::alloc::Global;
 ///
 /// # Errors
 ///
-/// `NoMemory`: the text may then stand there in part.
+/// `NoMemory` where the buffer cannot grow. Nothing is said of what it holds then.
 pub fn append(out: &mut Vec<u8>, script: &Script, entry: &Entry) -> Result<(), NoMemory>
     ensures { OnOk result (out.new.items ≡ out.old.items ++ entry_text script.now entry.now) }
 {
@@ -27,7 +27,12 @@ pub fn append(out: &mut Vec<u8>, script: &Script, entry: &Entry) -> Result<(), N
     append_word(out, "\n")
 }
 
-/// The text of the entry, a line of the report.
+/// The text of the entry, a line of the report, in memory of its own. To print many entries, use
+/// `append`, whose buffer is there already.
+///
+/// # Errors
+///
+/// `NoMemory` where there is none for the text.
 pub fn print(alloc: Global, script: &Script, entry: &Entry) -> Result<Text, NoMemory>
     ensures { IfOk result (λ text. text ≡ entry_text script.now entry.now) }
 {

@@ -1,7 +1,7 @@
 //! The text of a run's report: one line for each entry of the journal.
 //!
-//! What the text of an entry is is defined in `specs/`, case by case. `append` adds it to what is
-//! written already, so that one buffer serves a whole report, and `print` gives it alone.
+//! `specs/` defines the text of an entry, case by case. `append` adds it to a buffer, so that one
+//! buffer serves a whole report, and `print` gives it alone.
 #![tactic(auto)]
 
 mod answers;

@@ -1,4 +1,4 @@
-//! Entries of the worked runs of the format's description, against the lines that it prints.
+//! Entries built by hand, against their lines in worked reports.
 use crate::{append, print};
 use cred_caps::{CapSet, SecureBits};
 use cred_event::{AbortCause, Answer, Change, Counted, Entry, Event, Named, Query, Side, Told};

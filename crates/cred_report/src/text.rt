@@ -5,7 +5,7 @@ use cred_ids::NoMemory;
 use std::alloc::Global;
 use std::marker::Model;
 
-/// A text, whose bytes are ASCII where it is one of a report. Contracts see the list of its bytes.
+/// A text. Contracts see the list of its bytes.
 #[derive(Drop, Debug)]
 pub struct Text {
     bytes: Vec<u8>,
@@ -20,7 +20,7 @@ impl Model for Text {
 }
 
 impl Text {
-    /// The text of these bytes.
+    /// The text of these bytes. It is refused only for want of memory.
     pub fn of(alloc: Global, items: &[u8]) -> Result<Text, NoMemory>
         ensures { IfOk result (λ t. t ≡ items.now) }
     {
@@ -36,7 +36,7 @@ impl Text {
         Text { bytes }
     }
 
-    /// Its bytes.
+    /// Its bytes, in order.
     pub fn items(&self) -> &[u8]
         ensures { result.now ≡ self.now }
     {

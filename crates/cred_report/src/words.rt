@@ -11,7 +11,7 @@ pub(crate) fn append_word(out: &mut Vec<u8>, word: &str) -> Result<(), NoMemory>
     Ok(out.extend_from_slice(word.as_bytes())?)
 }
 
-/// Appends the word and the number.
+/// Appends the word and the number, which may be one of a credential.
 pub(crate) fn append_long(out: &mut Vec<u8>, word: &str, number: u64) -> Result<(), NoMemory>
     ensures { OnOk result (out.new.items ≡ out.old.items ++ (word.now ++ decimal number)) }
 {

@@ -32,15 +32,6 @@ fn other_words_get_the_usage_line(rt: HostRuntime) -> Result<(), Fail> {
     Ok(())
 }
 
-#[test]
-fn one_byte_above_the_limit_is_too_large(rt: HostRuntime) -> Result<(), Fail> {
-    let comment = vec![in rt.alloc(); b'#'; 1_048_577]?;
-    let (status, sink) = ran(rt.alloc(), &["run"], &comment)?;
-    assert!(rt; status == Status::TooLarge);
-    assert!(rt; sink.bytes().is_empty());
-    Ok(())
-}
-
 /// How the program ends where these reads and these writes fail, and what it has written.
 fn failing(alloc: Global, reads: &[u64], writes: &[u64]) -> Result<(Status, MemorySink), Fail> {
     let words = words_of(alloc, &["run"])?;

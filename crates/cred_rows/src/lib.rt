@@ -5,6 +5,12 @@
 #[cfg(test)]
 mod ends;
 #[cfg(test)]
+mod lasts;
+#[cfg(test)]
+mod refused;
+#[cfg(test)]
 mod rows;
 #[cfg(test)]
 mod runs;
+#[cfg(test)]
+mod sizes;

@@ -1,4 +1,4 @@
-//! Scripts with the report, or the line, that they must get.
+//! Scripts with the report that they must get.
 use crate::runs::ran;
 use cred_program::Status;
 use std::test::Fail;
@@ -55,15 +55,64 @@ const ROWS: [Row; 9] = [
     (
         "init t1 p1 0 0 n0\nt1 setresuid 1000 10",
         Status::Bad,
-        "bad 2 word\n",
+        "bad 2 count\n",
     ),
     (
-        "init t1 p1 0 0 n0\nt1 frob\nt1 ids\t\n",
-        Status::Bad,
-        "bad 2 word\n",
+        // A held credential outlives its replacement. Each new one takes the least slot to whose
+        // credential nothing refers: s1 and s2 while h1 holds c0, and s0 once it was let go and
+        // swept.
+        "init t1 p1 0 0 n0\ntake h1 t1\nt1 setresuid 5 5 5\nsweep\nt1 setresuid 5 5 5\n\
+         ask h1 ids\ndrop h1\nsweep\nt1 setresuid 5 5 5\n",
+        Status::Done,
+        "1 init t1 p1 0 0 n0 -> ok c0 s0\n\
+         2 take h1 t1 -> ok c0 s0\n\
+         3 begin t1 setresuid 5 5 5 -> ok c1 s1 left 0\n\
+         4 sweep -> ok\n\
+         5 begin t1 setresuid 5 5 5 -> ok c2 s2 left 0\n\
+         6 ask h1 ids -> ok 0 0 0 0 0 0 0 0\n\
+         7 drop h1 -> ok\n\
+         8 sweep -> ok\n\
+         9 begin t1 setresuid 5 5 5 -> ok c3 s0 left 0\n",
     ),
-    ("init t1 p1 0 0 n0\r\n", Status::Bad, "bad 1 byte\n"),
-    ("init t1 p1 4294967295 0 n0\n", Status::Bad, "bad 1 word\n"),
+    (
+        // Empty lines and comments do nothing, and are counted in the numbers. The words of a line
+        // stand apart by any number of spaces.
+        "# a root task\n\ninit t1 p1 0 0 n0\n   \n  t1  setresuid   -1 0 -1 \n  #t1 frob\nt1 ids",
+        Status::Done,
+        "3 init t1 p1 0 0 n0 -> ok c0 s0\n\
+         5 begin t1 setresuid -1 0 -1 -> ok c1 s1 left 0\n\
+         7 take h100070 t1 -> ok c1 s1\n\
+         7 ask h100070 ids -> ok 0 0 0 0 0 0 0 0\n\
+         7 drop h100070 -> ok\n",
+    ),
+    (
+        // What is refused changes nothing, and of several refusals the first by the event's order
+        // is told: no such task before a label in use. A task that has left root has no
+        // capability, so 0 is refused.
+        "init t1 p1 0 0 n0\nask h1 ids\ndrop h1\ntake h1 t2\ntakereal h1 t1\ntake h1 t1\n\
+         takereal h1 t2\nask h1 caps\nbegin t1 setresuid 7 8 9\nbegin t2 setresuid 1 1 1\n\
+         t1 setresuid 0 -1 -1\nt2 caps\nask h1 ids\nt1 ids\ndrop h1\nsweep\ndrop h1\n",
+        Status::Done,
+        "1 init t1 p1 0 0 n0 -> ok c0 s0\n\
+         2 ask h1 ids -> no hold h1\n\
+         3 drop h1 -> no hold h1\n\
+         4 take h1 t2 -> no task t2\n\
+         5 takereal h1 t1 -> ok c0 s0\n\
+         6 take h1 t1 -> exists h1\n\
+         7 takereal h1 t2 -> no task t2\n\
+         8 ask h1 caps -> ok 1ffffffffff 0 1ffffffffff 1ffffffffff 0\n\
+         9 begin t1 setresuid 7 8 9 -> ok c1 s1 left 0\n\
+         10 begin t2 setresuid 1 1 1 -> no task t2\n\
+         11 begin t1 setresuid 0 -1 -1 -> eperm\n\
+         12 take h100120 t2 -> no task t2\n\
+         13 ask h1 ids -> ok 0 0 0 0 0 0 0 0\n\
+         14 take h100140 t1 -> ok c1 s1\n\
+         14 ask h100140 ids -> ok 7 8 9 8 0 0 0 0\n\
+         14 drop h100140 -> ok\n\
+         15 drop h1 -> ok\n\
+         16 sweep -> ok\n\
+         17 drop h1 -> no hold h1\n",
+    ),
 ];
 
 #[test]

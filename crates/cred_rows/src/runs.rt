@@ -13,6 +13,15 @@ pub fn words_of(alloc: Global, texts: &[&str]) -> Result<Vec<String>, NoMemory> 
     Ok(words)
 }
 
+/// The piece, so many times.
+pub fn repeated(alloc: Global, piece: &str, count: usize) -> Result<Vec<u8>, NoMemory> {
+    let mut bytes = Vec::new(alloc);
+    for _ in 0..count {
+        bytes.extend_from_slice(piece.as_bytes())?;
+    }
+    Ok(bytes)
+}
+
 /// How the program ends with these words on this input, and what it has written.
 pub fn ran(alloc: Global, texts: &[&str], input: &[u8]) -> Result<(Status, SureSink), NoMemory> {
     let words = words_of(alloc, texts)?;

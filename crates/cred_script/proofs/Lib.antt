@@ -1,3 +1,4 @@
 pub mod FirstLine
 pub mod Numerals
 pub mod Fronts
+pub mod FirstBadLine

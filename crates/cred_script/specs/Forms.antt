@@ -1,65 +1,122 @@
--- The forms of a line: what its words are, and what it then holds.
-use Rattle.std.specs.Prelude.{ℕ, ◌==◌, List, [], ◌∷◌, codes, Result, Ok, Err, ok_or, if◌then◌else◌}
-use Rattle.std.specs.Str.{bytes_eq}
-use Rattle.cred_record.specs.declared.id_call.IdCall.TheVariants.{SetResuid}
-use Rattle.cred_event.specs.declared.event.Event.TheVariants.{Init}
+-- The forms of a line: what its words are, and what it then holds. Each definition takes the words
+-- that stand after the one that names the form. How many there are is asked before what they spell.
+use Rattle.std.specs.Prelude.{ℕ, List, [], ◌∷◌, Result, Ok, Err, ok_or}
+use Rattle.cred_record.specs.declared.id_call.IdCall.{IdCall}
+use Rattle.cred_record.specs.declared.id_call.IdCall.TheVariants as id_call
+use Rattle.cred_event.specs.declared.event.Event.TheVariants.{Init, Take, Release, Ask, Begin, Sweep}
+use Rattle.cred_event.specs.declared.event.Side.{Side}
 use Rattle.cred_event.specs.declared.event.Query.{Query}
-use Rattle.cred_event.specs.declared.event.Query.TheVariants.{Ids, Caps}
+use Rattle.cred_event.specs.declared.event.Query.TheVariants as query
 use Rattle.cred_event.specs.declared.content.Content.{Content}
 use Rattle.cred_event.specs.declared.content.Content.TheVariants.{One, Id, Question}
+use Rattle.cred_script.specs.declared.names.Form.{Form}
+use Rattle.cred_script.specs.declared.names.Form.TheVariants as form
+use Rattle.cred_script.specs.declared.names.IdName.{IdName}
+use Rattle.cred_script.specs.declared.names.IdName.TheVariants as id_name
+use Rattle.cred_script.specs.declared.names.QueryName.{QueryName}
+use Rattle.cred_script.specs.declared.names.QueryName.TheVariants as query_name
+use Rattle.cred_script.specs.declared.names.CallName.{CallName}
+use Rattle.cred_script.specs.declared.names.CallName.TheVariants as call
 use Rattle.cred_script.specs.declared.refusal.Reason.{Reason}
 use Rattle.cred_script.specs.declared.refusal.Reason.TheVariants.{Word}
-use Rattle.cred_script.specs.Words.{◌>>=◌, exact, none, three, five}
-use Rattle.cred_script.specs.Spellings.{id_of, arg_of}
+use Rattle.cred_script.specs.Words.{◌>>=◌, none, one, two, two_or_more, three, five}
+use Rattle.cred_script.specs.Spellings.{id_of, arg_of, task_of, process_of, label_of, namespace_of}
+use Rattle.cred_script.specs.Names as names
 
--- `init t1 p1 ID ID n0`, after its first word: the first task is born, with this user and this group.
-unfoldable pub init_content : List (List ℕ) → Result Content Reason
-init_content words = do
-  word ← five words
-  task ← exact (codes "t1") word.0
-  process ← exact (codes "p1") word.1
-  user ← ok_or (id_of word.2) Word
-  group ← ok_or (id_of word.3) Word
-  namespace ← exact (codes "n0") word.4
-  Ok (One (Init 1 1 user group 0))
-
--- `t1 setresuid ARG ARG ARG`, after its second word: the real, the effective and the saved user id.
-unfoldable pub setresuid_content : List (List ℕ) → Result Content Reason
-setresuid_content words = do
+-- `setresuid ARG ARG ARG`: the real, the effective and the saved user id
+unfoldable pub setresuid_call : List (List ℕ) → Result IdCall Reason
+setresuid_call words = do
   word ← three words
   real ← ok_or (arg_of word.0) Word
   effective ← ok_or (arg_of word.1) Word
   saved ← ok_or (arg_of word.2) Word
-  Ok (Id 1 (SetResuid real effective saved))
+  Ok (id_call.SetResuid real effective saved)
 
--- `t1 ids` and `t1 caps`, after the second word
-unfoldable pub question_content : Query → List (List ℕ) → Result Content Reason
-question_content query words = do
+-- an id call, by its name
+abbrev pub id_call_of : IdName → List (List ℕ) → Result IdCall Reason
+id_call_of id_name.SetResuid words = setresuid_call words
+
+-- a question, by its name
+unfoldable pub query_of : QueryName → List (List ℕ) → Result Query Reason
+query_of query_name.Ids words = do
   end ← none words
-  Ok (Question 1 query)
+  Ok query.Ids
+query_of query_name.Caps words = do
+  end ← none words
+  Ok query.Caps
 
--- a call or a question of the task, by its word and the words after it
-abbrev pub call_content : List ℕ → List (List ℕ) → Result Content Reason
-call_content call words =
-    if bytes_eq call (codes "setresuid") then setresuid_content words
-    else if bytes_eq call (codes "ids") then question_content Ids words
-    else if bytes_eq call (codes "caps") then question_content Caps words
-    else Err Word
+-- `init T P ID ID N`: a first task is born, with its process, user, group and namespace.
+unfoldable pub init_content : List (List ℕ) → Result Content Reason
+init_content words = do
+  word ← five words
+  task ← ok_or (task_of word.0) Word
+  process ← ok_or (process_of word.1) Word
+  user ← ok_or (id_of word.2) Word
+  group ← ok_or (id_of word.3) Word
+  namespace ← ok_or (namespace_of word.4) Word
+  Ok (One (Init task process user group namespace))
 
--- the first line of a script is the task's start
-unfoldable pub first_content : List (List ℕ) → Result Content Reason
-first_content [] = Err Word
-first_content (word ∷ words) = do
-  i ← exact (codes "init") word
-  init_content words
+-- `take H T` and `takereal H T`
+unfoldable pub take_content : Side → List (List ℕ) → Result Content Reason
+take_content side words = do
+  word ← two words
+  label ← ok_or (label_of word.0) Word
+  task ← ok_or (task_of word.1) Word
+  Ok (One (Take label task side))
 
--- every further line is the task's own
-unfoldable pub further_content : List (List ℕ) → Result Content Reason
-further_content (task ∷ call ∷ words) = do
-  t ← exact (codes "t1") task
-  call_content call words
-further_content words = Err Word
+-- `drop H`
+unfoldable pub release_content : List (List ℕ) → Result Content Reason
+release_content words = do
+  word ← one words
+  label ← ok_or (label_of word) Word
+  Ok (One (Release label))
 
--- what a line holds, by its number and its words
-abbrev pub words_content : ℕ → List (List ℕ) → Result Content Reason
-words_content number words = if number == 1 then first_content words else further_content words
+-- `ask H QUERY`
+unfoldable pub ask_content : List (List ℕ) → Result Content Reason
+ask_content words = do
+  word ← two_or_more words
+  name ← ok_or (names.query_name word.1) Word
+  question ← query_of name word.2
+  label ← ok_or (label_of word.0) Word
+  Ok (One (Ask label question))
+
+-- `begin T IDCALL`
+unfoldable pub begin_content : List (List ℕ) → Result Content Reason
+begin_content words = do
+  word ← two_or_more words
+  name ← ok_or (names.id_name word.1) Word
+  call ← id_call_of name word.2
+  task ← ok_or (task_of word.0) Word
+  Ok (One (Begin task call))
+
+-- `sweep`
+unfoldable pub sweep_content : List (List ℕ) → Result Content Reason
+sweep_content words = do
+  end ← none words
+  Ok (One Sweep)
+
+-- what the task does, by its name
+unfoldable pub call_content : ℕ → CallName → List (List ℕ) → Result Content Reason
+call_content task (call.Id name) words = do
+  made ← id_call_of name words
+  Ok (Id task made)
+call_content task (call.Question name) words = do
+  asked ← query_of name words
+  Ok (Question task asked)
+
+-- an id call or a question of the task: the line names it after the task
+unfoldable pub own_content : ℕ → List (List ℕ) → Result Content Reason
+own_content task [] = Err Word
+own_content task (word ∷ words) = do
+  name ← ok_or (names.call_name word) Word
+  call_content task name words
+
+-- what a line of this form holds
+abbrev pub form_content : Form → List (List ℕ) → Result Content Reason
+form_content form.Init words = init_content words
+form_content (form.Own task) words = own_content task words
+form_content (form.Take side) words = take_content side words
+form_content form.Release words = release_content words
+form_content form.Ask words = ask_content words
+form_content form.Begin words = begin_content words
+form_content form.Sweep words = sweep_content words

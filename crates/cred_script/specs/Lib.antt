@@ -1,6 +1,10 @@
 pub mod Lines
 pub mod Words
 pub mod Spellings
+pub mod Names
 pub mod Forms
+pub mod Earlier
 pub mod Grammar
+pub mod FirstBad
+pub mod Sound
 pub mod Read

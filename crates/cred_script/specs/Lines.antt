@@ -5,7 +5,8 @@ use Rattle.std.specs.List.{onto_first, list_all}
 -- Each line ends with LF; the last one may lack it.
 abbrev pub lines_of : List ℕ → List (List ℕ)
 lines_of [] = []
-lines_of (byte ∷ bytes) = if byte == 10 then [] ∷ lines_of bytes else onto_first byte (lines_of bytes)
+lines_of (byte ∷ bytes) =
+    if byte == 10 then [] ∷ lines_of bytes else onto_first byte (lines_of bytes)
 
 -- Each byte is from 0x20 to 0x7E: neither CR nor a tab is.
 abbrev pub is_printable : List ℕ → Bool

@@ -8,7 +8,8 @@ use Rattle.cred_script.specs.declared.refusal.ScriptRefusal.{ScriptRefusal}
 use Rattle.cred_script.specs.declared.refusal.ScriptRefusal.TheVariants.{Bad, Memory}
 
 -- what was answered is what the definition gives, unless memory ran out
-abbrev pub Gives : {V A : Type 0} → (V → A) → Result V ScriptRefusal → Result A (ℕ × Reason) → Type 0
+abbrev pub Gives : {V A : Type 0} → (V → A) → Result V ScriptRefusal → Result A (ℕ × Reason)
+    → Type 0
 Gives view (Ok v) given = given ≡ Ok (view v)
 Gives view (Err (Bad line reason)) given = given ≡ Err (line, reason)
 Gives view (Err Memory) given = Unit {0}
@@ -21,6 +22,16 @@ Says view (Err reason) given = given ≡ Err reason
 -- what the words are, wherever they lie
 abbrev pub nows : List (Bor (List ℕ)) → List (List ℕ)
 nows words = map (λ word. word.now) words
+
+-- two words, and those after them
+abbrev pub more_nows : Bor (List ℕ) × Bor (List ℕ) × Bor (List (Bor (List ℕ)))
+    → List ℕ × List ℕ × List (List ℕ)
+more_nows words = (words.0.now, words.1.now, nows words.2.now)
+
+-- five words
+abbrev pub five_nows : Bor (List ℕ) × Bor (List ℕ) × Bor (List ℕ) × Bor (List ℕ) × Bor (List ℕ)
+    → List ℕ × List ℕ × List ℕ × List ℕ × List ℕ
+five_nows words = (words.0.now, words.1.now, words.2.now, words.3.now, words.4.now)
 
 -- the line that a lane and a content make
 abbrev pub seen : ℕ × Bor Content → Line

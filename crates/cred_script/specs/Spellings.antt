@@ -1,5 +1,5 @@
 -- What a word spells.
-use Rattle.std.specs.Prelude.{ℕ, ◌^◌, Bool, false, ◌&&◌, ◌==◌, nat_lt, List, [], ◌∷◌, length, codes, Some, None, if◌then◌else◌}
+use Rattle.std.specs.Prelude.{ℕ, ◌^◌, Bool, false, ◌&&◌, ◌==◌, nat_le, nat_lt, List, [], ◌∷◌, length, codes, Some, None, if◌then◌else◌}
 use Rattle.std.specs.declared.option.Option.{Option}
 use Rattle.std.specs.Option.{option_map, option_and_then}
 use Rattle.std.specs.Str.{bytes_eq, all_ascii_digits}
@@ -10,16 +10,47 @@ use Rattle.cred_ids.specs.declared.arg.Arg.TheVariants.{Keep, Set}
 -- `0`, or a digit from 1 to 9 and further digits
 abbrev pub is_numeral : List ℕ → Bool
 is_numeral [] = false
-is_numeral (digit ∷ digits) = if digit == 48 then length digits == 0 else all_ascii_digits (digit ∷ digits)
+is_numeral (digit ∷ digits) =
+    if digit == 48 then length digits == 0 else all_ascii_digits (digit ∷ digits)
 
 -- a number, at most 4294967295
 abbrev pub number_of : List ℕ → Option ℕ
-number_of word = if is_numeral word && nat_lt (digits_value 10 word) (2 ^ 32) then Some (digits_value 10 word) else None
+number_of word =
+    if is_numeral word && nat_lt (digits_value 10 word) (2 ^ 32)
+    then Some (digits_value 10 word)
+    else None
 
 -- The number 4294967295 is no id.
 abbrev pub id_of : List ℕ → Option ℕ
-id_of word = option_and_then (λ number. if number == 4294967295 then None else Some number) (number_of word)
+id_of word =
+    option_and_then (λ number. if number == 4294967295 then None else Some number) (number_of word)
 
 -- `-1` lets the old id stay.
 abbrev pub arg_of : List ℕ → Option Arg
 arg_of word = if bytes_eq word (codes "-1") then Some Keep else option_map Set (id_of word)
+
+-- the number, if it is from the least to the most
+abbrev pub within : ℕ → ℕ → ℕ → Option ℕ
+within least most number = if nat_le least number && nat_le number most then Some number else None
+
+-- a letter, and a number from the least to the most
+abbrev pub numbered : ℕ → ℕ → ℕ → List ℕ → Option ℕ
+numbered letter least most [] = None
+numbered letter least most (first ∷ digits) =
+    if first == letter then option_and_then (within least most) (number_of digits) else None
+
+-- a task, as `t1`
+abbrev pub task_of : List ℕ → Option ℕ
+task_of word = numbered 116 1 99999 word
+
+-- a process, as `p1`
+abbrev pub process_of : List ℕ → Option ℕ
+process_of word = numbered 112 1 99999 word
+
+-- a label, as `h1`
+abbrev pub label_of : List ℕ → Option ℕ
+label_of word = numbered 104 1 99999 word
+
+-- a namespace, as `n0`
+abbrev pub namespace_of : List ℕ → Option ℕ
+namespace_of word = numbered 110 0 15 word

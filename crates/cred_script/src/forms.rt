@@ -1,105 +1,172 @@
-//! The forms of a line: what its words are, and what it then holds.
-ghost use Rattle.std.specs.Prelude.{◌≡◌};
+//! The forms of a line: what its words are, and what it then holds. Each function takes the words
+//! that stand after the one that names the form. Their number is asked before what they spell.
+ghost use Rattle.std.specs.Prelude.{◌≡◌, IfOk};
 ghost use Rattle.cred_script.specs.Read.{Says, nows};
 ghost use Rattle.cred_script.specs.Forms as spec;
+ghost use Rattle.cred_script.specs.Sound.{AreAmong, NamesOwn, query_files};
 
+use crate::names::{CallName, Form, IdName, QueryName, call_name, id_name, query_name};
 use crate::refusal::Reason;
-use crate::spellings::{arg_of, exact, id_of, is};
-use crate::words::{five, none, three};
-use cred_event::{Content, Event, Query};
+use crate::spellings::{arg_of, id_of, label_of, namespace_of, process_of, task_of};
+use crate::words::{five, none, one, three, two, two_or_more};
+use cred_event::{Content, Event, Query, Side};
 use cred_record::IdCall;
 
-/// What the line of this number holds.
-pub(crate) fn words_content(number: u32, words: &[&[u8]]) -> Result<Content, Reason>
-    ensures { Says (λ content. content) result (spec.words_content number (nows words.now)) }
+/// What a line of this form holds.
+pub(crate) fn form_content(form: Form, words: &[&[u8]]) -> Result<Content, Reason>
+    ensures content { Says (λ content. content) result (spec.form_content form (nows words.now)) }
+    ensures own { IfOk result NamesOwn }
 {
-    if number == 1 {
-        first_content(words)
-    } else {
-        further_content(words)
+    match form {
+        Form::Init => init_content(words),
+        Form::Own(task) => own_content(task, words),
+        Form::Take(side) => take_content(side, words),
+        Form::Release => release_content(words),
+        Form::Ask => ask_content(words),
+        Form::Begin => begin_content(words),
+        Form::Sweep => sweep_content(words),
     }
 }
 
-/// The first line of a script is the task's start.
-#[tactic(auto, unfolding(crate::specs::Forms::first_content))]
-fn first_content(words: &[&[u8]]) -> Result<Content, Reason>
-    ensures { Says (λ content. content) result (spec.first_content (nows words.now)) }
+/// `setresuid ARG ARG ARG`
+#[tactic(auto, unfolding(crate::specs::Forms::setresuid_call))]
+fn setresuid_call(words: &[&[u8]]) -> Result<IdCall, Reason>
+    ensures { Says (λ call. call) result (spec.setresuid_call (nows words.now)) }
 {
-    let [first, rest @ ..] = words else {
-        return Err(Reason::Word);
-    };
-    exact("init", first)?;
-    init_content(rest)
+    let (real, effective, saved) = three(words)?;
+    Ok(IdCall::SetResuid(
+        arg_of(real).ok_or(Reason::Word)?,
+        arg_of(effective).ok_or(Reason::Word)?,
+        arg_of(saved).ok_or(Reason::Word)?,
+    ))
 }
 
-/// `init t1 p1 ID ID n0`, after its first word.
+/// An id call, by its name.
+fn id_call_of(name: IdName, words: &[&[u8]]) -> Result<IdCall, Reason>
+    ensures { Says (λ call. call) result (spec.id_call_of name (nows words.now)) }
+{
+    match name {
+        IdName::SetResuid => setresuid_call(words),
+    }
+}
+
+/// A question, by its name.
+#[tactic(auto, unfolding(crate::specs::Forms::query_of))]
+fn query_of(name: QueryName, words: &[&[u8]]) -> Result<Query, Reason>
+    ensures query { Says (λ query. query) result (spec.query_of name (nows words.now)) }
+    ensures files { IfOk result (λ query. AreAmong 0 (query_files query)) }
+{
+    none(words)?;
+    match name {
+        QueryName::Ids => Ok(Query::Ids),
+        QueryName::Caps => Ok(Query::Caps),
+    }
+}
+
+/// `init T P ID ID N`
 #[tactic(auto, unfolding(crate::specs::Forms::init_content))]
 fn init_content(words: &[&[u8]]) -> Result<Content, Reason>
-    ensures { Says (λ content. content) result (spec.init_content (nows words.now)) }
+    ensures content { Says (λ content. content) result (spec.init_content (nows words.now)) }
+    ensures own { IfOk result NamesOwn }
 {
     let (task, process, user, group, ns) = five(words)?;
-    exact("t1", task)?;
-    exact("p1", process)?;
-    let user = id_of(user).ok_or(Reason::Word)?;
-    let group = id_of(group).ok_or(Reason::Word)?;
-    exact("n0", ns)?;
     Ok(Content::One(Event::Init {
-        task: 1,
-        process: 1,
-        user,
-        group,
-        ns: 0,
+        task: task_of(task).ok_or(Reason::Word)?,
+        process: process_of(process).ok_or(Reason::Word)?,
+        user: id_of(user).ok_or(Reason::Word)?,
+        group: id_of(group).ok_or(Reason::Word)?,
+        ns: namespace_of(ns).ok_or(Reason::Word)?,
     }))
 }
 
-/// Every further line is the task's own.
-#[tactic(auto, unfolding(crate::specs::Forms::further_content))]
-fn further_content(words: &[&[u8]]) -> Result<Content, Reason>
-    ensures { Says (λ content. content) result (spec.further_content (nows words.now)) }
+/// `take H T` and `takereal H T`
+#[tactic(auto, unfolding(crate::specs::Forms::take_content))]
+fn take_content(side: Side, words: &[&[u8]]) -> Result<Content, Reason>
+    ensures content { Says (λ content. content) result (spec.take_content side (nows words.now)) }
+    ensures own { IfOk result NamesOwn }
 {
-    let [task, call, rest @ ..] = words else {
-        return Err(Reason::Word);
-    };
-    exact("t1", task)?;
-    call_content(call, rest)
+    let (label, task) = two(words)?;
+    Ok(Content::One(Event::Take {
+        label: label_of(label).ok_or(Reason::Word)?,
+        task: task_of(task).ok_or(Reason::Word)?,
+        side,
+    }))
 }
 
-/// A call or a question, by its word and the words after it.
-fn call_content(call: &[u8], words: &[&[u8]]) -> Result<Content, Reason>
-    ensures { Says (λ content. content) result (spec.call_content call.now (nows words.now)) }
+/// `drop H`
+#[tactic(auto, unfolding(crate::specs::Forms::release_content))]
+fn release_content(words: &[&[u8]]) -> Result<Content, Reason>
+    ensures content { Says (λ content. content) result (spec.release_content (nows words.now)) }
+    ensures own { IfOk result NamesOwn }
 {
-    if is(call, "setresuid") {
-        setresuid_content(words)
-    } else if is(call, "ids") {
-        question_content(Query::Ids, words)
-    } else if is(call, "caps") {
-        question_content(Query::Caps, words)
-    } else {
-        Err(Reason::Word)
+    let label = one(words)?;
+    Ok(Content::One(Event::Release {
+        label: label_of(label).ok_or(Reason::Word)?,
+    }))
+}
+
+/// `ask H QUERY`
+#[tactic(auto, unfolding(crate::specs::Forms::ask_content))]
+fn ask_content(words: &[&[u8]]) -> Result<Content, Reason>
+    ensures content { Says (λ content. content) result (spec.ask_content (nows words.now)) }
+    ensures own { IfOk result NamesOwn }
+{
+    let (label, name, rest) = two_or_more(words)?;
+    let name = query_name(name).ok_or(Reason::Word)?;
+    let query = query_of(name, rest)?;
+    let label = label_of(label).ok_or(Reason::Word)?;
+    Ok(Content::One(Event::Ask { label, query }))
+}
+
+/// `begin T IDCALL`
+#[tactic(auto, unfolding(crate::specs::Forms::begin_content))]
+fn begin_content(words: &[&[u8]]) -> Result<Content, Reason>
+    ensures content { Says (λ content. content) result (spec.begin_content (nows words.now)) }
+    ensures own { IfOk result NamesOwn }
+{
+    let (task, name, rest) = two_or_more(words)?;
+    let name = id_name(name).ok_or(Reason::Word)?;
+    let call = id_call_of(name, rest)?;
+    let task = task_of(task).ok_or(Reason::Word)?;
+    Ok(Content::One(Event::Begin { task, call }))
+}
+
+/// `sweep`
+#[tactic(auto, unfolding(crate::specs::Forms::sweep_content))]
+fn sweep_content(words: &[&[u8]]) -> Result<Content, Reason>
+    ensures content { Says (λ content. content) result (spec.sweep_content (nows words.now)) }
+    ensures own { IfOk result NamesOwn }
+{
+    none(words)?;
+    Ok(Content::One(Event::Sweep))
+}
+
+/// What the task does, by its name.
+#[tactic(auto, unfolding(crate::specs::Forms::call_content))]
+fn call_content(task: u32, name: CallName, words: &[&[u8]]) -> Result<Content, Reason>
+    ensures content { Says (λ made. made) result (spec.call_content task name (nows words.now)) }
+    ensures own { IfOk result NamesOwn }
+{
+    match name {
+        CallName::Id(name) => Ok(Content::Id {
+            task,
+            call: id_call_of(name, words)?,
+        }),
+        CallName::Question(name) => Ok(Content::Question {
+            task,
+            query: query_of(name, words)?,
+        }),
     }
 }
 
-/// `t1 setresuid ARG ARG ARG`, after its second word.
-#[tactic(auto, unfolding(crate::specs::Forms::setresuid_content))]
-fn setresuid_content(words: &[&[u8]]) -> Result<Content, Reason>
-    ensures { Says (λ content. content) result (spec.setresuid_content (nows words.now)) }
+/// An id call or a question of the task: the line names it after the task.
+#[tactic(auto, unfolding(crate::specs::Forms::own_content))]
+fn own_content(task: u32, words: &[&[u8]]) -> Result<Content, Reason>
+    ensures content { Says (λ content. content) result (spec.own_content task (nows words.now)) }
+    ensures own { IfOk result NamesOwn }
 {
-    let (real, effective, saved) = three(words)?;
-    Ok(Content::Id {
-        task: 1,
-        call: IdCall::SetResuid(
-            arg_of(real).ok_or(Reason::Word)?,
-            arg_of(effective).ok_or(Reason::Word)?,
-            arg_of(saved).ok_or(Reason::Word)?,
-        ),
-    })
-}
-
-/// `t1 ids` or `t1 caps`, after the second word.
-#[tactic(auto, unfolding(crate::specs::Forms::question_content))]
-fn question_content(query: Query, words: &[&[u8]]) -> Result<Content, Reason>
-    ensures { Says (λ content. content) result (spec.question_content query (nows words.now)) }
-{
-    none(words)?;
-    Ok(Content::Question { task: 1, query })
+    match words {
+        [] => Err(Reason::Word),
+        [name, rest @ ..] => call_content(task, call_name(name).ok_or(Reason::Word)?, rest),
+    }
 }

@@ -2,6 +2,19 @@
 ghost use Rattle.std.specs.Prelude.{◌≡◌, ◌≢◌, ◌≤◌, ◌<◌, ◌∷◌, ℕ, length, slice_index};
 ghost use Rattle.cred_script.specs.Lines as spec;
 
+/// How many lines a text has.
+pub fn line_count(bytes: &[u8]) -> usize
+    ensures count { result ≡ length (spec.lines_of bytes.now) }
+{
+    let mut count = 0;
+    let mut rest = bytes;
+    while !rest.is_empty() {
+        rest = first_line(rest).1;
+        count += 1;
+    }
+    count
+}
+
 /// The first line, without its LF, and the bytes after it.
 pub(crate) fn first_line(bytes: &[u8]) -> (&[u8], &[u8])
     requires { 0 < length bytes.now }

@@ -1,8 +1,9 @@
 //! A script: its lines, each with its lane and what it holds.
-ghost use Rattle.std.specs.Prelude.{◌≡◌, ◌≤◌, length, slice_get};
+ghost use Rattle.std.specs.Prelude.{◌≡◌, ◌≤◌, IfSome, length, slice_get};
 ghost use Rattle.std.specs.Option.{option_map};
 ghost use Rattle.cred_script.specs.Grammar.{line_at};
 ghost use Rattle.cred_script.specs.Read.{seen};
+ghost use Rattle.cred_script.specs.Sound.{IsSound};
 
 use cred_event::Content;
 use cred_record::FileInfo;
@@ -39,7 +40,7 @@ impl Model for ScriptFile {
     ghost view = { λ f. record { name = string_bytes f.name; info = f.info } };
 }
 
-/// A script. Its lines are numbered from 1; there are at most 1,048,576.
+/// A script. Its lines are numbered from 1; there are at most 20,000.
 #[derive(Drop, Debug)]
 pub struct Script {
     pub(crate) files: Vec<ScriptFile>,
@@ -47,21 +48,22 @@ pub struct Script {
 }
 
 impl Model for Script {
-    ghost use Rattle.std.specs.Prelude.{◌≤◌, length};
+    ghost use Rattle.std.specs.Prelude.{length};
     ghost use Rattle.cred_model.specs.Script.{Script};
+    ghost use Rattle.cred_script.specs.Sound.{AreSound};
 
     ghost Value = { Script };
 
     ghost view = { λ s. record { files = s.files.items; lines = s.lines.items } };
 
-    ghost invariant = { λ s. length s.lines.items ≤ 1048576 };
+    ghost invariant = { λ s. AreSound (length s.files.items) s.lines.items };
 }
 
 impl Script {
     /// How many lines there are.
     pub fn lines(&self) -> u32
         ensures count { result ≡ length self.now.lines }
-        ensures few { result ≤ 1048576 }
+        ensures few { result ≤ 20000 }
     {
         self.lines.len() as u32
     }
@@ -77,7 +79,9 @@ impl Script {
 
     /// The lane and the content of the line of this number; none for 0 and past the last line.
     pub fn line(&self, number: u32) -> Option<(u32, &Content)>
-        ensures { option_map seen result ≡ line_at self.now number }
+        ensures found { option_map seen result ≡ line_at self.now number }
+        ensures few { IfSome result (λ _. number ≤ 20000) }
+        ensures sound { IfSome result (λ found. IsSound (length self.now.files) (seen found)) }
     {
         let place = number.checked_sub(1)?;
         let line = self.lines.get(place as usize)?;

@@ -1,11 +1,8 @@
 //! What one word spells.
-ghost use Rattle.std.specs.Prelude.{◌≡◌, ◌≤◌, length, slice_index};
+ghost use Rattle.std.specs.Prelude.{◌≡◌, ◌≤◌, IfSome, length, slice_index};
 ghost use Rattle.std.specs.Str.{bytes_eq};
-ghost use Rattle.cred_script.specs.Read.{Says};
 ghost use Rattle.cred_script.specs.Spellings as spec;
-ghost use Rattle.cred_script.specs.Words as words;
 
-use crate::refusal::Reason;
 use cred_ids::{Arg, Id};
 use std::str;
 
@@ -14,17 +11,6 @@ pub(crate) fn is(word: &[u8], text: &str) -> bool
     ensures { result ≡ bytes_eq word.now text.now }
 {
     word == text.as_bytes()
-}
-
-/// The word is this text.
-pub(crate) fn exact(text: &str, word: &[u8]) -> Result<(), Reason>
-    ensures { Says (λ x. x) result (words.exact text.now word.now) }
-{
-    if is(word, text) {
-        Ok(())
-    } else {
-        Err(Reason::Word)
-    }
 }
 
 /// An argument: an id, or `-1`, which lets the old one stay.
@@ -63,5 +49,52 @@ fn parsed(word: &[u8]) -> Option<u32>
     match str::from_utf8(word) {
         Ok(text) => text.parse().ok(),
         Err(_) => None,
+    }
+}
+
+/// A task, as `t1`.
+pub(crate) fn task_of(word: &[u8]) -> Option<u32>
+    ensures { result ≡ spec.task_of word.now }
+{
+    numbered(b't', 1, 99999, word)
+}
+
+/// A process, as `p1`.
+pub(crate) fn process_of(word: &[u8]) -> Option<u32>
+    ensures { result ≡ spec.process_of word.now }
+{
+    numbered(b'p', 1, 99999, word)
+}
+
+/// A label, as `h1`.
+pub(crate) fn label_of(word: &[u8]) -> Option<u32>
+    ensures value { result ≡ spec.label_of word.now }
+    ensures own { IfSome result (λ label. label ≤ 99999) }
+{
+    numbered(b'h', 1, 99999, word)
+}
+
+/// A namespace, as `n0`.
+pub(crate) fn namespace_of(word: &[u8]) -> Option<u32>
+    ensures { result ≡ spec.namespace_of word.now }
+{
+    numbered(b'n', 0, 15, word)
+}
+
+/// A letter, and a number from the least to the most.
+fn numbered(letter: u8, least: u32, most: u32, word: &[u8]) -> Option<u32>
+    ensures value { result ≡ spec.numbered letter least most word.now }
+    ensures within { IfSome result (λ number. number ≤ most) }
+{
+    match word {
+        [first, digits @ ..] if *first == letter => {
+            let number = number_of(digits)?;
+            if least <= number && number <= most {
+                Some(number)
+            } else {
+                None
+            }
+        }
+        _ => None,
     }
 }

@@ -1,6 +1,6 @@
 //! The words of a line.
 ghost use Rattle.std.specs.Prelude.{◌≡◌, IfOk};
-ghost use Rattle.cred_script.specs.Read.{Says, nows};
+ghost use Rattle.cred_script.specs.Read.{Says, nows, more_nows, five_nows};
 ghost use Rattle.cred_script.specs.Words as spec;
 
 use crate::refusal::Reason;
@@ -15,13 +15,56 @@ pub(crate) fn words_of(alloc: Global, line: &[u8]) -> Result<Vec<&[u8]>, AllocEr
         .collect(alloc)
 }
 
+/// Whether the word begins a comment.
+pub(crate) fn is_comment(word: &[u8]) -> bool
+    ensures { result ≡ spec.is_comment word.now }
+{
+    match word {
+        [first, ..] => *first == b'#',
+        [] => false,
+    }
+}
+
 /// There are no words.
 pub(crate) fn none(words: &[&[u8]]) -> Result<(), Reason>
     ensures { Says (λ x. x) result (spec.none (nows words.now)) }
 {
     match words {
         [] => Ok(()),
-        _ => Err(Reason::Word),
+        _ => Err(Reason::Count),
+    }
+}
+
+/// There is one word.
+pub(crate) fn one<'b>(words: &[&'b [u8]]) -> Result<&'b [u8], Reason>
+    ensures { Says (λ x. x.now) result (spec.one (nows words.now)) }
+{
+    match words {
+        [a] => Ok(a),
+        _ => Err(Reason::Count),
+    }
+}
+
+/// There are two words.
+pub(crate) fn two<'b>(words: &[&'b [u8]]) -> Result<(&'b [u8], &'b [u8]), Reason>
+    ensures { Says (λ x. (x.0.now, x.1.now)) result (spec.two (nows words.now)) }
+{
+    match words {
+        [a, b] => Ok((a, b)),
+        _ => Err(Reason::Count),
+    }
+}
+
+/// Two words, and those after them.
+type TwoOrMore<'w, 'b> = (&'b [u8], &'b [u8], &'w [&'b [u8]]);
+
+/// There are two words, and maybe more.
+pub(crate) fn two_or_more<'w, 'b>(words: &'w [&'b [u8]]) -> Result<TwoOrMore<'w, 'b>, Reason>
+    ensures { Says more_nows result (spec.two_or_more (nows words.now)) }
+{
+    match words {
+        [a, b, rest @ ..] => Ok((a, b, rest)),
+        _ => Err(Reason::Count),
     }
 }
 
@@ -31,18 +74,19 @@ pub(crate) fn three<'b>(words: &[&'b [u8]]) -> Result<(&'b [u8], &'b [u8], &'b [
 {
     match words {
         [a, b, c] => Ok((a, b, c)),
-        _ => Err(Reason::Word),
+        _ => Err(Reason::Count),
     }
 }
 
+/// Five words.
 type Five<'b> = (&'b [u8], &'b [u8], &'b [u8], &'b [u8], &'b [u8]);
 
 /// There are five words.
 pub(crate) fn five<'b>(words: &[&'b [u8]]) -> Result<Five<'b>, Reason>
-    ensures { Says (λ x. (x.0.now, x.1.now, x.2.now, x.3.now, x.4.now)) result (spec.five (nows words.now)) }
+    ensures { Says five_nows result (spec.five (nows words.now)) }
 {
     match words {
         [a, b, c, d, e] => Ok((a, b, c, d, e)),
-        _ => Err(Reason::Word),
+        _ => Err(Reason::Count),
     }
 }

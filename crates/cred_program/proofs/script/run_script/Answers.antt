@@ -1,21 +1,32 @@
-use Rattle.std.proofs.Common.{◌∙◌}
+use Rattle.std.proofs.Common.{◌∙◌, sym, inr, arith}
 use Rattle.cred_report.specs.Text.{text}
 use Rattle.cred_program.specs.Texts.{bad_text}
-use Rattle.cred_program.proofs.Fronts.{prefix_either}
+use Rattle.cred_program.proofs.Fronts.{prefix_either, reported}
 use Rattle.cred_program.proofs.script.run_script.Goals as goal
+
+pub returns-in-Ok-run-clause-done : goal.returns-in-Ok-run-clause-done
+returns-in-Ok-run-clause-done g c = λ done.
+    let script = c.in-Ok.script in
+    let same = c.script.ensures ∙ c.in-Ok-run.ensures.script in
+    reported _ _ c.args.bytes.now script c.in-Ok-run.book.journal c.write_report.result c.in-Ok.ensures.given
+    (rw c.in-Ok-run.ensures.script at c.in-Ok-run.ensures.sequence) (rw (same, c.journal.ensures) at c.write_report.ensures.ok)
+    (sym c.finish-in-Ok-run.ensures ∙ done)
 
 pub returns-in-Ok-run-clause-front : goal.returns-in-Ok-run-clause-front
 returns-in-Ok-run-clause-front g c =
     let front = prefix_either _ _ (text c.script.result.now c.journal.result.now) c.write_report.result c.write_report.ensures.ok c.write_report.ensures.err in
     let same = c.script.ensures ∙ c.in-Ok-run.ensures.script in
-    rw c.in-Ok.ensures.given (
-      c.in-Ok-run.book.journal,
-      rw c.in-Ok-run.ensures.script at c.in-Ok-run.ensures.sequence.in_order,
-      rw (same, c.journal.ensures) at front,
+    inr (
+      record { bytes = omega arith; lines = omega arith },
+      rw c.in-Ok.ensures.given (
+        c.in-Ok-run.book.journal,
+        rw c.in-Ok-run.ensures.script at c.in-Ok-run.ensures.sequence.in_order,
+        rw (same, c.journal.ensures) at front,
+      ),
     )
 
 pub returns-in-Err-Bad-clause-front : goal.returns-in-Err-Bad-clause-front
 returns-in-Err-Bad-clause-front g c =
     let front = prefix_either _ _ (bad_text (c.in-Err-Bad.line, c.in-Err-Bad.reason)) c.write_bad.result c.write_bad.ensures.ok c.write_bad.ensures.err in
     let given = rw c.in-Err-Bad.field-0-is at c.in-Err-Bad.ensures.given in
-    rw given front
+    inr (record { bytes = omega arith; lines = omega arith }, rw given front)

@@ -1,32 +1,62 @@
-use Rattle.std.proofs.Common.{◌≡◌, ◌++◌, ◌∷◌, [], List, ℕ, length, cond, Some, Ok, ap, ◌∙◌, arith}
+use Rattle.std.proofs.Common.{◌≡◌, ℕ, ◌<◌, ◌==◌, ◌++◌, ◌∷◌, [], count_by, Ok, sym, ap, ◌∙◌, subst, arith}
 use Rattle.std.proofs.lemmas.Grind.{common_steps}
 use Rattle.std.specs.Vec.{with_items}
-use Rattle.cred_event.specs.declared.answer.Answer.TheVariants.{Began}
-use Rattle.cred_model.specs.State.{Numbered, Task, Sealing, current_of}
-use Rattle.cred_model.specs.Slots.{free}
-use Rattle.cred_model.specs.Step.{with_current}
 use Rattle.cred_rules.specs.SetId.{set_id}
-use Rattle.cred_book.proofs.Begun.{begun}
+use Rattle.cred_model.specs.Step.{with_current}
+use Rattle.cred_slots.specs.Table.{Table, IsSameBag}
+use Rattle.cred_book.proofs.Changes.{replaced, current-held}
+use Rattle.cred_book.proofs.Results.{begin_full, begin_sealed, full_spare, seals_spare, acting, held_more}
 use Rattle.cred_book.proofs.state.State.begin.Goals as goal
+
+pub returns-in_default-seal_next-clause-ok : goal.returns-in_default-seal_next-clause-ok
+returns-in_default-seal_next-clause-ok c =
+    let t = c.self.inside in
+    let full = full_spare t.tasks.items t.holds t.creds.items t.slots c.reserve-2.new.self c.seal_next.new.slots _ c.in_ok-reserve-2.ensures.ok c.in_default-seal_next.ensures in
+    let has = rw (← c.self.view_is) at c.in-Some.ensures in
+    let rule : set_id c.in-Some.field-0.cred.now c.args.call.now ≡ Ok c.in-Ok.cred = grind (arith, common_steps) in
+    rw (← c.self.view_is, c.in_ok-reserve.ensures.items)
+    (begin_full t.tasks.items t.holds t.creds.items t.slots c.seal_next.new.slots c.args.task c.args.call.now _ c.in-Ok.cred
+    c.self.invariant (sym has) rule full.0 full.1)
+
+pub drop_later-requires : goal.drop_later-requires
+drop_later-requires c =
+    let t = c.self.inside in
+    let has = rw (← c.self.view_is) at c.in-Some.ensures in
+    let u = acting t.tasks.items t.holds t.creds.items t.slots c.args.task _ (sym has) in
+    let same : u.0.current ≡ c.in-Some.field-0.number = u.2 in
+    let seals = seals_spare t.slots c.reserve-2.new.self c.seal_next.new.slots _ c.in-Some-seal_next.number c.in-Some-seal_next.slot c.in_ok-reserve-2.ensures.ok c.in-Some-seal_next.ensures in
+    subst (λ (n : ℕ). 0 < count_by (λ m. m == n) c.seal_next.new.slots.held) same
+    (held_more c.in-Some-seal_next.number u.0.current t.slots.held c.seal_next.new.slots.held seals.held
+    (current-held t.tasks.items t.holds t.creds.items t.slots c.args.task u.0 c.self.invariant u.1))
+
+pub invariant_of-self-2 : goal.invariant_of-self-2
+invariant_of-self-2 c =
+    let t = c.self.inside in
+    let has = rw (← c.self.view_is) at c.in-Some.ensures in
+    let u = acting t.tasks.items t.holds t.creds.items t.slots c.args.task _ (sym has) in
+    let same : c.in-Some.field-0.number ≡ u.0.current = sym u.2 in
+    let seals = seals_spare t.slots c.reserve-2.new.self c.seal_next.new.slots _ c.in-Some-seal_next.number c.in-Some-seal_next.slot c.in_ok-reserve-2.ensures.ok c.in-Some-seal_next.ensures in
+    let refill : (with_items t.tasks c.set_current.new.tasks).items ≡ c.set_current.new.tasks = grind (arith, common_steps) in
+    let tasks : c.set_current.new.tasks ≡ with_current t.tasks.items c.args.task c.in-Some-seal_next.number = grind (arith, common_steps) in
+    let creds : c.push.new.self.items ≡ t.creds.items ++ c.in-Ok.cred ∷ [] = grind (arith, common_steps) in
+    rw (refill, tasks, creds)
+    (replaced t.tasks.items t.holds t.creds.items t.slots c.seal_next.new.slots c.drop_later.new.self c.args.task
+    c.in-Some-seal_next.number c.in-Some-seal_next.slot u.0 c.in-Ok.cred c.self.invariant u.1 seals
+    (subst (λ (n : ℕ). IsSameBag c.seal_next.new.slots.held (n ∷ c.drop_later.new.self.held)) same c.drop_later.ensures.held)
+    (ap (λ (x : Table). x.sealed) c.drop_later.ensures.table) (ap (λ (x : Table). x.kept) c.drop_later.ensures.table))
 
 pub returns-clause-ok : goal.returns-clause-ok
 returns-clause-ok c =
-    let s = c.args.self.now in
-    let old : Numbered = record { number = c.in-Some.old; cred = c.in-Some.sealing.now.cred; slot = c.in-Some.sealing.now.slot } in
-    let has : current_of s c.args.task ≡ Some old = grind (arith, common_steps) in
-    let rule : set_id old.cred c.args.call.now ≡ Ok c.in-Ok.cred = grind (arith, common_steps) in
-    let takes : free s ≡ Some c.in-Some-free.slot = grind (arith, common_steps) in
-    let number : c.len-number.result ≡ length s.creds = grind (arith, common_steps) in
-    let tasks : c.set_current.new.tasks ≡ with_current s.tasks c.args.task c.len-number.result = grind (arith, common_steps) in
-    let deferred : c.push-2.new.self.items ≡ cond c.free-sweeps.result.0 [] s.deferred ++ old.number ∷ [] = grind (arith, common_steps) in
-    let creds : c.push.new.self.items ≡ s.creds ++ record { cred = c.in-Ok.cred; slot = c.in-Some-free.slot } ∷ [] = grind (arith, common_steps) in
-    let holds : c.self.inside.holds.items ≡ s.holds = grind (arith, common_steps) in
-    let made = begun s c.args.task c.args.call.now old c.in-Ok.cred c.in-Some-free.slot c.free-sweeps.result.0 c.len-number.result
-    c.set_current.new.tasks c.self.inside.holds.items c.push-2.new.self.items c.push.new.self.items
-    has rule c.free-sweeps.ensures.sweeps takes number tasks holds deferred creds in
-    let refill : c.set_current.new.tasks ≡ (with_items c.self.inside.tasks c.set_current.new.tasks).items = grind (arith, common_steps) in
-    made
-    ∙ ap (λ (ts : List Task). (
-      Began c.len-number.result c.in-Some-free.slot 0,
-      record { tasks = ts; holds = c.self.inside.holds.items; deferred = c.push-2.new.self.items; creds = c.push.new.self.items },
-    )) refill
+    let t = c.self.inside in
+    let has = rw (← c.self.view_is) at c.in-Some.ensures in
+    let rule : set_id c.in-Some.field-0.cred.now c.args.call.now ≡ Ok c.in-Ok.cred = grind (arith, common_steps) in
+    let seals = seals_spare t.slots c.reserve-2.new.self c.seal_next.new.slots _ c.in-Some-seal_next.number c.in-Some-seal_next.slot c.in_ok-reserve-2.ensures.ok c.in-Some-seal_next.ensures in
+    let refill : (with_items t.tasks c.set_current.new.tasks).items ≡ c.set_current.new.tasks = grind (arith, common_steps) in
+    let tasks : c.set_current.new.tasks ≡ with_current t.tasks.items c.args.task c.in-Some-seal_next.number = grind (arith, common_steps) in
+    let creds : c.push.new.self.items ≡ t.creds.items ++ c.in-Ok.cred ∷ [] = grind (arith, common_steps) in
+    rw (← c.self.view_is)
+    (begin_sealed t.tasks.items (with_items t.tasks c.set_current.new.tasks).items t.holds t.creds.items c.push.new.self.items t.slots
+    c.seal_next.new.slots c.drop_later.new.self c.args.task c.args.call.now _ c.in-Ok.cred c.in-Some-seal_next.number c.in-Some-seal_next.slot
+    c.self.invariant (sym has) rule seals (refill ∙ tasks) creds
+    (ap (λ (x : Table). x.sealed) c.drop_later.ensures.table)
+    (ap (λ (x : Table). x.deferred) c.drop_later.ensures.table))

@@ -1,0 +1,161 @@
+-- What each event leaves of a counted state.
+use Rattle.std.proofs.Common.{◌≡◌, ℕ, zero, suc, ◌+◌, ◌<◌, ◌≤◌, Bool, true, false, cond, ◌==◌, nat_eq, List, [], ◌∷◌, ◌++◌, map, find, count_by, length, remove, slice_get, slice_index_or, slice_set, Option, None, Some, refl, sym, ap, ◌∙◌, subst, length-append, arith}
+use Rattle.std.specs.Option.{option_map}
+use Rattle.std.proofs.lemmas.Bool.{eq-eqb}
+use Rattle.cred_record.specs.Credential.{Credential}
+use Rattle.cred_model.specs.State.{State, Task, Hold, Sealing, Numbered, numbered}
+use Rattle.cred_model.specs.Step.{with_current}
+use Rattle.cred_slots.specs.Table.{Table, IsSameBag, is_kept}
+use Rattle.cred_slots.proofs.Counting.{count-cons}
+use Rattle.cred_book.specs.Kept.{sealings, referred, AreDistinct, IsCounted, Seals}
+use Rattle.cred_book.proofs.Counts.{currents, numbers, one_if, currents-push, distinct-push, currents-with_current, distinct-with_current, numbers-push, numbers-remove, count-referred}
+
+-- ---- sealed credentials
+
+pub sealings-push : (cs : List Credential) (ss : List ℕ) (c : Credential) (slot : ℕ) → length cs ≡ length ss
+    → sealings (cs ++ c ∷ []) (ss ++ slot ∷ []) ≡ sealings cs ss ++ record { cred = c; slot = slot } ∷ []
+sealings-push [] [] c slot same = refl
+sealings-push [] (s ∷ ss) c slot same = absurd (omega arith)
+sealings-push (d ∷ cs) [] c slot same = absurd (omega arith)
+sealings-push (d ∷ cs) (s ∷ ss) c slot same =
+    ap (λ (rest : List Sealing). record { cred = d; slot = s } ∷ rest) (sealings-push cs ss c slot (omega arith))
+
+pub length-sealings : (cs : List Credential) (ss : List ℕ) → length cs ≡ length ss → length (sealings cs ss) ≡ length cs
+length-sealings [] ss same = refl
+length-sealings (c ∷ cs) [] same = absurd (omega arith)
+length-sealings (c ∷ cs) (s ∷ ss) same = ap suc (length-sealings cs ss (omega arith))
+
+pub slice_get-sealings : (cs : List Credential) (ss : List ℕ) (n : ℕ) (c : Credential) (slot : ℕ) → slice_get cs n ≡ Some c → slice_get ss n ≡ Some slot
+    → slice_get (sealings cs ss) n ≡ Some (record { cred = c; slot = slot })
+slice_get-sealings [] ss n c slot at stands = cc
+slice_get-sealings (d ∷ cs) [] n c slot at stands = cc
+slice_get-sealings (d ∷ cs) (s ∷ ss) zero c slot at stands =
+    let cred : d ≡ c = cc in
+    let place : s ≡ slot = cc in
+    ap (λ (x : Credential). Some (record { cred = x; slot = s })) cred ∙ ap (λ (p : ℕ). Some (record { cred = c; slot = p })) place
+slice_get-sealings (d ∷ cs) (s ∷ ss) (suc n) c slot at stands = slice_get-sealings cs ss n c slot at stands
+
+pub none-sealings : (cs : List Credential) (ss : List ℕ) (n : ℕ) → slice_get cs n ≡ None → slice_get (sealings cs ss) n ≡ None
+none-sealings [] ss n none = refl
+none-sealings (c ∷ cs) [] n none = refl
+none-sealings (c ∷ cs) (s ∷ ss) zero none = cc
+none-sealings (c ∷ cs) (s ∷ ss) (suc n) none = none-sealings cs ss n none
+
+pub numbered-some : (cs : List Credential) (ss : List ℕ) (n : ℕ) (c : Credential) (slot : ℕ) → slice_get cs n ≡ Some c → slice_get ss n ≡ Some slot
+    → numbered (sealings cs ss) n ≡ Some (record { number = n; cred = c; slot = slot })
+numbered-some cs ss n c slot at stands =
+    ap (option_map (λ (s : Sealing). record { number = n; cred = s.cred; slot = s.slot })) (slice_get-sealings cs ss n c slot at stands)
+
+pub numbered-none : (cs : List Credential) (ss : List ℕ) (n : ℕ) → slice_get cs n ≡ None → numbered (sealings cs ss) n ≡ None
+numbered-none cs ss n none =
+    ap (option_map (λ (s : Sealing). record { number = n; cred = s.cred; slot = s.slot })) (none-sealings cs ss n none)
+
+-- ---- events
+
+pub born : (tasks : List Task) (holds : List Hold) (cs : List Credential) (t after : Table) (task : Task) (c : Credential) (slot : ℕ)
+    → IsCounted tasks holds cs t → find (λ u. u.number == task.number) tasks ≡ None → Seals t after task.current slot
+    → IsCounted (tasks ++ task ∷ []) holds (cs ++ c ∷ []) after
+born tasks holds cs t after task c slot is new seals = record {
+  distinct = distinct-push tasks task is.distinct new;
+  counts = record {
+    counts = λ test.
+        let held = seals.held.counts test ∙ count-cons test task.current t.held in
+        let before = is.counts.counts test ∙ count-referred test tasks holds in
+        let now = count-referred test (tasks ++ task ∷ []) holds in
+        let more = currents-push test tasks task in
+        omega (arith, held, before, now, more);
+  };
+  sealed = omega (arith, is.sealed, ap length seals.sealed, length-append {A = Credential}, length-append {A = ℕ});
+  keeps_none = seals.keeps_none;
+}
+
+pub taken : (tasks : List Task) (holds : List Hold) (cs : List Credential) (t after : Table) (hold : Hold)
+    → IsCounted tasks holds cs t → IsSameBag after.held (hold.number ∷ t.held) → after.sealed ≡ t.sealed → after.kept ≡ t.kept
+    → IsCounted tasks (holds ++ hold ∷ []) cs after
+taken tasks holds cs t after hold is adds sealed kept = record {
+  distinct = is.distinct;
+  counts = record {
+    counts = λ test.
+        let held = adds.counts test ∙ count-cons test hold.number t.held in
+        let before = is.counts.counts test ∙ count-referred test tasks holds in
+        let now = count-referred test tasks (holds ++ hold ∷ []) in
+        let more = numbers-push test holds hold in
+        omega (arith, held, before, now, more);
+  };
+  sealed = is.sealed ∙ sym (ap length sealed);
+  keeps_none = λ slot. ap (λ ks. slice_index_or ks slot false) kept ∙ is.keeps_none slot;
+}
+
+pub released : (tasks : List Task) (holds : List Hold) (cs : List Credential) (t after : Table) (place : ℕ) (hold : Hold)
+    → IsCounted tasks holds cs t → slice_get holds place ≡ Some hold
+    → IsSameBag t.held (hold.number ∷ after.held) → after.sealed ≡ t.sealed → after.kept ≡ t.kept
+    → IsCounted tasks (remove holds place) cs after
+released tasks holds cs t after place hold is there drops sealed kept = record {
+  distinct = is.distinct;
+  counts = record {
+    counts = λ test.
+        let held = drops.counts test ∙ count-cons test hold.number after.held in
+        let before = is.counts.counts test ∙ count-referred test tasks holds in
+        let now = count-referred test tasks (remove holds place) in
+        let fewer = numbers-remove test holds place hold there in
+        omega (arith, held, before, now, fewer);
+  };
+  sealed = is.sealed ∙ sym (ap length sealed);
+  keeps_none = λ slot. ap (λ ks. slice_index_or ks slot false) kept ∙ is.keeps_none slot;
+}
+
+pub replaced : (tasks : List Task) (holds : List Hold) (cs : List Credential) (t between after : Table) (task number slot : ℕ) (u : Task) (c : Credential)
+    → IsCounted tasks holds cs t → find (λ v. v.number == task) tasks ≡ Some u → Seals t between number slot
+    → IsSameBag between.held (u.current ∷ after.held) → after.sealed ≡ between.sealed → after.kept ≡ between.kept
+    → IsCounted (with_current tasks task number) holds (cs ++ c ∷ []) after
+replaced tasks holds cs t between after task number slot u c is found seals drops sealed kept = record {
+  distinct = distinct-with_current tasks task number is.distinct;
+  counts = record {
+    counts = λ test.
+        let adds = seals.held.counts test ∙ count-cons test number t.held in
+        let held = drops.counts test ∙ count-cons test u.current after.held in
+        let before = is.counts.counts test ∙ count-referred test tasks holds in
+        let now = count-referred test (with_current tasks task number) holds in
+        let change = currents-with_current test tasks task number u is.distinct found in
+        omega (arith, adds, held, before, now, change);
+  };
+  sealed = omega (arith, is.sealed, ap length sealed, ap length seals.sealed, length-append {A = Credential}, length-append {A = ℕ});
+  keeps_none = λ place. ap (λ ks. slice_index_or ks place false) kept ∙ seals.keeps_none place;
+}
+
+-- ---- what may be given up and referred to once more
+
+at_least_one : (test : ℕ → Bool) (n : ℕ) (rest : ℕ) → test n ≡ true → 0 < one_if (test n) + rest
+at_least_one test n rest passes = let one : one_if (test n) ≡ 1 = ap one_if passes in omega arith
+
+counted_at : (n : ℕ) (test : Bool) (t u : Task) (ts : List Task) (rest : Option Task) → cond test (Some t) rest ≡ Some u → u.current ≡ n
+    → (rest ≡ Some u → 0 < count_by (λ m. m == n) (currents ts)) → 0 < count_by (λ m. m == n) (currents (t ∷ ts))
+counted_at n true t u ts rest first is later =
+    let one : t ≡ u = cc in
+    let passes : (t.current == n) ≡ true = eq-eqb t.current n (ap (λ (v : Task). v.current) one ∙ is) in
+    let some = at_least_one (λ m. m == n) t.current (count_by (λ m. m == n) (currents ts)) passes in
+    omega (arith, count-cons (λ m. m == n) t.current (currents ts), some)
+counted_at n false t u ts rest first is later =
+    omega (arith, count-cons (λ m. m == n) t.current (currents ts), later first)
+
+current-counted : (n : ℕ) (tasks : List Task) (task : ℕ) (u : Task) → find (λ v. v.number == task) tasks ≡ Some u → u.current ≡ n
+    → 0 < count_by (λ m. m == n) (currents tasks)
+current-counted n [] task u found is = cc
+current-counted n (t ∷ ts) task u found is =
+    counted_at n (t.number == task) t u ts (find (λ v. v.number == task) ts) found is (λ there. current-counted n ts task u there is)
+
+pub current-held : (tasks : List Task) (holds : List Hold) (cs : List Credential) (t : Table) (task : ℕ) (u : Task)
+    → IsCounted tasks holds cs t → find (λ v. v.number == task) tasks ≡ Some u → 0 < count_by (λ m. m == u.current) t.held
+current-held tasks holds cs t task u is found =
+    let same = is.counts.counts (λ m. m == u.current) ∙ count-referred (λ m. m == u.current) tasks holds in
+    let some = current-counted u.current tasks task u found refl in
+    omega (arith, same, some)
+
+pub hold-held : (tasks : List Task) (holds : List Hold) (cs : List Credential) (t : Table) (place : ℕ) (h : Hold)
+    → IsCounted tasks holds cs t → slice_get holds place ≡ Some h → 0 < count_by (λ m. m == h.number) t.held
+hold-held tasks holds cs t place h is there =
+    let same = is.counts.counts (λ m. m == h.number) ∙ count-referred (λ m. m == h.number) tasks holds in
+    let fewer = numbers-remove (λ m. m == h.number) holds place h there in
+    let passes : (h.number == h.number) ≡ true = eq-eqb h.number h.number refl in
+    let one : one_if (h.number == h.number) ≡ 1 = ap one_if passes in
+    omega (arith, same, fewer, one)

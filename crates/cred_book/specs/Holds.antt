@@ -1,0 +1,21 @@
+-- The holds, as a map from labels keeps them.
+use Rattle.std.specs.Prelude.{◌≡◌, ℕ, ◌==◌, List, map, position, remove, slice_get, Some}
+use Rattle.std.specs.declared.option.Option.{Option}
+use Rattle.cred_model.specs.State.{Hold}
+
+abbrev pub hold_of : ℕ × ℕ → Hold
+hold_of entry = record { label = entry.0; number = entry.1 }
+
+abbrev pub holds_of : List (ℕ × ℕ) → List Hold
+holds_of entries = map hold_of entries
+
+-- where a label stands among the holds
+abbrev pub place_of : List Hold → ℕ → Option ℕ
+place_of holds label = position (λ h. h.label == label) holds
+
+-- The label let go of this number, and the other holds stay in their order.
+pub record Releases (before after : List Hold) (label number : ℕ) : Type 0 where
+  pub place : ℕ
+  pub found : place_of before label ≡ Some place
+  pub held : slice_get before place ≡ Some (record { label = label; number = number })
+  pub left : after ≡ remove before place

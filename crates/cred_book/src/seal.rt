@@ -1,0 +1,20 @@
+//! Taking a slot for a new credential.
+ghost use Rattle.std.specs.Prelude.{◌≡◌, ◌<◌, ℕ, false, MatchOption, None};
+ghost use Rattle.cred_slots.specs.Table.{is_kept, room, free};
+ghost use Rattle.cred_book.specs.Kept.{Seals};
+
+use cred_slots::Slots;
+
+/// Seals the next number in the free slot, after a sweep where one is needed. Where all slots are
+/// live even then, the sweep stands, and there is none.
+pub fn seal_next(slots: &mut Slots) -> Option<(u64, u32)>
+    requires room { 0 < slots.old.spare }
+    requires keeps_none { (slot : ℕ) → is_kept slots.old slot ≡ false }
+    ensures { MatchOption result
+        ((free slots.old ≡ None) × (slots.new ≡ room slots.old))
+        (λ sealing. Seals slots.old slots.new sealing.0 sealing.1) }
+{
+    let slot = slots.claim()?;
+    let number = slots.seal(slot);
+    Some((number, slot))
+}

@@ -1,0 +1,10 @@
+pub mod Lists
+pub mod Changes
+pub mod References
+pub mod Sound
+pub mod Unused
+pub mod HeldLaws
+pub mod PermittedLaws
+pub mod OrderLaws
+pub mod Lawful
+pub mod Gains

@@ -1,0 +1,82 @@
+-- Elements of lists.
+use Rattle.std.proofs.Common.{◌≡◌, ℕ, zero, suc, ◌+◌, ◌<◌, List, [], ◌∷◌, ◌++◌, length, map, get_or, slice_get, Some, None, Bool, true, false, cond, refl, sym, ap, ◌∙◌, subst, arith}
+use Rattle.std.specs.List.{All, AllPairs, Contains, find, remove}
+use Rattle.std.specs.Option.{option_map}
+use Rattle.std.proofs.lemmas.List.{get_or_append_left, get_or-append-add, get_or-map, length-append, length-map}
+use Rattle.std.proofs.lemmas.List.Elements.{All-append, All-take, All-drop, All-head, All-tail, All-cons, All-nil, Contains-get_or}
+use Rattle.std.proofs.lemmas.Option.{get_or_from_slice_get, slice_get_within}
+
+pub All-left : {X : Type 0} (P : X → Type 0) (xs ys : List X) → All P (xs ++ ys) → All P xs
+All-left P xs ys each k d lt = subst P (get_or_append_left xs ys d k lt) (each k d (omega (arith, length-append xs ys)))
+
+pub All-right : {X : Type 0} (P : X → Type 0) (xs ys : List X) → All P (xs ++ ys) → All P ys
+All-right P xs ys each k d lt =
+    subst P (get_or-append-add xs ys k d) (each (length xs + k) d (omega (arith, length-append xs ys)))
+
+pub All-unmap : {X Y : Type 0} (P : Y → Type 0) (f : X → Y) (xs : List X) → All P (map f xs) → All (λ x. P (f x)) xs
+All-unmap P f xs each k d lt = subst P (get_or-map f xs k d (f d) lt) (each k (f d) (omega (arith, length-map xs f)))
+
+pub All-remove : {X : Type 0} (P : X → Type 0) (xs : List X) (n : ℕ) → All P xs → All P (remove xs n)
+All-remove P xs n each = All-append P _ _ (All-take P n xs each) (All-drop P (suc n) xs each)
+
+pub All-at : {X : Type 0} (P : X → Type 0) (xs : List X) (n : ℕ) (x : X) → slice_get xs n ≡ Some x → All P xs → P x
+All-at P xs n x is each = subst P (get_or_from_slice_get xs n x x is) (each n x (slice_get_within xs n x is))
+
+-- what holds of each member
+pub All-from_members : {X : Type 0} (P : X → Type 0) (xs : List X) → ((x : X) → Contains xs x → P x) → All P xs
+All-from_members P xs each k d lt = each (get_or xs k d) (Contains-get_or xs k d lt)
+
+-- ---- the first element that passes a test
+
+found-at : {X : Type 0} (P : X → Type 0) (p : X → Bool) (xs : List X) (x y : X) (b : Bool) → p y ≡ b
+    → (find p xs ≡ Some x → P x × (p x ≡ true)) → cond b (Some y) (find p xs) ≡ Some x → P y → P x × (p x ≡ true)
+found-at P p xs x y true test later is holds = let same : y ≡ x = cc in (subst P same holds, ap p (sym same) ∙ test)
+found-at P p xs x y false test later is holds = later is
+
+pub found : {X : Type 0} (P : X → Type 0) (p : X → Bool) (xs : List X) (x : X) → find p xs ≡ Some x → All P xs
+    → P x × (p x ≡ true)
+found P p [] x is each = cc
+found P p (y ∷ ys) x is each =
+    found-at P p ys x y (p y) refl (λ later. found P p ys x later (All-tail P y ys each)) is (All-head P y ys each)
+
+none-at : {X : Type 0} (p : X → Bool) (xs : List X) (y : X) (b : Bool) → p y ≡ b
+    → (find p xs ≡ None → All (λ x. p x ≡ false) xs) → cond b (Some y) (find p xs) ≡ None → All (λ x. p x ≡ false) (y ∷ xs)
+none-at p xs y true test later is = cc
+none-at p xs y false test later is = All-cons (λ x. p x ≡ false) y xs test (later is)
+
+pub found_none : {X : Type 0} (p : X → Bool) (xs : List X) → find p xs ≡ None → All (λ x. p x ≡ false) xs
+found_none p [] is = All-nil (λ x. p x ≡ false)
+found_none p (y ∷ ys) is = none-at p ys y (p y) refl (λ later. found_none p ys later) is
+
+-- ---- two elements of a list
+
+pub AllPairs-map : {X : Type 0} (R : X → X → Type 0) (f : X → X) (xs : List X) → AllPairs (λ x y. R (f x) (f y)) xs
+    → AllPairs R (map f xs)
+AllPairs-map R f xs each i j d lt within =
+    let long : j < length xs = omega (arith, length-map xs f) in
+    let earlier : i < length xs = omega arith in
+    subst (λ x. R x (get_or (map f xs) j d)) (sym (get_or-map f xs i d d earlier))
+    (subst (R (f (get_or xs i d))) (sym (get_or-map f xs j d d long)) (each i j d lt long))
+
+pub AllPairs-weaker : {X : Type 0} (R Q : X → X → Type 0) (xs : List X) → ((x y : X) → R x y → Q x y) → AllPairs R xs
+    → AllPairs Q xs
+AllPairs-weaker R Q xs weaker each i j d lt within = weaker (get_or xs i d) (get_or xs j d) (each i j d lt within)
+
+-- ---- a search, and changes of the list
+
+pub find-remove : {X : Type 0} (p : X → Bool) (xs : List X) (n : ℕ) (d : X) → n < length xs → p (get_or xs n d) ≡ false
+    → find p (remove xs n) ≡ find p xs
+find-remove p [] n d lt fails = absurd (omega arith)
+find-remove p (x ∷ xs) zero d lt fails = sym (ap (λ b. cond b (Some x) (find p xs)) fails)
+find-remove p (x ∷ xs) (suc n) d lt fails = ap (cond (p x) (Some x)) (find-remove p xs n d (omega arith) fails)
+
+-- a change of the elements that leaves the test
+pub find-map : {X : Type 0} (p : X → Bool) (f : X → X) (xs : List X) → ((x : X) → p (f x) ≡ p x)
+    → find p (map f xs) ≡ option_map f (find p xs)
+find-map p f [] same = refl
+find-map p f (x ∷ xs) same =
+    ap (λ b. cond b (Some (f x)) (find p (map f xs))) (same x)
+    ∙ elim (p x) as (λ b. cond b (Some (f x)) (find p (map f xs)) ≡ option_map f (cond b (Some x) (find p xs))) [
+      | true ↦ refl
+      | false ↦ find-map p f xs same
+    ]

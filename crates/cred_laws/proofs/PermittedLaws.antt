@@ -1,0 +1,165 @@
+-- How the permitted set of a task's credential may change.
+use Rattle.std.proofs.Common.{◌≡◌, ◌==◌, ℕ, List, [], ◌∷◌, ◌++◌, length, Some, None, Ok, Bool, true, false, cond, refl, sym, ap, ◌∙◌, subst, arith}
+use Rattle.std.specs.List.{find}
+use Rattle.std.specs.Option.{option_map, option_and_then, option_or}
+use Rattle.std.proofs.lemmas.List.Folds.{find-append}
+use Rattle.std.proofs.lemmas.Bool.Decides.{nat_tests}
+use Rattle.cred_caps.specs.Caps.{IsWithin}
+use Rattle.cred_caps.proofs.SetLaws.{within_itself}
+use Rattle.cred_record.specs.Credential.{Credential, first_credential}
+use Rattle.cred_record.specs.declared.id_call.IdCall.{IdCall}
+use Rattle.cred_rules.specs.SetId.{set_id}
+use Rattle.cred_setid.proofs.SetIdLaws as setid
+use Rattle.cred_event.specs.declared.event.Event.{Event}
+use Rattle.cred_event.specs.declared.event.Event.TheVariants.{Init}
+use Rattle.cred_model.specs.State.{State, Sealing, Task, Numbered, numbered, task_of, current_of}
+use Rattle.cred_model.specs.Slots.{room}
+use Rattle.cred_model.specs.Step.{renewed, born, replaced}
+use Rattle.cred_laws.specs.Permitted.{PermittedNeverGrows, IsBornWith, NewTaskHasFirst}
+use Rattle.cred_laws.proofs.Lists.{find-map, found}
+use Rattle.cred_laws.proofs.Changes.{Changes, IsCurrent, after_step, current_is, numbered_is, room_current, room_task}
+use Rattle.cred_laws.proofs.References.{slice_get-last}
+use Rattle.cred_laws.proofs.HeldLaws.{numbered_stays}
+use Rattle.cred_laws.proofs.Sound.{renewed_number}
+
+-- the current credential is that of the owner's number
+at_owner : (s : State) (task : ℕ) (c : Numbered) (at : IsCurrent s task c) → current_of s task ≡ Some c
+    → numbered s.creds at.owner.current ≡ Some c
+at_owner s task c at is = sym (ap (option_and_then (λ (t : Task). numbered s.creds t.current)) at.is) ∙ is
+
+owner_number : (s : State) (task : ℕ) (t : Task) → task_of s task ≡ Some t → t.number ≡ task
+owner_number s task t is =
+    let test = (found (λ (t : Task). Unit {0}) (λ (t : Task). t.number == task) s.tasks t is (λ k d lt. tt)).1 in
+    grind (arith, nat_tests)
+
+last_numbered : (creds : List Sealing) (new : Sealing) (c : Numbered) → numbered (creds ++ new ∷ []) (length creds) ≡ Some c
+    → new.cred ≡ c.cred
+last_numbered creds new c is =
+    let at = numbered_is (creds ++ new ∷ []) (length creds) c is in
+    let same : Some new ≡ Some (record { cred = c.cred; slot = c.slot }) = sym (slice_get-last creds new) ∙ at.1 in
+    let one : new ≡ record { cred = c.cred; slot = c.slot } = cc in
+    ap (λ (x : Sealing). x.cred) one
+
+-- ---- a task that lived
+
+-- It keeps its credential where another is born.
+born_old : (s : State) (t : Task) (c : Credential) (slot task : ℕ) (before : Numbered) → current_of s task ≡ Some before
+    → current_of (born s t c slot) task ≡ Some before
+born_old s t c slot task before is =
+    let at = current_is s task before is in
+    let new : Sealing = record { cred = c; slot = slot } in
+    ap (option_and_then (λ (t : Task). numbered (s.creds ++ new ∷ []) t.current))
+    (find-append (λ (t : Task). t.number == task) s.tasks (t ∷ [])
+    ∙ ap (λ o. option_or o (find (λ (t : Task). t.number == task) (t ∷ []))) at.is)
+    ∙ numbered_stays s.creds (new ∷ []) at.owner.current before (at_owner s task before at is)
+
+renewed_within : (s : State) (acting task slot : ℕ) (call : IdCall) (old before after : Numbered) (c : Credential) (t : Task)
+    (b : Bool) → (t.number == acting) ≡ b → t.number ≡ task → current_of s acting ≡ Some old → set_id old.cred call ≡ Ok c
+    → current_of s task ≡ Some before → numbered s.creds t.current ≡ Some before
+    → numbered (s.creds ++ record { cred = c; slot = slot } ∷ []) (cond b (record t { current = length s.creds }) t).current ≡ Some after
+    → IsWithin after.cred.perm before.cred.perm
+renewed_within s acting task slot call old before after c t true test owner acts ruled is at now =
+    let actor : t.number ≡ acting = grind (arith, nat_tests) in
+    let both : Some old ≡ Some before = sym acts ∙ ap (current_of s) (sym actor ∙ owner) ∙ is in
+    let same : old ≡ before = cc in
+    let new = last_numbered s.creds (record { cred = c; slot = slot }) after now in
+    subst (λ (b : Numbered). IsWithin after.cred.perm b.cred.perm) same
+    (subst (λ (d : Credential). IsWithin d.perm old.cred.perm) new (setid.permitted_never_grows old.cred c call ruled))
+renewed_within s acting task slot call old before after c t false test owner acts ruled is at now =
+    let both : Some before ≡ Some after
+    = sym (numbered_stays s.creds (record { cred = c; slot = slot } ∷ []) t.current before at) ∙ now in
+    let same : before ≡ after = cc in
+    subst (λ (a : Numbered). IsWithin a.cred.perm before.cred.perm) same (within_itself before.cred.perm)
+
+replaced_task : (s : State) (acting old slot : ℕ) (c : Credential) (task : ℕ)
+    → task_of (replaced s acting old c slot) task ≡ option_map (renewed acting (length s.creds)) (task_of s task)
+replaced_task s acting old slot c task =
+    find-map (λ (t : Task). t.number == task) (renewed acting (length s.creds)) s.tasks
+    (λ t. ap (λ n. n == task) (renewed_number acting (length s.creds) t))
+
+replaced_within : (s : State) (acting task slot : ℕ) (call : IdCall) (old before after : Numbered) (c : Credential)
+    → current_of s acting ≡ Some old → set_id old.cred call ≡ Ok c → current_of s task ≡ Some before
+    → current_of (replaced s acting old.number c slot) task ≡ Some after → IsWithin after.cred.perm before.cred.perm
+replaced_within s acting task slot call old before after c acts ruled is now =
+    let at = current_is s task before is in
+    let new : Sealing = record { cred = c; slot = slot } in
+    let owner = replaced_task s acting old.number slot c task ∙ ap (option_map (renewed acting (length s.creds))) at.is in
+    renewed_within s acting task slot call old before after c at.owner (at.owner.number == acting) refl
+    (owner_number s task at.owner at.is) acts ruled is (at_owner s task before at is)
+    (sym (ap (option_and_then (λ (t : Task). numbered (s.creds ++ new ∷ []) t.current)) owner) ∙ now)
+
+abbrev Within : State → ℕ → Event → State → Type 0
+Within s task event next =
+    (before after : Numbered) → current_of s task ≡ Some before → current_of next task ≡ Some after
+    → IsWithin after.cred.perm before.cred.perm
+
+pub unchanged : (s next : State) (task : ℕ) (before after : Numbered)
+    → (current_of s task ≡ Some before → current_of next task ≡ Some before) → current_of s task ≡ Some before
+    → current_of next task ≡ Some after → IsWithin after.cred.perm before.cred.perm
+unchanged s next task before after stays is now =
+    let both : Some before ≡ Some after = sym (stays is) ∙ now in
+    let same : before ≡ after = cc in
+    subst (λ (a : Numbered). IsWithin a.cred.perm before.cred.perm) same (within_itself before.cred.perm)
+
+changes_within : (s : State) (task : ℕ) → Changes s (Within s task)
+changes_within s task = record {
+  same = λ event before after. unchanged s s task before after (λ is. is);
+  full = λ event before after. unchanged s (room s) task before after (λ is. room_current s task ∙ is);
+  init = λ number process user group ns slot fresh free before after.
+      unchanged s (born (room s) (record { number = number; process = process; current = length (room s).creds }) (first_credential user group ns) slot) task before after
+      (λ is. born_old (room s) _ (first_credential user group ns) slot task before (room_current s task ∙ is));
+  take = λ label number side taken current fresh before after is now. unchanged s s task before after (λ is. is) is now;
+  release = λ label place hold at gone before after is now. unchanged s s task before after (λ is. is) is now;
+  begin = λ acting slot call old c current ruled free before after is now.
+      replaced_within (room s) acting task slot call old before after c (room_current s acting ∙ current) ruled (room_current s task ∙ is) now;
+  sweep = λ before after is now. unchanged s s task before after (λ is. is) is now;
+}
+
+pub permitted_never_grows : PermittedNeverGrows
+permitted_never_grows script s line event task =
+    after_step (Within s task) s (changes_within s task) script line event
+
+-- ---- a task that comes to live
+
+nobody : (s : State) (task : ℕ) (c : Numbered) → task_of s task ≡ None → current_of s task ≡ Some c → ⊥
+nobody s task c none is =
+    let empty : None ≡ Some c = sym (ap (option_and_then (λ (t : Task). numbered s.creds t.current)) none) ∙ is in cc
+
+first_at : (s : State) (number process task user group ns slot : ℕ) (c : Numbered) (b : Bool) → (number == task) ≡ b
+    → option_and_then (λ (t : Task). numbered (s.creds ++ record { cred = first_credential user group ns; slot = slot } ∷ []) t.current) (cond b (Some (record { number = number; process = process; current = length s.creds })) None) ≡ Some c
+    → IsBornWith (Init number process user group ns) task c.cred
+first_at s number process task user group ns slot c true test now =
+    let same : number ≡ task = grind (arith, nat_tests) in
+    (same, sym (last_numbered s.creds (record { cred = first_credential user group ns; slot = slot }) c now))
+first_at s number process task user group ns slot c false test now = cc
+
+born_first : (s : State) (number process task user group ns slot : ℕ) (c : Numbered) → task_of s task ≡ None
+    → current_of (born s (record { number = number; process = process; current = length s.creds }) (first_credential user group ns) slot) task ≡ Some c
+    → IsBornWith (Init number process user group ns) task c.cred
+born_first s number process task user group ns slot c none now =
+    let t : Task = record { number = number; process = process; current = length s.creds } in
+    let new : Sealing = record { cred = first_credential user group ns; slot = slot } in
+    let owner = find-append (λ (t : Task). t.number == task) s.tasks (t ∷ []) ∙ ap (λ o. option_or o (find (λ (t : Task). t.number == task) (t ∷ []))) none in
+    first_at s number process task user group ns slot c (number == task) refl
+    (sym (ap (option_and_then (λ (t : Task). numbered (s.creds ++ new ∷ []) t.current)) owner) ∙ now)
+
+abbrev Born : State → ℕ → Event → State → Type 0
+Born s task event next =
+    (after : Numbered) → task_of s task ≡ None → current_of next task ≡ Some after → IsBornWith event task after.cred
+
+changes_born : (s : State) (task : ℕ) → Changes s (Born s task)
+changes_born s task = record {
+  same = λ event after none now. absurd (nobody s task after none now);
+  full = λ event after none now. absurd (nobody (room s) task after (room_task s task ∙ none) now);
+  init = λ number process user group ns slot fresh free after none now.
+      born_first (room s) number process task user group ns slot after (room_task s task ∙ none) now;
+  take = λ label number side taken current fresh after none now. absurd (nobody s task after none now);
+  release = λ label place hold at gone after none now. absurd (nobody s task after none now);
+  begin = λ acting slot call old c current ruled free after none now.
+      absurd (nobody (replaced (room s) acting old.number c slot) task after
+      (replaced_task (room s) acting old.number slot c task ∙ ap (option_map (renewed acting (length (room s).creds))) (room_task s task ∙ none)) now);
+  sweep = λ after none now. absurd (nobody s task after none now);
+}
+
+pub new_task_has_first : NewTaskHasFirst
+new_task_has_first script s line event task = after_step (Born s task) s (changes_born s task) script line event

@@ -1,0 +1,33 @@
+-- What was sealed, and what is held, stays as it is.
+use Rattle.std.specs.Prelude.{◌≡◌, ◌≢◌, ℕ, List, ◌++◌, length, take, Some, All}
+use Rattle.cred_event.specs.declared.event.Event.{Event}
+use Rattle.cred_event.specs.declared.event.Event.TheVariants.{Release}
+use Rattle.cred_event.specs.declared.entry.Entry.{Entry}
+use Rattle.cred_model.specs.Script.{Script}
+use Rattle.cred_model.specs.State.{State, Hold, Numbered, hold_of, held_by}
+use Rattle.cred_model.specs.Step.{step}
+use Rattle.cred_model.specs.Journal.{replay}
+
+-- The sealed credentials are, whatever is entered later, the first ones of those that are then
+-- sealed, in their slots.
+abbrev pub SealedStays : Type 0
+SealedStays =
+    (script : Script) (journal more : List Entry)
+    → let before = (replay script journal).creds in
+    take (length before) (replay script (journal ++ more)).creds ≡ before
+
+-- A hold stands, with its number, after each event but its label's release.
+abbrev pub HoldStays : Type 0
+HoldStays =
+    (script : Script) (s : State) (line : ℕ) (event : Event) (label : ℕ) (hold : Hold)
+    → hold_of s label ≡ Some hold → event ≢ Release label
+    → hold_of (step script s line event).1 label ≡ Some hold
+
+-- While a label isn't released it holds one number, whose credential and slot are the same
+-- throughout.
+abbrev pub HeldStays : Type 0
+HeldStays =
+    (script : Script) (journal more : List Entry) (label : ℕ) (held : Numbered)
+    → held_by (replay script journal) label ≡ Some held
+    → All (λ entry. entry.event ≢ Release label) more
+    → held_by (replay script (journal ++ more)) label ≡ Some held

@@ -1,0 +1,5 @@
+pub mod Order
+pub mod Slots
+pub mod Held
+pub mod Permitted
+pub mod Journals

@@ -1,0 +1,12 @@
+//! Laws of journals: what holds of every journal that a script has, or of every step of the kernel.
+//!
+//! Each law is the contract of a function with nothing in its body, over the definitions that the
+//! code is proved to follow. So there is nothing to run, and no wrong body to refuse: an edit that
+//! must fail stands with the code that keeps the law.
+#![tactic(auto)]
+
+pub mod held;
+pub mod journals;
+pub mod order;
+pub mod permitted;
+pub mod slots;

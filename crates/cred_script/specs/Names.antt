@@ -1,0 +1,43 @@
+-- The table of forms: which words may begin a line, name a call, and name a question.
+use Rattle.std.specs.Prelude.{ℕ, List, codes, Some, None, if◌then◌else◌}
+use Rattle.std.specs.declared.option.Option.{Option}
+use Rattle.std.specs.Option.{option_map, option_or}
+use Rattle.std.specs.Str.{bytes_eq}
+use Rattle.cred_event.specs.declared.event.Side.TheVariants.{Subjective, Objective}
+use Rattle.cred_script.specs.declared.names.Form.{Form}
+use Rattle.cred_script.specs.declared.names.Form.TheVariants as form
+use Rattle.cred_script.specs.declared.names.IdName.{IdName}
+use Rattle.cred_script.specs.declared.names.IdName.TheVariants.{SetResuid}
+use Rattle.cred_script.specs.declared.names.QueryName.{QueryName}
+use Rattle.cred_script.specs.declared.names.QueryName.TheVariants.{Ids, Caps}
+use Rattle.cred_script.specs.declared.names.CallName.{CallName}
+use Rattle.cred_script.specs.declared.names.CallName.TheVariants as call
+use Rattle.cred_script.specs.Spellings.{task_of}
+
+-- what a line is by its first word
+abbrev pub form_of : List ℕ → Option Form
+form_of word =
+    if bytes_eq word (codes "init") then Some form.Init
+    else if bytes_eq word (codes "take") then Some (form.Take Subjective)
+    else if bytes_eq word (codes "takereal") then Some (form.Take Objective)
+    else if bytes_eq word (codes "drop") then Some form.Release
+    else if bytes_eq word (codes "ask") then Some form.Ask
+    else if bytes_eq word (codes "begin") then Some form.Begin
+    else if bytes_eq word (codes "sweep") then Some form.Sweep
+    else option_map form.Own (task_of word)
+
+-- the id calls
+abbrev pub id_name : List ℕ → Option IdName
+id_name word = if bytes_eq word (codes "setresuid") then Some SetResuid else None
+
+-- the questions
+abbrev pub query_name : List ℕ → Option QueryName
+query_name word =
+    if bytes_eq word (codes "ids") then Some Ids
+    else if bytes_eq word (codes "caps") then Some Caps
+    else None
+
+-- what a task may do on a line of its own
+abbrev pub call_name : List ℕ → Option CallName
+call_name word =
+    option_or (option_map call.Id (id_name word)) (option_map call.Question (query_name word))

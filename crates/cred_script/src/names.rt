@@ -1,0 +1,102 @@
+//! The table of forms: which words may begin a line, name a call, and name a question.
+ghost use Rattle.std.specs.Prelude.{◌≡◌};
+ghost use Rattle.cred_script.specs.Names as spec;
+
+use crate::spellings::{is, task_of};
+use cred_event::Side;
+
+/// What a line is.
+#[derive(Clone, Copy, Debug)]
+pub(crate) enum Form {
+    /// A first task is born.
+    Init,
+    /// A call or a question of the task.
+    Own(u32),
+    /// A label takes hold of a credential.
+    Take(Side),
+    /// A label lets go.
+    Release,
+    /// A question about what a label holds.
+    Ask,
+    /// A task begins a call.
+    Begin,
+    /// All that was given up is let go.
+    Sweep,
+}
+
+/// The id calls that a line may name.
+#[derive(Clone, Copy, Debug)]
+pub(crate) enum IdName {
+    SetResuid,
+}
+
+/// The questions that a line may name.
+#[derive(Clone, Copy, Debug)]
+pub(crate) enum QueryName {
+    Ids,
+    Caps,
+}
+
+/// What a task may do on a line of its own.
+#[derive(Clone, Copy, Debug)]
+pub(crate) enum CallName {
+    Id(IdName),
+    Question(QueryName),
+}
+
+/// The form that a line's first word names.
+pub(crate) fn form_of(word: &[u8]) -> Option<Form>
+    ensures { result ≡ spec.form_of word.now }
+{
+    if is(word, "init") {
+        Some(Form::Init)
+    } else if is(word, "take") {
+        Some(Form::Take(Side::Subjective))
+    } else if is(word, "takereal") {
+        Some(Form::Take(Side::Objective))
+    } else if is(word, "drop") {
+        Some(Form::Release)
+    } else if is(word, "ask") {
+        Some(Form::Ask)
+    } else if is(word, "begin") {
+        Some(Form::Begin)
+    } else if is(word, "sweep") {
+        Some(Form::Sweep)
+    } else {
+        task_of(word).map(Form::Own)
+    }
+}
+
+pub(crate) fn id_name(word: &[u8]) -> Option<IdName>
+    ensures { result ≡ spec.id_name word.now }
+{
+    if is(word, "setresuid") {
+        Some(IdName::SetResuid)
+    } else {
+        None
+    }
+}
+
+pub(crate) fn query_name(word: &[u8]) -> Option<QueryName>
+    ensures { result ≡ spec.query_name word.now }
+{
+    if is(word, "ids") {
+        Some(QueryName::Ids)
+    } else if is(word, "caps") {
+        Some(QueryName::Caps)
+    } else {
+        None
+    }
+}
+
+pub(crate) fn call_name(word: &[u8]) -> Option<CallName>
+    ensures { result ≡ spec.call_name word.now }
+{
+    if let Some(name) = id_name(word) {
+        return Some(CallName::Id(name));
+    }
+    if let Some(name) = query_name(word) {
+        return Some(CallName::Question(name));
+    }
+    None
+}

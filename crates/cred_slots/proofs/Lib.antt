@@ -1,0 +1,8 @@
+pub mod Words
+pub mod Counting
+pub mod Sound
+pub mod Live
+pub mod Rows
+pub mod Uses
+pub mod Bags
+pub mod Tables

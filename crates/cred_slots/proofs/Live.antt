@@ -1,0 +1,163 @@
+-- Which slots are live, by the flags.
+use Rattle.std.proofs.Common.{◌≡◌, ◌≢◌, ◌⊎◌, ℕ, zero, suc, ◌+◌, ◌<◌, ◌≤◌, ◌==◌, ◌||◌, Bool, true, false, not, cond, List, [], length, get_or, map, find, refl, sym, ap, ◌∙◌, subst, inl, inr, arith, nat_lt, Option, Some, slice_get}
+use Rattle.std.specs.List.{count_by, list_any, range_with_len}
+use Rattle.std.proofs.lemmas.List.FromFn.{get_or-map-range_with_len}
+use Rattle.std.proofs.lemmas.List.Folds.{list_any-append}
+use Rattle.std.proofs.lemmas.Bool.{cases_lt}
+use Rattle.std.proofs.lemmas.Bool.Decides.{nat_tests}
+use Rattle.cred_slots.specs.declared.row.Row.{Row}
+use Rattle.cred_slots.specs.Table.{Table, slots, stands_in, is_live, least_free}
+use Rattle.cred_slots.specs.Flags.{in_either, first_unset}
+use Rattle.cred_slots.specs.Rows.{row_at, repeated, held_in, held_count, late_count, IsSound}
+use Rattle.cred_slots.proofs.Counting.{weight, any-count, count-repeated, sum_only}
+
+-- Two tests that agree below the end find the same.
+pub find-same : (p q : ℕ → Bool) (a n : ℕ) → ((k : ℕ) → a ≤ k → k < a + n → p k ≡ q k) → find p (range_with_len a n) ≡ find q (range_with_len a n)
+find-same p q a zero each = refl
+find-same p q a (suc n) each =
+    rw (each a (omega arith) (omega arith), find-same p q (a + 1) n (λ k l h. each k (omega arith) (omega arith))) refl
+
+pub weight_none : (b : Bool) (n : ℕ) → n ≡ 0 → cond b n 0 ≡ 0
+weight_none true n e = e
+weight_none false n e = refl
+
+weight_here : (sealed : List ℕ) (count : Row → ℕ) (row : Row) (slot : ℕ) → (0 < count row → slice_get sealed row.number ≡ Some slot)
+    → weight count (stands_in sealed slot) row ≡ count row
+weight_here sealed count row slot stands = elim (cases_lt 0 (count row)) [
+  | inl lt ↦
+      let there = stands lt in
+      let same : (slot == slot) ≡ true = grind (arith, nat_tests) in
+      rw (there, same) refl
+  | inr ge ↦
+      let none : count row ≡ 0 = omega arith in
+      weight_none (stands_in sealed slot row.number) (count row) none ∙ sym none
+]
+
+pub weight_elsewhere : (sealed : List ℕ) (count : Row → ℕ) (row : Row) (slot i : ℕ) → i ≢ slot → (0 < count row → slice_get sealed row.number ≡ Some i)
+    → weight count (stands_in sealed slot) row ≡ 0
+weight_elsewhere sealed count row slot i ne stands = elim (cases_lt 0 (count row)) [
+  | inl lt ↦
+      let there = stands lt in
+      let other : (i == slot) ≡ false = grind (arith, nat_tests) in
+      rw (there, other) refl
+  | inr ge ↦ weight_none (stands_in sealed slot row.number) (count row) (omega arith)
+]
+
+-- A row counts the references to all numbers in its slot.
+count-in_slot : (rows : List Row) (sealed : List ℕ) (count : Row → ℕ) → length rows ≡ 256
+    → ((slot : ℕ) → slot < 256 → 0 < count (row_at rows slot) → slice_get sealed (row_at rows slot).number ≡ Some slot)
+    → (slot : ℕ) → slot < 256 → count_by (stands_in sealed slot) (repeated count rows) ≡ count (row_at rows slot)
+count-in_slot rows sealed count long stands slot within =
+    count-repeated count (stands_in sealed slot) rows
+    ∙ sum_only (weight count (stands_in sealed slot)) rows slot (omega arith)
+    (λ i h ne. weight_elsewhere sealed count (row_at rows i) slot i ne (stands i (omega arith)))
+    ∙ weight_here sealed count (row_at rows slot) slot (stands slot within)
+
+pub held-in_slot : {rows : List Row} {sealed deferred : List ℕ} {kept used late : List Bool} {held spare sealable referable : ℕ}
+    → IsSound rows sealed deferred kept used late held spare sealable referable
+    → (slot : ℕ) → slot < 256 → count_by (stands_in sealed slot) (held_in rows) ≡ (row_at rows slot).held
+held-in_slot {rows = rows} {sealed = sealed} s slot within =
+    count-in_slot rows sealed held_count s.all_rows (λ k h some. s.stands k h (omega arith)) slot within
+
+pub late-in_slot : {rows : List Row} {sealed deferred : List ℕ} {kept used late : List Bool} {held spare sealable referable : ℕ}
+    → IsSound rows sealed deferred kept used late held spare sealable referable
+    → (slot : ℕ) → slot < 256 → count_by (stands_in sealed slot) deferred ≡ (row_at rows slot).late
+late-in_slot {rows = rows} {sealed = sealed} s slot within =
+    s.given_up.counts (stands_in sealed slot)
+    ∙ count-in_slot rows sealed late_count s.all_rows (λ k h some. s.stands k h (omega arith)) slot within
+
+reorder : (u l k : Bool) → ((u || l) || k) ≡ ((k || u) || l)
+reorder true true true = refl
+reorder true true false = refl
+reorder true false true = refl
+reorder true false false = refl
+reorder false true true = refl
+reorder false true false = refl
+reorder false false true = refl
+reorder false false false = refl
+
+or_none : (b : Bool) → (b || false) ≡ b
+or_none true = refl
+or_none false = refl
+
+-- the table that the parts stand for
+abbrev pub seen : List Row → List ℕ → List ℕ → List Bool → ℕ → Table
+seen rows sealed deferred kept spare = record { sealed = sealed; held = held_in rows; deferred = deferred; kept = kept; spare = spare }
+
+pub live-by_flags : {rows : List Row} {sealed deferred : List ℕ} {kept used late : List Bool} {held spare sealable referable : ℕ}
+    → IsSound rows sealed deferred kept used late held spare sealable referable
+    → (slot : ℕ) → slot < 256 → is_live (seen rows sealed deferred kept spare) slot ≡ in_either (map (in_either kept used) slots) late slot
+unfolding slots
+live-by_flags {rows = rows} {sealed = sealed} {deferred = deferred} {kept = kept} {used = used} {late = late} s slot within =
+    let test : ℕ → Bool = stands_in sealed slot in
+    let u : list_any test (held_in rows) ≡ get_or used slot false =
+    any-count test (held_in rows) ∙ ap (nat_lt 0) (held-in_slot s slot within) ∙ sym (s.is_used.each slot within) in
+    let l : list_any test deferred ≡ get_or late slot false =
+    any-count test deferred ∙ ap (nat_lt 0) (late-in_slot s slot within) ∙ sym (s.is_late.each slot within) in
+    rw (list_any-append test (held_in rows) deferred, u, l, get_or-map-range_with_len (in_either kept used) 0 256 slot slot false within (omega arith))
+    (reorder (get_or used slot false) (get_or late slot false) (get_or kept slot false))
+
+pub live-once_swept : {rows : List Row} {sealed deferred : List ℕ} {kept used late : List Bool} {held spare sealable referable : ℕ}
+    → IsSound rows sealed deferred kept used late held spare sealable referable
+    → (slot : ℕ) → slot < 256 → is_live (seen rows sealed [] kept spare) slot ≡ in_either kept used slot
+live-once_swept {rows = rows} {sealed = sealed} {deferred = deferred} {kept = kept} {used = used} {late = late} s slot within =
+    let test : ℕ → Bool = stands_in sealed slot in
+    let u : list_any test (held_in rows) ≡ get_or used slot false =
+    any-count test (held_in rows) ∙ ap (nat_lt 0) (held-in_slot s slot within) ∙ sym (s.is_used.each slot within) in
+    rw (list_any-append test (held_in rows) [], u) (reorder (get_or used slot false) false (get_or kept slot false) ∙ or_none _)
+
+pub least-by_flags : {rows : List Row} {sealed deferred : List ℕ} {kept used late : List Bool} {held spare sealable referable : ℕ}
+    → IsSound rows sealed deferred kept used late held spare sealable referable
+    → first_unset (map (in_either (map (in_either kept used) slots) late) slots) ≡ least_free (seen rows sealed deferred kept spare)
+unfolding slots
+least-by_flags {rows = rows} {sealed = sealed} {deferred = deferred} {kept = kept} {used = used} {late = late} {spare = spare} s =
+    let both : ℕ → Bool = in_either (map (in_either kept used) slots) late in
+    find-same (λ slot. not (get_or (map both slots) slot false)) (λ slot. not (is_live (seen rows sealed deferred kept spare) slot)) 0 256
+    (λ k l h. ap not (get_or-map-range_with_len both 0 256 k k false (omega arith) (omega arith) ∙ sym (live-by_flags s k (omega arith))))
+
+pub least-once_swept : {rows : List Row} {sealed deferred : List ℕ} {kept used late : List Bool} {held spare sealable referable : ℕ}
+    → IsSound rows sealed deferred kept used late held spare sealable referable
+    → first_unset (map (in_either kept used) slots) ≡ least_free (seen rows sealed [] kept spare)
+unfolding slots
+least-once_swept {rows = rows} {sealed = sealed} {kept = kept} {used = used} {spare = spare} s =
+    find-same (λ slot. not (get_or (map (in_either kept used) slots) slot false)) (λ slot. not (is_live (seen rows sealed [] kept spare) slot)) 0 256
+    (λ k l h. ap not (get_or-map-range_with_len (in_either kept used) 0 256 k k false (omega arith) (omega arith) ∙ sym (live-once_swept s k (omega arith))))
+
+none_set : (a b c : Bool) → not ((a || b) || c) ≡ true → (a ≡ false) × (b ≡ false)
+none_set true b c e = cc
+none_set false true c e = cc
+none_set false false c e = (refl, refl)
+
+none_counted : (held late : ℕ) (kept : Bool) → not ((nat_lt 0 held || nat_lt 0 late) || kept) ≡ true → held + late ≡ 0
+none_counted held late kept e =
+    let none = none_set (nat_lt 0 held) (nat_lt 0 late) kept e in
+    let h : nat_lt 0 held ≡ false = none.0 in
+    let l : nat_lt 0 late ≡ false = none.1 in
+    grind (arith, nat_tests)
+
+some_is : (b : Bool) (a s : ℕ) (rest : Option ℕ) → cond b (Some a) rest ≡ Some s → ((b ≡ true) × (a ≡ s)) ⊎ (rest ≡ Some s)
+some_is true a s rest e = inl (refl, cc)
+some_is false a s rest e = inr e
+
+find-passes : (test : ℕ → Bool) (a n s : ℕ) → find test (range_with_len a n) ≡ Some s → (s < a + n) × (test s ≡ true)
+find-passes test a zero s e = cc
+find-passes test a (suc n) s e = elim (some_is (test a) a s (find test (range_with_len (a + 1) n)) e) [
+  | inl here ↦ (omega (arith, here.1), subst (λ (k : ℕ). test k ≡ true) here.1 here.0)
+  | inr later ↦ let found = find-passes test (a + 1) n s later in (omega (arith, found.0), found.1)
+]
+
+-- the least slot is in the table, and nothing refers to a number in it
+pub least-is : {rows : List Row} {sealed deferred : List ℕ} {kept used late : List Bool} {held spare sealable referable : ℕ}
+    → IsSound rows sealed deferred kept used late held spare sealable referable
+    → (slot : ℕ) → least_free (seen rows sealed deferred kept spare) ≡ Some slot
+    → (slot < 256) × ((row_at rows slot).held + (row_at rows slot).late ≡ 0)
+unfolding slots
+least-is {rows = rows} {sealed = sealed} {deferred = deferred} {kept = kept} {used = used} {late = late} {spare = spare} s slot e =
+    let found = find-passes (λ k. not (is_live (seen rows sealed deferred kept spare) k)) 0 256 slot e in
+    let within : slot < 256 = omega (arith, found.0) in
+    let test : ℕ → Bool = stands_in sealed slot in
+    let u : list_any test (held_in rows) ≡ nat_lt 0 (row_at rows slot).held = any-count test (held_in rows) ∙ ap (nat_lt 0) (held-in_slot s slot within) in
+    let l : list_any test deferred ≡ nat_lt 0 (row_at rows slot).late = any-count test deferred ∙ ap (nat_lt 0) (late-in_slot s slot within) in
+    let dead : not ((nat_lt 0 (row_at rows slot).held || nat_lt 0 (row_at rows slot).late) || get_or kept slot false) ≡ true =
+    rw (← u, ← l, ← list_any-append test (held_in rows) deferred) found.1 in
+    (within, none_counted (row_at rows slot).held (row_at rows slot).late (get_or kept slot false) dead)

@@ -1,0 +1,11 @@
+//! Counted slots for sealed credentials. Sealed credentials have the numbers 0, 1, 2, .., and each
+//! stands in one of 256 slots. The references to a number are counted, and never searched for.
+#![tactic(auto)]
+
+mod flags;
+mod row;
+pub mod slots;
+#[cfg(test)]
+mod tests;
+
+pub use slots::Slots;
