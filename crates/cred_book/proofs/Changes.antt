@@ -1,14 +1,14 @@
 -- What each event leaves of a counted state.
-use Rattle.std.proofs.Common.{◌≡◌, ℕ, zero, suc, ◌+◌, ◌<◌, ◌≤◌, Bool, true, false, cond, ◌==◌, nat_eq, List, [], ◌∷◌, ◌++◌, map, find, count_by, length, remove, slice_get, slice_index_or, slice_set, Option, None, Some, refl, sym, ap, ◌∙◌, subst, length-append, arith}
+use Rattle.std.proofs.Common.{◌≡◌, ℕ, zero, suc, ◌+◌, ◌<◌, Bool, true, false, cond, ◌==◌, List, [], ◌∷◌, ◌++◌, find, count_by, length, remove, slice_get, slice_index_or, Option, None, Some, refl, sym, ap, ◌∙◌, length-append, arith}
 use Rattle.std.specs.Option.{option_map}
 use Rattle.std.proofs.lemmas.Bool.{eq-eqb}
 use Rattle.cred_record.specs.Credential.{Credential}
-use Rattle.cred_model.specs.State.{State, Task, Hold, Sealing, Numbered, numbered}
+use Rattle.cred_model.specs.State.{Task, Hold, Sealing, numbered}
 use Rattle.cred_model.specs.Step.{with_current}
-use Rattle.cred_slots.specs.Table.{Table, IsSameBag, is_kept}
+use Rattle.cred_slots.specs.Table.{Table, IsSameBag}
 use Rattle.cred_slots.proofs.Counting.{count-cons}
-use Rattle.cred_book.specs.Kept.{sealings, referred, AreDistinct, IsCounted, Seals}
-use Rattle.cred_book.proofs.Counts.{currents, numbers, one_if, currents-push, distinct-push, currents-with_current, distinct-with_current, numbers-push, numbers-remove, count-referred}
+use Rattle.cred_book.specs.Kept.{sealings, IsCounted, Seals}
+use Rattle.cred_book.proofs.Counts.{currents, one_if, currents-push, distinct-push, currents-with_current, distinct-with_current, numbers-push, numbers-remove, count-referred}
 
 -- ---- sealed credentials
 

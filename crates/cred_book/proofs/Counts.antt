@@ -1,11 +1,10 @@
 -- How references are counted while tasks and holds change.
-use Rattle.std.proofs.Common.{◌≡◌, ℕ, zero, suc, ◌+◌, ◌<◌, ◌≤◌, Bool, true, false, cond, ◌==◌, nat_eq, List, [], ◌∷◌, ◌++◌, map, find, count_by, length, remove, take, drop, slice_get, Option, None, Some, refl, sym, ap, ◌∙◌, subst, arith}
+use Rattle.std.proofs.Common.{◌≡◌, ℕ, zero, suc, ◌+◌, Bool, true, false, cond, ◌==◌, nat_eq, List, [], ◌∷◌, ◌++◌, map, find, count_by, remove, slice_get, Option, None, Some, refl, sym, ap, ◌∙◌, subst, arith}
 use Rattle.std.proofs.lemmas.Bool.{eqb-true}
 use Rattle.std.proofs.lemmas.Bool.Decides.{nat_tests}
 use Rattle.std.proofs.lemmas.List.{map-append}
 use Rattle.cred_model.specs.State.{Task, Hold}
 use Rattle.cred_model.specs.Step.{renewed, with_current}
-use Rattle.cred_slots.specs.Table.{IsSameBag}
 use Rattle.cred_slots.proofs.Counting.{count-cons, count-append}
 use Rattle.cred_book.specs.Kept.{AreDistinct, referred}
 

@@ -1,5 +1,5 @@
 -- A run from line to line.
-use Rattle.std.proofs.Common.{◌≡◌, ◌≢◌, ℕ, zero, suc, ◌+◌, ◌-◌, ◌<◌, ◌==◌, List, [], ◌∷◌, ◌++◌, length, slice_get, get_or, Option, Some, None, false, refl, sym, ap, ◌∙◌, subst, inl, inr, length-append, arith}
+use Rattle.std.proofs.Common.{◌≡◌, ℕ, zero, suc, ◌+◌, ◌-◌, ◌<◌, ◌==◌, List, [], ◌∷◌, ◌++◌, length, slice_get, get_or, Option, Some, None, false, refl, sym, ap, ◌∙◌, subst, inl, inr, length-append, arith}
 use Rattle.std.specs.Option.{IfSome, option_map, option_and_then, option_map_or}
 use Rattle.std.proofs.lemmas.List.{get_or_push}
 use Rattle.std.proofs.lemmas.List.Sums.{fold_push}
@@ -11,7 +11,7 @@ use Rattle.cred_event.specs.declared.event.Event.{Event}
 use Rattle.cred_event.specs.declared.entry.Entry.{Entry}
 use Rattle.cred_model.specs.Script.{Script, Line}
 use Rattle.cred_model.specs.Course.{event_at, after, leads}
-use Rattle.cred_model.specs.Journal.{Due, answers_of, next_event, first_due, entry_of, next_in_order, IsSequence}
+use Rattle.cred_model.specs.Journal.{answers_of, entry_of, IsSequence}
 use Rattle.cred_model.proofs.Journals.{IsInOrder-push}
 use Rattle.cred_model.proofs.Lines.{rank, after_falls, answers_of-push_same, answers_of-push_other, first_due_at, first_due_none}
 use Rattle.cred_script.specs.Grammar.{line_at}

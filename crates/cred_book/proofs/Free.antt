@@ -1,10 +1,10 @@
 -- A counted table and the state that it counts take the same slot.
-use Rattle.std.proofs.Common.{◌≡◌, ℕ, zero, suc, ◌+◌, ◌<◌, Bool, true, false, not, cond, ◌||◌, ◌==◌, List, [], ◌∷◌, ◌++◌, map, find, length, slice_get, Option, None, Some, is_some, refl, sym, ap, ◌∙◌, subst, arith}
-use Rattle.std.specs.List.{list_any, range_with_len}
+use Rattle.std.proofs.Common.{◌≡◌, ℕ, zero, suc, Bool, true, false, not, cond, ◌||◌, ◌==◌, List, [], ◌∷◌, ◌++◌, find, length, slice_get, Option, None, Some, is_some, refl, sym, ap, ◌∙◌, subst, arith}
+use Rattle.std.specs.List.{list_any}
 use Rattle.std.specs.Option.{option_map, option_map_or}
 use Rattle.std.proofs.lemmas.List.Folds.{list_any-append}
 use Rattle.cred_record.specs.Credential.{Credential}
-use Rattle.cred_model.specs.State.{State, Task, Hold, Sealing}
+use Rattle.cred_model.specs.State.{Task, Hold, Sealing}
 use Rattle.cred_model.specs.Slots as model
 use Rattle.cred_slots.specs.Table.{Table, IsSameBag, is_kept, swept}
 use Rattle.cred_slots.specs.Table as table

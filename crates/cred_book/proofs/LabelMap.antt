@@ -1,6 +1,6 @@
 -- What a map from labels gives and leaves, as holds.
-use Rattle.std.proofs.Common.{◌≡◌, ℕ, ◌+◌, ◌<◌, ◌==◌, Bool, true, false, not, cond, List, [], ◌∷◌, ◌++◌, length, map, find, position, remove, slice_get, get_or, take, drop, Option, None, Some, nat_eq, nat_lt, refl, sym, ap, ◌∙◌, arith, suc}
-use Rattle.std.specs.List.{prefix_len, position_or_len}
+use Rattle.std.proofs.Common.{◌≡◌, ℕ, ◌+◌, ◌==◌, Bool, true, false, not, cond, List, [], ◌∷◌, ◌++◌, length, map, find, position, remove, slice_get, get_or, take, drop, Option, None, Some, nat_eq, refl, sym, ap, ◌∙◌, arith, suc}
+use Rattle.std.specs.List.{prefix_len}
 use Rattle.std.specs.Option.{option_map}
 use Rattle.std.specs.Map.{keys_of, lookup}
 use Rattle.std.proofs.lemmas.Bool.{eqb-true}

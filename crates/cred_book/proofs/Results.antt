@@ -1,11 +1,11 @@
 -- What each event answers in a counted state.
-use Rattle.std.proofs.Common.{◌≡◌, ℕ, ◌+◌, ◌<◌, Bool, true, false, cond, ◌==◌, nat_lt, List, [], ◌∷◌, ◌++◌, map, find, position, remove, count_by, length, slice_get, Option, None, Some, Ok, is_some, refl, sym, ap, ◌∙◌, subst, max, arith}
+use Rattle.std.proofs.Common.{◌≡◌, ℕ, ◌+◌, ◌<◌, Bool, true, cond, ◌==◌, nat_lt, List, [], ◌∷◌, ◌++◌, find, position, remove, count_by, length, slice_get, Option, None, Some, Ok, refl, sym, ap, ◌∙◌, subst, arith}
 use Rattle.std.specs.Option.{option_map, option_map_or, option_and_then}
 use Rattle.std.proofs.lemmas.Bool.Decides.{nat_tests}
 use Rattle.cred_record.specs.Credential.{Credential, first_credential}
 use Rattle.cred_record.specs.declared.id_call.IdCall.{IdCall}
 use Rattle.cred_rules.specs.SetId.{set_id}
-use Rattle.cred_event.specs.declared.event.Event.TheVariants.{Init, Take, Release, Begin}
+use Rattle.cred_event.specs.declared.event.Event.TheVariants.{Init, Release, Begin}
 use Rattle.cred_event.specs.declared.answer.Answer.{Answer}
 use Rattle.cred_event.specs.declared.answer.Answer.TheVariants.{Done, Sealed, Began, TableFull}
 use Rattle.cred_model.specs.State.{State, Task, Hold, Sealing, Numbered, current_of, numbered}

@@ -9,7 +9,7 @@ use Rattle.cred_event.specs.declared.answer.Answer.{Answer}
 use Rattle.cred_event.specs.declared.entry.Entry.{Entry}
 use Rattle.cred_model.specs.Script.{Script}
 use Rattle.cred_model.specs.Course.{event_at, after}
-use Rattle.cred_model.specs.Journal.{Due, entry_of}
+use Rattle.cred_model.specs.Journal.{entry_of}
 
 -- a script, and the journal of its run so far
 pub record Recorded : Type 0 where

@@ -1,6 +1,6 @@
 -- How a book keeps the kernel's state: the tasks and the holds as they are, the credentials by their
 -- numbers, and a table of slots that counts the references.
-use Rattle.std.specs.Prelude.{◌≡◌, ℕ, ◌==◌, Bool, false, List, [], ◌∷◌, ◌++◌, length, map, find, None, Some}
+use Rattle.std.specs.Prelude.{◌≡◌, ℕ, ◌==◌, false, List, [], ◌∷◌, ◌++◌, length, map, find, None, Some}
 use Rattle.cred_record.specs.Credential.{Credential}
 use Rattle.cred_model.specs.State.{State, Task, Hold, Sealing}
 use Rattle.cred_slots.specs.Table.{Table, IsSameBag, is_kept, room, free}

@@ -15,7 +15,7 @@ use Rattle.cred_event.specs.declared.content.Content.TheVariants.{One, Id, Quest
 use Rattle.cred_model.specs.Answers.{is_ok}
 use Rattle.cred_model.specs.Script.{Line}
 use Rattle.cred_model.specs.Course.{event_at, after}
-use Rattle.cred_model.specs.Journal.{Due, answers_of, next_event, first_due}
+use Rattle.cred_model.specs.Journal.{answers_of, next_event, first_due}
 
 -- how many events a line may still make
 abbrev pub rank : Stage → ℕ

@@ -12,7 +12,7 @@ use Rattle.cred_event.specs.declared.answer.Answer.TheVariants.{Done, Sealed, Be
 use Rattle.cred_event.specs.declared.answer.Named.TheVariants as named
 use Rattle.cred_event.specs.declared.answer.Counted.TheVariants as counted
 use Rattle.cred_model.specs.Script.{Script}
-use Rattle.cred_model.specs.State.{State, Task, task_of, hold_of, numbered, current_of, held_by}
+use Rattle.cred_model.specs.State.{State, Task, task_of, hold_of, current_of, held_by}
 use Rattle.cred_model.specs.Slots.{room, free, swept}
 use Rattle.cred_model.specs.Answers.{refusal, reply}
 
