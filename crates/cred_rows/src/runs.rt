@@ -5,7 +5,7 @@ use cred_program::{Status, credtrace};
 use std::alloc::Global;
 
 /// The words of a command line.
-pub fn words_of(alloc: Global, texts: &[&str]) -> Result<Vec<String>, NoMemory> {
+pub(crate) fn words_of(alloc: Global, texts: &[&str]) -> Result<Vec<String>, NoMemory> {
     let mut words = Vec::new(alloc);
     for text in texts {
         words.push(String::from_str(alloc, text)?)?;
@@ -14,7 +14,7 @@ pub fn words_of(alloc: Global, texts: &[&str]) -> Result<Vec<String>, NoMemory> 
 }
 
 /// The piece, so many times.
-pub fn repeated(alloc: Global, piece: &str, count: usize) -> Result<Vec<u8>, NoMemory> {
+pub(crate) fn repeated(alloc: Global, piece: &str, count: usize) -> Result<Vec<u8>, NoMemory> {
     let mut bytes = Vec::new(alloc);
     for _ in 0..count {
         bytes.extend_from_slice(piece.as_bytes())?;
@@ -23,7 +23,11 @@ pub fn repeated(alloc: Global, piece: &str, count: usize) -> Result<Vec<u8>, NoM
 }
 
 /// How the program ends with these words on this input, and what it has written.
-pub fn ran(alloc: Global, texts: &[&str], input: &[u8]) -> Result<(Status, SureSink), NoMemory> {
+pub(crate) fn ran(
+    alloc: Global,
+    texts: &[&str],
+    input: &[u8],
+) -> Result<(Status, SureSink), NoMemory> {
     let words = words_of(alloc, texts)?;
     let mut source = SureSource::of(alloc, input)?;
     let mut sink = SureSink::new(alloc);
