@@ -5,3 +5,4 @@ pub mod Free
 pub mod Counts
 pub mod Changes
 pub mod Results
+pub mod ListAnswers

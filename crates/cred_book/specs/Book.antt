@@ -9,7 +9,8 @@ use Rattle.cred_event.specs.declared.answer.Answer.{Answer}
 use Rattle.cred_event.specs.declared.entry.Entry.{Entry}
 use Rattle.cred_model.specs.Script.{Script}
 use Rattle.cred_model.specs.Course.{event_at, after}
-use Rattle.cred_model.specs.Journal.{entry_of}
+use Rattle.cred_model.specs.Step.{step}
+use Rattle.cred_model.specs.Journal.{replay, entry_of}
 
 -- a script, and the journal of its run so far
 pub record Recorded : Type 0 where
@@ -20,6 +21,10 @@ pub record Recorded : Type 0 where
 abbrev pub with_event : Recorded → ℕ → Event → Recorded
 with_event book line event =
     record book { journal = book.journal ++ entry_of book.script book.journal (record { line = line; event = event }) ∷ [] }
+
+-- what an event of a line is answered
+abbrev pub answer_of : Recorded → ℕ → Event → Answer
+answer_of book line event = (step book.script (replay book.script book.journal) line event).0
 
 -- the event that the line at this place makes where it stands, or none
 abbrev pub event_of : Script → ℕ → Stage → Option Event

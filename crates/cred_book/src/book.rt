@@ -3,11 +3,11 @@ ghost use Rattle.std.specs.Prelude.{◌≡◌, ◌+◌, ◌<◌, ◌≤◌, [], 
 ghost use Rattle.cred_event.specs.declared.entry.Entry.{Entry};
 ghost use Rattle.cred_model.specs.Journal.{replay};
 ghost use Rattle.cred_model.specs.Slots.{uses};
-ghost use Rattle.cred_book.specs.Book.{with_event, event_of, stage_of};
+ghost use Rattle.cred_book.specs.Book.{with_event, answer_of, event_of, stage_of};
 
 use crate::course::{after, event_at};
 use crate::state::State;
-use cred_event::{Entry, Event, Stage};
+use cred_event::{Answer, Entry, Event, Stage, copy_answer};
 use cred_ids::NoMemory;
 use cred_script::Script;
 use std::alloc::Global;
@@ -78,19 +78,26 @@ impl Book {
         self.script.lines()
     }
 
-    /// Enters one event of a line, with its answer. Without memory nothing changes.
-    pub fn enter(&mut self, line: u32, event: Event) -> Result<(), NoMemory>
-        ensures ok { OnOk result (self.new ≡ with_event self.old line event) }
+    /// Enters one event of a line, and answers it with a copy of the entry's answer.
+    ///
+    /// # Errors
+    ///
+    /// `NoMemory` where the state, the entry or the copy found none: the book is as it was.
+    pub fn event(&mut self, line: u32, event: Event) -> Result<Answer, NoMemory>
+        ensures entered { OnOk result (self.new ≡ with_event self.old line event) }
+        ensures answer { IfOk result (λ answer.
+            answer ≡ answer_of self.old line event) }
         ensures err { OnErr result (self.new ≡ self.old) }
     {
         self.journal.reserve(1)?;
         let answer = self.state.step(&event)?;
+        let copied = copy_answer(&answer)?;
         self.journal.push(Entry {
             line,
             event,
             answer,
         })?;
-        Ok(())
+        Ok(copied)
     }
 
     /// The event that the line at this place makes where it stands, or none.

@@ -19,7 +19,7 @@ fn run_line(book: &mut Book, place: u32) -> Result<(), NoMemory>
     let _count = book.lines();
     let mut stage = Stage::First;
     while let Some(event) = book.event_of(place, stage)? {
-        book.enter(place + 1, event)?;
+        book.event(place + 1, event)?;
         stage = book.stage_of(place, stage);
     }
     Ok(())

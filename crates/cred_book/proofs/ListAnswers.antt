@@ -1,0 +1,66 @@
+-- An answer that holds a list is a question's, and leaves the state.
+use Rattle.std.proofs.Common.{◌≡◌, ℕ, Result, Ok, Err, Option, Some, None, refl, sym, ap, ◌∙◌, subst, length, ok_or, position, slice_get, ◌==◌}
+use Rattle.std.specs.Option.{option_map_or}
+use Rattle.cred_event.specs.Lists.{HoldsList}
+use Rattle.cred_event.specs.declared.event.Event.{Event}
+use Rattle.cred_event.specs.declared.event.Event.TheVariants.{Init, Take, Release, Ask, Begin, Sweep}
+use Rattle.cred_event.specs.declared.answer.Answer.{Answer}
+use Rattle.cred_event.specs.declared.answer.Answer.TheVariants.{Sealed, Began, NoTask, NoHold, Exists, TooMany, TableFull}
+use Rattle.cred_event.specs.declared.answer.Named.TheVariants as named
+use Rattle.cred_event.specs.declared.answer.Counted.TheVariants as counted
+use Rattle.cred_record.specs.Credential.{first_credential}
+use Rattle.cred_rules.specs.SetId.{set_id}
+use Rattle.cred_model.specs.State.{State, task_of, hold_of, current_of, held_by}
+use Rattle.cred_model.specs.Slots.{room, free}
+use Rattle.cred_model.specs.Step.{TASKS, HOLDS, ◌>>=◌, none_or, fewer_or, by_rule, born, replaced, done, settled}
+
+-- the state is left where the answer holds a list
+record Leaves (s : State) (made : Result (Answer × State) Answer) : Type 0 where
+  leaves : HoldsList (settled s made).0 → (settled s made).1 ≡ s
+
+-- a test that refuses leaves the state
+tested : {A : Type 0} (s : State) (test : Result A Answer) (goes_on : A → Result (Answer × State) Answer)
+    → ((a : A) → Leaves s (goes_on a)) → Leaves s (test >>= goes_on)
+tested s (Ok a) goes_on each = each a
+tested s (Err answer) goes_on each = record { leaves = λ list. refl }
+
+-- What happens in a slot is answered without a list.
+in_slot : (s r : State) (does : State → ℕ → Answer × State) (found : Option ℕ)
+    → ((slot : ℕ) → HoldsList (does r slot).0 → ⊥) → Leaves s (Ok (option_map_or (does r) found (TableFull, r)))
+in_slot s r does None plain = record { leaves = λ list. absurd list }
+in_slot s r does (Some slot) plain = record { leaves = λ list. absurd (plain slot list) }
+
+by_event : (s : State) (event : Event) → Leaves s (done s event)
+by_event s (Init task process user group ns) =
+    tested s (none_or (task_of s task) (Exists named.Task task)) _
+    (λ new. tested s (fewer_or (length s.tasks) TASKS (TooMany counted.Tasks)) _
+    (λ few. in_slot s (room s) (λ r slot.
+        let number = length r.creds in
+        (Sealed number slot, born r (record { number = task; process = process; current = number }) (first_credential user group ns) slot))
+    (free s) (λ slot list. list)))
+by_event s (Take label task side) =
+    tested s (ok_or (current_of s task) (NoTask task)) _
+    (λ taken. tested s (none_or (hold_of s label) (Exists named.Label label)) _
+    (λ new. tested s (fewer_or (length s.holds) HOLDS (TooMany counted.Holds)) _ (λ few. record { leaves = λ list. absurd list })))
+by_event s (Release label) =
+    tested s (ok_or (position (λ h. h.label == label) s.holds) (NoHold label)) _
+    (λ place. tested s (ok_or (slice_get s.holds place) (NoHold label)) _ (λ hold. record { leaves = λ list. absurd list }))
+by_event s (Ask label query) =
+    tested s (ok_or (held_by s label) (NoHold label)) _ (λ held. record { leaves = λ list. refl })
+by_event s (Begin task call) =
+    tested s (ok_or (current_of s task) (NoTask task)) _
+    (λ old. tested s (by_rule (set_id old.cred call)) _
+    (λ new. in_slot s (room s) (λ r slot. (Began (length r.creds) slot 0, replaced r task old.number new slot)) (free s) (λ slot list. list)))
+by_event s Sweep = record { leaves = λ list. absurd list }
+by_event s event = record { leaves = λ list. refl }
+
+-- an event that is answered with a list leaves the state
+pub list_leaves : (s : State) (event : Event) → HoldsList (settled s (done s event)).0 → (settled s (done s event)).1 ≡ s
+list_leaves s event = (by_event s event).leaves
+
+-- what is so where the event was made
+pub made_leaves : (s after : State) (event : Event) (answer : Answer) → settled s (done s event) ≡ (answer, after) → HoldsList answer
+    → after ≡ s
+made_leaves s after event answer made list =
+    let own : HoldsList (settled s (done s event)).0 = subst HoldsList (sym (ap (λ (p : Answer × State). p.0) made)) list in
+    sym (ap (λ (p : Answer × State). p.1) made) ∙ list_leaves s event own
