@@ -35,8 +35,8 @@ by_event s (Init task process user group ns) =
     tested s (none_or (task_of s task) (Exists named.Task task)) _
     (λ new. tested s (fewer_or (length s.tasks) TASKS (TooMany counted.Tasks)) _
     (λ few. in_slot s (room s) (λ r slot.
-        let number = length r.creds in
-        (Sealed number slot, born r (record { number = task; process = process; current = number }) (first_credential user group ns) slot))
+    let number = length r.creds in
+    (Sealed number slot, born r (record { number = task; process = process; current = number }) (first_credential user group ns) slot))
     (free s) (λ slot list. list)))
 by_event s (Take label task side) =
     tested s (ok_or (current_of s task) (NoTask task)) _

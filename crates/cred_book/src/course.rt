@@ -1,5 +1,5 @@
 //! The events that a line makes, one after another.
-ghost use Rattle.std.specs.Prelude.{◌≡◌, ◌≤◌, IfOk};
+ghost use Rattle.std.specs.Prelude.{◌≡◌, ◌≤◌, ℕ, IfOk, is_some};
 ghost use Rattle.cred_model.specs.Answers.{is_ok};
 ghost use Rattle.cred_model.specs.Course as spec;
 
@@ -30,6 +30,17 @@ pub fn event_at(line: u32, content: &Content, stage: Stage) -> Result<Option<Eve
         (Content::Question { .. }, Stage::Releasing) => Some(Event::Release { label }),
         _ => None,
     })
+}
+
+/// Does a line make an event where it stands?
+pub fn makes_event(content: &Content, stage: Stage) -> bool
+    ensures { (line : ℕ) → result ≡ is_some (spec.event_at line content.now stage) }
+{
+    match (content, stage) {
+        (Content::One(_) | Content::Id { .. } | Content::Question { .. }, Stage::First) => true,
+        (Content::Question { .. }, Stage::Asking | Stage::Releasing) => true,
+        _ => false,
+    }
 }
 
 /// Where a line stands after the answer.

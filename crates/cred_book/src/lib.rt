@@ -3,6 +3,7 @@
 
 mod book;
 mod course;
+mod cursor;
 mod holds;
 mod seal;
 mod sequence;
@@ -10,4 +11,5 @@ mod state;
 mod table;
 
 pub use book::Book;
+pub use cursor::Step;
 pub use sequence::run;
