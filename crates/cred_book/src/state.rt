@@ -12,7 +12,7 @@ use crate::seal::seal_next;
 use crate::table::{Numbered, Task, sealed_at, set_current, task_among};
 use cred_event::{Answer, Counted, Event, Named, Query, Side, Told};
 use cred_ids::{Id, NoMemory};
-use cred_record::{Cred, IdCall, Refusal, first};
+use cred_record::{Cred, IdCall, IdList, Refusal, first};
 use cred_setid::apply;
 use cred_slots::Slots;
 use std::alloc::Global;
@@ -75,7 +75,7 @@ impl State {
             } => self.init(*task, *process, *user, *group, *ns),
             Event::Take { label, task, side } => self.take(*label, *task, *side),
             Event::Release { label } => Ok(self.release(*label)),
-            Event::Ask { label, query } => Ok(self.ask(*label, *query)),
+            Event::Ask { label, query } => self.ask(*label, *query),
             Event::Begin { task, call } => self.begin(*task, call),
             Event::Sweep => {
                 self.slots.sweep();
@@ -185,12 +185,13 @@ impl State {
         Answer::Done
     }
 
-    fn ask(&self, label: u32, query: Query) -> Answer
-        ensures { settled self.now (done self.now (Event.Ask label query)) ≡ (result, self.now) }
+    fn ask(&self, label: u32, query: Query) -> Result<Answer, NoMemory>
+        ensures { IfOk result (λ answer.
+            settled self.now (done self.now (Event.Ask label query)) ≡ (answer, self.now)) }
     {
         match self.held(label) {
-            Some(held) => answer_to(held.cred, query),
-            None => Answer::NoHold(label),
+            Some(held) => answer_to(self.alloc, held.cred, query),
+            None => Ok(Answer::NoHold(label)),
         }
     }
 
@@ -232,21 +233,23 @@ impl State {
 }
 
 /// What a question about a credential is told.
-fn answer_to(cred: &Cred, query: Query) -> Answer
-    ensures { result ≡ reply cred.now query }
+fn answer_to(alloc: Global, cred: &Cred, query: Query) -> Result<Answer, NoMemory>
+    ensures { IfOk result (λ answer. answer ≡ reply cred.now query) }
 {
-    match query {
-        Query::Ids => Answer::Told(Told::Ids {
+    let told = match query {
+        Query::Ids => Told::Ids {
             uid: cred.uid,
             gid: cred.gid,
-        }),
-        Query::Caps => Answer::Told(Told::Caps {
+        },
+        Query::Caps => Told::Caps {
             perm: cred.perm,
             inh: cred.inh,
             eff: cred.eff,
             bound: cred.bound,
             amb: cred.amb,
-        }),
-        _ => Answer::Einval,
-    }
+        },
+        Query::Groups => Told::Groups(IdList::of(alloc, cred.groups.items())?),
+        _ => return Ok(Answer::Einval),
+    };
+    Ok(Answer::Told(told))
 }

@@ -7,7 +7,7 @@ use Rattle.cred_event.specs.declared.answer.Answer.{Answer}
 use Rattle.cred_event.specs.declared.answer.Answer.TheVariants as answer
 use Rattle.cred_event.specs.declared.answer.Told.TheVariants as told
 use Rattle.cred_event.specs.declared.event.Query.{Query}
-use Rattle.cred_event.specs.declared.event.Query.TheVariants.{Ids, Caps}
+use Rattle.cred_event.specs.declared.event.Query.TheVariants.{Ids, Caps, Groups}
 
 -- a rule's refusal, as the manual's error
 abbrev pub refusal : Denial → Answer
@@ -18,6 +18,7 @@ refusal Invalid = answer.Einval
 abbrev pub reply : Credential → Query → Answer
 reply c Ids = answer.Told (told.Ids c.uid c.gid)
 reply c Caps = answer.Told (told.Caps c.perm c.inh c.eff c.bound c.amb)
+reply c Groups = answer.Told (told.Groups c.groups)
 reply c query = answer.Einval
 
 -- the event did what it says

@@ -30,6 +30,13 @@ impl IdList {
         })
     }
 
+    /// The list of these ids, in the memory that they stand in.
+    pub fn from_vec(ids: Vec<Id>) -> IdList
+        ensures { result ≡ ids.items }
+    {
+        IdList { ids }
+    }
+
     /// Its ids.
     pub fn items(&self) -> &[Id]
         ensures { result.now ≡ self.now }

@@ -3,7 +3,7 @@ use crate::runs::ran;
 use cred_program::Status;
 use std::test::Fail;
 
-const REFUSED: [(&str, &str); 27] = [
+const REFUSED: [(&str, &str); 34] = [
     // A byte outside 0x20 to 0x7E is bad in comments too, and in lines without words.
     ("init t1 p1 0 0 n0\r\n", "bad 1 byte\n"),
     ("init t1 p1 0 0 n0\n# a\ttab\n", "bad 2 byte\n"),
@@ -25,12 +25,20 @@ const REFUSED: [(&str, &str); 27] = [
     ("drop h1 h2\n", "bad 1 count\n"),
     ("sweep now\n", "bad 1 count\n"),
     ("t1 ids 0\n", "bad 1 count\n"),
+    ("t1 setuid\n", "bad 1 count\n"),
+    ("t1 setregid 1\n", "bad 1 count\n"),
+    ("begin t1 setresgid 1 2 3 4\n", "bad 1 count\n"),
     // How many there are is asked before what they spell.
     ("t1 setresuid x y\n", "bad 1 count\n"),
     ("init t1 p1 4294967295 0 n0\n", "bad 1 word\n"),
     ("init t1 p1 0 00 n0\n", "bad 1 word\n"),
     ("take h1 t1\ntake h0 t1\n", "bad 2 word\n"),
     ("t1 setresuid 0 -2 0\n", "bad 1 word\n"),
+    // No group is kept, so -1 is none; and a call is no question.
+    ("t1 setgroups 0 -1\n", "bad 1 word\n"),
+    ("begin t1 setgroups 1 2 4294967295\n", "bad 1 word\n"),
+    ("t1 setgroups x y\n", "bad 1 word\n"),
+    ("take h1 t1\nask h1 setuid 0\n", "bad 2 word\n"),
     // Declarations stand first. That is asked after the spelling, and before the names.
     ("sweep\ninit t1 p1 0 0 n0\n", "bad 2 order\n"),
     ("sweep\ninit t1 p1 0 0 n16\n", "bad 2 word\n"),

@@ -6,7 +6,7 @@ use std::test::Fail;
 /// A script, how the program must end on it, and what it must write.
 type Row = (&'static str, Status, &'static str);
 
-const ROWS: [Row; 9] = [
+const ROWS: [Row; 13] = [
     ("", Status::Done, ""),
     (
         // A root task that sets its three user ids to another's loses all that root has.
@@ -84,6 +84,76 @@ const ROWS: [Row; 9] = [
          7 take h100070 t1 -> ok c1 s1\n\
          7 ask h100070 ids -> ok 0 0 0 0 0 0 0 0\n\
          7 drop h100070 -> ok\n",
+    ),
+    (
+        // seteuid takes the effective id back as long as the saved id is root's. -1 is no id for
+        // setuid, which is asked before permission.
+        "init t1 p1 0 0 n0\nt1 seteuid 1000\nt1 setuid 0\nt1 setuid -1\nt1 ids\n",
+        Status::Done,
+        "1 init t1 p1 0 0 n0 -> ok c0 s0\n\
+         2 begin t1 seteuid 1000 -> ok c1 s1 left 0\n\
+         3 begin t1 setuid 0 -> ok c2 s2 left 0\n\
+         4 begin t1 setuid -1 -> einval\n\
+         5 take h100050 t1 -> ok c2 s2\n\
+         5 ask h100050 ids -> ok 0 0 0 0 0 0 0 0\n\
+         5 drop h100050 -> ok\n",
+    ),
+    (
+        // setreuid may not make the saved id real. An effective id other than the real one becomes
+        // the saved id too, which was 1002.
+        "init t1 p1 0 0 n0\nt1 setresuid 1000 1001 1002\nt1 setreuid 1002 -1\n\
+         t1 setreuid -1 1001\nt1 ids\n",
+        Status::Done,
+        "1 init t1 p1 0 0 n0 -> ok c0 s0\n\
+         2 begin t1 setresuid 1000 1001 1002 -> ok c1 s1 left 0\n\
+         3 begin t1 setreuid 1002 -1 -> eperm\n\
+         4 begin t1 setreuid -1 1001 -> ok c2 s2 left 0\n\
+         5 take h100050 t1 -> ok c2 s2\n\
+         5 ask h100050 ids -> ok 1000 1001 1001 1001 0 0 0 0\n\
+         5 drop h100050 -> ok\n",
+    ),
+    (
+        // More than 32 groups are EINVAL, but who may set none is told EPERM first.
+        "init t1 p1 0 0 n0\n\
+         t1 setgroups 1 2 3 4 5 6 7 8 9 10 11 12 13 14 15 16 17 \
+         18 19 20 21 22 23 24 25 26 27 28 29 30 31 32 33\n\
+         t1 setresuid 1000 1000 1000\n\
+         t1 setgroups 1 2 3 4 5 6 7 8 9 10 11 12 13 14 15 16 17 \
+         18 19 20 21 22 23 24 25 26 27 28 29 30 31 32 33\n",
+        Status::Done,
+        "1 init t1 p1 0 0 n0 -> ok c0 s0\n\
+         2 begin t1 setgroups 1 2 3 4 5 6 7 8 9 10 11 12 13 14 15 16 17 \
+         18 19 20 21 22 23 24 25 26 27 28 29 30 31 32 33 -> einval\n\
+         3 begin t1 setresuid 1000 1000 1000 -> ok c1 s1 left 0\n\
+         4 begin t1 setgroups 1 2 3 4 5 6 7 8 9 10 11 12 13 14 15 16 17 \
+         18 19 20 21 22 23 24 25 26 27 28 29 30 31 32 33 -> eperm\n",
+    ),
+    (
+        // The group calls, and what the group ids and the groups are after them. An effective id
+        // that is the real one leaves the saved id. The sets stay, also where no id is root's.
+        "init t1 p1 0 0 n0\nt1 setgroups 30 10 20 10\nt1 setresgid 1 2 3\n\
+         begin t1 setregid -1 1\ntake h1 t1\nt1 setegid 5\nbegin t1 setgid 7\nask h1 ids\n\
+         t1 ids\nask h1 groups\nbegin t1 setgroups\nt1 groups\nt1 caps\n",
+        Status::Done,
+        "1 init t1 p1 0 0 n0 -> ok c0 s0\n\
+         2 begin t1 setgroups 30 10 20 10 -> ok c1 s1 left 0\n\
+         3 begin t1 setresgid 1 2 3 -> ok c2 s2 left 0\n\
+         4 begin t1 setregid -1 1 -> ok c3 s3 left 0\n\
+         5 take h1 t1 -> ok c3 s3\n\
+         6 begin t1 setegid 5 -> ok c4 s4 left 0\n\
+         7 begin t1 setgid 7 -> ok c5 s5 left 0\n\
+         8 ask h1 ids -> ok 0 0 0 0 1 1 3 1\n\
+         9 take h100090 t1 -> ok c5 s5\n\
+         9 ask h100090 ids -> ok 0 0 0 0 7 7 7 7\n\
+         9 drop h100090 -> ok\n\
+         10 ask h1 groups -> ok 10 10 20 30\n\
+         11 begin t1 setgroups -> ok c6 s6 left 0\n\
+         12 take h100120 t1 -> ok c6 s6\n\
+         12 ask h100120 groups -> ok\n\
+         12 drop h100120 -> ok\n\
+         13 take h100130 t1 -> ok c6 s6\n\
+         13 ask h100130 caps -> ok 1ffffffffff 0 1ffffffffff 1ffffffffff 0\n\
+         13 drop h100130 -> ok\n",
     ),
     (
         // What is refused changes nothing, and of several refusals the first by the event's order

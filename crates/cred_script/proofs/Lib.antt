@@ -1,4 +1,5 @@
 pub mod FirstLine
 pub mod Numerals
 pub mod Fronts
+pub mod IdLists
 pub mod FirstBadLine

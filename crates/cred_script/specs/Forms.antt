@@ -1,8 +1,6 @@
 -- The forms of a line: what its words are, and what it then holds. Each definition takes the words
 -- that stand after the one that names the form. How many there are is asked before what they spell.
 use Rattle.std.specs.Prelude.{ℕ, List, [], ◌∷◌, Result, Ok, Err, ok_or}
-use Rattle.cred_record.specs.declared.id_call.IdCall.{IdCall}
-use Rattle.cred_record.specs.declared.id_call.IdCall.TheVariants as id_call
 use Rattle.cred_event.specs.declared.event.Event.TheVariants.{Init, Take, Release, Ask, Begin, Sweep}
 use Rattle.cred_event.specs.declared.event.Side.{Side}
 use Rattle.cred_event.specs.declared.event.Query.{Query}
@@ -11,30 +9,16 @@ use Rattle.cred_event.specs.declared.content.Content.{Content}
 use Rattle.cred_event.specs.declared.content.Content.TheVariants.{One, Id, Question}
 use Rattle.cred_script.specs.declared.names.Form.{Form}
 use Rattle.cred_script.specs.declared.names.Form.TheVariants as form
-use Rattle.cred_script.specs.declared.names.IdName.{IdName}
-use Rattle.cred_script.specs.declared.names.IdName.TheVariants as id_name
 use Rattle.cred_script.specs.declared.names.QueryName.{QueryName}
 use Rattle.cred_script.specs.declared.names.QueryName.TheVariants as query_name
 use Rattle.cred_script.specs.declared.names.CallName.{CallName}
 use Rattle.cred_script.specs.declared.names.CallName.TheVariants as call
 use Rattle.cred_script.specs.declared.refusal.Reason.{Reason}
 use Rattle.cred_script.specs.declared.refusal.Reason.TheVariants.{Word}
-use Rattle.cred_script.specs.Words.{◌>>=◌, none, one, two, two_or_more, three, five}
-use Rattle.cred_script.specs.Spellings.{id_of, arg_of, task_of, process_of, label_of, namespace_of}
+use Rattle.cred_script.specs.Words.{◌>>=◌, none, one, two, two_or_more, five}
+use Rattle.cred_script.specs.Spellings.{id_of, task_of, process_of, label_of, namespace_of}
+use Rattle.cred_script.specs.IdCalls.{id_call_of}
 use Rattle.cred_script.specs.Names as names
-
--- `setresuid ARG ARG ARG`: the real, the effective and the saved user id
-unfoldable pub setresuid_call : List (List ℕ) → Result IdCall Reason
-setresuid_call words = do
-  word ← three words
-  real ← ok_or (arg_of word.0) Word
-  effective ← ok_or (arg_of word.1) Word
-  saved ← ok_or (arg_of word.2) Word
-  Ok (id_call.SetResuid real effective saved)
-
--- an id call, by its name
-abbrev pub id_call_of : IdName → List (List ℕ) → Result IdCall Reason
-id_call_of id_name.SetResuid words = setresuid_call words
 
 -- a question, by its name
 unfoldable pub query_of : QueryName → List (List ℕ) → Result Query Reason
@@ -44,6 +28,9 @@ query_of query_name.Ids words = do
 query_of query_name.Caps words = do
   end ← none words
   Ok query.Caps
+query_of query_name.Groups words = do
+  end ← none words
+  Ok query.Groups
 
 -- `init T P ID ID N`: a first task is born, with its process, user, group and namespace.
 unfoldable pub init_content : List (List ℕ) → Result Content Reason

@@ -2,6 +2,7 @@ pub mod Lines
 pub mod Words
 pub mod Spellings
 pub mod Names
+pub mod IdCalls
 pub mod Forms
 pub mod Earlier
 pub mod Grammar

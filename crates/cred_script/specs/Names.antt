@@ -7,9 +7,9 @@ use Rattle.cred_event.specs.declared.event.Side.TheVariants.{Subjective, Objecti
 use Rattle.cred_script.specs.declared.names.Form.{Form}
 use Rattle.cred_script.specs.declared.names.Form.TheVariants as form
 use Rattle.cred_script.specs.declared.names.IdName.{IdName}
-use Rattle.cred_script.specs.declared.names.IdName.TheVariants.{SetResuid}
+use Rattle.cred_script.specs.declared.names.IdName.TheVariants as id
 use Rattle.cred_script.specs.declared.names.QueryName.{QueryName}
-use Rattle.cred_script.specs.declared.names.QueryName.TheVariants.{Ids, Caps}
+use Rattle.cred_script.specs.declared.names.QueryName.TheVariants.{Ids, Caps, Groups}
 use Rattle.cred_script.specs.declared.names.CallName.{CallName}
 use Rattle.cred_script.specs.declared.names.CallName.TheVariants as call
 use Rattle.cred_script.specs.Spellings.{task_of}
@@ -28,13 +28,24 @@ form_of word =
 
 -- the id calls
 abbrev pub id_name : List ℕ → Option IdName
-id_name word = if bytes_eq word (codes "setresuid") then Some SetResuid else None
+id_name word =
+    if bytes_eq word (codes "setuid") then Some id.SetUid
+    else if bytes_eq word (codes "seteuid") then Some id.SetEuid
+    else if bytes_eq word (codes "setreuid") then Some id.SetReuid
+    else if bytes_eq word (codes "setresuid") then Some id.SetResuid
+    else if bytes_eq word (codes "setgid") then Some id.SetGid
+    else if bytes_eq word (codes "setegid") then Some id.SetEgid
+    else if bytes_eq word (codes "setregid") then Some id.SetRegid
+    else if bytes_eq word (codes "setresgid") then Some id.SetResgid
+    else if bytes_eq word (codes "setgroups") then Some id.SetGroups
+    else None
 
 -- the questions
 abbrev pub query_name : List ℕ → Option QueryName
 query_name word =
     if bytes_eq word (codes "ids") then Some Ids
     else if bytes_eq word (codes "caps") then Some Caps
+    else if bytes_eq word (codes "groups") then Some Groups
     else None
 
 -- what a task may do on a line of its own

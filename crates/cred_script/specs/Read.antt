@@ -4,6 +4,8 @@ use Rattle.std.specs.Borrow.{Bor}
 use Rattle.cred_event.specs.declared.content.Content.{Content}
 use Rattle.cred_model.specs.Script.{Line}
 use Rattle.cred_script.specs.declared.refusal.Reason.{Reason}
+use Rattle.cred_script.specs.declared.refusal.LineRefusal.{LineRefusal}
+use Rattle.cred_script.specs.declared.refusal.LineRefusal.TheVariants as line
 use Rattle.cred_script.specs.declared.refusal.ScriptRefusal.{ScriptRefusal}
 use Rattle.cred_script.specs.declared.refusal.ScriptRefusal.TheVariants.{Bad, Memory}
 
@@ -13,6 +15,12 @@ abbrev pub Gives : {V A : Type 0} → (V → A) → Result V ScriptRefusal → R
 Gives view (Ok v) given = given ≡ Ok (view v)
 Gives view (Err (Bad line reason)) given = given ≡ Err (line, reason)
 Gives view (Err Memory) given = Unit {0}
+
+-- the same, of one line
+abbrev pub Tells : {V A : Type 0} → (V → A) → Result V LineRefusal → Result A Reason → Type 0
+Tells view (Ok v) given = given ≡ Ok (view v)
+Tells view (Err (line.Bad reason)) given = given ≡ Err reason
+Tells view (Err line.Memory) given = Unit {0}
 
 -- the same, where no memory is needed
 abbrev pub Says : {V A : Type 0} → (V → A) → Result V Reason → Result A Reason → Type 0

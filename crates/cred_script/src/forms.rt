@@ -1,52 +1,35 @@
 //! The forms of a line: what its words are, and what it then holds. Each function takes the words
 //! that stand after the one that names the form. Their number is asked before what they spell.
 ghost use Rattle.std.specs.Prelude.{◌≡◌, IfOk};
-ghost use Rattle.cred_script.specs.Read.{Says, nows};
+ghost use Rattle.cred_script.specs.Read.{Says, Tells, nows};
 ghost use Rattle.cred_script.specs.Forms as spec;
 ghost use Rattle.cred_script.specs.Sound.{AreAmong, NamesOwn, query_files};
 
-use crate::names::{CallName, Form, IdName, QueryName, call_name, id_name, query_name};
-use crate::refusal::Reason;
-use crate::spellings::{arg_of, id_of, label_of, namespace_of, process_of, task_of};
-use crate::words::{five, none, one, three, two, two_or_more};
+use crate::id_calls::id_call_of;
+use crate::names::{CallName, Form, QueryName, call_name, id_name, query_name};
+use crate::refusal::{LineRefusal, Reason};
+use crate::spellings::{id_of, label_of, namespace_of, process_of, task_of};
+use crate::words::{five, none, one, two, two_or_more};
 use cred_event::{Content, Event, Query, Side};
-use cred_record::IdCall;
+use std::alloc::Global;
 
 /// What a line of this form holds.
-pub(crate) fn form_content(form: Form, words: &[&[u8]]) -> Result<Content, Reason>
-    ensures content { Says (λ content. content) result (spec.form_content form (nows words.now)) }
+pub(crate) fn form_content(
+    alloc: Global,
+    form: Form,
+    words: &[&[u8]],
+) -> Result<Content, LineRefusal>
+    ensures content { Tells (λ content. content) result (spec.form_content form (nows words.now)) }
     ensures own { IfOk result NamesOwn }
 {
     match form {
-        Form::Init => init_content(words),
-        Form::Own(task) => own_content(task, words),
-        Form::Take(side) => take_content(side, words),
-        Form::Release => release_content(words),
-        Form::Ask => ask_content(words),
-        Form::Begin => begin_content(words),
-        Form::Sweep => sweep_content(words),
-    }
-}
-
-/// `setresuid ARG ARG ARG`
-#[tactic(auto, unfolding(crate::specs::Forms::setresuid_call))]
-fn setresuid_call(words: &[&[u8]]) -> Result<IdCall, Reason>
-    ensures { Says (λ call. call) result (spec.setresuid_call (nows words.now)) }
-{
-    let (real, effective, saved) = three(words)?;
-    Ok(IdCall::SetResuid(
-        arg_of(real).ok_or(Reason::Word)?,
-        arg_of(effective).ok_or(Reason::Word)?,
-        arg_of(saved).ok_or(Reason::Word)?,
-    ))
-}
-
-/// An id call, by its name.
-fn id_call_of(name: IdName, words: &[&[u8]]) -> Result<IdCall, Reason>
-    ensures { Says (λ call. call) result (spec.id_call_of name (nows words.now)) }
-{
-    match name {
-        IdName::SetResuid => setresuid_call(words),
+        Form::Init => Ok(init_content(words)?),
+        Form::Own(task) => own_content(alloc, task, words),
+        Form::Take(side) => Ok(take_content(side, words)?),
+        Form::Release => Ok(release_content(words)?),
+        Form::Ask => Ok(ask_content(words)?),
+        Form::Begin => begin_content(alloc, words),
+        Form::Sweep => Ok(sweep_content(words)?),
     }
 }
 
@@ -60,6 +43,7 @@ fn query_of(name: QueryName, words: &[&[u8]]) -> Result<Query, Reason>
     match name {
         QueryName::Ids => Ok(Query::Ids),
         QueryName::Caps => Ok(Query::Caps),
+        QueryName::Groups => Ok(Query::Groups),
     }
 }
 
@@ -120,13 +104,13 @@ fn ask_content(words: &[&[u8]]) -> Result<Content, Reason>
 
 /// `begin T IDCALL`
 #[tactic(auto, unfolding(crate::specs::Forms::begin_content))]
-fn begin_content(words: &[&[u8]]) -> Result<Content, Reason>
-    ensures content { Says (λ content. content) result (spec.begin_content (nows words.now)) }
+fn begin_content(alloc: Global, words: &[&[u8]]) -> Result<Content, LineRefusal>
+    ensures content { Tells (λ content. content) result (spec.begin_content (nows words.now)) }
     ensures own { IfOk result NamesOwn }
 {
     let (task, name, rest) = two_or_more(words)?;
     let name = id_name(name).ok_or(Reason::Word)?;
-    let call = id_call_of(name, rest)?;
+    let call = id_call_of(alloc, name, rest)?;
     let task = task_of(task).ok_or(Reason::Word)?;
     Ok(Content::One(Event::Begin { task, call }))
 }
@@ -143,14 +127,19 @@ fn sweep_content(words: &[&[u8]]) -> Result<Content, Reason>
 
 /// What the task does, by its name.
 #[tactic(auto, unfolding(crate::specs::Forms::call_content))]
-fn call_content(task: u32, name: CallName, words: &[&[u8]]) -> Result<Content, Reason>
-    ensures content { Says (λ made. made) result (spec.call_content task name (nows words.now)) }
+fn call_content(
+    alloc: Global,
+    task: u32,
+    name: CallName,
+    words: &[&[u8]],
+) -> Result<Content, LineRefusal>
+    ensures content { Tells (λ made. made) result (spec.call_content task name (nows words.now)) }
     ensures own { IfOk result NamesOwn }
 {
     match name {
         CallName::Id(name) => Ok(Content::Id {
             task,
-            call: id_call_of(name, words)?,
+            call: id_call_of(alloc, name, words)?,
         }),
         CallName::Question(name) => Ok(Content::Question {
             task,
@@ -161,12 +150,15 @@ fn call_content(task: u32, name: CallName, words: &[&[u8]]) -> Result<Content, R
 
 /// An id call or a question of the task: the line names it after the task.
 #[tactic(auto, unfolding(crate::specs::Forms::own_content))]
-fn own_content(task: u32, words: &[&[u8]]) -> Result<Content, Reason>
-    ensures content { Says (λ content. content) result (spec.own_content task (nows words.now)) }
+fn own_content(alloc: Global, task: u32, words: &[&[u8]]) -> Result<Content, LineRefusal>
+    ensures content { Tells (λ content. content) result (spec.own_content task (nows words.now)) }
     ensures own { IfOk result NamesOwn }
 {
     match words {
-        [] => Err(Reason::Word),
-        [name, rest @ ..] => call_content(task, call_name(name).ok_or(Reason::Word)?, rest),
+        [] => Err(LineRefusal::Bad(Reason::Word)),
+        [name, rest @ ..] => {
+            let name = call_name(name).ok_or(Reason::Word)?;
+            call_content(alloc, task, name, rest)
+        }
     }
 }

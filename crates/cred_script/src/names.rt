@@ -27,7 +27,15 @@ pub(crate) enum Form {
 /// The id calls that a line may name.
 #[derive(Clone, Copy, Debug)]
 pub(crate) enum IdName {
+    SetUid,
+    SetEuid,
+    SetReuid,
     SetResuid,
+    SetGid,
+    SetEgid,
+    SetRegid,
+    SetResgid,
+    SetGroups,
 }
 
 /// The questions that a line may name.
@@ -35,6 +43,7 @@ pub(crate) enum IdName {
 pub(crate) enum QueryName {
     Ids,
     Caps,
+    Groups,
 }
 
 /// What a task may do on a line of its own.
@@ -70,8 +79,24 @@ pub(crate) fn form_of(word: &[u8]) -> Option<Form>
 pub(crate) fn id_name(word: &[u8]) -> Option<IdName>
     ensures { result ≡ spec.id_name word.now }
 {
-    if is(word, "setresuid") {
+    if is(word, "setuid") {
+        Some(IdName::SetUid)
+    } else if is(word, "seteuid") {
+        Some(IdName::SetEuid)
+    } else if is(word, "setreuid") {
+        Some(IdName::SetReuid)
+    } else if is(word, "setresuid") {
         Some(IdName::SetResuid)
+    } else if is(word, "setgid") {
+        Some(IdName::SetGid)
+    } else if is(word, "setegid") {
+        Some(IdName::SetEgid)
+    } else if is(word, "setregid") {
+        Some(IdName::SetRegid)
+    } else if is(word, "setresgid") {
+        Some(IdName::SetResgid)
+    } else if is(word, "setgroups") {
+        Some(IdName::SetGroups)
     } else {
         None
     }
@@ -84,6 +109,8 @@ pub(crate) fn query_name(word: &[u8]) -> Option<QueryName>
         Some(QueryName::Ids)
     } else if is(word, "caps") {
         Some(QueryName::Caps)
+    } else if is(word, "groups") {
+        Some(QueryName::Groups)
     } else {
         None
     }

@@ -3,15 +3,15 @@ ghost use Rattle.std.specs.Prelude.{◌≡◌, ◌≤◌, All, IfOk, length, vec
 ghost use Rattle.cred_script.specs.Earlier.{nothing};
 ghost use Rattle.cred_script.specs.FirstBad.{TellsFirstBad};
 ghost use Rattle.cred_script.specs.Lines.{lines_of};
-ghost use Rattle.cred_script.specs.Grammar.{at_line, line_content, lines_from, script_of};
+ghost use Rattle.cred_script.specs.Grammar.{at_line, lines_from, script_of};
 ghost use Rattle.cred_script.specs.Grammar as spec;
-ghost use Rattle.cred_script.specs.Read.{Gives, Says, nows};
+ghost use Rattle.cred_script.specs.Read.{Gives, Tells, nows};
 ghost use Rattle.cred_script.specs.Sound.{IsSound};
 
 use crate::earlier::{Earlier, names_declared};
 use crate::forms::form_content;
 use crate::lines::{first_line, is_printable};
-use crate::refusal::{Reason, ScriptRefusal};
+use crate::refusal::{LineRefusal, Reason, ScriptRefusal};
 use crate::script::{Script, ScriptLine};
 use crate::words::{is_comment, words_of};
 use cred_event::Content;
@@ -65,28 +65,42 @@ fn read_line(
     earlier: Earlier,
     text: &[u8],
 ) -> Result<(Content, Earlier), ScriptRefusal>
-    ensures content { Gives (λ x. x) result (at_line number (line_content earlier text.now)) }
+    ensures content { Gives (λ x. x) result (at_line number (spec.line_content earlier text.now)) }
     ensures sound { IfOk result (λ found. IsSound 0 (spec.setup_line found.0)) }
 {
-    if !is_printable(text) {
-        return Err(ScriptRefusal::Bad {
-            line: number,
-            reason: Reason::Byte,
-        });
-    }
-    let words = words_of(alloc, text)?;
-    match words_content(earlier, &words) {
+    match line_content(alloc, earlier, text) {
         Ok(found) => Ok(found),
-        Err(reason) => Err(ScriptRefusal::Bad {
+        Err(LineRefusal::Bad(reason)) => Err(ScriptRefusal::Bad {
             line: number,
             reason,
         }),
+        Err(LineRefusal::Memory) => Err(ScriptRefusal::Memory),
     }
 }
 
+/// What a line holds, and what is declared after it.
+fn line_content(
+    alloc: Global,
+    earlier: Earlier,
+    text: &[u8],
+) -> Result<(Content, Earlier), LineRefusal>
+    ensures content { Tells (λ x. x) result (spec.line_content earlier text.now) }
+    ensures sound { IfOk result (λ found. IsSound 0 (spec.setup_line found.0)) }
+{
+    if !is_printable(text) {
+        return Err(LineRefusal::Bad(Reason::Byte));
+    }
+    let words = words_of(alloc, text)?;
+    words_content(alloc, earlier, &words)
+}
+
 /// A line without words, and a comment, hold nothing and declare nothing.
-fn words_content(earlier: Earlier, words: &[&[u8]]) -> Result<(Content, Earlier), Reason>
-    ensures content { Says (λ x. x) result (spec.words_content earlier (nows words.now)) }
+fn words_content(
+    alloc: Global,
+    earlier: Earlier,
+    words: &[&[u8]],
+) -> Result<(Content, Earlier), LineRefusal>
+    ensures content { Tells (λ x. x) result (spec.words_content earlier (nows words.now)) }
     ensures sound { IfOk result (λ found. IsSound 0 (spec.setup_line found.0)) }
 {
     match words {
@@ -95,7 +109,7 @@ fn words_content(earlier: Earlier, words: &[&[u8]]) -> Result<(Content, Earlier)
             if is_comment(first) {
                 Ok((Content::Nothing, earlier))
             } else {
-                full_content(earlier, first, rest)
+                full_content(alloc, earlier, first, rest)
             }
         }
     }
@@ -104,15 +118,16 @@ fn words_content(earlier: Earlier, words: &[&[u8]]) -> Result<(Content, Earlier)
 /// What a line that isn't empty holds, by the tests in their order.
 #[tactic(auto, unfolding(crate::specs::Grammar::full_content))]
 fn full_content(
+    alloc: Global,
     earlier: Earlier,
     first: &[u8],
     words: &[&[u8]],
-) -> Result<(Content, Earlier), Reason>
-    ensures content { Says (λ x. x) result (spec.full_content earlier first.now (nows words.now)) }
+) -> Result<(Content, Earlier), LineRefusal>
+    ensures content { Tells (λ x. x) result (spec.full_content earlier first.now (nows words.now)) }
     ensures sound { IfOk result (λ found. IsSound 0 (spec.setup_line found.0)) }
 {
     let form = earlier.form_at(first)?;
-    let content = form_content(form, words)?;
+    let content = form_content(alloc, form, words)?;
     earlier.in_order(form)?;
     names_declared(&content)?;
     Ok((content, earlier.after(form)))

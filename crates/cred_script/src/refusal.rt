@@ -1,6 +1,7 @@
 //! Why a text is no script.
 ghost use Rattle.std.specs.Prelude.{◌≡◌};
-ghost use Rattle.cred_script.specs.declared.refusal.ScriptRefusal.TheVariants.{Memory};
+ghost use Rattle.cred_script.specs.declared.refusal.ScriptRefusal.TheVariants as script;
+ghost use Rattle.cred_script.specs.declared.refusal.LineRefusal.TheVariants as line;
 
 use std::alloc::{AllocError, AllocFailed};
 
@@ -31,7 +32,7 @@ pub enum ScriptRefusal {
 }
 
 impl From<AllocError> for ScriptRefusal {
-    ghost from_gives = { λ _ e. e ≡ Memory };
+    ghost from_gives = { λ _ e. e ≡ script.Memory };
 
     fn from(_: AllocError) -> Self {
         ScriptRefusal::Memory
@@ -39,9 +40,42 @@ impl From<AllocError> for ScriptRefusal {
 }
 
 impl<T: Drop> From<AllocFailed<T>> for ScriptRefusal {
-    ghost from_gives = { λ _ e. e ≡ Memory };
+    ghost from_gives = { λ _ e. e ≡ script.Memory };
 
     fn from(_: AllocFailed<T>) -> Self {
         ScriptRefusal::Memory
+    }
+}
+
+/// Why a line holds nothing.
+#[derive(Clone, Copy, Debug)]
+pub(crate) enum LineRefusal {
+    /// It is bad.
+    Bad(Reason),
+    /// Memory ran out.
+    Memory,
+}
+
+impl From<Reason> for LineRefusal {
+    ghost from_gives = { λ reason e. e ≡ line.Bad reason };
+
+    fn from(reason: Reason) -> Self {
+        LineRefusal::Bad(reason)
+    }
+}
+
+impl From<AllocError> for LineRefusal {
+    ghost from_gives = { λ _ e. e ≡ line.Memory };
+
+    fn from(_: AllocError) -> Self {
+        LineRefusal::Memory
+    }
+}
+
+impl<T: Drop> From<AllocFailed<T>> for LineRefusal {
+    ghost from_gives = { λ _ e. e ≡ line.Memory };
+
+    fn from(_: AllocFailed<T>) -> Self {
+        LineRefusal::Memory
     }
 }

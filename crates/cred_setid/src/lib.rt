@@ -9,6 +9,8 @@ mod ids;
 pub mod laws;
 #[cfg(test)]
 mod tests;
+#[cfg(test)]
+mod transitions;
 
 pub use calls::apply;
 pub use fs::setfs;
