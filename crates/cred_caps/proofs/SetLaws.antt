@@ -131,6 +131,14 @@ within-members a b = (
   λ each. same_caps (meet a b) a (λ n. has-meet a b n ∙ and-from _ _ (each n)),
 )
 
+-- a capability of a set may be added to any part of it
+one-within : (s : Caps) (n : ℕ) → has s n ≡ true → IsWithin (2 ^ n) s
+one-within s n member =
+    (within-members (2 ^ n) s).1 (λ k same. subst (λ m. has s m ≡ true) (eqb-true n k (sym (has-one n k) ∙ same)) member)
+
+pub with_within : (a s : Caps) (n : ℕ) → has s n ≡ true → IsWithin a s → IsWithin (with a n) s
+with_within a s n member inside = union-within a (2 ^ n) s inside (one-within s n member)
+
 pub are_sets : AreSets
 are_sets = record {
   same_members = same_caps;

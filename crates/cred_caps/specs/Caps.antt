@@ -52,6 +52,10 @@ without s n = less s (2 ^ n)
 abbrev pub IsWithin : Caps → Caps → Type 0
 IsWithin a b = meet a b ≡ a
 
+-- the same, as a test
+abbrev pub is_within : Caps → Caps → Bool
+is_within a b = meet a b == a
+
 -- the set of the numbers of a list
 abbrev pub caps_of : List ℕ → Caps
 caps_of [] = empty

@@ -1,4 +1,5 @@
 pub mod Caps
+pub mod Flags
 pub mod Names
 pub mod Numbers
 pub mod Secure

@@ -1,7 +1,7 @@
 //! The securebits of a task.
-ghost use Rattle.std.specs.Prelude.{◌≡◌, ◌<◌};
+ghost use Rattle.std.specs.Prelude.{◌≡◌, ◌<◌, ◌^◌};
 ghost use Rattle.std.specs.Option.{SomeIff};
-ghost use Rattle.cred_caps.specs.Secure.{is_set, is_locked};
+ghost use Rattle.cred_caps.specs.Secure.{place, is_set, is_locked, with_flag};
 
 use crate::bits::SecureFlags;
 use bitflags::Flags;
@@ -36,6 +36,18 @@ impl Model for SecureBits {
     ghost view = { λ s. s.bits.0 };
 
     ghost inverse = { λ n. record { bits = record { 0 = n } } };
+}
+
+/// The bit of a flag, alone.
+fn bit(f: Flag) -> SecureFlags
+    ensures { result.0 ≡ 2 ^ place f }
+{
+    match f {
+        Flag::NoRoot => SecureFlags(1),
+        Flag::NoSetuidFixup => SecureFlags(4),
+        Flag::KeepCaps => SecureFlags(16),
+        Flag::NoAmbientRaise => SecureFlags(64),
+    }
 }
 
 #[tactic(auto, using(crate::proofs::SecureLemmas::flags))]
@@ -73,12 +85,7 @@ impl SecureBits {
     pub fn flag(&self, f: Flag) -> bool
         ensures { result ≡ is_set self.now f }
     {
-        self.bits.contains(match f {
-            Flag::NoRoot => SecureFlags(1),
-            Flag::NoSetuidFixup => SecureFlags(4),
-            Flag::KeepCaps => SecureFlags(16),
-            Flag::NoAmbientRaise => SecureFlags(64),
-        })
+        self.bits.contains(bit(f))
     }
 
     /// Whether the lock of the flag is set.
@@ -91,5 +98,20 @@ impl SecureBits {
             Flag::KeepCaps => SecureFlags(32),
             Flag::NoAmbientRaise => SecureFlags(128),
         })
+    }
+
+    /// The same bits with the flag set where `on` is true, and unset where it is false. Every other
+    /// flag and every lock stay, also the lock of this flag: whether the flag may change is for the
+    /// caller to ask.
+    pub fn with(&self, f: Flag, on: bool) -> SecureBits
+        ensures { result ≡ with_flag self.now f on }
+    {
+        SecureBits {
+            bits: if on {
+                self.bits.union(bit(f))
+            } else {
+                self.bits.difference(bit(f))
+            },
+        }
     }
 }

@@ -62,5 +62,7 @@ fn securebits_are_those_of_the_header(rt: HostRuntime) -> Result<(), Fail> {
     assert!(rt; locked.locked(Flag::KeepCaps) && !locked.locked(Flag::NoAmbientRaise));
     assert_eq!(rt; locked.number(), 0x2a);
     assert_eq!(rt; SecureBits::new(256), None);
+    assert_eq!(rt; locked.with(Flag::KeepCaps, true).number(), 0x3a);
+    assert_eq!(rt; kept.with(Flag::KeepCaps, false).number(), 0);
     Ok(())
 }

@@ -1,3 +1,4 @@
+pub mod Adjust
 pub mod Fix
 pub mod SetFs
 pub mod SetId
