@@ -1,159 +1,24 @@
--- A run from line to line.
-use Rattle.std.proofs.Common.{◌≡◌, ◌≢◌, ℕ, zero, suc, ◌+◌, ◌-◌, ◌<◌, ◌≤◌, ◌==◌, ◌&&◌, not, cond, List, [], ◌∷◌, ◌++◌, length, slice_get, Option, Some, None, is_some, Bool, true, false, refl, sym, ap, ◌∙◌, subst, inl, inr, arith}
+-- A step of a run, and what it makes.
+use Rattle.std.proofs.Common.{◌≡◌, ◌≢◌, ℕ, ◌+◌, ◌<◌, ◌≤◌, ◌==◌, ◌&&◌, not, cond, List, [], ◌∷◌, ◌++◌, Option, Some, None, is_some, Bool, true, false, refl, sym, ap, ◌∙◌, subst, arith}
 use Rattle.std.specs.List.{All}
 use Rattle.std.specs.Option.{IfSome, option_map, option_and_then, option_map_or}
 use Rattle.std.proofs.lemmas.List.Elements.{All-head, All-tail, All-weaker}
-use Rattle.std.proofs.lemmas.List.Sums.{fold_push}
-use Rattle.std.proofs.lemmas.Bool.{cases_lt}
 use Rattle.std.proofs.lemmas.Bool.Decides.{nat_tests}
-use Rattle.cred_event.specs.declared.content.Stage.{Stage}
-use Rattle.cred_event.specs.declared.content.Stage.TheVariants.{First, Asking, Releasing, Ended}
 use Rattle.cred_event.specs.declared.event.Event.{Event}
 use Rattle.cred_event.specs.declared.answer.Answer.{Answer}
 use Rattle.cred_event.specs.declared.entry.Entry.{Entry}
 use Rattle.cred_model.specs.Script.{Script, Line}
-use Rattle.cred_model.specs.Course as course
-use Rattle.cred_model.specs.Course.{event_at, after, leads}
-use Rattle.cred_model.specs.Journal.{Due, answers_of, next_event, first_due, entry_of, due_in, next, next_in_order, IsSequence}
-use Rattle.cred_model.proofs.Journals.{IsInOrder-push}
-use Rattle.cred_model.proofs.Lines.{rank, after_falls, answers_of-push_same, answers_of-push_other, first_due_at, first_due_none}
+use Rattle.cred_model.specs.Course as model
+use Rattle.cred_model.specs.Course.{Course, Leads, start, event_in, event_at, leads}
+use Rattle.cred_model.specs.Journal.{Due, next_event, first_due, entry_of, due_in, next, next_in_order, IsInOrder, IsSequence}
+use Rattle.cred_model.proofs.Courses.{makes_event, after_line, leads_on}
+use Rattle.cred_model.proofs.Lines.{first_due_none}
 use Rattle.cred_script.specs.Grammar.{line_at}
-use Rattle.cred_book.specs.Book.{Recorded, with_event, answer_of, next_of, event_of, stage_of}
-use Rattle.cred_book.specs.Cursor.{HasEnded, StandsAt, StandsIn, most, left_at, left, Stands, Passes, Makes, IsSetup}
+use Rattle.cred_book.specs.Book.{Recorded, with_event, answer_of, next_of}
+use Rattle.cred_book.specs.Cursor.{StandsOn, IsCursor, left_at, left, Stands, IsOfLine, Passes, Makes, IsSetup}
 use Rattle.cred_book.specs.declared.cursor.Step.TheVariants as step
 use Rattle.cred_book.specs.declared.cursor.Step.TheVariants.{More}
-
--- the line at a place has the next number
-pub line_at-place : (script : Script) (place : ℕ) → line_at script (place + 1) ≡ slice_get script.lines place
-line_at-place script place =
-    let above : (place + 1 == 0) ≡ false = grind (arith, nat_tests) in
-    let down : place + 1 - 1 ≡ place = omega arith in
-    rw (above, down) refl
-
-pub ruleset places = (line_at-place)
-
-pub begins : (script : Script) (journal : List Entry) (place : ℕ) → StandsAt script journal place → StandsIn script journal place First
-begins script journal place at = record {
-  in_order = at.in_order;
-  ended = at.ended;
-  later = λ k lt. at.later k (omega arith);
-  stands = λ line here. rw (at.later place (omega arith)) refl;
-}
-
-slice_get-some : {A : Type 0} (xs : List A) (i : ℕ) → i < length xs → (x : A) × (slice_get xs i ≡ Some x)
-slice_get-some [] i within = absurd (omega arith)
-slice_get-some (x ∷ xs) zero within = (x, refl)
-slice_get-some (x ∷ xs) (suc i) within = slice_get-some xs i (omega arith)
-
--- a line without a next event has ended
-pub ends : (script : Script) (journal : List Entry) (place : ℕ) (stage : Stage) (line : Line) → slice_get script.lines place ≡ Some line
-    → event_at (place + 1) line.content stage ≡ None → StandsIn script journal place stage → StandsAt script journal (place + 1)
-ends script journal place stage line here over at =
-    let last : HasEnded script journal place = rw here (ap (event_at (place + 1) line.content) (sym (at.stands line here)) ∙ over) in
-    record {
-      in_order = at.in_order;
-      ended = λ k lt. elim (cases_lt k place) [
-        | inl below ↦ at.ended k below
-        | inr above ↦ let same : place ≡ k = omega arith in subst (λ m. HasEnded script journal m) same last
-      ];
-      later = λ k lt. at.later k (omega arith);
-    }
-
--- a line with a next event goes on
-pub goes_on : (script : Script) (journal : List Entry) (place : ℕ) (stage : Stage) (event : Event) (line : Line) (entry : Entry)
-    → slice_get script.lines place ≡ Some line → event_at (place + 1) line.content stage ≡ Some event
-    → entry ≡ entry_of script journal (record { line = place + 1; event = event })
-    → StandsIn script journal place stage → StandsIn script (journal ++ entry ∷ []) place (after line.content stage entry.answer)
-goes_on script journal place stage event line entry here due is at =
-    let number : entry.line ≡ place + 1 = ap (λ (e : Entry). e.line) is in
-    let same = answers_of-push_same journal entry (place + 1) number in
-    let first = first_due_at journal 1 script.lines place line event at.ended here
-    (ap (event_at (place + 1) line.content) (sym (at.stands line here)) ∙ due) in
-    record {
-      in_order = IsInOrder-push script journal entry at.in_order
-          (ap (option_map (entry_of script journal)) first ∙ ap Some (sym is));
-      ended = λ k lt.
-          let other = answers_of-push_other journal entry (k + 1) (λ e. omega arith) in
-          subst (λ answers. IfSome (slice_get script.lines k) (λ l. event_at (k + 1) l.content (leads l.content answers) ≡ None)) (sym other) (at.ended k lt);
-      later = λ k lt. answers_of-push_other journal entry (k + 1) (λ e. omega arith) ∙ at.later k lt;
-      stands = λ l there.
-          let one : l ≡ line = cc in
-          subst (λ (x : Line). after line.content stage entry.answer ≡ leads x.content (answers_of (journal ++ entry ∷ []) (place + 1))) (sym one)
-          (sym (ap (leads line.content) same ∙ fold_push (after line.content) First (answers_of journal (place + 1)) entry.answer
-          ∙ ap (λ (s : Stage). after line.content s entry.answer) (sym (at.stands line here))));
-    }
-
--- the line that makes an event
-due_line : (script : Script) (place : ℕ) (stage : Stage) (event : Event) (found : Option Line)
-    → option_and_then (λ line. event_at (place + 1) line.content stage) found ≡ Some event
-    → (line : Line) × (found ≡ Some line) × (event_at (place + 1) line.content stage ≡ Some event)
-due_line script place stage event None due = cc
-due_line script place stage event (Some line) due = (line, refl, due)
-
-pub ends_in : (script : Script) (journal : List Entry) (place : ℕ) (stage : Stage) → place < length script.lines
-    → event_of script place stage ≡ None → StandsIn script journal place stage → StandsAt script journal (place + 1)
-ends_in script journal place stage within over at =
-    let line = slice_get-some script.lines place within in
-    let there : slice_get script.lines place ≡ Some line.0 = line.1 in
-    ends script journal place stage line.0 there
-    (ap (λ (o : Option Line). option_and_then (λ l. event_at (place + 1) l.content stage) o) (sym there) ∙ over) at
-
--- ---- from line to line
-
-is_none-of : {A : Type 0} (o : Option A) → is_some o ≡ false → o ≡ None
-is_none-of None over = refl
-is_none-of (Some x) over = cc
-
-is_some-of : {A : Type 0} (o : Option A) → o ≡ None → is_some o ≡ false
-is_some-of None over = refl
-is_some-of (Some x) over = cc
-
--- a line that has ended is passed over
-pub passes_on : (script : Script) (place to : ℕ) (stage rests : Stage) → to < length script.lines → is_some (event_of script to rests) ≡ false
-    → ((journal : List Entry) → StandsIn script journal place stage → StandsIn script journal to rests)
-    → (journal : List Entry) → StandsIn script journal place stage → StandsIn script journal (to + 1) First
-passes_on script place to stage rests within over at journal from =
-    begins script journal (to + 1) (ends_in script journal to rests within (is_none-of (event_of script to rests) over) (at journal from))
-
--- a line that makes an event is where it stops
-pub stops : (script : Script) (to : ℕ) (rests : Stage) → is_some (event_of script to rests) ≡ true → event_of script to rests ≡ None
-    → to ≡ length script.lines
-stops script to rests due over =
-    let none = is_some-of (event_of script to rests) over in
-    cc
-
-most_rank : (stage : Stage) → most stage ≡ rank stage
-most_rank First = refl
-most_rank Asking = refl
-most_rank Releasing = refl
-most_rank Ended = refl
-
--- each event of a line is followed by fewer
-stage_falls : (script : Script) (place : ℕ) (stage next : Stage) (event : Event) (answer : Answer)
-    → event_of script place stage ≡ Some event → next ≡ stage_of script place stage answer → most next < most stage
-stage_falls script place stage next event answer due is =
-    let at = due_line script place stage event (slice_get script.lines place) due in
-    let there : slice_get script.lines place ≡ Some at.0 = at.1 in
-    let now : next ≡ after at.0.content stage answer
-    = is ∙ ap (λ (o : Option Line). option_map_or (λ line. after line.content stage answer) o Ended) there in
-    let falls : rank next < rank stage = rw now (after_falls (place + 1) at.0.content stage event answer at.2) in
-    omega (arith, most_rank next, most_rank stage, falls)
-
--- before the first event
-starts : (script : Script) → StandsIn script [] 0 First
-starts script = record {
-  in_order = λ k lt. absurd (omega arith);
-  ended = λ k lt. absurd (omega arith);
-  later = λ k lt. refl;
-  stands = λ line here. refl;
-}
-
-pub stands_first : (book : Recorded) → book.journal ≡ [] → Passes book.script 0 First book.place book.stage → Stands book
-stands_first book none passes = record {
-  within = passes.within;
-  stands = rw none (passes.stands [] (starts book.script));
-  due = passes.due;
-}
+use Rattle.cred_book.proofs.Courses.{line_is, of_line, next_due, goes_on}
 
 -- ---- a step
 
@@ -166,61 +31,87 @@ pub record Moves (before after : Recorded) : Type 0 where
   pub entered : after.journal ≡ before.journal ++ entry ∷ []
   pub falls : left after < left before
 
-moves_by : (book after : Recorded) (event : Event) (next : Stage) (line : Line) (entry : Entry)
-    → Stands book → event_of book.script book.place book.stage ≡ Some event
-    → slice_get book.script.lines book.place ≡ Some line → event_at (book.place + 1) line.content book.stage ≡ Some event
-    → entry ≡ entry_of book.script book.journal (record { line = book.place + 1; event = event })
-    → next ≡ stage_of book.script book.place book.stage entry.answer
-    → after.script ≡ book.script → after.journal ≡ book.journal ++ entry ∷ []
-    → Passes book.script book.place next after.place after.stage
+-- what is left falls with the course
+left_falls : (script : Script) (a b : Course) → a.line ≡ b.line → model.left a < model.left b → left_at script (Some a) < left_at script (Some b)
+left_falls script a b same falls = rw same (omega (arith, falls))
+
+pub moves : (book after : Recorded) (course : Course) (event : Event) (line : Line)
+    → book.cursor ≡ Some course → Stands book → line_at book.script course.line ≡ Some line → event_at line.content course ≡ Some event
+    → after.script ≡ book.script
+    → after.journal ≡ book.journal ++ entry_of book.script book.journal (record { line = course.line; event = event }) ∷ []
+    → Passes book.script (model.after line.content course (answer_of book course.line event)) after.cursor
     → Moves book after
-moves_by book after event next line entry at has there due made stage_is script_is journal_is passes =
-    let now : next ≡ course.after line.content book.stage entry.answer
-    = stage_is ∙ ap (λ (o : Option Line). option_map_or (λ l. course.after l.content book.stage entry.answer) o Ended) there in
-    let on : StandsIn book.script (book.journal ++ entry ∷ []) book.place next
-    = rw now (goes_on book.script book.journal book.place book.stage event line entry there due made at.stands) in
-    let first = first_due_at book.journal 1 book.script.lines book.place line event at.stands.ended there
-    (ap (event_at (book.place + 1) line.content) (sym (at.stands.stands line there)) ∙ due) in
-    let fewer : most next < most book.stage = stage_falls book.script book.place book.stage next event entry.answer has stage_is in
-    let fell : left_at after.script after.place after.stage ≤ left_at book.script book.place next
-    = rw script_is passes.falls in
+moves book after course event line here stands line_here due script_is journal_is passes =
+    let both = subst (IsCursor book.script book.journal) here stands in
+    let at = both.0 in
+    let entry : Entry = entry_of book.script book.journal (record { line = course.line; event = event }) in
+    let lines : Some at.line ≡ Some line = sym (line_is book.script book.journal course at) ∙ line_here in
+    let same : at.line ≡ line = cc in
+    let due_at : event_at at.line.content course ≡ Some event = ap (λ (l : Line). event_at l.content course) same ∙ due in
+    let on : StandsOn book.script (book.journal ++ entry ∷ []) (model.after line.content course entry.answer)
+    = subst (λ (l : Line). StandsOn book.script (book.journal ++ entry ∷ []) (model.after l.content course entry.answer)) same
+    (goes_on book.script book.journal course event entry at due_at refl) in
+    let own : Leads line.content course
+    = subst (λ (o : Option Line). IfSome o (λ l. Leads l.content course)) line_here (of_line book.script book.journal course at) in
+    let fewer = (leads_on line.content course entry.answer course.stage refl both.1 own).falls in
+    let fell = left_falls book.script (model.after line.content course entry.answer) course (after_line line.content course entry.answer) fewer in
+    let most : left_at book.script after.cursor ≤ left_at book.script (Some (model.after line.content course entry.answer)) = passes.falls in
+    let before : left book ≡ left_at book.script (Some course) = ap (left_at book.script) here in
+    let now : left after ≡ left_at book.script after.cursor = ap (λ (s : Script). left_at s after.cursor) script_is in
     record {
       script = script_is;
-      stands = record {
-        within = rw script_is passes.within;
-        stands = rw (script_is, journal_is) (passes.stands (book.journal ++ entry ∷ []) on);
-        due = rw script_is passes.due;
-      };
+      stands = subst (λ (s : Script). IsCursor s after.journal after.cursor) (sym script_is)
+          (subst (λ (j : List Entry). IsCursor book.script j after.cursor) (sym journal_is) (passes.stands (book.journal ++ entry ∷ []) on));
       entry = entry;
-      next = ap (option_map (entry_of book.script book.journal)) first ∙ ap Some (sym made);
+      next = next_due book.script book.journal course event at due_at;
       entered = journal_is;
-      falls = omega (arith, fell, fewer);
+      falls = omega (arith, before, now, fell, most);
     }
 
-pub moves : (book grown after : Recorded) (event : Event) (answer : Answer) (next : Stage)
-    → Stands book → event_of book.script book.place book.stage ≡ Some event
-    → grown ≡ with_event book (book.place + 1) event → answer ≡ answer_of book (book.place + 1) event
-    → next ≡ stage_of grown.script book.place book.stage answer
+-- the same, as a step comes to it
+pub moves_by : (book grown after : Recorded) (course : Course) (event : Event) (answer : Answer)
+    → book.cursor ≡ Some course → Stands book
+    → option_and_then (λ (line : Line). event_at line.content course) (line_at book.script course.line) ≡ Some event
+    → grown ≡ with_event book course.line event → answer ≡ answer_of book course.line event
     → after.script ≡ grown.script → after.journal ≡ grown.journal
-    → Passes grown.script book.place next after.place after.stage
+    → IfSome (line_at grown.script course.line) (λ line. Passes grown.script (model.after line.content course answer) after.cursor)
     → Moves book after
-moves book grown after event answer next at has is answer_is stage_is script_is journal_is passes =
-    let entry : Entry = entry_of book.script book.journal (record { line = book.place + 1; event = event }) in
-    let line = due_line book.script book.place book.stage event (slice_get book.script.lines book.place) has in
+moves_by book grown after course event answer here stands has is answer_is script_is journal_is passes =
+    let at = (subst (IsCursor book.script book.journal) here stands).0 in
+    let line = line_is book.script book.journal course at in
     let same : grown.script ≡ book.script = ap (λ (b : Recorded). b.script) is in
-    let longer : grown.journal ≡ book.journal ++ entry ∷ [] = ap (λ (b : Recorded). b.journal) is in
-    moves_by book after event next line.0 entry at has line.1 line.2 refl
-    (stage_is ∙ ap (λ (s : Script). stage_of s book.place book.stage answer) same ∙ ap (stage_of book.script book.place book.stage) answer_is)
-    (script_is ∙ same) (journal_is ∙ longer)
-    (subst (λ (s : Script). Passes s book.place next after.place after.stage) same passes)
+    let due_at : event_at at.line.content course ≡ Some event
+    = ap (λ (o : Option Line). option_and_then (λ (l : Line). event_at l.content course) o) (sym line) ∙ has in
+    let passes_book = subst (λ (s : Script). IfSome (line_at s course.line) (λ l. Passes s (model.after l.content course answer) after.cursor)) same passes in
+    let passes_line = subst (λ (o : Option Line). IfSome o (λ l. Passes book.script (model.after l.content course answer) after.cursor)) line passes_book in
+    moves book after course event at.line here stands line due_at (script_is ∙ same) (journal_is ∙ ap (λ (b : Recorded). b.journal) is)
+    (subst (λ (a : Answer). Passes book.script (model.after at.line.content course a) after.cursor) answer_is passes_line)
 
--- where no line has an event to make
-pub over : (book : Recorded) → Stands book → event_of book.script book.place book.stage ≡ None
-    → next_in_order book.script book.journal ≡ None
-over book at none =
-    let all : book.place ≡ length book.script.lines = at.due none in
-    ap (option_map (entry_of book.script book.journal))
-    (first_due_none book.journal 1 book.script.lines (λ k lt. at.stands.ended k (omega (arith, all, lt))))
+-- the course of the cursor is one of its line
+pub own_line : (book : Recorded) (course : Course) → book.cursor ≡ Some course → Stands book → IsOfLine book.script course
+own_line book course here stands =
+    of_line book.script book.journal course (subst (IsCursor book.script book.journal) here stands).0
+
+pub own_stage : (book : Recorded) (course : Course) → book.cursor ≡ Some course → Stands book → is_some course.stage ≡ true
+own_stage book course here stands = (subst (IsCursor book.script book.journal) here stands).1
+
+-- where no line is left
+pub over : (book : Recorded) → Stands book → book.cursor ≡ None → next_in_order book.script book.journal ≡ None
+over book stands none =
+    let all = subst (IsCursor book.script book.journal) none stands in
+    ap (option_map (entry_of book.script book.journal)) (first_due_none book.journal 1 book.script.lines all.ended)
+
+-- a course that has a stage makes an event
+pub due : (book : Recorded) (course : Course) → book.cursor ≡ Some course → Stands book
+    → is_some (option_and_then (λ (line : Line). event_at line.content course) (line_at book.script course.line)) ≡ true
+due book course here stands =
+    let both = subst (IsCursor book.script book.journal) here stands in
+    let at = both.0 in
+    let line = line_is book.script book.journal course at in
+    let own : Leads at.line.content course
+    = subst (λ (o : Option Line). IfSome o (λ l. Leads l.content course)) line (of_line book.script book.journal course at) in
+    ap (λ (o : Option Line). is_some (option_and_then (λ (l : Line). event_at l.content course) o)) line
+    ∙ makes_event at.line.content course course.stage refl own ∙ both.1
 
 -- ---- what a step makes
 
@@ -237,12 +128,16 @@ made_none : (before after : Recorded) (next : Option Entry) → Makes before aft
 made_none before after None made = (refl, made)
 made_none before after (Some entry) made = absurd made
 
+in_order : (script : Script) (journal : List Entry) (cursor : Option Course) → IsCursor script journal cursor → IsInOrder script journal
+in_order script journal None at = at.in_order
+in_order script journal (Some course) at = at.0.in_order
+
 -- where all lines have ended the journal is the sequence
 pub is_sequence : (before after : Recorded) → Stands after → Makes before after (next_of before 0) step.Ended
     → IsSequence after.script after.journal
 is_sequence before after at made =
     let none = made_none before after (next_of before 0) made in
-    record { in_order = at.stands.in_order; ended = rw none.1 none.0 }
+    record { in_order = in_order after.script after.journal after.cursor at; ended = rw none.1 none.0 }
 
 zero_test : (lane : ℕ) → lane ≡ 0 → (lane == 0) ≡ true
 zero_test lane is = grind (arith, nat_tests)

@@ -1,3 +1,4 @@
+pub mod Courses
 pub mod Cursors
 pub mod LabelMap
 pub mod Bags

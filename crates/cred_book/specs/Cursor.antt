@@ -1,14 +1,14 @@
 -- How far a script's lines have run, where they run whole and in order.
-use Rattle.std.specs.Prelude.{◌≡◌, ℕ, ◌+◌, ◌-◌, ◌*◌, ◌<◌, ◌≤◌, List, [], ◌∷◌, ◌++◌, length, All, slice_get, Some, None, IfSome}
+use Rattle.std.specs.Prelude.{◌≡◌, ℕ, ◌+◌, ◌-◌, ◌*◌, ◌<◌, ◌≤◌, true, List, [], ◌∷◌, ◌++◌, length, All, slice_get, Some, None, IfSome, is_some}
 use Rattle.std.specs.declared.option.Option.{Option}
-use Rattle.cred_event.specs.declared.content.Stage.{Stage}
-use Rattle.cred_event.specs.declared.content.Stage.TheVariants.{First, Asking, Releasing}
-use Rattle.cred_event.specs.declared.content.Stage.TheVariants as stage
+use Rattle.std.specs.Option.{option_map, option_map_or}
 use Rattle.cred_event.specs.declared.entry.Entry.{Entry}
 use Rattle.cred_model.specs.Script.{Script, Line}
-use Rattle.cred_model.specs.Course.{leads}
+use Rattle.cred_model.specs.Course as model
+use Rattle.cred_model.specs.Course.{Course, Leads, leads}
 use Rattle.cred_model.specs.Journal.{answers_of, next_event, IsInOrder}
-use Rattle.cred_book.specs.Book.{Recorded, event_of}
+use Rattle.cred_script.specs.Grammar.{line_at}
+use Rattle.cred_book.specs.Book.{Recorded}
 use Rattle.cred_book.specs.declared.cursor.Step.{Step}
 use Rattle.cred_book.specs.declared.cursor.Step.TheVariants.{More, Ended}
 
@@ -17,45 +17,50 @@ abbrev pub HasEnded : Script → List Entry → ℕ → Type 0
 HasEnded script journal place =
     IfSome (slice_get script.lines place) (λ line. next_event journal (place + 1) line.content ≡ None)
 
--- The first lines, this many of them, have ended, and no later line has begun.
-pub record StandsAt (script : Script) (journal : List Entry) (count : ℕ) : Type 0 where
+-- All lines have ended.
+pub record IsOver (script : Script) (journal : List Entry) : Type 0 where
   pub in_order : IsInOrder script journal
-  pub ended : (k : ℕ) → k < count → HasEnded script journal k
-  pub later : (k : ℕ) → count ≤ k → answers_of journal (k + 1) ≡ []
+  pub ended : (k : ℕ) → k < length script.lines → HasEnded script journal k
 
--- The lines before this place have ended, no later line has begun, and the line at this place stands at this stage.
-pub record StandsIn (script : Script) (journal : List Entry) (place : ℕ) (stage : Stage) : Type 0 where
+-- The lines before that of the course have ended, no later line has begun, and its own has come as far as the course.
+pub record StandsOn (script : Script) (journal : List Entry) (course : Course) : Type 0 where
   pub in_order : IsInOrder script journal
+  pub place : ℕ
+  pub number : course.line ≡ place + 1
+  pub line : Line
+  pub here : slice_get script.lines place ≡ Some line
   pub ended : (k : ℕ) → k < place → HasEnded script journal k
   pub later : (k : ℕ) → place < k → answers_of journal (k + 1) ≡ []
-  pub stands : (line : Line) → slice_get script.lines place ≡ Some line → stage ≡ leads line.content (answers_of journal (place + 1))
+  pub stands : course ≡ leads (place + 1) line.content (answers_of journal (place + 1))
 
--- how many events a line may still make
-abbrev pub most : Stage → ℕ
-most First = 3
-most Asking = 2
-most Releasing = 1
-most stage.Ended = 0
+-- The cursor is the journal's: the course of the first line that has not ended, or none.
+abbrev pub IsCursor : Script → List Entry → Option Course → Type 0
+IsCursor script journal None = IsOver script journal
+IsCursor script journal (Some course) = StandsOn script journal course × (is_some course.stage ≡ true)
+
+abbrev pub Stands : Recorded → Type 0
+Stands book = IsCursor book.script book.journal book.cursor
 
 -- how many steps may be left where the cursor stands here, at most
-abbrev pub left_at : Script → ℕ → Stage → ℕ
-left_at script place stage = 4 * (length script.lines - place) + most stage
+abbrev pub left_at : Script → Option Course → ℕ
+left_at script cursor = option_map_or (λ course. 64 * (length script.lines - course.line) + model.left course) cursor 0
 
 abbrev pub left : Recorded → ℕ
-left book = left_at book.script book.place book.stage
+left book = left_at book.script book.cursor
 
--- The cursor is the journal's: it stands at the first line that has not ended, or past the last.
-pub record Stands (book : Recorded) : Type 0 where
-  pub within : book.place ≤ length book.script.lines
-  pub stands : StandsIn book.script book.journal book.place book.stage
-  pub due : event_of book.script book.place book.stage ≡ None → book.place ≡ length book.script.lines
+-- the course is one of its line
+abbrev pub IsOfLine : Script → Course → Type 0
+IsOfLine script course = IfSome (line_at script course.line) (λ line. Leads line.content course)
 
--- From a place and a stage on, this is the first line that has not ended, or the place past the last.
-pub record Passes (script : Script) (place : ℕ) (stage : Stage) (to : ℕ) (ends : Stage) : Type 0 where
-  pub within : to ≤ length script.lines
-  pub due : event_of script to ends ≡ None → to ≡ length script.lines
-  pub stands : (journal : List Entry) → StandsIn script journal place stage → StandsIn script journal to ends
-  pub falls : left_at script to ends ≤ left_at script place stage
+-- the line after a course's own, before its first event
+abbrev pub next_start : Script → Course → Option Course
+next_start script course =
+    option_map (λ line. model.start (course.line + 1) line.content) (line_at script (course.line + 1))
+
+-- From a course on, this is the cursor.
+pub record Passes (script : Script) (course : Course) (to : Option Course) : Type 0 where
+  pub stands : (journal : List Entry) → StandsOn script journal course → IsCursor script journal to
+  pub falls : left_at script to ≤ left_at script (Some course)
 
 -- The next entry, where there is one, was entered and answered by More. Else the book is as it was.
 abbrev pub Makes : Recorded → Recorded → Option Entry → Step → Type 0

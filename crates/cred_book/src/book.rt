@@ -3,21 +3,21 @@ ghost use Rattle.std.specs.Prelude.{◌≡◌, ◌<◌, [], IfOk, OnOk, OnErr};
 ghost use Rattle.cred_model.specs.Journal as model;
 ghost use Rattle.cred_model.specs.Journal.{replay};
 ghost use Rattle.cred_model.specs.Slots.{uses};
-ghost use Rattle.cred_book.specs.Book.{with_event, answer_of, next_of, event_of, stage_of};
+ghost use Rattle.cred_book.specs.Book.{with_event, answer_of, next_of};
 ghost use Rattle.cred_book.specs.Cursor.{IsSetup, Makes, Stands, left};
 ghost use Rattle.cred_book.specs.declared.cursor.Step.TheVariants.{More};
 
-use crate::course::{after, event_at};
-use crate::cursor::{Step, first_left};
+use crate::cursor::{Step, cursor_after, first_cursor, next_event};
 use crate::state::State;
-use cred_event::{Answer, Entry, Event, Stage, copy_answer};
+use cred_course::Course;
+use cred_event::{Answer, Entry, Event, copy_answer};
 use cred_ids::NoMemory;
 use cred_script::Script;
 use std::alloc::Global;
 use std::marker::Model;
 
 /// A script, the journal of its run so far, and the state that the journal leads to; and a cursor,
-/// the place of a line and where that line stands.
+/// the course of a line, or none.
 ///
 /// Every entry has the answer that its event gets in the state after the entries before it.
 #[derive(Drop, Debug)]
@@ -25,8 +25,7 @@ pub struct Book {
     script: Script,
     state: State,
     journal: Vec<Entry>,
-    place: u32,
-    stage: Stage,
+    cursor: Option<Course>,
 }
 
 impl Model for Book {
@@ -39,8 +38,7 @@ impl Model for Book {
     ghost view = { λ b. record {
       script = b.script;
       journal = b.journal.items;
-      place = b.place;
-      stage = b.stage;
+      cursor = b.cursor;
     } };
 
     ghost invariant = { λ b.
@@ -58,13 +56,12 @@ impl Book {
         ensures journal { IfOk result (λ book. book.journal ≡ []) }
         ensures stands { IfOk result (λ book. Stands book) }
     {
-        let (place, stage) = first_left(&script, 0, Stage::First);
+        let cursor = first_cursor(&script);
         Ok(Book {
             script,
             state: State::new(alloc)?,
             journal: Vec::new(alloc),
-            place,
-            stage,
+            cursor,
         })
     }
 
@@ -131,43 +128,17 @@ impl Book {
         ensures falls { IfOk result (λ step. step ≡ More → left self.new < left self.old) }
         ensures err { OnErr result (self.new ≡ self.old) }
     {
-        let _count = self.script.lines();
         if lane != 0 {
             return Ok(Step::Ended);
         }
-        let place = self.place;
-        let Some(event) = self.event_of(place, self.stage)? else {
+        let Some(course) = self.cursor else {
             return Ok(Step::Ended);
         };
-        let answer = self.event(place + 1, event)?;
-        let stage = self.stage_of(place, self.stage, &answer);
-        let (place, stage) = first_left(&self.script, place, stage);
-        self.place = place;
-        self.stage = stage;
+        let Some(event) = next_event(&self.script, course)? else {
+            return Ok(Step::Ended);
+        };
+        let answer = self.event(course.line(), event)?;
+        self.cursor = cursor_after(&self.script, course, &answer);
         Ok(Step::More)
-    }
-
-    /// The event that the line at this place makes where it stands, or none.
-    #[tactic(auto, using(crate::proofs::Cursors::places))]
-    fn event_of(&self, place: u32, stage: Stage) -> Result<Option<Event>, NoMemory>
-        requires { place < 1048576 }
-        ensures { IfOk result (λ event. event ≡ event_of self.now.script place stage) }
-    {
-        match self.script.line(place + 1) {
-            Some((_, content)) => event_at(place + 1, content, stage),
-            None => Ok(None),
-        }
-    }
-
-    /// Where the line at this place stands after the answer.
-    #[tactic(auto, using(crate::proofs::Cursors::places))]
-    fn stage_of(&self, place: u32, stage: Stage, answer: &Answer) -> Stage
-        requires { place < 1048576 }
-        ensures { result ≡ stage_of self.now.script place stage answer.now }
-    {
-        match self.script.line(place + 1) {
-            Some((_, content)) => after(content, stage, answer),
-            None => Stage::Ended,
-        }
     }
 }

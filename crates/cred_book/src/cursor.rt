@@ -1,10 +1,13 @@
-//! The cursor: the first line that has not ended, and where it stands.
-ghost use Rattle.std.specs.Prelude.{◌≡◌, ◌<◌, ◌≤◌, is_some, length};
-ghost use Rattle.cred_book.specs.Book.{event_of};
-ghost use Rattle.cred_book.specs.Cursor.{Passes};
+//! The cursor: the course of the first line that has not ended.
+ghost use Rattle.std.specs.Prelude.{◌≡◌, true, [], IfOk, IfSome, is_some};
+ghost use Rattle.std.specs.Option.{option_and_then};
+ghost use Rattle.cred_model.specs.Course as model;
+ghost use Rattle.cred_script.specs.Grammar.{line_at};
+ghost use Rattle.cred_book.specs.Cursor.{IsCursor, IsOfLine, Passes, next_start};
 
-use crate::course::makes_event;
-use cred_event::Stage;
+use cred_course::Course;
+use cred_event::{Answer, Event};
+use cred_ids::NoMemory;
 use cred_script::Script;
 
 /// What a step of a lane came to.
@@ -16,29 +19,56 @@ pub enum Step {
     Ended,
 }
 
-/// Has the line at this place an event to make where it stands?
-#[tactic(auto, using(crate::proofs::Cursors::places))]
-fn is_due(script: &Script, place: u32, stage: Stage) -> bool
-    requires { place < 1048576 }
-    ensures { result ≡ is_some (event_of script.now place stage) }
+/// The cursor before the first event.
+pub fn first_cursor(script: &Script) -> Option<Course>
+    ensures { IsCursor script.now [] result }
 {
-    match script.line(place + 1) {
-        Some((_, content)) => makes_event(content, stage),
-        None => false,
+    let (_, content) = script.line(1)?;
+    first_left(script, Course::start(1, content))
+}
+
+/// The next event of the course's line.
+pub fn next_event(script: &Script, course: Course) -> Result<Option<Event>, NoMemory>
+    requires line { IsOfLine script.now course }
+    ensures event { IfOk result (λ event. event
+        ≡ option_and_then (λ line. model.event_at line.content course) (line_at script.now course.line)) }
+{
+    match script.line(course.line()) {
+        Some((_, content)) => course.event(content),
+        None => Ok(None),
     }
 }
 
-/// The first line that has not ended, from this place and stage on, with its stage; the number of
-/// lines where all have ended.
-pub fn first_left(script: &Script, place: u32, stage: Stage) -> (u32, Stage)
-    requires { place ≤ length script.now.lines }
-    ensures { Passes script.now place stage result.0 result.1 }
+/// The cursor after an answer to the course's line.
+pub fn cursor_after(script: &Script, course: Course, answer: &Answer) -> Option<Course>
+    requires line { IsOfLine script.now course }
+    requires going { is_some course.stage ≡ true }
+    ensures { IfSome (line_at script.now course.line)
+        (λ line. Passes script.now (model.after line.content course answer.now) result) }
 {
-    let mut to = place;
-    let mut stands = stage;
-    'lines: while to < script.lines() && !is_due(script, to, stands) {
-        to += 1;
-        stands = Stage::First;
+    let (_, content) = script.line(course.line())?;
+    let mut course = course;
+    course.took(content, answer);
+    first_left(script, course)
+}
+
+/// The cursor from a course on: that course, or, where its line has ended, that of the first later
+/// line that has not.
+fn first_left(script: &Script, course: Course) -> Option<Course>
+    ensures { Passes script.now course result }
+{
+    let mut course = course;
+    'lines: while course.ended() {
+        course = next_start(script, course)?;
     }
-    (to, stands)
+    Some(course)
+}
+
+/// The line after a course's own, before its first event; none where no line is left.
+fn next_start(script: &Script, course: Course) -> Option<Course>
+    ensures { result ≡ next_start script.now course }
+{
+    let number = course.line() + 1;
+    let (_, content) = script.line(number)?;
+    Some(Course::start(number, content))
 }

@@ -2,7 +2,6 @@
 #![tactic(auto)]
 
 mod book;
-mod course;
 mod cursor;
 mod holds;
 mod seal;

@@ -50,15 +50,23 @@ pub enum Content {
     },
 }
 
-/// Where a line stands: which of its events comes next.
+/// The stages of a line: which event it makes next. A line whose last event was made has none.
 #[derive(Clone, Copy, PartialEq, Eq, Debug)]
 pub enum Stage {
     /// Its first event.
     First,
     /// The question on the hold that it took.
     Asking,
-    /// The release of that hold.
+    /// The preparation of a new credential.
+    Preparing,
+    /// The change of that one.
+    Altering,
+    /// Its commit.
+    Committing,
+    /// The end of a preparation that came to nothing.
+    Aborting,
+    /// The release of the hold, with which the line ends.
     Releasing,
-    /// No event: the line has ended.
-    Ended,
+    /// The release of the hold, after which the line begins again.
+    Retrying,
 }

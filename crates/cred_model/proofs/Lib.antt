@@ -1,3 +1,4 @@
 pub mod Journals
+pub mod Courses
 pub mod Lines
 pub mod Order

@@ -5,39 +5,10 @@ use Rattle.std.specs.List.{cons_option}
 use Rattle.std.proofs.lemmas.List.{append-nil}
 use Rattle.std.proofs.lemmas.List.Elements.{filter_map-append}
 use Rattle.std.proofs.lemmas.Bool.Decides.{nat_tests}
-use Rattle.cred_event.specs.declared.content.Stage.{Stage}
-use Rattle.cred_event.specs.declared.content.Stage.TheVariants.{First, Asking, Releasing, Ended}
 use Rattle.cred_event.specs.declared.event.Event.{Event}
-use Rattle.cred_event.specs.declared.answer.Answer.{Answer}
 use Rattle.cred_event.specs.declared.entry.Entry.{Entry}
-use Rattle.cred_event.specs.declared.content.Content.{Content}
-use Rattle.cred_event.specs.declared.content.Content.TheVariants.{One, Id, Question}
-use Rattle.cred_model.specs.Answers.{is_ok}
 use Rattle.cred_model.specs.Script.{Line}
-use Rattle.cred_model.specs.Course.{event_at, after}
 use Rattle.cred_model.specs.Journal.{answers_of, next_event, first_due}
-
--- how many events a line may still make
-abbrev pub rank : Stage → ℕ
-rank First = 3
-rank Asking = 2
-rank Releasing = 1
-rank Ended = 0
-
-taken_falls : (test : Bool) → rank (cond test Asking Ended) < 3
-taken_falls true = omega arith
-taken_falls false = omega arith
-
--- each event is followed by fewer
-pub after_falls : (line : ℕ) (content : Content) (stage : Stage) (event : Event) (answer : Answer)
-    → event_at line content stage ≡ Some event → rank (after content stage answer) < rank stage
-after_falls line (Question task query) First event answer h = taken_falls (is_ok answer)
-after_falls line (Question task query) Asking event answer h = omega arith
-after_falls line (Question task query) Releasing event answer h = omega arith
-after_falls line (Question task query) Ended event answer h = cc
-after_falls line (One e) First event answer h = omega arith
-after_falls line (Id task call) First event answer h = omega arith
-after_falls line content stage event answer h = cc
 
 pub answers_of-push_same : (journal : List Entry) (entry : Entry) (line : ℕ) → entry.line ≡ line
     → answers_of (journal ++ entry ∷ []) line ≡ answers_of journal line ++ entry.answer ∷ []

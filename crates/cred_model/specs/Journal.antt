@@ -28,7 +28,7 @@ answers_of journal line = filter_map (λ entry. if entry.line == line then Some 
 
 -- the next event of a line after a journal, or none where the line has ended
 abbrev pub next_event : List Entry → ℕ → Content → Option Event
-next_event journal line content = event_at line content (leads content (answers_of journal line))
+next_event journal line content = event_at content (leads line content (answers_of journal line))
 
 -- an event that a line is to make next
 pub record Due : Type 0 where

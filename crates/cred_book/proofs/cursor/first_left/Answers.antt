@@ -1,14 +1,23 @@
-use Rattle.std.proofs.Common.{◌≡◌, ◌<◌, length, is_some, false, sym, ◌∙◌, arith}
-use Rattle.cred_book.specs.Book.{event_of}
-use Rattle.cred_book.proofs.Cursors.{passes_on}
+use Rattle.std.proofs.Common.{sym, ◌∙◌, subst}
+use Rattle.cred_book.specs.Cursor.{Passes}
+use Rattle.cred_book.proofs.Courses.{reaches_next, reaches_end, reaches_due, next_shorter}
 use Rattle.cred_book.proofs.cursor.first_left.Goals as goal
+
+pub returns-in_err-course : goal.returns-in_err-course
+returns-in_err-course c =
+    subst (Passes c.args.script.now c.args.course) (sym c.from_residual.ensures)
+    (reaches_end c.args.script.now c.args.course c.lines.course (sym c.ended.ensures ∙ c.lines-test.true)
+    (sym c.next_start.ensures ∙ c.in_err-course.was) c.lines.invariant)
+
+pub lines-smaller : goal.lines-smaller
+lines-smaller c =
+    next_shorter c.args.script.now c.lines.course c.in_ok-course.course (sym c.next_start.ensures ∙ c.in_ok-course.was)
 
 pub lines-preserved : goal.lines-preserved
 lines-preserved c =
-    let within : c.lines.to < length c.args.script.now.lines = omega (arith, c.lines-test.true, c.lines-in-lines.ensures.count) in
-    let over : is_some (event_of c.args.script.now c.lines.to c.lines.stands) ≡ false = sym c.is_due.ensures ∙ c.if-not-is_due.true in
-    record {
-      within = omega (arith, within);
-      stands = passes_on c.args.script.now c.args.place c.lines.to c.args.stage c.lines.stands within over c.lines.invariant.stands;
-      falls = omega (arith, within, c.lines.invariant.falls);
-    }
+    reaches_next c.args.script.now c.args.course c.lines.course c.in_ok-course.course (sym c.ended.ensures ∙ c.lines-test.true)
+    (sym c.next_start.ensures ∙ c.in_ok-course.was) c.lines.invariant
+
+pub returns : goal.returns
+returns c =
+    reaches_due c.args.script.now c.args.course c.lines.course (sym c.ended.ensures ∙ c.lines-test.false) c.lines.invariant

@@ -1,10 +1,13 @@
-use Rattle.std.proofs.Common.{◌≡◌, ℕ, ◌+◌, Some, None, refl, sym, ap, ◌∙◌, subst, arith}
-use Rattle.cred_event.specs.declared.content.Stage.{Stage}
-use Rattle.cred_model.specs.Script.{Script}
+use Rattle.std.proofs.Common.{◌≡◌, ℕ, Some, None, is_some, refl, sym, ap, ◌∙◌, subst, arith}
+use Rattle.std.specs.Option.{IfSome, option_and_then}
+use Rattle.cred_model.specs.Script.{Script, Line}
+use Rattle.cred_model.specs.Course as model
+use Rattle.cred_model.specs.Course.{Course, event_at}
 use Rattle.cred_model.specs.Journal.{next}
-use Rattle.cred_book.specs.Book.{Recorded, with_event, answer_of, next_of, event_of, stage_of}
+use Rattle.cred_script.specs.Grammar.{line_at}
+use Rattle.cred_book.specs.Book.{Recorded, with_event, answer_of, next_of}
 use Rattle.cred_book.specs.Cursor.{Passes}
-use Rattle.cred_book.proofs.Cursors.{Moves, moves, over, makes_more, makes_ended, next_of-setup, next-setup, next-other}
+use Rattle.cred_book.proofs.Cursors.{Moves, moves_by, due, over, makes_more, makes_ended, next_of-setup, next-setup, next-other}
 use Rattle.cred_book.proofs.book.Book.next.Goals as goal
 
 pub returns-then-lane-ne0-clause-lane : goal.returns-then-lane-ne0-clause-lane
@@ -16,9 +19,7 @@ pub returns-in_default : goal.returns-in_default
 returns-in_default c =
     let book : Recorded = c.args.self.now in
     let zero : c.args.lane ≡ 0 = omega (arith, c.if-lane-ne0.false) in
-    let place : c.self.inside.place ≡ book.place = ap (λ (b : Recorded). b.place) c.self.view_is in
-    let stage : c.self.inside.stage ≡ book.stage = ap (λ (b : Recorded). b.stage) c.self.view_is in
-    let none : event_of book.script book.place book.stage ≡ None = rw (← place, ← stage) (sym c.in_ok-event.ensures ∙ c.in_default.is) in
+    let none : book.cursor ≡ None = sym (ap (λ (b : Recorded). b.cursor) c.self.view_is) ∙ c.in_default.is in
     let last = over book c.requires none in
     record {
       script = refl;
@@ -29,34 +30,44 @@ returns-in_default c =
       err = tt;
     }
 
+pub returns-in_default-2 : goal.returns-in_default-2
+returns-in_default-2 c =
+    let book : Recorded = c.args.self.now in
+    let course : Course = c.in-Some.course in
+    let here : book.cursor ≡ Some course = sym (ap (λ (b : Recorded). b.cursor) c.self.view_is) ∙ c.in-Some.is in
+    let script : c.self.inside.script ≡ book.script = ap (λ (b : Recorded). b.script) c.self.view_is in
+    let event = ap is_some (sym c.in_default-2.is ∙ c.in_ok-event.ensures.event)
+    ∙ ap (λ (s : Script). is_some (option_and_then (λ (l : Line). event_at l.content course) (line_at s course.line))) script
+    ∙ due book course here c.requires in
+    cc
+
 pub returns : goal.returns
 returns c =
     let book : Recorded = c.args.self.now in
     let grown : Recorded = c.event.new.self in
+    let course : Course = c.in-Some.course in
     let after : Recorded = record {
       script = c.self-2.inside.script;
       journal = c.self-2.inside.journal.items;
-      place = c.first_left-place.result.0;
-      stage = c.first_left-place.result.1;
+      cursor = c.cursor_after-self-inside.result;
     } in
     let zero : c.args.lane ≡ 0 = omega (arith, c.if-lane-ne0.false) in
-    let place : c.self.inside.place ≡ book.place = ap (λ (b : Recorded). b.place) c.self.view_is in
-    let stage : c.self.inside.stage ≡ book.stage = ap (λ (b : Recorded). b.stage) c.self.view_is in
-    let has : event_of book.script book.place book.stage ≡ Some c.in-Some.event = rw (← place, ← stage) (sym c.in_ok-event.ensures ∙ c.in-Some.is) in
-    let is : grown ≡ with_event book (book.place + 1) c.in-Some.event
-    = c.in_ok-answer.ensures.entered ∙ ap (λ (n : ℕ). with_event book (n + 1) c.in-Some.event) place in
-    let answer : c.in_ok-answer.answer ≡ answer_of book (book.place + 1) c.in-Some.event
-    = c.in_ok-answer.ensures.answer ∙ ap (λ (n : ℕ). answer_of book (n + 1) c.in-Some.event) place in
+    let here : book.cursor ≡ Some course = sym (ap (λ (b : Recorded). b.cursor) c.self.view_is) ∙ c.in-Some.is in
+    let script : c.self.inside.script ≡ book.script = ap (λ (b : Recorded). b.script) c.self.view_is in
+    let has : option_and_then (λ (l : Line). event_at l.content course) (line_at book.script course.line) ≡ Some c.in-Some-2.event
+    = ap (λ (s : Script). option_and_then (λ (l : Line). event_at l.content course) (line_at s course.line)) (sym script)
+    ∙ sym c.in_ok-event.ensures.event ∙ c.in-Some-2.is in
+    let number : c.line.result ≡ course.line = c.line.ensures.value in
+    let is : grown ≡ with_event book course.line c.in-Some-2.event
+    = c.in_ok-answer.ensures.entered ∙ ap (λ (n : ℕ). with_event book n c.in-Some-2.event) number in
+    let answer : c.in_ok-answer.answer ≡ answer_of book course.line c.in-Some-2.event
+    = c.in_ok-answer.ensures.answer ∙ ap (λ (n : ℕ). answer_of book n c.in-Some-2.event) number in
     let same : c.self-2.inside.script ≡ grown.script = ap (λ (b : Recorded). b.script) c.self-2.view_is in
-    let stays : c.self-2.inside.stage ≡ book.stage = ap (λ (b : Recorded). b.stage) (c.self-2.view_is ∙ is) in
-    let stands : c.stage_of-stage.result ≡ stage_of grown.script book.place book.stage c.in_ok-answer.answer
-    = c.stage_of-stage.ensures ∙ ap (λ (n : ℕ). stage_of grown.script n c.self-2.inside.stage c.in_ok-answer.answer) place
-    ∙ ap (λ (t : Stage). stage_of grown.script book.place t c.in_ok-answer.answer) stays in
-    let passes : Passes grown.script book.place c.stage_of-stage.result after.place after.stage
-    = subst (λ (n : ℕ). Passes grown.script n c.stage_of-stage.result after.place after.stage) place
-    (subst (λ (t : Script). Passes t c.self.inside.place c.stage_of-stage.result after.place after.stage) same c.first_left-place.ensures) in
+    let passes : IfSome (line_at grown.script course.line) (λ l. Passes grown.script (model.after l.content course c.in_ok-answer.answer) after.cursor)
+    = subst (λ (s : Script). IfSome (line_at s course.line) (λ l. Passes s (model.after l.content course c.in_ok-answer.answer) after.cursor)) same
+    c.cursor_after-self-inside.ensures in
     let m : Moves book after
-    = moves book grown after c.in-Some.event c.in_ok-answer.answer c.stage_of-stage.result c.requires has is answer stands same
+    = moves_by book grown after course c.in-Some-2.event c.in_ok-answer.answer here c.requires has is answer same
     (ap (λ (b : Recorded). b.journal) c.self-2.view_is) passes in
     record {
       script = m.script;

@@ -1,0 +1,137 @@
+//! The course of one line.
+ghost use Rattle.std.specs.Prelude.{◌≡◌, ◌≤◌, ◌<◌, true, IfOk, is_none, is_some};
+ghost use Rattle.cred_model.specs.Course as spec;
+ghost use Rattle.cred_model.specs.Course.{Leads, after, event_at, left};
+
+use crate::stages::{event_in, is_late, makes_events, next_stage};
+use cred_event::{Answer, Content, Event, Stage};
+use cred_ids::NoMemory;
+use std::marker::Model;
+
+/// How often a line tries to change a credential, where another change comes before its commit.
+const TRIES: u8 = 8;
+
+/// How far a line has come: its number, from 1 to 20,000; the stage that comes next, or none where
+/// it has ended; and which try this is, from 1 to 8. The release with which a next try begins
+/// belongs to that one.
+#[derive(Clone, Copy, Debug)]
+pub struct Course {
+    line: u32,
+    stage: Option<Stage>,
+    tries: u8,
+}
+
+impl Model for Course {
+    ghost use Rattle.std.specs.Prelude.{◌≤◌};
+    ghost use Rattle.cred_model.specs.Course as spec;
+
+    ghost Value = { spec.Course };
+
+    ghost view = { λ c. record { line = c.line; stage = c.stage; tries = c.tries } };
+
+    ghost inverse = { λ c. record { line = c.line; stage = c.stage; tries = c.tries } };
+
+    ghost invariant = { λ c. (c.line ≤ 20000) × (c.tries ≤ 8) };
+}
+
+impl Course {
+    /// The line of this number, with this content, before its first event. A line that makes none
+    /// has ended.
+    pub fn start(line: u32, content: &Content) -> Course
+        requires { line ≤ 20000 }
+        ensures value { result ≡ spec.start line content.now }
+        ensures leads { Leads content.now result }
+    {
+        let stage = if makes_events(content) {
+            Some(Stage::First)
+        } else {
+            None
+        };
+        Course {
+            line,
+            stage,
+            tries: 1,
+        }
+    }
+
+    /// The number of its line.
+    pub fn line(&self) -> u32
+        ensures value { result ≡ self.now.line }
+        ensures few { result ≤ 20000 }
+    {
+        self.line
+    }
+
+    /// Has the line made its last event?
+    pub fn ended(&self) -> bool
+        ensures { result ≡ is_none self.now.stage }
+    {
+        self.stage.is_none()
+    }
+
+    /// The next event of its line; none just where the line has ended. The content is the line's.
+    ///
+    /// # Errors
+    ///
+    /// `NoMemory` where the list of a `setgroups` could not be copied.
+    pub fn event(&self, content: &Content) -> Result<Option<Event>, NoMemory>
+        requires { Leads content.now self.now }
+        ensures event { IfOk result (λ event. event ≡ event_at content.now self.now) }
+        ensures ended { IfOk result (λ event. is_some event ≡ is_some self.now.stage) }
+    {
+        self.event_at(content)
+    }
+
+    fn event_at(&self, content: &Content) -> Result<Option<Event>, NoMemory>
+        ensures { IfOk result (λ event. event ≡ event_at content.now self.now) }
+    {
+        match self.stage {
+            Some(stage) => event_in(self.line, content, stage),
+            None => Ok(None),
+        }
+    }
+
+    /// Leads the line on by the answer to its event. The content is the line's.
+    pub fn took(&mut self, content: &Content, answer: &Answer)
+        requires leads { Leads content.now self.old }
+        requires goes_on { is_some self.old.stage ≡ true }
+        ensures after { self.new ≡ after content.now self.old answer.now }
+        ensures leads { Leads content.now self.new }
+        ensures falls { left self.new < left self.old }
+    {
+        *self = self.after(content, answer);
+    }
+
+    /// How far the line has come after one more answer.
+    fn after(self, content: &Content, answer: &Answer) -> Course
+        ensures { result ≡ after content.now self answer.now }
+    {
+        if is_late(self.stage, answer) {
+            self.again()
+        } else {
+            let stage = match self.stage {
+                Some(stage) => next_stage(content, stage, answer),
+                None => None,
+            };
+            Course { stage, ..self }
+        }
+    }
+
+    /// The course after a commit that came too late.
+    fn again(self) -> Course
+        ensures { result ≡ spec.again self }
+    {
+        if self.tries < TRIES {
+            Course {
+                stage: Some(Stage::Retrying),
+                tries: self.tries + 1,
+                ..self
+            }
+        } else {
+            Course {
+                stage: Some(Stage::Releasing),
+                ..self
+            }
+        }
+    }
+}
