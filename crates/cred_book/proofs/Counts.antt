@@ -1,10 +1,10 @@
--- How references are counted while tasks and holds change.
+-- How references are counted while tasks, holds and prepared labels change.
 use Rattle.std.proofs.Common.{◌≡◌, ℕ, zero, suc, ◌+◌, Bool, true, false, cond, ◌==◌, nat_eq, List, [], ◌∷◌, ◌++◌, map, find, count_by, remove, slice_get, Option, None, Some, refl, sym, ap, ◌∙◌, subst, arith}
 use Rattle.std.proofs.lemmas.Bool.{eqb-true}
 use Rattle.std.proofs.lemmas.Bool.Decides.{nat_tests}
 use Rattle.std.proofs.lemmas.List.{map-append}
-use Rattle.cred_model.specs.State.{Task, Hold}
-use Rattle.cred_model.specs.Step.{renewed, with_current}
+use Rattle.cred_model.specs.State.{Task, Hold, Prepared, Changed}
+use Rattle.cred_model.specs.Step.{renewed, with_current, changed, with_change}
 use Rattle.cred_slots.proofs.Counting.{count-cons, count-append}
 use Rattle.cred_book.specs.Kept.{AreDistinct, referred}
 
@@ -14,20 +14,39 @@ currents tasks = map (λ t. t.current) tasks
 abbrev pub numbers : List Hold → List ℕ
 numbers holds = map (λ h. h.number) holds
 
+abbrev pub bases : List Prepared → List ℕ
+bases prepared = map (λ p. p.base) prepared
+
 abbrev pub one_if : Bool → ℕ
 one_if test = cond test 1 0
 
 test_sym : (a b : ℕ) → nat_eq a b ≡ nat_eq b a
 test_sym a b = grind (arith, nat_tests)
 
--- ---- one task more
+-- ---- one thing more, or one less, where each refers to one number
 
-pub currents-push : (test : ℕ → Bool) (tasks : List Task) (t : Task)
-    → count_by test (currents (tasks ++ t ∷ [])) ≡ count_by test (currents tasks) + one_if (test t.current)
-currents-push test tasks t =
-    ap (λ ns. count_by test ns) (map-append (λ (u : Task). u.current) tasks (t ∷ []))
-    ∙ count-append test (currents tasks) (t.current ∷ [])
-    ∙ ap (λ n. count_by test (currents tasks) + n) (count-cons test t.current [] ∙ omega arith)
+pub count-push : {X : Type 0} (f : X → ℕ) (test : ℕ → Bool) (xs : List X) (x : X)
+    → count_by test (map f (xs ++ x ∷ [])) ≡ count_by test (map f xs) + one_if (test (f x))
+count-push f test xs x =
+    ap (λ ns. count_by test ns) (map-append f xs (x ∷ []))
+    ∙ count-append test (map f xs) (f x ∷ [])
+    ∙ ap (λ n. count_by test (map f xs) + n) (count-cons test (f x) [] ∙ omega arith)
+
+pub count-remove : {X : Type 0} (f : X → ℕ) (test : ℕ → Bool) (xs : List X) (place : ℕ) (x : X) → slice_get xs place ≡ Some x
+    → count_by test (map f xs) ≡ count_by test (map f (remove xs place)) + one_if (test (f x))
+count-remove f test [] place x there = cc
+count-remove f test (y ∷ ys) zero x there =
+    let one : y ≡ x = cc in
+    let all = count-cons test (f y) (map f ys) in
+    let same : one_if (test (f y)) ≡ one_if (test (f x)) = ap (λ z. one_if (test (f z))) one in
+    omega (arith, all, same)
+count-remove f test (y ∷ ys) (suc place) x there =
+    let all = count-cons test (f y) (map f ys) in
+    let left = count-cons test (f y) (map f (remove ys place)) in
+    let rest = count-remove f test ys place x there in
+    omega (arith, all, left, rest)
+
+-- ---- one task more
 
 -- a task that isn't found is none of these
 first_differs : (test : Bool) (t : Task) (rest : Option Task) → cond test (Some t) rest ≡ None → (test ≡ false) × (rest ≡ None)
@@ -113,31 +132,25 @@ currents-with_current test (t ∷ ts) task number u distinct found =
     currents-at test (t.number == task) t u ts task number refl distinct found
     (λ there. currents-with_current test ts task number u distinct.1 there)
 
--- ---- holds
+-- ---- a change of a prepared label
 
-pub numbers-push : (test : ℕ → Bool) (holds : List Hold) (h : Hold)
-    → count_by test (numbers (holds ++ h ∷ [])) ≡ count_by test (numbers holds) + one_if (test h.number)
-numbers-push test holds h =
-    ap (λ ns. count_by test ns) (map-append (λ (g : Hold). g.number) holds (h ∷ []))
-    ∙ count-append test (numbers holds) (h.number ∷ [])
-    ∙ ap (λ n. count_by test (numbers holds) + n) (count-cons test h.number [] ∙ omega arith)
+base-changed : (label : ℕ) (to : Changed) (p : Prepared) → (changed label to p).base ≡ p.base
+base-changed label to p = by (p.label == label)
+  where
+    by : (test : Bool) → (cond test (record p { changed = Some to }) p).base ≡ p.base
+    by true = refl
+    by false = refl
 
-pub numbers-remove : (test : ℕ → Bool) (holds : List Hold) (place : ℕ) (h : Hold) → slice_get holds place ≡ Some h
-    → count_by test (numbers holds) ≡ count_by test (numbers (remove holds place)) + one_if (test h.number)
-numbers-remove test [] place h there = cc
-numbers-remove test (g ∷ gs) zero h there =
-    let one : g ≡ h = cc in
-    let all = count-cons test g.number (numbers gs) in
-    let same : one_if (test g.number) ≡ one_if (test h.number) = ap (λ (x : Hold). one_if (test x.number)) one in
-    omega (arith, all, same)
-numbers-remove test (g ∷ gs) (suc place) h there =
-    let all = count-cons test g.number (numbers gs) in
-    let left = count-cons test g.number (numbers (remove gs place)) in
-    let rest = numbers-remove test gs place h there in
-    omega (arith, all, left, rest)
+pub bases-with_change : (prepared : List Prepared) (label : ℕ) (to : Changed) → bases (with_change prepared label to) ≡ bases prepared
+bases-with_change [] label to = refl
+bases-with_change (p ∷ ps) label to =
+    ap (λ (n : ℕ). n ∷ bases (with_change ps label to)) (base-changed label to p)
+    ∙ ap (λ (ns : List ℕ). p.base ∷ ns) (bases-with_change ps label to)
 
 -- ---- what is referred to
 
-pub count-referred : (test : ℕ → Bool) (tasks : List Task) (holds : List Hold)
-    → count_by test (referred tasks holds) ≡ count_by test (currents tasks) + count_by test (numbers holds)
-count-referred test tasks holds = count-append test (currents tasks) (numbers holds)
+pub count-referred : (test : ℕ → Bool) (tasks : List Task) (holds : List Hold) (prepared : List Prepared)
+    → count_by test (referred tasks holds prepared) ≡ count_by test (currents tasks) + count_by test (numbers holds) + count_by test (bases prepared)
+count-referred test tasks holds prepared =
+    count-append test (currents tasks ++ numbers holds) (bases prepared)
+    ∙ ap (λ (n : ℕ). n + count_by test (bases prepared)) (count-append test (currents tasks) (numbers holds))

@@ -4,7 +4,7 @@ use Rattle.std.specs.List.{list_any}
 use Rattle.std.specs.Option.{option_map, option_map_or}
 use Rattle.std.proofs.lemmas.List.Folds.{list_any-append}
 use Rattle.cred_record.specs.Credential.{Credential}
-use Rattle.cred_model.specs.State.{Task, Hold, Sealing}
+use Rattle.cred_model.specs.State.{Task, Hold, Prepared, Sealing}
 use Rattle.cred_model.specs.Slots as model
 use Rattle.cred_slots.specs.Table.{Table, IsSameBag, is_kept, swept}
 use Rattle.cred_slots.specs.Table as table
@@ -31,61 +31,54 @@ stands-sealings cs ss slot n same =
     stands-or slot (slice_get (sealings cs ss) n)
     ∙ ap (λ o. option_map_or (λ place. place == slot) o false) (slots-sealings cs ss n same)
 
-none_kept : (test kept : Bool) → kept ≡ false → (test || kept) ≡ test
-none_kept true kept none = refl
-none_kept false kept none = none
-
-pub live-kept : (tasks : List Task) (holds : List Hold) (cs : List Credential) (t : Table) → IsCounted tasks holds cs t → (slot : ℕ)
-    → table.is_live t slot ≡ model.is_live (kept_state tasks holds cs t) slot
-live-kept tasks holds cs t is slot =
+pub live-kept : (tasks : List Task) (holds : List Hold) (ps : List Prepared) (cs : List Credential) (t : Table) → IsCounted tasks holds ps cs t → (slot : ℕ)
+    → table.is_live t slot ≡ model.is_live (kept_state tasks holds ps cs t) slot
+live-kept tasks holds ps cs t is slot =
     let stands = table.stands_in t.sealed slot in
-    none_kept (list_any stands (t.held ++ t.deferred)) (is_kept t slot) (is.keeps_none slot)
-    ∙ list_any-append stands t.held t.deferred
-    ∙ ap (λ b. b || list_any stands t.deferred) (any-bag stands t.held (referred tasks holds) is.counts)
-    ∙ sym (list_any-append stands (referred tasks holds) t.deferred)
-    ∙ any-same stands (model.stands_in (sealings cs t.sealed) slot) (referred tasks holds ++ t.deferred)
-    (λ n. sym (stands-sealings cs t.sealed slot n is.sealed))
+    let each = model.stands_in (sealings cs t.sealed) slot in
+    let same : list_any stands (t.held ++ t.deferred) ≡ list_any each (referred tasks holds ps ++ t.deferred)
+    = list_any-append stands t.held t.deferred
+    ∙ ap (λ b. b || list_any stands t.deferred) (any-bag stands t.held (referred tasks holds ps) is.counts)
+    ∙ sym (list_any-append stands (referred tasks holds ps) t.deferred)
+    ∙ any-same stands each (referred tasks holds ps ++ t.deferred)
+    (λ n. sym (stands-sealings cs t.sealed slot n is.sealed)) in
+    ap (λ b. b || is_kept t slot) same ∙ ap (λ b. list_any each (referred tasks holds ps ++ t.deferred) || b) (is.keeps slot)
 
 same_slots : table.slots ≡ model.slots
 unfolding table.slots model.slots
 same_slots = refl
 
-pub least_free-kept : (tasks : List Task) (holds : List Hold) (cs : List Credential) (t : Table) → IsCounted tasks holds cs t
-    → table.least_free t ≡ model.least_free (kept_state tasks holds cs t)
-least_free-kept tasks holds cs t is =
-    find-same (λ slot. not (table.is_live t slot)) (λ slot. not (model.is_live (kept_state tasks holds cs t) slot)) table.slots
-    (λ slot. ap not (live-kept tasks holds cs t is slot))
-    ∙ ap (λ ss. find (λ slot. not (model.is_live (kept_state tasks holds cs t) slot)) ss) same_slots
-
-pub swept-counted : (tasks : List Task) (holds : List Hold) (cs : List Credential) (t : Table) → IsCounted tasks holds cs t
-    → IsCounted tasks holds cs (swept t)
-swept-counted tasks holds cs t is =
-    record { distinct = is.distinct; counts = is.counts; sealed = is.sealed; keeps_none = is.keeps_none }
+pub least_free-kept : (tasks : List Task) (holds : List Hold) (ps : List Prepared) (cs : List Credential) (t : Table) → IsCounted tasks holds ps cs t
+    → table.least_free t ≡ model.least_free (kept_state tasks holds ps cs t)
+least_free-kept tasks holds ps cs t is =
+    find-same (λ slot. not (table.is_live t slot)) (λ slot. not (model.is_live (kept_state tasks holds ps cs t) slot)) table.slots
+    (λ slot. ap not (live-kept tasks holds ps cs t is slot))
+    ∙ ap (λ ss. find (λ slot. not (model.is_live (kept_state tasks holds ps cs t) slot)) ss) same_slots
 
 abbrev room_if : Bool → Table → Table
 room_if test t = record t { deferred = cond test t.deferred [] }
 
 -- the table with room, by the same choice
-room_by : (tasks : List Task) (holds : List Hold) (cs : List Credential) (t : Table) (test test' : Bool) → test ≡ test'
-    → kept_state tasks holds cs (room_if test t) ≡ cond test' (kept_state tasks holds cs t) (model.swept (kept_state tasks holds cs t))
-room_by tasks holds cs t true test' same =
-    subst (λ b. kept_state tasks holds cs t ≡ cond b (kept_state tasks holds cs t) (model.swept (kept_state tasks holds cs t))) same refl
-room_by tasks holds cs t false test' same =
-    subst (λ b. kept_state tasks holds cs (swept t) ≡ cond b (kept_state tasks holds cs t) (model.swept (kept_state tasks holds cs t))) same refl
+room_by : (tasks : List Task) (holds : List Hold) (ps : List Prepared) (cs : List Credential) (t : Table) (test test' : Bool) → test ≡ test'
+    → kept_state tasks holds ps cs (room_if test t) ≡ cond test' (kept_state tasks holds ps cs t) (model.swept (kept_state tasks holds ps cs t))
+room_by tasks holds ps cs t true test' same =
+    subst (λ b. kept_state tasks holds ps cs t ≡ cond b (kept_state tasks holds ps cs t) (model.swept (kept_state tasks holds ps cs t))) same refl
+room_by tasks holds ps cs t false test' same =
+    subst (λ b. kept_state tasks holds ps cs (swept t) ≡ cond b (kept_state tasks holds ps cs t) (model.swept (kept_state tasks holds ps cs t))) same refl
 
-pub room-kept : (tasks : List Task) (holds : List Hold) (cs : List Credential) (t : Table) → IsCounted tasks holds cs t
-    → kept_state tasks holds cs (table.room t) ≡ model.room (kept_state tasks holds cs t)
-room-kept tasks holds cs t is =
-    room_by tasks holds cs t (is_some (table.least_free t)) (is_some (model.least_free (kept_state tasks holds cs t)))
-    (ap (λ o. is_some o) (least_free-kept tasks holds cs t is))
+pub room-kept : (tasks : List Task) (holds : List Hold) (ps : List Prepared) (cs : List Credential) (t : Table) → IsCounted tasks holds ps cs t
+    → kept_state tasks holds ps cs (table.room t) ≡ model.room (kept_state tasks holds ps cs t)
+room-kept tasks holds ps cs t is =
+    room_by tasks holds ps cs t (is_some (table.least_free t)) (is_some (model.least_free (kept_state tasks holds ps cs t)))
+    (ap (λ o. is_some o) (least_free-kept tasks holds ps cs t is))
 
-pub room-counted : (tasks : List Task) (holds : List Hold) (cs : List Credential) (t : Table) → IsCounted tasks holds cs t
-    → IsCounted tasks holds cs (table.room t)
-room-counted tasks holds cs t is =
-    record { distinct = is.distinct; counts = is.counts; sealed = is.sealed; keeps_none = is.keeps_none }
+pub room-counted : (tasks : List Task) (holds : List Hold) (ps : List Prepared) (cs : List Credential) (t : Table) → IsCounted tasks holds ps cs t
+    → IsCounted tasks holds ps cs (table.room t)
+room-counted tasks holds ps cs t is =
+    record { distinct = is.distinct; counts = is.counts; sealed = is.sealed; keeps = is.keeps; apart = is.apart }
 
-pub free-kept : (tasks : List Task) (holds : List Hold) (cs : List Credential) (t : Table) → IsCounted tasks holds cs t
-    → table.free t ≡ model.free (kept_state tasks holds cs t)
-free-kept tasks holds cs t is =
-    least_free-kept tasks holds cs (table.room t) (room-counted tasks holds cs t is)
-    ∙ ap model.least_free (room-kept tasks holds cs t is)
+pub free-kept : (tasks : List Task) (holds : List Hold) (ps : List Prepared) (cs : List Credential) (t : Table) → IsCounted tasks holds ps cs t
+    → table.free t ≡ model.free (kept_state tasks holds ps cs t)
+free-kept tasks holds ps cs t is =
+    least_free-kept tasks holds ps cs (table.room t) (room-counted tasks holds ps cs t is)
+    ∙ ap model.least_free (room-kept tasks holds ps cs t is)

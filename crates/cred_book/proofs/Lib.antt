@@ -1,9 +1,12 @@
 pub mod Courses
 pub mod Cursors
 pub mod LabelMap
+pub mod Labels
 pub mod Bags
+pub mod Keeps
 pub mod Free
 pub mod Counts
 pub mod Changes
 pub mod Results
+pub mod Prepares
 pub mod ListAnswers

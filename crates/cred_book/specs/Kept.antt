@@ -1,8 +1,9 @@
--- How a book keeps the kernel's state: the tasks and the holds as they are, the credentials by their
--- numbers, and a table of slots that counts the references.
-use Rattle.std.specs.Prelude.{◌≡◌, ℕ, ◌==◌, false, List, [], ◌∷◌, ◌++◌, length, map, find, None, Some}
+-- How a book keeps the kernel's state: the tasks, the holds and the prepared labels as they are, the
+-- credentials by their numbers, and a table of slots that counts the references.
+use Rattle.std.specs.Prelude.{◌≡◌, ℕ, ◌==◌, Bool, false, List, [], ◌∷◌, ◌++◌, length, map, find, None, Some}
+use Rattle.std.specs.List.{list_any}
 use Rattle.cred_record.specs.Credential.{Credential}
-use Rattle.cred_model.specs.State.{State, Task, Hold, Sealing}
+use Rattle.cred_model.specs.State.{State, Task, Hold, Prepared, Sealing}
 use Rattle.cred_slots.specs.Table.{Table, IsSameBag, is_kept, room, free}
 
 -- credentials, and the slot of each
@@ -12,31 +13,43 @@ sealings (c ∷ cs) [] = []
 sealings (c ∷ cs) (slot ∷ slots) = record { cred = c; slot = slot } ∷ sealings cs slots
 
 -- the state that is kept so
-abbrev pub kept_state : List Task → List Hold → List Credential → Table → State
-kept_state tasks holds creds table =
-    record { tasks = tasks; holds = holds; deferred = table.deferred; creds = sealings creds table.sealed }
+abbrev pub kept_state : List Task → List Hold → List Prepared → List Credential → Table → State
+kept_state tasks holds prepared creds table =
+    record { tasks = tasks; holds = holds; prepared = prepared; deferred = table.deferred; creds = sealings creds table.sealed }
 
 -- no two tasks have one number
 abbrev pub AreDistinct : List Task → Type 0
 AreDistinct [] = Unit {0}
 AreDistinct (t ∷ ts) = (find (λ other. other.number == t.number) ts ≡ None) × AreDistinct ts
 
--- the numbers that tasks and holds refer to
-abbrev pub referred : List Task → List Hold → List ℕ
-referred tasks holds = map (λ t. t.current) tasks ++ map (λ h. h.number) holds
+-- a prepared label keeps the slot
+abbrev pub is_kept_by : List Prepared → ℕ → Bool
+is_kept_by prepared slot = list_any (λ p. p.slot == slot) prepared
 
--- The table counts just the references of the tasks and the holds, has the slot of each credential, and keeps no slot.
-pub record IsCounted (tasks : List Task) (holds : List Hold) (creds : List Credential) (table : Table) : Type 0 where
+-- no two prepared labels keep one slot
+abbrev pub AreApart : List Prepared → Type 0
+AreApart [] = Unit {0}
+AreApart (p ∷ ps) = (is_kept_by ps p.slot ≡ false) × AreApart ps
+
+-- the numbers that tasks, holds and prepared labels refer to
+abbrev pub referred : List Task → List Hold → List Prepared → List ℕ
+referred tasks holds prepared = map (λ t. t.current) tasks ++ map (λ h. h.number) holds ++ map (λ p. p.base) prepared
+
+-- The table counts just the references of the tasks, the holds and the prepared labels, has the slot of each credential,
+-- and keeps just the slots that prepared labels keep, each for one of them.
+pub record IsCounted (tasks : List Task) (holds : List Hold) (prepared : List Prepared) (creds : List Credential) (table : Table) : Type 0 where
   pub distinct : AreDistinct tasks
-  pub counts : IsSameBag table.held (referred tasks holds)
+  pub counts : IsSameBag table.held (referred tasks holds prepared)
   pub sealed : length creds ≡ length table.sealed
-  pub keeps_none : (slot : ℕ) → is_kept table slot ≡ false
+  pub keeps : (slot : ℕ) → is_kept table slot ≡ is_kept_by prepared slot
+  pub apart : AreApart prepared
 
--- The next number was sealed in the free slot, with one reference, after a sweep where one was needed.
+-- The next number was sealed in the free slot, with one reference, after a sweep where one was needed, and the same slots
+-- are kept as before.
 pub record Seals (before after : Table) (number slot : ℕ) : Type 0 where
   pub takes : free before ≡ Some slot
   pub counted : number ≡ length before.sealed
   pub held : IsSameBag after.held (number ∷ before.held)
   pub sealed : after.sealed ≡ before.sealed ++ slot ∷ []
   pub deferred : after.deferred ≡ (room before).deferred
-  pub keeps_none : (slot : ℕ) → is_kept after slot ≡ false
+  pub kept : after.kept ≡ before.kept

@@ -2,3 +2,4 @@ pub mod Book
 pub mod Cursor
 pub mod Holds
 pub mod Kept
+pub mod Prepared

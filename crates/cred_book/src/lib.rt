@@ -2,8 +2,11 @@
 #![tactic(auto)]
 
 mod book;
+mod change;
 mod cursor;
 mod holds;
+mod prepared;
+mod reply;
 mod seal;
 mod sequence;
 mod state;

@@ -1,6 +1,6 @@
 //! Taking a slot for a new credential.
-ghost use Rattle.std.specs.Prelude.{◌≡◌, ◌<◌, ℕ, false, MatchOption, None};
-ghost use Rattle.cred_slots.specs.Table.{is_kept, room, free};
+ghost use Rattle.std.specs.Prelude.{◌≡◌, ◌<◌, MatchOption, None};
+ghost use Rattle.cred_slots.specs.Table.{room, free};
 ghost use Rattle.cred_book.specs.Kept.{Seals};
 
 use cred_slots::Slots;
@@ -8,8 +8,7 @@ use cred_slots::Slots;
 /// Seals the next number in the free slot, after a sweep where one is needed. Where all slots are
 /// live even then, the sweep stands, and there is none.
 pub fn seal_next(slots: &mut Slots) -> Option<(u64, u32)>
-    requires room { 0 < slots.old.spare }
-    requires keeps_none { (slot : ℕ) → is_kept slots.old slot ≡ false }
+    requires { 0 < slots.old.spare }
     ensures { MatchOption result
         ((free slots.old ≡ None) × (slots.new ≡ room slots.old))
         (λ sealing. Seals slots.old slots.new sealing.0 sealing.1) }

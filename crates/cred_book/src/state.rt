@@ -1,18 +1,21 @@
-//! The state of the kernel: the tasks, the holds, and the credentials with a table of slots that
-//! counts the references to them.
-ghost use Rattle.std.specs.Prelude.{◌≡◌, IfOk, OnErr};
+//! The state of the kernel: the tasks, the holds, the prepared labels, and the credentials with a
+//! table of slots that counts the references to them.
+ghost use Rattle.std.specs.Prelude.{◌≡◌, ◌||◌, is_some, IfOk, OnErr};
 ghost use Rattle.std.specs.Option.{option_map};
-ghost use Rattle.cred_model.specs.State.{opening, current_of, held_by};
-ghost use Rattle.cred_model.specs.Answers.{reply};
+ghost use Rattle.cred_model.specs.State.{opening, hold_of, prepared_of, current_of, held_by};
 ghost use Rattle.cred_model.specs.Slots as model;
 ghost use Rattle.cred_model.specs.Step.{done, settled};
 
+mod prepare;
+
 use crate::holds::Holds;
+use crate::prepared::Preparing;
+use crate::reply::reply_to;
 use crate::seal::seal_next;
 use crate::table::{Numbered, Task, sealed_at, set_current, task_among};
-use cred_event::{Answer, Counted, Event, Named, Query, Side, Told};
+use cred_event::{Answer, Counted, Event, Named, Query, Side};
 use cred_ids::{Id, NoMemory};
-use cred_record::{Cred, IdCall, IdList, Refusal, first};
+use cred_record::{Cred, IdCall, Refusal, first};
 use cred_setid::apply;
 use cred_slots::Slots;
 use std::alloc::Global;
@@ -29,6 +32,7 @@ const HOLDS: usize = 512;
 pub struct State {
     tasks: Vec<Task>,
     holds: Holds,
+    prepared: Preparing,
     creds: Vec<Cred>,
     slots: Slots,
     alloc: Global,
@@ -40,9 +44,11 @@ impl Model for State {
 
     ghost Value = { model.State };
 
-    ghost view = { λ s. kept_state s.tasks.items s.holds s.creds.items s.slots };
+    ghost view = { λ s.
+        kept_state s.tasks.items s.holds s.prepared s.creds.items s.slots };
 
-    ghost invariant = { λ s. IsCounted s.tasks.items s.holds s.creds.items s.slots };
+    ghost invariant = { λ s.
+        IsCounted s.tasks.items s.holds s.prepared s.creds.items s.slots };
 }
 
 impl State {
@@ -53,6 +59,7 @@ impl State {
         Ok(State {
             tasks: Vec::new(alloc),
             holds: Holds::new(alloc),
+            prepared: Preparing::new(alloc),
             creds: Vec::new(alloc),
             slots: Slots::new(alloc)?,
             alloc,
@@ -76,6 +83,10 @@ impl State {
             Event::Take { label, task, side } => self.take(*label, *task, *side),
             Event::Release { label } => Ok(self.release(*label)),
             Event::Ask { label, query } => self.ask(*label, *query),
+            Event::Prepare { label, task, hold } => self.prepare(*label, *task, *hold),
+            Event::Alter { label, change } => self.alter(*label, *change),
+            Event::Commit { label } => self.commit(*label),
+            Event::Abort { label } => Ok(self.abort(*label)),
             Event::Begin { task, call } => self.begin(*task, call),
             Event::Sweep => {
                 self.slots.sweep();
@@ -95,8 +106,8 @@ impl State {
 
     /// The current credential of a task.
     fn current(&self, task: u32) -> Option<Numbered<'_>>
-        ensures { option_map (λ n. record { number = n.number; cred = n.cred.now; slot = n.slot }) result
-            ≡ current_of self.now task }
+        ensures { option_map (λ n. record { number = n.number; cred = n.cred.now; slot = n.slot })
+            result ≡ current_of self.now task }
     {
         let task = task_among(&self.tasks, task)?;
         sealed_at(&self.creds, &self.slots, task.current)
@@ -104,11 +115,19 @@ impl State {
 
     /// The credential that a label holds.
     fn held(&self, label: u32) -> Option<Numbered<'_>>
-        ensures { option_map (λ n. record { number = n.number; cred = n.cred.now; slot = n.slot }) result
-            ≡ held_by self.now label }
+        ensures { option_map (λ n. record { number = n.number; cred = n.cred.now; slot = n.slot })
+            result ≡ held_by self.now label }
     {
         let number = self.holds.get(label)?;
         sealed_at(&self.creds, &self.slots, number)
+    }
+
+    /// Whether a hold or a prepared label has this label.
+    fn has_label(&self, label: u32) -> bool
+        ensures { result
+            ≡ (is_some (hold_of self.now label) || is_some (prepared_of self.now label)) }
+    {
+        self.holds.get(label).is_some() || self.prepared.get(label).is_some()
     }
 
     fn init(
@@ -160,7 +179,7 @@ impl State {
         let Some(Numbered { number, slot, .. }) = self.current(task) else {
             return Ok(Answer::NoTask(task));
         };
-        if self.holds.get(label).is_some() {
+        if self.has_label(label) {
             return Ok(Answer::Exists {
                 what: Named::Label,
                 number: label,
@@ -190,7 +209,7 @@ impl State {
             settled self.now (done self.now (Event.Ask label query)) ≡ (answer, self.now)) }
     {
         match self.held(label) {
-            Some(held) => answer_to(self.alloc, held.cred, query),
+            Some(held) => reply_to(self.alloc, held.cred, query),
             None => Ok(Answer::NoHold(label)),
         }
     }
@@ -230,26 +249,4 @@ impl State {
             left: 0,
         })
     }
-}
-
-/// What a question about a credential is told.
-fn answer_to(alloc: Global, cred: &Cred, query: Query) -> Result<Answer, NoMemory>
-    ensures { IfOk result (λ answer. answer ≡ reply cred.now query) }
-{
-    let told = match query {
-        Query::Ids => Told::Ids {
-            uid: cred.uid,
-            gid: cred.gid,
-        },
-        Query::Caps => Told::Caps {
-            perm: cred.perm,
-            inh: cred.inh,
-            eff: cred.eff,
-            bound: cred.bound,
-            amb: cred.amb,
-        },
-        Query::Groups => Told::Groups(IdList::of(alloc, cred.groups.items())?),
-        _ => return Ok(Answer::Einval),
-    };
-    Ok(Answer::Told(told))
 }

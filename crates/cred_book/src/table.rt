@@ -45,8 +45,8 @@ pub struct Numbered<'a> {
 /// The sealed credential of this number.
 pub fn sealed_at<'a>(creds: &'a [Cred], slots: &Slots, number: u64) -> Option<Numbered<'a>>
     requires { length creds.now ≡ length slots.now.sealed }
-    ensures { option_map (λ n. record { number = n.number; cred = n.cred.now; slot = n.slot }) result
-        ≡ model.numbered (sealings creds.now slots.now.sealed) number }
+    ensures { option_map (λ n. record { number = n.number; cred = n.cred.now; slot = n.slot })
+        result ≡ model.numbered (sealings creds.now slots.now.sealed) number }
 {
     match creds.get(number as usize) {
         Some(cred) => Some(Numbered {

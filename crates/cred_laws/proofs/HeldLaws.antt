@@ -1,26 +1,23 @@
 -- What was sealed, and what is held, stays as it is.
-use Rattle.std.proofs.Common.{◌≡◌, ◌≢◌, ◌==◌, ℕ, List, [], ◌∷◌, ◌++◌, length, take, fold, slice_get, Option, Some, None, Bool, refl, sym, ap, ◌∙◌, append_assoc, arith}
-use Rattle.std.specs.List.{All, remove, find, position}
+use Rattle.std.proofs.Common.{◌≡◌, ◌≢◌, ◌==◌, ℕ, List, [], ◌∷◌, ◌++◌, length, take, fold, slice_get, Option, Some, None, refl, sym, ap, ◌∙◌, append_assoc}
+use Rattle.std.specs.List.{All, find}
 use Rattle.std.specs.Option.{option_map, option_and_then, option_or}
 use Rattle.std.proofs.lemmas.List.{append-nil, take_at}
 use Rattle.std.proofs.lemmas.List.Elements.{All-head, All-tail}
 use Rattle.std.proofs.lemmas.List.Folds.{find-append}
-use Rattle.std.proofs.lemmas.List.Quantifiers.{position-Some}
 use Rattle.std.proofs.lemmas.Option.{slice_get_within}
-use Rattle.std.proofs.lemmas.Bool.Decides.{nat_tests}
-use Rattle.cred_record.specs.Credential.{first_credential}
 use Rattle.cred_event.specs.declared.event.Event.{Event}
 use Rattle.cred_event.specs.declared.event.Event.TheVariants.{Release}
 use Rattle.cred_event.specs.declared.entry.Entry.{Entry}
 use Rattle.cred_model.specs.Script.{Script}
 use Rattle.cred_model.specs.State.{State, Sealing, Hold, Numbered, numbered, hold_of, held_by, opening}
 use Rattle.cred_model.specs.Slots.{room}
-use Rattle.cred_model.specs.Step.{born, replaced, step}
+use Rattle.cred_model.specs.Step.{step}
 use Rattle.cred_model.specs.Journal.{replay}
 use Rattle.cred_laws.specs.Held.{SealedStays, HoldStays, HeldStays}
-use Rattle.cred_laws.proofs.Lists.{find-remove}
+use Rattle.cred_laws.proofs.Lists.{find-remove_other}
 use Rattle.cred_laws.proofs.Changes.{Changes, after_step, room_creds, room_hold}
-use Rattle.cred_laws.proofs.References.{slice_get-left}
+use Rattle.cred_laws.proofs.References.{numbered_before}
 
 -- ---- the states after more entries
 
@@ -38,32 +35,37 @@ replay-append script journal more = goes_on-append script opening journal more
 
 -- ---- sealed credentials
 
--- the one state's credentials, and perhaps others after them
-abbrev pub Extends : State → State → Type 0
-Extends s after = (more : List Sealing) × (after.creds ≡ s.creds ++ more)
+-- these credentials are the state's, and perhaps others after them
+abbrev pub Extends : State → List Sealing → Type 0
+Extends s creds = (more : List Sealing) × (creds ≡ s.creds ++ more)
 
-same_creds : (s after : State) → after.creds ≡ s.creds → Extends s after
-same_creds s after kept = ([], kept ∙ sym (append-nil s.creds))
+same_creds : (s : State) (creds : List Sealing) → creds ≡ s.creds → Extends s creds
+same_creds s creds kept = ([], kept ∙ sym (append-nil s.creds))
 
-one_more : (s after : State) (new : Sealing) → after.creds ≡ (room s).creds ++ new ∷ [] → Extends s after
-one_more s after new grown = (new ∷ [], grown ∙ ap (λ creds. creds ++ new ∷ []) (room_creds s))
+one_more : (s : State) (creds : List Sealing) (new : Sealing) → creds ≡ s.creds → Extends s (creds ++ new ∷ [])
+one_more s creds new kept = (new ∷ [], ap (λ creds. creds ++ new ∷ []) kept)
 
-changes_extend : (s : State) → Changes s (λ event after. Extends s after)
+changes_extend : (s : State) → Changes s (λ event after. Extends s after.creds)
 changes_extend s = record {
-  same = λ event. same_creds s s refl;
-  full = λ event. same_creds s (room s) (room_creds s);
-  init = λ task process user group ns slot fresh free. one_more s (born (room s) (record { number = task; process = process; current = length (room s).creds }) (first_credential user group ns) slot) (record { cred = first_credential user group ns; slot = slot }) refl;
-  take = λ label task side taken is fresh. ([], sym (append-nil s.creds));
-  release = λ label place hold at is. ([], sym (append-nil s.creds));
-  begin = λ task slot call old c is ruled free. one_more s (replaced (room s) task old.number c slot) (record { cred = c; slot = slot }) refl;
-  sweep = ([], sym (append-nil s.creds));
+  same = λ event. same_creds s s.creds refl;
+  full = λ event. same_creds s (room s).creds (room_creds s);
+  init = λ task process user group ns slot fresh free. one_more s (room s).creds _ (room_creds s);
+  take = λ label task side taken is fresh unprepared. same_creds s s.creds refl;
+  release = λ label place hold at is. same_creds s s.creds refl;
+  prepare = λ label task hold slot base held not_held new free. same_creds s (room s).creds (room_creds s);
+  alter = λ label change p base made is at so. same_creds s s.creds refl;
+  commit = λ label place p last now at is changed current same. one_more s s.creds _ refl;
+  stale = λ label place p at is. same_creds s s.creds refl;
+  abort = λ label place p at is. same_creds s s.creds refl;
+  begin = λ task slot call old c is ruled free. one_more s (room s).creds _ (room_creds s);
+  sweep = same_creds s s.creds refl;
 }
 
-pub step_extends : (script : Script) (s : State) (line : ℕ) (event : Event) → Extends s (step script s line event).1
-step_extends script s line event = after_step (λ event after. Extends s after) s (changes_extend s) script line event
+step_extends : (script : Script) (s : State) (line : ℕ) (event : Event) → Extends s (step script s line event).1.creds
+step_extends script s line event = after_step (λ event after. Extends s after.creds) s (changes_extend s) script line event
 
-pub on_extends : (script : Script) (s : State) (entries : List Entry) → Extends s (goes_on script s entries)
-on_extends script s [] = same_creds s s refl
+pub on_extends : (script : Script) (s : State) (entries : List Entry) → Extends s (goes_on script s entries).creds
+on_extends script s [] = same_creds s s.creds refl
 on_extends script s (entry ∷ entries) =
     let first = step_extends script s entry.line entry.event in
     let rest = on_extends script (step script s entry.line entry.event).1 entries in (
@@ -83,31 +85,26 @@ sealed_stays script journal more =
 abbrev Stays : State → ℕ → Hold → Event → State → Type 0
 Stays s label hold event after = hold_of s label ≡ Some hold → event ≢ Release label → hold_of after label ≡ Some hold
 
-at_label : ℕ → Hold → Bool
-at_label label h = h.label == label
-
+-- where the holds are as they were
 same_hold : (s after : State) (label : ℕ) (hold : Hold) (event : Event) → hold_of after label ≡ hold_of s label
     → Stays s label hold event after
 same_hold s after label hold event kept is other = kept ∙ is
-
-others : (holds : List Hold) (label other place : ℕ) (hold : Hold)
-    → position (λ h. h.label == other) holds ≡ Some place → slice_get holds place ≡ Some hold → other ≢ label
-    → find (λ h. h.label == label) (remove holds place) ≡ find (λ h. h.label == label) holds
-others holds label other place hold at is differ =
-    let there = position-Some (λ (h : Hold). h.label == other) holds place hold at in
-    find-remove (λ (h : Hold). h.label == label) holds place hold there.0
-    (let test = there.1 in grind (arith, nat_tests))
 
 changes_hold : (s : State) (label : ℕ) (hold : Hold) → Changes s (Stays s label hold)
 changes_hold s label hold = record {
   same = λ event. same_hold s s label hold event refl;
   full = λ event. same_hold s (room s) label hold event (room_hold s label);
   init = λ task process user group ns slot fresh free is other. room_hold s label ∙ is;
-  take = λ new task side taken current fresh is other.
+  take = λ new task side taken current fresh unprepared is other.
       find-append (λ (h : Hold). h.label == label) s.holds (record { label = new; number = taken.number } ∷ [])
       ∙ ap (λ o. option_or o (find (λ (h : Hold). h.label == label) (record { label = new; number = taken.number } ∷ []))) is;
   release = λ gone place old at found is other.
-      others s.holds label gone place old at found (λ same. other (ap Release same)) ∙ is;
+      find-remove_other (λ (h : Hold). h.label) s.holds label gone place old at found (λ same. other (ap Release same)) ∙ is;
+  prepare = λ new task from slot base held not_held fresh free is other. room_hold s label ∙ is;
+  alter = λ altered change p base made found at so is other. is;
+  commit = λ done place p last now at found changed current same is other. is;
+  stale = λ done place p at found is other. is;
+  abort = λ done place p at found is other. is;
   begin = λ task slot call old c current ruled free is other. room_hold s label ∙ is;
   sweep = λ is other. is;
 }
@@ -136,9 +133,7 @@ pub numbered_stays : (creds more : List Sealing) (n : ℕ) (c : Numbered) → nu
     → numbered (creds ++ more) n ≡ Some c
 numbered_stays creds more n c is =
     let at = sealed_within (slice_get creds n) n c is in
-    ap (option_map (λ (sealing : Sealing). record { number = n; cred = sealing.cred; slot = sealing.slot }))
-    (slice_get-left creds more n (slice_get_within creds n at.0 at.1))
-    ∙ is
+    numbered_before creds more n (slice_get_within creds n at.0 at.1) ∙ is
 
 held_from : (script : Script) (s : State) (entries : List Entry) (label : ℕ) (held : Numbered) (found : Option Hold)
     → hold_of s label ≡ found → option_and_then (λ (h : Hold). numbered s.creds h.number) found ≡ Some held

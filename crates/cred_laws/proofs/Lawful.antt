@@ -13,11 +13,13 @@ use Rattle.cred_model.specs.Step.{step}
 use Rattle.cred_model.specs.Journal.{replay}
 use Rattle.cred_model.proofs.Journals.{replay-push}
 use Rattle.cred_laws.specs.Slots.{IsUnused}
+use Rattle.cred_laws.specs.Held.{prepared_as, IsNotEndOf}
 use Rattle.cred_laws.specs.Permitted.{IsBornWith}
-use Rattle.cred_laws.specs.Journals.{state_at, IsAlwaysSound, WritesUnusedSlots, KeepsSealed, KeepsHeld, AddsNoPermitted, BearsWithFirst, JournalsAreLawful}
+use Rattle.cred_laws.specs.Journals.{state_at, IsAlwaysSound, WritesUnusedSlots, KeepsSealed, KeepsHeld, KeepsPrepared, AddsNoPermitted, BearsWithFirst, JournalsAreLawful}
 use Rattle.cred_laws.proofs.Sound.{sound_after}
-use Rattle.cred_laws.proofs.Unused.{no_held_slot_is_rewritten, none_new}
+use Rattle.cred_laws.proofs.Unused.{no_held_slot_is_rewritten}
 use Rattle.cred_laws.proofs.HeldLaws.{held_stays, numbered_stays, on_extends, replay-append}
+use Rattle.cred_laws.proofs.PreparedLaws.{prepared_goes_on}
 use Rattle.cred_laws.proofs.PermittedLaws.{permitted_never_grows, new_task_has_first, unchanged}
 
 -- ---- the states of a journal
@@ -68,13 +70,12 @@ always_sound script journal k = sound_after script (take k journal)
 
 unused_by : (script : Script) (journal : List Entry) (k number : ℕ) (new : Numbered) (o : Option Entry)
     → slice_get journal k ≡ o → length (state_at script journal k).creds ≤ number
-    → numbered (state_at script journal (k + 1)).creds number ≡ Some new → IsUnused (state_at script journal k) new.slot
+    → numbered (state_at script journal (k + 1)).creds number ≡ Some new
+    → IfSome o (λ entry. IsUnused (state_at script journal k) entry.event new.slot)
 unused_by script journal k number new (Some entry) is past now =
-    no_held_slot_is_rewritten script (state_at script journal k) entry.line entry.event number new past
+    no_held_slot_is_rewritten script (state_at script journal k) entry.line entry.event number new (always_sound script journal k) past
     (ap (λ (s : State). numbered s.creds number) (sym (step_at script journal k entry is)) ∙ now)
-unused_by script journal k number new None is past now =
-    none_new (state_at script journal k) (state_at script journal (k + 1))
-    (ap (λ (s : State). s.creds) (stop_at script journal k is)) number new past now
+unused_by script journal k number new None is past now = tt
 
 pub writes_unused_slots : (script : Script) (journal : List Entry) → WritesUnusedSlots script journal
 writes_unused_slots script journal k number new = unused_by script journal k number new (slice_get journal k) refl
@@ -94,11 +95,19 @@ keeps_held script journal k l label held within is none =
     ∙ held_stays script (take k journal) (between journal k l) label held is
     (each_between (λ entry. entry.event ≢ Release label) journal k l none)
 
+pub keeps_prepared : (script : Script) (journal : List Entry) → KeepsPrepared script journal
+keeps_prepared script journal k l label p within is none =
+    let more = between journal k l in
+    ap (λ (j : List Entry). prepared_as (replay script j) label) (take_between journal k l within)
+    ∙ ap (λ (s : State). prepared_as s label) (replay-append script (take k journal) more)
+    ∙ prepared_goes_on script (state_at script journal k) more label p is
+    (each_between (λ entry. IsNotEndOf label entry.event) journal k l none)
+
 permitted_by : (script : Script) (journal : List Entry) (k task : ℕ) (before after : Numbered) (o : Option Entry)
     → slice_get journal k ≡ o → current_of (state_at script journal k) task ≡ Some before
     → current_of (state_at script journal (k + 1)) task ≡ Some after → IsWithin after.cred.perm before.cred.perm
 permitted_by script journal k task before after (Some entry) is was now =
-    permitted_never_grows script (state_at script journal k) entry.line entry.event task before after was
+    permitted_never_grows script (state_at script journal k) entry.line entry.event task before after (always_sound script journal k) was
     (ap (λ (s : State). current_of s task) (sym (step_at script journal k entry is)) ∙ now)
 permitted_by script journal k task before after None is was now =
     unchanged (state_at script journal k) (state_at script journal (k + 1)) task before after
@@ -127,6 +136,7 @@ lawful script journal = record {
   unused = writes_unused_slots script journal;
   sealed = keeps_sealed script journal;
   held = keeps_held script journal;
+  prepared = keeps_prepared script journal;
   permitted = adds_no_permitted script journal;
   born = bears_with_first script journal;
 }

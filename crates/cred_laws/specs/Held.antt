@@ -1,10 +1,12 @@
--- What was sealed, and what is held, stays as it is.
-use Rattle.std.specs.Prelude.{◌≡◌, ◌≢◌, ℕ, List, ◌++◌, length, take, Some, All}
+-- What was sealed, what is held and what is prepared stays as it is.
+use Rattle.std.specs.Prelude.{◌≡◌, ◌≢◌, ℕ, List, ◌++◌, length, take, Some, None, All}
+use Rattle.std.specs.declared.option.Option.{Option}
+use Rattle.std.specs.Option.{option_map}
 use Rattle.cred_event.specs.declared.event.Event.{Event}
-use Rattle.cred_event.specs.declared.event.Event.TheVariants.{Release}
+use Rattle.cred_event.specs.declared.event.Event.TheVariants.{Release, Commit, Abort}
 use Rattle.cred_event.specs.declared.entry.Entry.{Entry}
 use Rattle.cred_model.specs.Script.{Script}
-use Rattle.cred_model.specs.State.{State, Hold, Numbered, hold_of, held_by}
+use Rattle.cred_model.specs.State.{State, Hold, Prepared, Numbered, hold_of, held_by, prepared_of}
 use Rattle.cred_model.specs.Step.{step}
 use Rattle.cred_model.specs.Journal.{replay}
 
@@ -31,3 +33,20 @@ HeldStays =
     → held_by (replay script journal) label ≡ Some held
     → All (λ entry. entry.event ≢ Release label) more
     → held_by (replay script (journal ++ more)) label ≡ Some held
+
+-- What a label prepares, as it was before the first change of its credential: the task, the base
+-- and the slot.
+abbrev pub prepared_as : State → ℕ → Option Prepared
+prepared_as s label = option_map (λ (p : Prepared). record p { changed = None }) (prepared_of s label)
+
+-- the event neither commits the label nor aborts it
+abbrev pub IsNotEndOf : ℕ → Event → Type 0
+IsNotEndOf label event = (event ≢ Commit label) × (event ≢ Abort label)
+
+-- A prepared label stands, with its task, its base and its slot, after each event but its own commit
+-- or abort.
+abbrev pub PreparedStays : Type 0
+PreparedStays =
+    (script : Script) (s : State) (line : ℕ) (event : Event) (label : ℕ) (p : Prepared)
+    → prepared_as s label ≡ Some p → IsNotEndOf label event
+    → prepared_as (step script s line event).1 label ≡ Some p

@@ -4,9 +4,10 @@ use Rattle.cred_caps.specs.Caps.{IsWithin}
 use Rattle.cred_event.specs.declared.event.Event.TheVariants.{Release}
 use Rattle.cred_event.specs.declared.entry.Entry.{Entry}
 use Rattle.cred_model.specs.Script.{Script}
-use Rattle.cred_model.specs.State.{State, Numbered, numbered, task_of, current_of, held_by}
+use Rattle.cred_model.specs.State.{State, Prepared, Numbered, numbered, task_of, current_of, held_by}
 use Rattle.cred_model.specs.Journal.{replay}
 use Rattle.cred_laws.specs.Slots.{IsSound, IsUnused}
+use Rattle.cred_laws.specs.Held.{prepared_as, IsNotEndOf}
 use Rattle.cred_laws.specs.Permitted.{IsBornWith}
 
 -- the state after the first k entries
@@ -17,12 +18,14 @@ state_at script journal k = replay script (take k journal)
 abbrev pub IsAlwaysSound : Script → List Entry → Type 0
 IsAlwaysSound script journal = (k : ℕ) → IsSound (state_at script journal k)
 
--- What an entry seals is put where no hold and no task's current credential stood.
+-- What an entry seals is put where no hold, no task's current credential and no base of a prepared
+-- label stood, and where no prepared label kept the slot but the one that the entry commits.
 abbrev pub WritesUnusedSlots : Script → List Entry → Type 0
 WritesUnusedSlots script journal =
     (k number : ℕ) (new : Numbered) → length (state_at script journal k).creds ≤ number
     → numbered (state_at script journal (k + 1)).creds number ≡ Some new
-    → IsUnused (state_at script journal k) new.slot
+    → IfSome (slice_get journal k) (λ entry.
+    IsUnused (state_at script journal k) entry.event new.slot)
 
 -- What is sealed keeps its number, its credential and its slot.
 abbrev pub KeepsSealed : Script → List Entry → Type 0
@@ -39,6 +42,15 @@ KeepsHeld script journal =
     → ((i : ℕ) → k ≤ i → i < l
     → IfSome (slice_get journal i) (λ entry. entry.event ≢ Release label))
     → held_by (state_at script journal l) label ≡ Some held
+
+-- What a label prepares stays, but for its changes, as long as no entry commits or aborts it.
+abbrev pub KeepsPrepared : Script → List Entry → Type 0
+KeepsPrepared script journal =
+    (k l label : ℕ) (p : Prepared) → k ≤ l
+    → prepared_as (state_at script journal k) label ≡ Some p
+    → ((i : ℕ) → k ≤ i → i < l
+    → IfSome (slice_get journal i) (λ entry. IsNotEndOf label entry.event))
+    → prepared_as (state_at script journal l) label ≡ Some p
 
 -- No entry adds to what a living task is permitted.
 abbrev pub AddsNoPermitted : Script → List Entry → Type 0
@@ -61,6 +73,7 @@ pub record IsLawful (script : Script) (journal : List Entry) : Type 0 where
   pub unused : WritesUnusedSlots script journal
   pub sealed : KeepsSealed script journal
   pub held : KeepsHeld script journal
+  pub prepared : KeepsPrepared script journal
   pub permitted : AddsNoPermitted script journal
   pub born : BearsWithFirst script journal
 

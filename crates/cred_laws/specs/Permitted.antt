@@ -7,13 +7,15 @@ use Rattle.cred_event.specs.declared.event.Event.TheVariants.{Init}
 use Rattle.cred_model.specs.Script.{Script}
 use Rattle.cred_model.specs.State.{State, Numbered, task_of, current_of}
 use Rattle.cred_model.specs.Step.{step}
+use Rattle.cred_laws.specs.Slots.{IsSound}
 
--- A task that was alive before an event has nothing permitted after it that was not permitted
--- before.
+-- A task that was alive in a sound state before an event has nothing permitted after it that was
+-- not permitted before.
 abbrev pub PermittedNeverGrows : Type 0
 PermittedNeverGrows =
     (script : Script) (s : State) (line : ℕ) (event : Event) (task : ℕ) (before after : Numbered)
-    → current_of s task ≡ Some before → current_of (step script s line event).1 task ≡ Some after
+    → IsSound s → current_of s task ≡ Some before
+    → current_of (step script s line event).1 task ≡ Some after
     → IsWithin after.cred.perm before.cred.perm
 
 -- the event gives birth to the task, with this credential

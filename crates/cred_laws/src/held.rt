@@ -1,5 +1,5 @@
-//! What was sealed, and what is held, stays as it is.
-ghost use Rattle.cred_laws.specs.Held.{SealedStays, HoldStays, HeldStays};
+//! What was sealed, what is held and what is prepared stays as it is.
+ghost use Rattle.cred_laws.specs.Held.{SealedStays, HoldStays, HeldStays, PreparedStays};
 
 /// Whatever is entered after a journal, what was sealed in it keeps its number, its credential and
 /// its slot.
@@ -24,4 +24,12 @@ pub fn hold_stays()
 #[tactic(auto, using(crate::proofs::HeldLaws::held_stays))]
 pub fn held_stays()
     ensures { HeldStays }
+{}
+
+/// A prepared label stands, and keeps its task, its base and its slot, after each event but its own
+/// commit or abort.
+///
+/// It does not say that the prepared credential stays: each change makes it anew of the base.
+pub fn prepared_stays()
+    ensures { PreparedStays }
 {}

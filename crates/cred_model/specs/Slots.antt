@@ -1,5 +1,5 @@
 -- Which slots are in use, and which one is taken next.
-use Rattle.std.specs.Prelude.{ℕ, ◌==◌, Bool, false, not, List, [], ◌++◌, map, find, count_by, slice_get, is_some, if◌then◌else◌}
+use Rattle.std.specs.Prelude.{ℕ, ◌==◌, Bool, false, not, ◌||◌, List, [], ◌++◌, map, find, count_by, slice_get, is_some, if◌then◌else◌}
 use Rattle.std.specs.declared.option.Option.{Option}
 use Rattle.std.specs.List.{list_any, range_with_len}
 use Rattle.std.specs.Option.{option_map_or}
@@ -9,10 +9,10 @@ use Rattle.cred_model.specs.State.{State, Sealing}
 abbrev pub SLOTS : ℕ
 SLOTS = 256
 
--- Every reference to a credential, by its number: one for each task's current credential, one for each hold, and one for
--- each that was given up since the last sweep.
+-- Every reference to a credential, by its number: one for each task's current credential, one for each hold, one for the
+-- base of each prepared label, and one for each that was given up since the last sweep.
 abbrev pub refs : State → List ℕ
-refs s = map (λ t. t.current) s.tasks ++ map (λ h. h.number) s.holds ++ s.deferred
+refs s = map (λ t. t.current) s.tasks ++ map (λ h. h.number) s.holds ++ map (λ p. p.base) s.prepared ++ s.deferred
 
 -- the credential of this number stands in the slot
 abbrev pub stands_in : List Sealing → ℕ → ℕ → Bool
@@ -22,9 +22,13 @@ stands_in creds slot number = option_map_or (λ sealing. sealing.slot == slot) (
 abbrev pub uses : State → ℕ → ℕ
 uses s slot = count_by (λ number. stands_in s.creds slot number) (refs s)
 
--- A slot is live if something refers to a credential in it.
+-- a prepared label keeps the slot for the credential that it will seal
+abbrev pub is_kept : State → ℕ → Bool
+is_kept s slot = list_any (λ p. p.slot == slot) s.prepared
+
+-- A slot is live if something refers to a credential in it, or if it is kept.
 abbrev pub is_live : State → ℕ → Bool
-is_live s slot = list_any (λ number. stands_in s.creds slot number) (refs s)
+is_live s slot = list_any (λ number. stands_in s.creds slot number) (refs s) || is_kept s slot
 
 -- 0 to 255
 unfoldable pub slots : List ℕ

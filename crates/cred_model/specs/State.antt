@@ -3,6 +3,7 @@ use Rattle.std.specs.Prelude.{ℕ, ◌==◌, List, [], find, slice_get}
 use Rattle.std.specs.declared.option.Option.{Option}
 use Rattle.std.specs.Option.{option_map, option_and_then}
 use Rattle.cred_record.specs.Credential.{Credential}
+use Rattle.cred_event.specs.declared.event.Change.{Change}
 
 -- A task (a thread) belongs to a process, and has the number of its current credential.
 pub record Task : Type 0 where
@@ -15,28 +16,47 @@ pub record Hold : Type 0 where
   pub label : ℕ
   pub number : ℕ
 
+-- What the last change of a prepared credential was, and the credential that it made of the base.
+pub record Changed : Type 0 where
+  pub change : Change
+  pub cred : Credential
+
+-- A label prepares a new credential for a task. It keeps the number of the credential that the new
+-- one is based on, and the slot that the new one will stand in; once it was changed, also what the
+-- base has become.
+pub record Prepared : Type 0 where
+  pub label : ℕ
+  pub task : ℕ
+  pub base : ℕ
+  pub slot : ℕ
+  pub changed : Option Changed
+
 -- A sealed credential stands in a slot.
 pub record Sealing : Type 0 where
   pub cred : Credential
   pub slot : ℕ
 
--- The live tasks, the holds, the numbers that were given up since the last sweep, and all credentials that were ever
--- sealed. The place of a credential in that list is its number.
+-- The live tasks, the holds, the prepared labels, the numbers that were given up since the last sweep, and all
+-- credentials that were ever sealed. The place of a credential in that list is its number.
 pub record State : Type 0 where
   pub tasks : List Task
   pub holds : List Hold
+  pub prepared : List Prepared
   pub deferred : List ℕ
   pub creds : List Sealing
 
 -- the state before the first event
 abbrev pub opening : State
-opening = record { tasks = []; holds = []; deferred = []; creds = [] }
+opening = record { tasks = []; holds = []; prepared = []; deferred = []; creds = [] }
 
 abbrev pub task_of : State → ℕ → Option Task
 task_of s number = find (λ t. t.number == number) s.tasks
 
 abbrev pub hold_of : State → ℕ → Option Hold
 hold_of s label = find (λ h. h.label == label) s.holds
+
+abbrev pub prepared_of : State → ℕ → Option Prepared
+prepared_of s label = find (λ p. p.label == label) s.prepared
 
 -- a sealed credential with its number
 pub record Numbered : Type 0 where

@@ -1,27 +1,34 @@
 -- What each event answers, and the state after it.
-use Rattle.std.specs.Prelude.{ℕ, ◌==◌, nat_lt, [], ◌∷◌, ◌++◌, length, map, position, remove, slice_get, Result, Ok, Err, ok_or, is_some, if◌then◌else◌, List}
+use Rattle.std.specs.Prelude.{ℕ, ◌==◌, nat_lt, [], ◌∷◌, ◌++◌, length, map, position, remove, slice_get, Result, Ok, Err, ok_or, is_some, Some, None, if◌then◌else◌, List}
 use Rattle.std.specs.declared.option.Option.{Option}
 use Rattle.std.specs.Option.{option_map_or}
 use Rattle.cred_record.specs.Credential.{Credential, first_credential}
 use Rattle.cred_record.specs.declared.refusal.Denial.{Denial}
 use Rattle.cred_rules.specs.SetId.{set_id}
+use Rattle.cred_rules.specs.SetFs.{set_fs, old_fs}
+use Rattle.cred_rules.specs.Adjust.{adjust}
+use Rattle.cred_event.specs.declared.event.Change.{Change}
+use Rattle.cred_event.specs.declared.event.Change.TheVariants.{SetFs, Adjust}
 use Rattle.cred_event.specs.declared.event.Event.{Event}
-use Rattle.cred_event.specs.declared.event.Event.TheVariants.{Init, Take, Release, Ask, Begin, Sweep}
+use Rattle.cred_event.specs.declared.event.Event.TheVariants.{Init, Take, Release, Ask, Prepare, Alter, Commit, Abort, Begin, Sweep}
 use Rattle.cred_event.specs.declared.answer.Answer.{Answer}
-use Rattle.cred_event.specs.declared.answer.Answer.TheVariants.{Done, Sealed, Began, Einval, NoTask, NoHold, Exists, TooMany, TableFull}
+use Rattle.cred_event.specs.declared.answer.Answer.TheVariants.{Done, Sealed, Kept, Was, Began, Einval, NoTask, NoHold, NoPrepared, Exists, Stale, TooMany, TableFull}
 use Rattle.cred_event.specs.declared.answer.Named.TheVariants as named
 use Rattle.cred_event.specs.declared.answer.Counted.TheVariants as counted
 use Rattle.cred_model.specs.Script.{Script}
-use Rattle.cred_model.specs.State.{State, Task, task_of, hold_of, current_of, held_by}
+use Rattle.cred_model.specs.State.{State, Task, Prepared, Changed, task_of, hold_of, prepared_of, numbered, current_of, held_by}
 use Rattle.cred_model.specs.Slots.{room, free, swept}
 use Rattle.cred_model.specs.Answers.{refusal, reply}
 
--- how many tasks may live, and how many holds may stand
+-- how many tasks may live, how many holds and how many prepared labels may stand
 abbrev pub TASKS : ℕ
 TASKS = 64
 
 abbrev pub HOLDS : ℕ
 HOLDS = 512
+
+abbrev pub PREPARED : ℕ
+PREPARED = 64
 
 -- An event's tests come in order: the first that refuses gives the answer.
 infixl 10 ◌>>=◌
@@ -69,6 +76,47 @@ replaced s task old c slot =
     let now = sealed s c slot in
     record now { tasks = with_current s.tasks task (length s.creds); deferred = s.deferred ++ old ∷ [] }
 
+-- A label prepares a new credential.
+abbrev pub preparing : State → Prepared → State
+preparing s p = record s { prepared = s.prepared ++ p ∷ [] }
+
+-- what a change makes of the base credential, with its answer; a change that no line makes yet is refused
+abbrev pub by_change : Credential → Change → Result (Answer × Credential) Answer
+by_change c (SetFs kind id) = Ok (Was (old_fs c kind), set_fs c kind id)
+by_change c (Adjust call) = do
+  new ← by_rule (adjust c call)
+  Ok (Done, new)
+by_change c change = Err Einval
+
+-- the prepared labels, where this one was changed
+abbrev pub changed : ℕ → Changed → Prepared → Prepared
+changed label to p = if p.label == label then record p { changed = Some to } else p
+
+abbrev pub with_change : List Prepared → ℕ → Changed → List Prepared
+with_change prepared label to = map (changed label to) prepared
+
+-- The prepared label at this place is given up, and its slot with it: it refers to its base no more.
+abbrev pub given_up : State → ℕ → Prepared → State
+given_up s place p = record s { prepared = remove s.prepared place; deferred = s.deferred ++ p.base ∷ [] }
+
+-- The prepared label at this place is committed: the credential is sealed in the slot that was kept for it, and becomes
+-- the task's current one. The old one and the base are given up.
+abbrev pub committed : State → ℕ → Prepared → ℕ → Credential → State
+committed s place p old c =
+    let now = sealed s c p.slot in
+    record now {
+      tasks = with_current s.tasks p.task (length s.creds);
+      prepared = remove s.prepared place;
+      deferred = s.deferred ++ old ∷ p.base ∷ [];
+    }
+
+-- Only a credential whose base is still the task's current one is committed. Another one is stale, and is given up.
+abbrev pub settle : State → ℕ → Prepared → ℕ → Credential → Answer × State
+settle s place p current c =
+    if current == p.base
+    then (Sealed (length s.creds) p.slot, committed s place p current c)
+    else (Stale p.base current, given_up s place p)
+
 -- what an event does if nothing refuses it, with its answer
 abbrev pub done : State → Event → Result (Answer × State) Answer
 done s (Init task process user group ns) = do
@@ -80,6 +128,7 @@ done s (Init task process user group ns) = do
 done s (Take label task side) = do
   taken ← ok_or (current_of s task) (NoTask task)
   new ← none_or (hold_of s label) (Exists named.Label label)
+  unprepared ← none_or (prepared_of s label) (Exists named.Label label)
   few ← fewer_or (length s.holds) HOLDS (TooMany counted.Holds)
   Ok (Sealed taken.number taken.slot, record s { holds = s.holds ++ record { label = label; number = taken.number } ∷ [] })
 done s (Release label) = do
@@ -89,6 +138,29 @@ done s (Release label) = do
 done s (Ask label query) = do
   held ← ok_or (held_by s label) (NoHold label)
   Ok (reply held.cred query, s)
+done s (Prepare label task hold) = do
+  owner ← ok_or (task_of s task) (NoTask task)
+  base ← ok_or (hold_of s hold) (NoHold hold)
+  new ← none_or (hold_of s label) (Exists named.Label label)
+  unprepared ← none_or (prepared_of s label) (Exists named.Label label)
+  few ← fewer_or (length s.prepared) PREPARED (TooMany counted.Prepared)
+  Ok (in_slot s (λ s slot.
+      (Kept slot, preparing s (record { label = label; task = task; base = base.number; slot = slot; changed = None }))))
+done s (Alter label change) = do
+  p ← ok_or (prepared_of s label) (NoPrepared label)
+  base ← ok_or (numbered s.creds p.base) (NoPrepared label)
+  made ← by_change base.cred change
+  Ok (made.0, record s { prepared = with_change s.prepared label (record { change = change; cred = made.1 }) })
+done s (Commit label) = do
+  place ← ok_or (position (λ p. p.label == label) s.prepared) (NoPrepared label)
+  p ← ok_or (slice_get s.prepared place) (NoPrepared label)
+  last ← ok_or p.changed (NoPrepared label)
+  now ← ok_or (current_of s p.task) (NoTask p.task)
+  Ok (settle s place p now.number last.cred)
+done s (Abort label) = do
+  place ← ok_or (position (λ p. p.label == label) s.prepared) (NoPrepared label)
+  p ← ok_or (slice_get s.prepared place) (NoPrepared label)
+  Ok (Done, given_up s place p)
 done s (Begin task call) = do
   old ← ok_or (current_of s task) (NoTask task)
   new ← by_rule (set_id old.cred call)

@@ -16,7 +16,7 @@ struct Long {
     last: &'static str,
 }
 
-const LONGS: [Long; 3] = [
+const LONGS: [Long; 4] = [
     // Each of the 256 credentials is held, so each slot is in use, and a sweep frees none. Once h5
     // is given up, the sweep that the next call makes frees the slot of the fifth credential.
     Long {
@@ -38,6 +38,16 @@ const LONGS: [Long; 3] = [
         last: "513 take h512 t1 -> ok c0 s0\n\
                514 take h513 t1 -> too many holds\n\
                515 take h105150 t1 -> too many holds\n",
+    },
+    // 64 labels may be prepared, each with a slot of its own.
+    Long {
+        count: 64,
+        front: "take h1000 t1\nprepare h",
+        back: " t1 h1000\n",
+        end: "prepare h65 t1 h1000\n",
+        last: "128 take h1000 t1 -> exists h1000\n\
+               129 prepare h64 t1 h1000 -> ok s64\n\
+               130 prepare h65 t1 h1000 -> too many prepared\n",
     },
     // No credential is held. c0 to c255 take all slots in order, so c256 needs a sweep, which frees
     // all but that of c255: c256 takes s0, and c257 s1. The calls stand on the even lines.

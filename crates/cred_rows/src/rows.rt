@@ -1,10 +1,11 @@
 //! Scripts with the report that they must get.
 use crate::runs::ran;
 use cred_program::Status;
+use std::alloc::Global;
 use std::test::Fail;
 
 /// A script, how the program must end on it, and what it must write.
-type Row = (&'static str, Status, &'static str);
+pub(crate) type Row = (&'static str, Status, &'static str);
 
 const ROWS: [Row; 13] = [
     ("", Status::Done, ""),
@@ -185,12 +186,19 @@ const ROWS: [Row; 13] = [
     ),
 ];
 
+/// The first script of a table that does not end and write as it must.
+pub(crate) fn first_other(alloc: Global, rows: &[Row]) -> Result<Option<&'static str>, Fail> {
+    for (script, status, text) in rows {
+        let (answer, sink) = ran(alloc, &["run"], script.as_bytes())?;
+        if answer != *status || sink.bytes() != text.as_bytes() {
+            return Ok(Some(script));
+        }
+    }
+    Ok(None)
+}
+
 #[test]
 fn scripts_get_their_reports(rt: HostRuntime) -> Result<(), Fail> {
-    for (script, status, text) in ROWS {
-        let (answer, sink) = ran(rt.alloc(), &["run"], script.as_bytes())?;
-        assert!(rt; answer == status, "{script}");
-        assert!(rt; sink.bytes() == text.as_bytes(), "{script}");
-    }
+    assert_eq!(rt; first_other(rt.alloc(), &ROWS)?, None);
     Ok(())
 }

@@ -1,5 +1,7 @@
 pub mod FirstLine
 pub mod Numerals
+pub mod CapNames
+pub mod Hexadecimals
 pub mod Fronts
 pub mod IdLists
 pub mod FirstBadLine

@@ -1,12 +1,12 @@
 -- The forms of a line: what its words are, and what it then holds. Each definition takes the words
 -- that stand after the one that names the form. How many there are is asked before what they spell.
 use Rattle.std.specs.Prelude.{ℕ, List, [], ◌∷◌, Result, Ok, Err, ok_or}
-use Rattle.cred_event.specs.declared.event.Event.TheVariants.{Init, Take, Release, Ask, Begin, Sweep}
+use Rattle.cred_event.specs.declared.event.Event.TheVariants.{Init, Take, Release, Ask, Prepare, Alter, Commit, Abort, Begin, Sweep}
 use Rattle.cred_event.specs.declared.event.Side.{Side}
 use Rattle.cred_event.specs.declared.event.Query.{Query}
 use Rattle.cred_event.specs.declared.event.Query.TheVariants as query
 use Rattle.cred_event.specs.declared.content.Content.{Content}
-use Rattle.cred_event.specs.declared.content.Content.TheVariants.{One, Id, Question}
+use Rattle.cred_event.specs.declared.content.Content.TheVariants.{One, Id, Change, Question}
 use Rattle.cred_script.specs.declared.names.Form.{Form}
 use Rattle.cred_script.specs.declared.names.Form.TheVariants as form
 use Rattle.cred_script.specs.declared.names.QueryName.{QueryName}
@@ -15,9 +15,10 @@ use Rattle.cred_script.specs.declared.names.CallName.{CallName}
 use Rattle.cred_script.specs.declared.names.CallName.TheVariants as call
 use Rattle.cred_script.specs.declared.refusal.Reason.{Reason}
 use Rattle.cred_script.specs.declared.refusal.Reason.TheVariants.{Word}
-use Rattle.cred_script.specs.Words.{◌>>=◌, none, one, two, two_or_more, five}
+use Rattle.cred_script.specs.Words.{◌>>=◌, none, one, two, two_or_more, three, five}
 use Rattle.cred_script.specs.Spellings.{id_of, task_of, process_of, label_of, namespace_of}
 use Rattle.cred_script.specs.IdCalls.{id_call_of}
+use Rattle.cred_script.specs.Changes.{one_cap, change_of}
 use Rattle.cred_script.specs.Names as names
 
 -- a question, by its name
@@ -31,6 +32,18 @@ query_of query_name.Caps words = do
 query_of query_name.Groups words = do
   end ← none words
   Ok query.Groups
+query_of query_name.Bits words = do
+  end ← none words
+  Ok query.Bits
+query_of query_name.Capable words = do
+  cap ← one_cap words
+  Ok (query.Capable cap)
+query_of query_name.Bset words = do
+  cap ← one_cap words
+  Ok (query.Bset cap)
+query_of query_name.AmbIs words = do
+  cap ← one_cap words
+  Ok (query.AmbIs cap)
 
 -- `init T P ID ID N`: a first task is born, with its process, user, group and namespace.
 unfoldable pub init_content : List (List ℕ) → Result Content Reason
@@ -67,6 +80,38 @@ ask_content words = do
   label ← ok_or (label_of word.0) Word
   Ok (One (Ask label question))
 
+-- `prepare H T H`: the new label, the task, and the hold that it is based on
+unfoldable pub prepare_content : List (List ℕ) → Result Content Reason
+prepare_content words = do
+  word ← three words
+  label ← ok_or (label_of word.0) Word
+  task ← ok_or (task_of word.1) Word
+  hold ← ok_or (label_of word.2) Word
+  Ok (One (Prepare label task hold))
+
+-- `change H CHANGE`
+unfoldable pub alter_content : List (List ℕ) → Result Content Reason
+alter_content words = do
+  word ← two_or_more words
+  name ← ok_or (names.change_name word.1) Word
+  change ← change_of name word.2
+  label ← ok_or (label_of word.0) Word
+  Ok (One (Alter label change))
+
+-- `commit H`
+unfoldable pub commit_content : List (List ℕ) → Result Content Reason
+commit_content words = do
+  word ← one words
+  label ← ok_or (label_of word) Word
+  Ok (One (Commit label))
+
+-- `abort H`
+unfoldable pub abort_content : List (List ℕ) → Result Content Reason
+abort_content words = do
+  word ← one words
+  label ← ok_or (label_of word) Word
+  Ok (One (Abort label))
+
 -- `begin T IDCALL`
 unfoldable pub begin_content : List (List ℕ) → Result Content Reason
 begin_content words = do
@@ -87,11 +132,14 @@ unfoldable pub call_content : ℕ → CallName → List (List ℕ) → Result Co
 call_content task (call.Id name) words = do
   made ← id_call_of name words
   Ok (Id task made)
+call_content task (call.Change name) words = do
+  made ← change_of name words
+  Ok (Change task made)
 call_content task (call.Question name) words = do
   asked ← query_of name words
   Ok (Question task asked)
 
--- an id call or a question of the task: the line names it after the task
+-- a call or a question of the task: the line names it after the task
 unfoldable pub own_content : ℕ → List (List ℕ) → Result Content Reason
 own_content task [] = Err Word
 own_content task (word ∷ words) = do
@@ -105,5 +153,9 @@ form_content (form.Own task) words = own_content task words
 form_content (form.Take side) words = take_content side words
 form_content form.Release words = release_content words
 form_content form.Ask words = ask_content words
+form_content form.Prepare words = prepare_content words
+form_content form.Alter words = alter_content words
+form_content form.Commit words = commit_content words
+form_content form.Abort words = abort_content words
 form_content form.Begin words = begin_content words
 form_content form.Sweep words = sweep_content words

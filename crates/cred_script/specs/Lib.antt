@@ -3,6 +3,7 @@ pub mod Words
 pub mod Spellings
 pub mod Names
 pub mod IdCalls
+pub mod Changes
 pub mod Forms
 pub mod Earlier
 pub mod Grammar

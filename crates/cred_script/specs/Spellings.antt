@@ -1,9 +1,12 @@
 -- What a word spells.
-use Rattle.std.specs.Prelude.{ℕ, ◌^◌, Bool, false, ◌&&◌, ◌==◌, nat_le, nat_lt, List, [], ◌∷◌, length, codes, Some, None, if◌then◌else◌}
+use Rattle.std.specs.Prelude.{ℕ, ◌^◌, Bool, false, ◌&&◌, ◌==◌, nat_le, nat_lt, List, [], ◌∷◌, length, position, codes, Some, None, if◌then◌else◌}
 use Rattle.std.specs.declared.option.Option.{Option}
-use Rattle.std.specs.Option.{option_map, option_and_then}
+use Rattle.std.specs.Option.{option_map, option_and_then, option_or}
+use Rattle.std.specs.List.{list_all}
+use Rattle.std.specs.Char.{is_digit}
 use Rattle.std.specs.Str.{bytes_eq, all_ascii_digits}
 use Rattle.std.specs.Str.Parse.{digits_value}
+use Rattle.cred_caps.specs.Names.{cap_names}
 use Rattle.cred_ids.specs.declared.arg.Arg.{Arg}
 use Rattle.cred_ids.specs.declared.arg.Arg.TheVariants.{Keep, Set}
 
@@ -28,6 +31,30 @@ id_of word =
 -- `-1` lets the old id stay.
 abbrev pub arg_of : List ℕ → Option Arg
 arg_of word = if bytes_eq word (codes "-1") then Some Keep else option_map Set (id_of word)
+
+-- the number of the capability that has this name, with its prefix `CAP_`
+abbrev pub cap_named : List ℕ → Option ℕ
+cap_named word = position (bytes_eq word) cap_names
+
+-- A capability is a number, whatever its size, or a name.
+abbrev pub cap_of : List ℕ → Option ℕ
+cap_of word = option_or (number_of word) (cap_named word)
+
+-- the number that hexadecimal digits write, of either case
+abbrev pub hexadecimal : List ℕ → Option ℕ
+hexadecimal word =
+    if list_all (λ byte. is_digit byte 16) word then Some (digits_value 16 word) else None
+
+-- the set of these bits, if none is above 40
+abbrev pub set_with : ℕ → Option ℕ
+set_with bits = if nat_lt bits (2 ^ 41) then Some bits else None
+
+-- A set of capabilities is 1 to 16 hexadecimal digits, with no bit above 40.
+abbrev pub set_of : List ℕ → Option ℕ
+set_of word =
+    if nat_le 1 (length word) && nat_le (length word) 16
+    then option_and_then set_with (hexadecimal word)
+    else None
 
 -- the number, if it is from the least to the most
 abbrev pub within : ℕ → ℕ → ℕ → Option ℕ

@@ -5,11 +5,12 @@ ghost use Rattle.cred_script.specs.Read.{Says, Tells, nows};
 ghost use Rattle.cred_script.specs.Forms as spec;
 ghost use Rattle.cred_script.specs.Sound.{AreAmong, NamesOwn, query_files};
 
+use crate::changes::{change_of, one_cap};
 use crate::id_calls::id_call_of;
-use crate::names::{CallName, Form, QueryName, call_name, id_name, query_name};
+use crate::names::{CallName, Form, QueryName, call_name, change_name, id_name, query_name};
 use crate::refusal::{LineRefusal, Reason};
 use crate::spellings::{id_of, label_of, namespace_of, process_of, task_of};
-use crate::words::{five, none, one, two, two_or_more};
+use crate::words::{five, none, one, three, two, two_or_more};
 use cred_event::{Content, Event, Query, Side};
 use std::alloc::Global;
 
@@ -28,6 +29,10 @@ pub(crate) fn form_content(
         Form::Take(side) => Ok(take_content(side, words)?),
         Form::Release => Ok(release_content(words)?),
         Form::Ask => Ok(ask_content(words)?),
+        Form::Prepare => Ok(prepare_content(words)?),
+        Form::Alter => Ok(alter_content(words)?),
+        Form::Commit => Ok(commit_content(words)?),
+        Form::Abort => Ok(abort_content(words)?),
         Form::Begin => begin_content(alloc, words),
         Form::Sweep => Ok(sweep_content(words)?),
     }
@@ -39,11 +44,26 @@ fn query_of(name: QueryName, words: &[&[u8]]) -> Result<Query, Reason>
     ensures query { Says (λ query. query) result (spec.query_of name (nows words.now)) }
     ensures files { IfOk result (λ query. AreAmong 0 (query_files query)) }
 {
-    none(words)?;
     match name {
-        QueryName::Ids => Ok(Query::Ids),
-        QueryName::Caps => Ok(Query::Caps),
-        QueryName::Groups => Ok(Query::Groups),
+        QueryName::Ids => {
+            none(words)?;
+            Ok(Query::Ids)
+        }
+        QueryName::Caps => {
+            none(words)?;
+            Ok(Query::Caps)
+        }
+        QueryName::Groups => {
+            none(words)?;
+            Ok(Query::Groups)
+        }
+        QueryName::Bits => {
+            none(words)?;
+            Ok(Query::Bits)
+        }
+        QueryName::Capable => Ok(Query::Capable(one_cap(words)?)),
+        QueryName::Bset => Ok(Query::Bset(one_cap(words)?)),
+        QueryName::AmbIs => Ok(Query::AmbIs(one_cap(words)?)),
     }
 }
 
@@ -102,6 +122,57 @@ fn ask_content(words: &[&[u8]]) -> Result<Content, Reason>
     Ok(Content::One(Event::Ask { label, query }))
 }
 
+/// `prepare H T H`
+#[tactic(auto, unfolding(crate::specs::Forms::prepare_content))]
+fn prepare_content(words: &[&[u8]]) -> Result<Content, Reason>
+    ensures content { Says (λ content. content) result (spec.prepare_content (nows words.now)) }
+    ensures own { IfOk result NamesOwn }
+{
+    let (label, task, hold) = three(words)?;
+    Ok(Content::One(Event::Prepare {
+        label: label_of(label).ok_or(Reason::Word)?,
+        task: task_of(task).ok_or(Reason::Word)?,
+        hold: label_of(hold).ok_or(Reason::Word)?,
+    }))
+}
+
+/// `change H CHANGE`
+#[tactic(auto, unfolding(crate::specs::Forms::alter_content))]
+fn alter_content(words: &[&[u8]]) -> Result<Content, Reason>
+    ensures content { Says (λ content. content) result (spec.alter_content (nows words.now)) }
+    ensures own { IfOk result NamesOwn }
+{
+    let (label, name, rest) = two_or_more(words)?;
+    let name = change_name(name).ok_or(Reason::Word)?;
+    let change = change_of(name, rest)?;
+    let label = label_of(label).ok_or(Reason::Word)?;
+    Ok(Content::One(Event::Alter { label, change }))
+}
+
+/// `commit H`
+#[tactic(auto, unfolding(crate::specs::Forms::commit_content))]
+fn commit_content(words: &[&[u8]]) -> Result<Content, Reason>
+    ensures content { Says (λ content. content) result (spec.commit_content (nows words.now)) }
+    ensures own { IfOk result NamesOwn }
+{
+    let label = one(words)?;
+    Ok(Content::One(Event::Commit {
+        label: label_of(label).ok_or(Reason::Word)?,
+    }))
+}
+
+/// `abort H`
+#[tactic(auto, unfolding(crate::specs::Forms::abort_content))]
+fn abort_content(words: &[&[u8]]) -> Result<Content, Reason>
+    ensures content { Says (λ content. content) result (spec.abort_content (nows words.now)) }
+    ensures own { IfOk result NamesOwn }
+{
+    let label = one(words)?;
+    Ok(Content::One(Event::Abort {
+        label: label_of(label).ok_or(Reason::Word)?,
+    }))
+}
+
 /// `begin T IDCALL`
 #[tactic(auto, unfolding(crate::specs::Forms::begin_content))]
 fn begin_content(alloc: Global, words: &[&[u8]]) -> Result<Content, LineRefusal>
@@ -141,6 +212,10 @@ fn call_content(
             task,
             call: id_call_of(alloc, name, words)?,
         }),
+        CallName::Change(name) => Ok(Content::Change {
+            task,
+            change: change_of(name, words)?,
+        }),
         CallName::Question(name) => Ok(Content::Question {
             task,
             query: query_of(name, words)?,
@@ -148,7 +223,7 @@ fn call_content(
     }
 }
 
-/// An id call or a question of the task: the line names it after the task.
+/// A call or a question of the task: the line names it after the task.
 #[tactic(auto, unfolding(crate::specs::Forms::own_content))]
 fn own_content(alloc: Global, task: u32, words: &[&[u8]]) -> Result<Content, LineRefusal>
     ensures content { Tells (λ content. content) result (spec.own_content task (nows words.now)) }

@@ -12,7 +12,7 @@ use std::alloc::Global;
 
 /// `ARG`
 #[tactic(auto, unfolding(crate::specs::IdCalls::one_arg))]
-fn one_arg(words: &[&[u8]]) -> Result<Arg, Reason>
+pub(crate) fn one_arg(words: &[&[u8]]) -> Result<Arg, Reason>
     ensures { Says (λ arg. arg) result (spec.one_arg (nows words.now)) }
 {
     arg_of(one(words)?).ok_or(Reason::Word)

@@ -1,12 +1,13 @@
 //! The grammar of trace scripts, and their reader.
 //!
 //! What text is a script, and which script it is, is defined in `specs/`. `Lines` and `Words` split
-//! the text. `Spellings` says what one word may be, `Names` which words name a form, `IdCalls` and
-//! `Forms` what the words of each form are, and `Earlier` what the lines before a line ask of it.
-//! `Grammar` puts these together, and `read` answers exactly that. `Sound` says what is true of
-//! each script.
+//! the text. `Spellings` says what one word may be, `Names` which words name a form, `IdCalls`,
+//! `Changes` and `Forms` what the words of each form are, and `Earlier` what the lines before a
+//! line ask of it. `Grammar` puts these together, and `read` answers exactly that. `Sound` says
+//! what is true of each script.
 #![tactic(auto)]
 
+mod changes;
 mod earlier;
 mod forms;
 mod id_calls;

@@ -3,6 +3,7 @@ ghost use Rattle.std.specs.Prelude.{◌≡◌, ◌≤◌, IfSome, length, slice_
 ghost use Rattle.std.specs.Str.{bytes_eq};
 ghost use Rattle.cred_script.specs.Spellings as spec;
 
+use cred_caps::{CapSet, cap_of_name};
 use cred_ids::{Arg, Id};
 use std::str;
 
@@ -50,6 +51,49 @@ fn parsed(word: &[u8]) -> Option<u32>
         Ok(text) => text.parse().ok(),
         Err(_) => None,
     }
+}
+
+/// A capability: a number, whatever its size, or a name.
+pub(crate) fn cap_of(word: &[u8]) -> Option<u32>
+    ensures { result ≡ spec.cap_of word.now }
+{
+    if let Some(number) = number_of(word) {
+        return Some(number);
+    }
+    cap_named(word)
+}
+
+/// The number of the capability that has this name, with its prefix `CAP_`.
+fn cap_named(word: &[u8]) -> Option<u32>
+    ensures { result ≡ spec.cap_named word.now }
+{
+    match str::from_utf8(word) {
+        Ok(name) => Some(cap_of_name(name)?.number()),
+        Err(_) => None,
+    }
+}
+
+/// A set of capabilities, in hexadecimal.
+pub(crate) fn set_of(word: &[u8]) -> Option<CapSet>
+    ensures { result ≡ spec.set_of word.now }
+{
+    if word.is_empty() || 16 < word.len() {
+        return None;
+    }
+    CapSet::of_bits(hexadecimal(word)?)
+}
+
+/// The number that hexadecimal digits write, of either case.
+fn hexadecimal(word: &[u8]) -> Option<u64>
+    requires { length word.now ≤ 16 }
+    ensures { result ≡ spec.hexadecimal word.now }
+{
+    let mut number = 0;
+    for byte in word {
+        let digit = char::from(*byte).to_digit(16)?;
+        number = number * 16 + u64::from(digit);
+    }
+    Some(number)
 }
 
 /// A task, as `t1`.

@@ -50,6 +50,59 @@ fn tests_lines_in_order(rt: HostRuntime) -> Result<(), Fail> {
     Ok(())
 }
 
+/// Each of these lines is a script.
+const GOOD_LINES: &str = "t1 setfsuid -1
+t1 setfsgid 4294967294
+t1 capset 0 1FFFFFFFFFF 00000000000000ff
+t1 capset aBcDeF 0000000000000000 1ffffffffff
+t1 capdrop CAP_CHECKPOINT_RESTORE
+t1 ambraise 41
+t1 amblower CAP_CHOWN
+t1  ambclear
+t1 securebits 4294967295
+t1 keepcaps 2
+t1 nonewprivs 0
+t1 bits
+t1 capable 4294967295
+t1 bset 40
+t1 ambis CAP_BPF
+ask h1 bits
+ask h1 capable 41
+ask h1 bset CAP_NET_RAW
+ask h1 ambis 0
+prepare h1 t1 h1
+change h1 setfsuid 0
+change h99999 setfsgid -1
+change h1 capset 1 2 3
+change h1 ambclear
+change h1 keepcaps 4294967295
+commit h1
+abort h99999";
+
+/// After each of these lines nothing may be declared.
+const USES: &str = "t1 bits
+t1 nonewprivs 1
+prepare h1 t1 h2
+change h1 ambclear
+commit h1
+abort h1";
+
+#[test]
+fn accepts_good_lines(rt: HostRuntime) -> Result<(), Fail> {
+    for text in GOOD_LINES.lines() {
+        assert_eq!(rt; answer(rt.alloc(), text)?, Ok(1), "{text}");
+    }
+    for text in USES.lines() {
+        let both = format!(in rt.alloc(); "{text}\ninit t1 p1 0 0 n0")?;
+        assert_eq!(rt;
+            answer(rt.alloc(), &both)?,
+            Err((2, Reason::Order)),
+            "{text}"
+        );
+    }
+    Ok(())
+}
+
 /// Each of these lines has a word that may not stand at its place.
 const BAD_WORDS: &str = "sweeps
 t1
@@ -70,7 +123,42 @@ t1 setresuid 0 +1 0
 t1 setresuid 0 0 1a
 take t1 h1
 drop h0
-drop 1";
+drop 1
+t1 setfsuid 4294967295
+t1 setfsgid +1
+t1 capset 0 0 20000000000
+t1 capset 0 ffffffffffffffff 0
+t1 capset 00000000000000000 0 0
+t1 capset 0x1 0 0
+t1 capset 0 g 0
+t1 capset 0 0 -1
+t1 capdrop CHOWN
+t1 ambraise cap_chown
+t1 amblower CAP_
+t1 ambraise -1
+t1 capable CAP_net_raw
+t1 capable 4294967296
+t1 capable 041
+t1 bset CAP_CHOWN_
+t1 ambis CAP_ALL
+t1 securebits 4294967296
+t1 keepcaps 0x1
+t1 nonewprivs -1
+t1 exec x
+t1 change h1 ambclear
+ask h1 ambclear
+ask t1 bits
+change h1 exec x
+change h1 ids
+change h1 setuid 0
+change t1 ambclear
+change x keepcaps 1
+prepare t1 t1 h1
+prepare h1 h1 h1
+prepare h1 t1 t1
+prepare h1 t1 h0
+commit t1
+abort h100000";
 
 /// Each of these lines has too many words, or too few, whatever they spell.
 const BAD_COUNTS: &str = "t1 setresuid 1000 10
@@ -83,7 +171,33 @@ begin
 begin x setresuid 0 0
 take x
 drop x y
-sweep x";
+sweep x
+t1 setfsuid
+t1 setfsgid x x
+t1 capset 0 0
+t1 capset x x x x
+t1 capdrop
+t1 ambraise x x
+t1 amblower
+t1 ambclear 1
+t1 securebits
+t1 keepcaps x x
+t1 nonewprivs
+t1 bits x
+t1 capable
+t1 bset x x
+ask x ambis
+ask x bits x
+change
+change h1
+change x capset 0 0
+change x ambclear x
+prepare
+prepare h1 t1
+prepare x x x x
+commit
+commit x x
+abort";
 
 #[test]
 fn counts_words_before_their_spelling(rt: HostRuntime) -> Result<(), Fail> {
@@ -120,5 +234,78 @@ fn keeps_what_lines_hold(rt: HostRuntime) -> Result<(), Fail> {
     }
     assert_eq!(rt; script.lines(), 6);
     assert!(rt; script.line(0).is_none() && script.line(7).is_none());
+    Ok(())
+}
+
+/// What a script of one line holds.
+fn held(alloc: Global, text: &str) -> Result<String, Fail> {
+    if line_count(text.as_bytes()) > 20000 {
+        return Err("too many lines")?;
+    }
+    let script = read(alloc, text.as_bytes())?;
+    let (_, content) = script.line(1).ok_or("a line")?;
+    Ok(format!(in alloc; "{content:?}")?)
+}
+
+#[test]
+fn keeps_what_changes_hold(rt: HostRuntime) -> Result<(), Fail> {
+    let cases = [
+        ("t1 setfsuid 7", "SetFs(User, Set(Id(7)))"),
+        ("t1 setfsgid -1", "SetFs(Group, Keep)"),
+        (
+            "t1 capset 00000000000000ff aB 1FFFFFFFFFF",
+            "Adjust(Capset { perm: CapSet { bits: Bits(255) }, inh: CapSet { bits: Bits(171) }, \
+            eff: CapSet { bits: Bits(2199023255551) } })",
+        ),
+        ("t1 capdrop CAP_NET_RAW", "Adjust(BoundDrop(13))"),
+        ("t1 ambraise 41", "Adjust(AmbRaise(41))"),
+        ("t1 amblower CAP_CHECKPOINT_RESTORE", "Adjust(AmbLower(40))"),
+        ("t1 ambclear", "Adjust(AmbClear)"),
+        ("t1 securebits 4294967295", "Adjust(Bits(4294967295))"),
+        ("t1 keepcaps 1", "Adjust(KeepCaps(1))"),
+        ("t1 nonewprivs 0", "Adjust(NoNewPrivs(0))"),
+    ];
+    for (text, change) in cases {
+        let want = format!(in rt.alloc(); "Change {{ task: 1, change: {change} }}")?;
+        assert_eq!(rt; held(rt.alloc(), text)?.as_str(), want.as_str());
+    }
+    Ok(())
+}
+
+#[test]
+fn keeps_what_questions_and_events_hold(rt: HostRuntime) -> Result<(), Fail> {
+    let cases = [
+        ("t2 bits", "Question { task: 2, query: Bits }"),
+        (
+            "t1 capable CAP_CHOWN",
+            "Question { task: 1, query: Capable(0) }",
+        ),
+        (
+            "t1 bset 4294967295",
+            "Question { task: 1, query: Bset(4294967295) }",
+        ),
+        (
+            "t1 ambis CAP_SYS_ADMIN",
+            "Question { task: 1, query: AmbIs(21) }",
+        ),
+        ("ask h3 bits", "One(Ask { label: 3, query: Bits })"),
+        (
+            "ask h3 capable 41",
+            "One(Ask { label: 3, query: Capable(41) })",
+        ),
+        (
+            "prepare h1 t2 h3",
+            "One(Prepare { label: 1, task: 2, hold: 3 })",
+        ),
+        (
+            "change h4 setfsgid 5",
+            "One(Alter { label: 4, change: SetFs(Group, Set(Id(5))) })",
+        ),
+        ("commit h6", "One(Commit { label: 6 })"),
+        ("abort h7", "One(Abort { label: 7 })"),
+    ];
+    for (text, want) in cases {
+        assert_eq!(rt; held(rt.alloc(), text)?.as_str(), want);
+    }
     Ok(())
 }

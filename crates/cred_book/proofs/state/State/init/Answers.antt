@@ -15,12 +15,12 @@ absent number tasks given (Some u) test same is tests none = cc
 pub returns-in_default-clause-ok : goal.returns-in_default-clause-ok
 returns-in_default-clause-ok c =
     let t = c.self.inside in
-    let full = full_spare t.tasks.items t.holds t.creds.items t.slots c.reserve-3.new.self c.seal_next.new.slots _ c.in_ok-reserve-3.ensures.ok c.in_default.ensures in
+    let full = full_spare t.tasks.items t.holds t.prepared t.creds.items t.slots c.reserve-3.new.self c.seal_next.new.slots _ c.in_ok-reserve-3.ensures.ok c.in_default.ensures in
     let new : find (λ u. u.number == c.args.number) t.tasks.items ≡ None
     = absent c.args.number t.tasks.items _ _ _ c.deref.ensures.value c.task_among.ensures c.is_some.ensures c.if-is_some.false in
     let few : length t.tasks.items < 64 = grind (arith, common_steps) in
     rw (← c.self.view_is, c.in_ok-reserve.ensures.items, c.in_ok-reserve-2.ensures.items)
-    (init_full t.tasks.items t.holds t.creds.items t.slots c.seal_next.new.slots c.args.number c.args.process c.args.user c.args.group c.args.ns
+    (init_full t.tasks.items t.holds t.prepared t.creds.items t.slots c.seal_next.new.slots c.args.number c.args.process c.args.user c.args.group c.args.ns
     c.self.invariant new few full.0 full.1)
 
 pub invariant_of-self-2 : goal.invariant_of-self-2
@@ -33,7 +33,7 @@ invariant_of-self-2 c =
     = grind (arith, common_steps) in
     let creds : c.push.new.self.items ≡ t.creds.items ++ first_credential c.args.user c.args.group c.args.ns ∷ [] = grind (arith, common_steps) in
     rw (tasks, creds)
-    (born t.tasks.items t.holds t.creds.items t.slots c.seal_next.new.slots
+    (born t.tasks.items t.holds t.prepared t.creds.items t.slots c.seal_next.new.slots
     (record { number = c.args.number; process = c.args.process; current = c.in-Some.current }) (first_credential c.args.user c.args.group c.args.ns)
     c.in-Some.slot c.self.invariant new seals)
 
@@ -48,5 +48,5 @@ returns-clause-ok c =
     = grind (arith, common_steps) in
     let creds : c.push.new.self.items ≡ t.creds.items ++ first_credential c.args.user c.args.group c.args.ns ∷ [] = grind (arith, common_steps) in
     rw (← c.self.view_is)
-    (init_sealed t.tasks.items c.push-2.new.self.items t.holds t.creds.items c.push.new.self.items t.slots c.seal_next.new.slots
+    (init_sealed t.tasks.items c.push-2.new.self.items t.holds t.prepared t.creds.items c.push.new.self.items t.slots c.seal_next.new.slots
     c.args.number c.args.process c.args.user c.args.group c.args.ns c.in-Some.current c.in-Some.slot c.self.invariant new few seals tasks creds)

@@ -10,16 +10,16 @@ none_set [] slot = refl
 none_set (x ∷ xs) zero = refl
 none_set (x ∷ xs) (suc slot) = none_set xs slot
 
-nothing-counted : IsCounted [] [] [] empty
+nothing-counted : IsCounted [] [] [] [] empty
 unfolding empty
-nothing-counted = record { distinct = tt; counts = record { counts = λ test. refl }; sealed = refl; keeps_none = none_set (range_with_len 0 SLOTS) }
+nothing-counted = record { distinct = tt; counts = record { counts = λ test. refl }; sealed = refl; keeps = none_set (range_with_len 0 SLOTS); apart = tt }
 
-nothing-kept : kept_state [] [] [] empty ≡ opening
+nothing-kept : kept_state [] [] [] [] empty ≡ opening
 unfolding empty
 nothing-kept = refl
 
 pub invariant_of-result : goal.invariant_of-result
-invariant_of-result c = rw (c.new.ensures.items, c.new-2.ensures, c.new-3.ensures.items, c.in_ok-new.ensures) nothing-counted
+invariant_of-result c = rw (c.new.ensures.items, c.new-2.ensures, c.new-3.ensures, c.new-4.ensures.items, c.in_ok-new.ensures) nothing-counted
 
 pub returns : goal.returns
-returns c = rw (c.new.ensures.items, c.new-2.ensures, c.new-3.ensures.items, c.in_ok-new.ensures) nothing-kept
+returns c = rw (c.new.ensures.items, c.new-2.ensures, c.new-3.ensures, c.new-4.ensures.items, c.in_ok-new.ensures) nothing-kept

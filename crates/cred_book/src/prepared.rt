@@ -1,0 +1,143 @@
+//! The prepared labels.
+ghost use Rattle.std.specs.Prelude.{◌≡◌, ◌==◌, [], ◌∷◌, ◌++◌, find, length, None, IsSome, MatchOption, OnOk, OnErr};
+ghost use Rattle.std.specs.Option.{option_map};
+ghost use Rattle.cred_model.specs.Step.{with_change};
+ghost use Rattle.cred_book.specs.Prepared.{prepared_as, place_of, changed_of, IsReady, GivesUp, Commits};
+
+use cred_event::Change;
+use cred_ids::NoMemory;
+use cred_record::Cred;
+use indexmap::IndexMap;
+use std::alloc::Global;
+use std::marker::Model;
+
+/// The last change of a prepared credential, and what it made of the base.
+#[derive(Drop, Debug)]
+pub struct Changed {
+    pub change: Change,
+    pub cred: Cred,
+}
+
+impl Model for Changed {
+    ghost use Rattle.cred_model.specs.State as model;
+
+    ghost Value = { model.Changed };
+
+    ghost view = { λ c. record { change = c.change; cred = c.cred } };
+}
+
+/// What is prepared under a label: the task that it is for, the number of the credential that it is
+/// based on, the slot that is kept for it, and what the base has become, once it was changed.
+#[derive(Drop, Debug)]
+pub struct Preparation {
+    pub task: u32,
+    pub base: u64,
+    pub slot: u32,
+    pub changed: Option<Changed>,
+}
+
+/// Which task a changed label is for, and the number of the credential that it is based on.
+#[derive(Clone, Copy)]
+pub struct Ready {
+    pub task: u32,
+    pub base: u64,
+}
+
+/// What is prepared under each label, in the order in which the labels began.
+#[derive(Drop, Debug)]
+pub struct Preparing {
+    entries: IndexMap<u32, Preparation>,
+}
+
+impl Model for Preparing {
+    ghost use Rattle.std.specs.Prelude.{List};
+    ghost use Rattle.cred_model.specs.State.{Prepared};
+    ghost use Rattle.cred_book.specs.Prepared.{all_prepared};
+
+    ghost Value = { List Prepared };
+
+    ghost view = { λ p. all_prepared p.entries.entries };
+}
+
+impl Preparing {
+    /// No label prepares anything.
+    pub fn new(alloc: Global) -> Preparing
+        ensures { result ≡ [] }
+    {
+        Preparing {
+            entries: IndexMap::new(alloc),
+        }
+    }
+
+    /// How many labels there are.
+    pub fn len(&self) -> usize
+        ensures { result ≡ length self.now }
+    {
+        self.entries.len()
+    }
+
+    /// What is prepared under a label. `None` where it isn't prepared.
+    pub fn get(&self, label: u32) -> Option<&Preparation>
+        ensures { option_map (λ p. prepared_as label p.now) result
+            ≡ find (λ p. p.label == label) self.now }
+    {
+        self.entries.get(&label)
+    }
+
+    /// A label that was changed. `None` where the label isn't prepared, or was never changed.
+    pub fn ready(&self, label: u32) -> Option<Ready>
+        ensures { MatchOption result
+            (changed_of self.now label ≡ None)
+            (λ ready. IsReady self.now label ready.task ready.base) }
+    {
+        let preparation = self.get(label)?;
+        preparation.changed.as_ref()?;
+        Some(Ready {
+            task: preparation.task,
+            base: preparation.base,
+        })
+    }
+
+    /// A label that wasn't prepared begins to prepare. Without memory nothing changes.
+    pub fn prepare(&mut self, label: u32, preparation: Preparation) -> Result<(), NoMemory>
+        requires { find (λ p. p.label == label) self.old ≡ None }
+        ensures ok { OnOk result (self.new ≡ self.old ++ prepared_as label preparation ∷ []) }
+        ensures err { OnErr result (self.new ≡ self.old) }
+    {
+        self.entries.insert(label, preparation)?;
+        Ok(())
+    }
+
+    /// The base of a label was changed to this: what an earlier change made of it is dropped. Where
+    /// the label isn't prepared, nothing changes.
+    pub fn change(&mut self, label: u32, to: Changed)
+        ensures { self.new ≡ with_change self.old label to }
+    {
+        if let Some(preparation) = self.entries.get_mut(&label) {
+            preparation.changed = Some(to);
+        }
+    }
+
+    /// A label gives up what it prepared. `None` where it isn't prepared; then nothing changes.
+    #[tactic(auto, using(crate::proofs::LabelMap::labels))]
+    pub fn give_up(&mut self, label: u32) -> Option<Preparation>
+        ensures { MatchOption result
+            ((place_of self.old label ≡ None) × (self.new ≡ self.old))
+            (λ preparation. GivesUp self.old self.new (prepared_as label preparation)) }
+    {
+        let place = self.entries.get_index_of(&label)?;
+        let (_, preparation) = self.entries.shift_remove_index(place)?;
+        Some(preparation)
+    }
+
+    /// A label that was changed gives up what it prepared: its slot, and what the base has become.
+    pub fn commit(&mut self, label: u32) -> (u32, Cred)
+        requires { IsSome (changed_of self.old label) }
+        ensures { Commits self.old self.new label result.0 result.1 }
+    {
+        // Both are there: the label was changed.
+        let preparation = self.give_up(label).unwrap();
+        let changed = preparation.changed.unwrap();
+        (preparation.slot, changed.cred)
+    }
+}

@@ -1,0 +1,132 @@
+//! The events on prepared labels.
+ghost use Rattle.std.specs.Prelude.{◌≡◌, IfOk, OnErr};
+ghost use Rattle.std.specs.Option.{option_map, option_and_then};
+ghost use Rattle.cred_event.specs.declared.event.Event.TheVariants as event;
+ghost use Rattle.cred_model.specs.State.{prepared_of, numbered};
+ghost use Rattle.cred_model.specs.Step.{done, settled};
+
+use crate::change::change_of;
+use crate::prepared::{Changed, Preparation, Ready};
+use crate::state::State;
+use crate::table::{Numbered, sealed_at, set_current, task_among};
+use cred_event::{Answer, Change, Counted, Named};
+use cred_ids::NoMemory;
+
+/// How many prepared labels may stand.
+const PREPARED: usize = 64;
+
+impl State {
+    /// The label prepares a new credential for the task, based on the one that the hold has, and
+    /// keeps the slot that the new one will stand in. `NoTask`, `NoHold`, `Exists` and `TooMany`
+    /// leave the state; `TableFull` leaves it swept.
+    pub fn prepare(&mut self, label: u32, task: u32, hold: u32) -> Result<Answer, NoMemory>
+        ensures ok { IfOk result (λ answer.
+            settled self.old (done self.old (event.Prepare label task hold))
+            ≡ (answer, self.new)) }
+        ensures err { OnErr result (self.new ≡ self.old) }
+    {
+        if task_among(&self.tasks, task).is_none() {
+            return Ok(Answer::NoTask(task));
+        }
+        let Some(base) = self.holds.get(hold) else {
+            return Ok(Answer::NoHold(hold));
+        };
+        if self.has_label(label) {
+            return Ok(Answer::Exists {
+                what: Named::Label,
+                number: label,
+            });
+        }
+        if self.prepared.len() >= PREPARED {
+            return Ok(Answer::TooMany(Counted::Prepared));
+        }
+        self.slots.reserve()?;
+        // The label is entered before its slot is kept, since that may want memory.
+        let Some(slot) = self.slots.free_slot() else {
+            self.slots.sweep();
+            return Ok(Answer::TableFull);
+        };
+        self.prepared.prepare(
+            label,
+            Preparation {
+                task,
+                base,
+                slot,
+                changed: None,
+            },
+        )?;
+        self.slots.claim();
+        self.slots.add(base);
+        Ok(Answer::Kept { slot })
+    }
+
+    /// What the label prepares is its base, changed so. `NoPrepared`, `Eperm` and `Einval` leave
+    /// the state, and with it what an earlier change made of the base.
+    pub fn alter(&mut self, label: u32, change: Change) -> Result<Answer, NoMemory>
+        ensures ok { IfOk result (λ answer.
+            settled self.old (done self.old (event.Alter label change)) ≡ (answer, self.new)) }
+        ensures err { OnErr result (self.new ≡ self.old) }
+    {
+        let Some(base) = self.base(label) else {
+            return Ok(Answer::NoPrepared(label));
+        };
+        let (answer, cred) = match change_of(base.cred, &change)? {
+            Ok(made) => made,
+            Err(answer) => return Ok(answer),
+        };
+        self.prepared.change(label, Changed { change, cred });
+        Ok(answer)
+    }
+
+    /// What the label prepared is sealed in the slot that was kept for it, and becomes its task's
+    /// current credential (Documentation/security/credentials.rst). `NoPrepared`, also where the
+    /// label was never changed, and `NoTask` leave the state. `Stale` comes where the task's
+    /// current credential isn't the base any more: then the label is given up.
+    pub fn commit(&mut self, label: u32) -> Result<Answer, NoMemory>
+        ensures ok { IfOk result (λ answer.
+            settled self.old (done self.old (event.Commit label)) ≡ (answer, self.new)) }
+        ensures err { OnErr result (self.new ≡ self.old) }
+    {
+        let Some(Ready { task, base }) = self.prepared.ready(label) else {
+            return Ok(Answer::NoPrepared(label));
+        };
+        let Some(Numbered { number: now, .. }) = self.current(task) else {
+            return Ok(Answer::NoTask(task));
+        };
+        if now != base {
+            self.abort(label);
+            return Ok(Answer::Stale { base, now });
+        }
+        self.creds.reserve(1)?;
+        self.slots.reserve()?;
+        let (slot, cred) = self.prepared.commit(label);
+        let number = self.slots.seal(slot);
+        self.creds.push(cred)?;
+        set_current(&mut self.tasks, task, number);
+        self.slots.drop_later(now);
+        self.slots.drop_later(base);
+        Ok(Answer::Sealed { cred: number, slot })
+    }
+
+    /// The label gives up what it prepared, with its slot and the reference to its base.
+    /// `NoPrepared` leaves the state.
+    pub fn abort(&mut self, label: u32) -> Answer
+        ensures { settled self.old (done self.old (event.Abort label)) ≡ (result, self.new) }
+    {
+        let Some(Preparation { base, slot, .. }) = self.prepared.give_up(label) else {
+            return Answer::NoPrepared(label);
+        };
+        self.slots.give_up(slot);
+        self.slots.drop_later(base);
+        Answer::Done
+    }
+
+    /// The base of a label. `None` where the label isn't prepared.
+    fn base(&self, label: u32) -> Option<Numbered<'_>>
+        ensures { option_map (λ n. record { number = n.number; cred = n.cred.now; slot = n.slot })
+            result ≡ option_and_then (λ p. numbered self.now.creds p.base) (prepared_of self.now label) }
+    {
+        let preparation = self.prepared.get(label)?;
+        sealed_at(&self.creds, &self.slots, preparation.base)
+    }
+}
