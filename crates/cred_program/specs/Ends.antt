@@ -1,5 +1,5 @@
 -- What a run of the program leaves at its source and its sink, by the status that it answers.
-use Rattle.std.specs.Prelude.{◌≡◌, ◌≤◌, ◌<◌, ◌⊎◌, ℕ, length, List, Result, Ok, Err}
+use Rattle.std.specs.Prelude.{◌≡◌, ◌≤◌, ◌<◌, ◌⊎◌, ℕ, length, List, Some, None, Result, Ok, Err}
 use Rattle.std.specs.Result.{MatchResult}
 use Rattle.std.specs.declared.option.Option.{Option}
 use Rattle.std.specs.Io.KnownBytes.{Appends}
@@ -16,7 +16,9 @@ use Rattle.cred_script.specs.Grammar.{script_of}
 use Rattle.cred_report.specs.Text.{text}
 use Rattle.cred_program.specs.declared.status.Status.{Status}
 use Rattle.cred_program.specs.declared.status.Status.TheVariants as status
-use Rattle.cred_program.specs.Words.{IsCommand}
+use Rattle.cred_program.specs.declared.words.Command.{Command}
+use Rattle.cred_program.specs.declared.words.Command.TheVariants.{Run, Decode}
+use Rattle.cred_program.specs.Decoding.{Shows, Denies, ShowsFront}
 use Rattle.cred_program.specs.Texts.{usage_text, bad_text}
 
 -- how many bytes an input may have
@@ -79,15 +81,28 @@ Begins before after input =
     × AppendsPrefix before after (text script journal))
     (λ bad. AppendsPrefix before after (bad_text bad))
 
+-- What a command has done that is done, and what it has told that is Bad: `run` of its input, `decode` of its bytes.
+abbrev pub HasDone : Option Command → Option (List ℕ) → Option (List ℕ) → Option (List ℕ) → Option (List ℕ) → Type 0
+HasDone (Some Run) left_before left_after before after = Reads left_before left_after (Reports before after)
+HasDone (Some (Decode bytes)) left_before left_after before after = Shows bytes before after
+HasDone None left_before left_after before after = ⊥
+
+abbrev pub HasRefused : Option Command → Option (List ℕ) → Option (List ℕ) → Option (List ℕ) → Option (List ℕ) → Type 0
+HasRefused (Some Run) left_before left_after before after = Reads left_before left_after (Refuses before after)
+HasRefused (Some (Decode bytes)) left_before left_after before after = Denies bytes before after
+HasRefused None left_before left_after before after = ⊥
+
 -- What may have been written when the program ends, whatever its status: nothing, or a front of
 -- what the words and the input have, and of the latter only when the input was read to its end and
 -- is within the limits.
-abbrev pub WritesFront : List (List ℕ) → Option (List ℕ) → Option (List ℕ) → Option (List ℕ)
-    → Option (List ℕ) → Type 0
-WritesFront words left_before left_after before after =
-    (after ≡ before)
-    ⊎ ((IsCommand words → ⊥) × AppendsPrefix before after usage_text)
-    ⊎ (IsCommand words × Reads left_before left_after (Begins before after))
+abbrev pub BeginsText : Option Command → Option (List ℕ) → Option (List ℕ) → Option (List ℕ) → Option (List ℕ) → Type 0
+BeginsText (Some Run) left_before left_after before after = Reads left_before left_after (Begins before after)
+BeginsText (Some (Decode bytes)) left_before left_after before after = ShowsFront bytes before after
+BeginsText None left_before left_after before after = AppendsPrefix before after usage_text
+
+abbrev pub WritesFront : Option Command → Option (List ℕ) → Option (List ℕ) → Option (List ℕ) → Option (List ℕ) → Type 0
+WritesFront command left_before left_after before after =
+    (after ≡ before) ⊎ BeginsText command left_before left_after before after
 
 -- The statuses that an input may have: which of Done, Bad and TooLarge it is, the input alone
 -- decides, and nothing but a fault or want of memory takes their place.

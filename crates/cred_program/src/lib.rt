@@ -1,6 +1,7 @@
 //! The program, over its words, its input and its output.
 #![tactic(auto)]
 
+mod decoding;
 mod program;
 mod script;
 mod status;

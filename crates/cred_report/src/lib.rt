@@ -17,4 +17,6 @@ mod told;
 mod words;
 
 pub use entry::{append, print};
+pub use numbers::{append_flag, append_set};
 pub use text::Text;
+pub use words::{append_number, append_word};

@@ -38,8 +38,9 @@ fn write_digits(digits: &mut [u8; MAX_DIGITS], number: u64) -> usize
     first
 }
 
-/// Appends the set.
-pub(crate) fn append_set(out: &mut Vec<u8>, set: CapSet) -> Result<(), NoMemory>
+/// Appends a space, and the set in lower-case hexadecimal. After `NoMemory` nothing is said of what
+/// stands in the buffer.
+pub fn append_set(out: &mut Vec<u8>, set: CapSet) -> Result<(), NoMemory>
     ensures { OnOk result (out.new.items ≡ out.old.items ++ set_text set) }
 {
     append_word(out, " ")?;
@@ -83,8 +84,9 @@ pub(crate) fn append_arg(out: &mut Vec<u8>, arg: Arg) -> Result<(), NoMemory>
     }
 }
 
-/// Appends the flag.
-pub(crate) fn append_flag(out: &mut Vec<u8>, flag: bool) -> Result<(), NoMemory>
+/// Appends a space, and the flag as 0 or 1. After `NoMemory` nothing is said of what stands in the
+/// buffer.
+pub fn append_flag(out: &mut Vec<u8>, flag: bool) -> Result<(), NoMemory>
     ensures { OnOk result (out.new.items ≡ out.old.items ++ flag_text flag) }
 {
     if flag {

@@ -4,8 +4,8 @@ ghost use Rattle.std.specs.Prelude.{◌≡◌, ◌++◌, OnOk, decimal};
 use cred_ids::NoMemory;
 use itoa::Buffer;
 
-/// Appends the word.
-pub(crate) fn append_word(out: &mut Vec<u8>, word: &str) -> Result<(), NoMemory>
+/// Appends the word. After `NoMemory` nothing is said of what stands in the buffer.
+pub fn append_word(out: &mut Vec<u8>, word: &str) -> Result<(), NoMemory>
     ensures { OnOk result (out.new.items ≡ out.old.items ++ word.now) }
 {
     Ok(out.extend_from_slice(word.as_bytes())?)
@@ -19,8 +19,9 @@ pub(crate) fn append_long(out: &mut Vec<u8>, word: &str, number: u64) -> Result<
     Ok(out.extend_from_slice(Buffer::new().format(number).as_bytes())?)
 }
 
-/// Appends the word and the number.
-pub(crate) fn append_number(out: &mut Vec<u8>, word: &str, number: u32) -> Result<(), NoMemory>
+/// Appends the word and the number, in decimal. After `NoMemory` nothing is said of what stands in
+/// the buffer.
+pub fn append_number(out: &mut Vec<u8>, word: &str, number: u32) -> Result<(), NoMemory>
     ensures { OnOk result (out.new.items ≡ out.old.items ++ (word.now ++ decimal number)) }
 {
     append_long(out, word, u64::from(number))

@@ -23,7 +23,17 @@ const ENTRIES: [&str; 8] = [
 
 #[test]
 fn other_words_get_the_usage_line(rt: HostRuntime) -> Result<(), Fail> {
-    let table: [&[&str]; 5] = [&[], &["frob"], &["run", "run"], &["-"], &["lanes"]];
+    let table: [&[&str]; 9] = [
+        &[],
+        &["frob"],
+        &["run", "run"],
+        &["-"],
+        &["lanes"],
+        &["decode"],
+        &["decode", "0"],
+        &["decode", "0x"],
+        &["decode", "0g"],
+    ];
     for texts in table {
         let (status, sink) = ran(rt.alloc(), texts, SCRIPT.as_bytes())?;
         assert!(rt; status == Status::Usage);

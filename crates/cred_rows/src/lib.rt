@@ -7,6 +7,8 @@ mod changes;
 #[cfg(test)]
 mod copies;
 #[cfg(test)]
+mod decoding;
+#[cfg(test)]
 mod ends;
 #[cfg(test)]
 mod lasts;

@@ -1,4 +1,6 @@
+pub mod Access
 pub mod Adjust
+pub mod Attribute
 pub mod Fix
 pub mod SetFs
 pub mod SetId

@@ -1,11 +1,13 @@
 -- What a word spells.
-use Rattle.std.specs.Prelude.{ℕ, ◌^◌, Bool, false, ◌&&◌, ◌==◌, nat_le, nat_lt, List, [], ◌∷◌, length, position, codes, Some, None, if◌then◌else◌}
+use Rattle.std.specs.Prelude.{ℕ, ◌^◌, Bool, false, ◌&&◌, ◌==◌, nat_le, nat_lt, List, [], ◌∷◌, length, take, drop, position, codes, Some, None, if◌then◌else◌}
 use Rattle.std.specs.declared.option.Option.{Option}
 use Rattle.std.specs.Option.{option_map, option_and_then, option_or}
 use Rattle.std.specs.List.{list_all}
+use Rattle.std.specs.Result.{result_ok}
 use Rattle.std.specs.Char.{is_digit}
 use Rattle.std.specs.Str.{bytes_eq, all_ascii_digits}
 use Rattle.std.specs.Str.Parse.{digits_value}
+use Rattle.hex.specs.Hex.{decode_of}
 use Rattle.cred_caps.specs.Names.{cap_names}
 use Rattle.cred_ids.specs.declared.arg.Arg.{Arg}
 use Rattle.cred_ids.specs.declared.arg.Arg.TheVariants.{Keep, Set}
@@ -55,6 +57,16 @@ set_of word =
     if nat_le 1 (length word) && nat_le (length word) 16
     then option_and_then set_with (hexadecimal word)
     else None
+
+-- the digits, without `0x` before them
+abbrev pub without_0x : List ℕ → List ℕ
+without_0x word = if bytes_eq (take 2 word) (codes "0x") then drop 2 word else word
+
+-- Bytes are 2 to 128 hexadecimal digits of either case, an even number, with or without `0x` before them.
+abbrev pub bytes_of : List ℕ → Option (List ℕ)
+bytes_of word =
+    let digits = without_0x word in
+    if nat_le 2 (length digits) && nat_le (length digits) 128 then result_ok (decode_of digits) else None
 
 -- the number, if it is from the least to the most
 abbrev pub within : ℕ → ℕ → ℕ → Option ℕ

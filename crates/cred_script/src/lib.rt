@@ -7,6 +7,7 @@
 //! what is true of each script.
 #![tactic(auto)]
 
+mod bytes;
 mod changes;
 mod earlier;
 mod forms;
@@ -21,6 +22,7 @@ mod spellings;
 mod tests;
 mod words;
 
+pub use bytes::bytes_of;
 pub use lines::line_count;
 pub use reader::read;
 pub use refusal::{Reason, ScriptRefusal};

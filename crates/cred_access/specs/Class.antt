@@ -1,0 +1,11 @@
+-- Where a mode has the bits of a class.
+use Rattle.std.specs.Prelude.{ℕ}
+use Rattle.cred_access.specs.declared.class.Class.{Class}
+use Rattle.cred_access.specs.declared.class.Class.TheVariants as class
+use Rattle.cred_rules.specs.Access.{OWNER, GROUP, OTHERS}
+
+-- the place of the class's execute bit
+abbrev pub place : Class → ℕ
+place class.Owner = OWNER
+place class.Group = GROUP
+place class.Others = OTHERS

@@ -1,0 +1,19 @@
+//! What a task may do to a file and to another task (path_resolution(7), access(2), kill(2),
+//! capabilities(7)).
+#![tactic(auto)]
+
+mod class;
+mod file;
+mod mode;
+#[cfg(test)]
+mod permissions;
+mod real;
+mod rights;
+#[cfg(test)]
+mod signals;
+#[cfg(test)]
+mod tests;
+
+pub use file::may;
+pub use real::access_cred;
+pub use rights::{capable, may_signal};

@@ -1,0 +1,4 @@
+pub mod AttributeLaws
+pub mod SetLemmas
+pub mod WordLemmas
+pub mod Written

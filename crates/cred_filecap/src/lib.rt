@@ -1,0 +1,21 @@
+//! The capability attribute of a file, `security.capability` (capabilities(7), "File
+//! capabilities"): its bytes read and written, and whether it counts for a task.
+#![tactic(auto)]
+
+pub mod caps;
+mod chain;
+pub mod laws;
+mod reading;
+pub mod refusal;
+mod sets;
+#[cfg(test)]
+mod tests;
+mod version;
+mod words;
+mod writing;
+
+pub use caps::FileCaps;
+pub use chain::counts;
+pub use reading::decode;
+pub use refusal::AttrRefusal;
+pub use writing::encode;

@@ -1,0 +1,40 @@
+//! An attribute written.
+ghost use Rattle.std.specs.Prelude.{IfOk};
+ghost use Rattle.cred_rules.specs.Attribute.{Spells, IsCanonical};
+
+use crate::caps::FileCaps;
+use crate::sets::words_of;
+use crate::version::{LENGTH_2, LENGTH_3, VERSION_2};
+use crate::words::magic;
+use byteorder::{ByteOrder, LittleEndian};
+use cred_ids::NoMemory;
+use cred_record::Attr;
+use std::alloc::Global;
+
+/// The bytes of an attribute, 20 in version 2 and 24 in version 3 (linux/capability.h, `struct
+/// vfs_ns_cap_data`). Every bit that spells nothing is zero. They are the attribute of a file as
+/// setxattr(2) takes it.
+pub fn encode(alloc: Global, caps: &FileCaps) -> Result<Attr, NoMemory>
+    ensures spells { IfOk result (λ attr. Spells attr caps.now) }
+    ensures canonical { IfOk result (λ attr. IsCanonical attr) }
+{
+    let root = caps.root;
+    let perm = words_of(caps.perm);
+    let inh = words_of(caps.inh);
+    let words = [
+        magic(caps.version, caps.effective),
+        perm.low,
+        inh.low,
+        perm.high,
+        inh.high,
+        root,
+    ];
+    let mut bytes = [0; LENGTH_3];
+    LittleEndian::write_u32_into(&words, &mut bytes);
+    let length = if caps.version == VERSION_2 {
+        LENGTH_2
+    } else {
+        LENGTH_3
+    };
+    Ok(Attr::of(alloc, &bytes[..length])?)
+}

@@ -1,0 +1,16 @@
+use Rattle.std.proofs.Common.{inr, ap, ◌∙◌}
+use Rattle.cred_program.specs.Texts.{refusal_text}
+use Rattle.cred_program.proofs.Fronts.{prefix_either}
+use Rattle.cred_program.proofs.decoding.show.Goals as goal
+
+pub returns-in-Ok-refusal_text-clause-front : goal.returns-in-Ok-refusal_text-clause-front
+returns-in-Ok-refusal_text-clause-front g c =
+    let written = c.write_text-in-Ok-refusal_text in
+    inr (
+      c.as_bytes.result.now,
+      inr (
+        λ found. let no = c.in-Err.ensures.each_value found.0 found.1 in cc,
+        c.as_bytes.ensures.value ∙ c.in-Ok-refusal_text.ensures ∙ ap refusal_text c.in-Err.ensures.refusal,
+      ),
+      prefix_either _ _ c.as_bytes.result.now written.result written.ensures.ok written.ensures.err,
+    )

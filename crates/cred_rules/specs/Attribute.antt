@@ -1,0 +1,131 @@
+-- The capability attribute of a file: the bytes of its extended attribute `security.capability`,
+-- and what they spell (capabilities(7), "File capability extended attribute versioning";
+-- linux/capability.h, `struct vfs_cap_data` and `struct vfs_ns_cap_data`). What stands between the
+-- two is a relation, which says what each bit means: no way to read bytes, and none to write them.
+use Rattle.std.specs.Prelude.{◌≡◌, ◌⊎◌, ℕ, ◌+◌, ◌*◌, ◌^◌, ◌<◌, ◌==◌, ◌||◌, not, nat_lt, Bool, false, IsTrue, List, length, slice_index, if◌then◌else◌}
+use Rattle.std.specs.Int.{bit_at}
+use Rattle.std.specs.List.{list_any}
+use Rattle.cred_caps.specs.Caps.{Caps, IsCap, IsCaps, has}
+use Rattle.cred_caps.specs.Numbers.{LAST}
+
+-- what an attribute says: its version, the file's permitted and inheritable sets and effective
+-- flag, and the root id of the user namespace in which the file has them (capabilities(7), "File
+-- capabilities" and "Namespaced file capabilities")
+pub record Attribute : Type 0 where
+  pub version : ℕ
+  pub perm : Caps
+  pub inh : Caps
+  pub effective : Bool
+  pub root : ℕ
+
+-- ---- the bytes, by `struct vfs_ns_cap_data`
+
+-- the 32-bit word whose four bytes stand from place i, the lowest first (`__le32`)
+unfoldable pub word_at : List ℕ → ℕ → ℕ
+word_at bytes i =
+    slice_index bytes i +
+    256 * slice_index bytes (i + 1) +
+    256 ^ 2 * slice_index bytes (i + 2) +
+    256 ^ 3 * slice_index bytes (i + 3)
+
+-- bit i of a word is set
+abbrev pub is_bit : ℕ → ℕ → Bool
+is_bit word i = bit_at word i == 1
+
+-- the first word has the revision and the flags (`magic_etc`)
+abbrev pub magic : List ℕ → ℕ
+magic bytes = word_at bytes 0
+
+-- then come the low words of the permitted and the inheritable set (`data[0]`)
+abbrev pub perm_low : List ℕ → ℕ
+perm_low bytes = word_at bytes 4
+
+abbrev pub inh_low : List ℕ → ℕ
+inh_low bytes = word_at bytes 8
+
+-- then the high words of the two (`data[1]`)
+abbrev pub perm_high : List ℕ → ℕ
+perm_high bytes = word_at bytes 12
+
+abbrev pub inh_high : List ℕ → ℕ
+inh_high bytes = word_at bytes 16
+
+-- and then the root id (`rootid`)
+abbrev pub root_id : List ℕ → ℕ
+root_id bytes = word_at bytes 20
+
+-- the revision is the top byte of the first word (VFS_CAP_REVISION_MASK)
+abbrev pub revision_of : List ℕ → ℕ
+revision_of bytes = slice_index bytes 3
+
+-- ---- what they spell
+
+-- version 2 (VFS_CAP_REVISION_2) has five words. It has no root id, and is told with 0, that of the
+-- initial namespace
+pub record IsVersion2 (bytes : List ℕ) (a : Attribute) : Type 0 where
+  pub size : length bytes ≡ 20
+  pub revision : revision_of bytes ≡ 2
+  pub version : a.version ≡ 2
+  pub root : a.root ≡ 0
+
+-- version 3 (VFS_CAP_REVISION_3) has six words, and the last is its root id
+pub record IsVersion3 (bytes : List ℕ) (a : Attribute) : Type 0 where
+  pub size : length bytes ≡ 24
+  pub revision : revision_of bytes ≡ 3
+  pub version : a.version ≡ 3
+  pub root : a.root ≡ root_id bytes
+
+-- a low and a high word spell a set: the capabilities below 32 by the bits of the low word, those
+-- from 32 to the last one by the bits of the high word
+pub record SpellsSet (low high : ℕ) (s : Caps) : Type 0 where
+  pub below : (n : ℕ) → n < 32 → has s n ≡ is_bit low n
+  pub above : (n : ℕ) → IsCap (32 + n) → has s (32 + n) ≡ is_bit high n
+  pub others : IsCaps s
+
+-- the bytes spell the attribute: they are of its version, bit 0 of the first word is its effective
+-- flag (VFS_CAP_FLAGS_EFFECTIVE), and each of its sets stands in two words
+pub record Spells (bytes : List ℕ) (a : Attribute) : Type 0 where
+  pub version : IsVersion2 bytes a ⊎ IsVersion3 bytes a
+  pub effective : a.effective ≡ is_bit (magic bytes) 0
+  pub perm : SpellsSet (perm_low bytes) (perm_high bytes) a.perm
+  pub inh : SpellsSet (inh_low bytes) (inh_high bytes) a.inh
+
+-- every bit that spells nothing is zero: in the first word those between the effective flag and the
+-- revision, and in the high words those above the last capability
+pub record IsCanonical (bytes : List ℕ) : Type 0 where
+  pub flags : (i : ℕ) → 0 < i → i < 24 → is_bit (magic bytes) i ≡ false
+  pub perm : (i : ℕ) → LAST < 32 + i → i < 32 → is_bit (perm_high bytes) i ≡ false
+  pub inh : (i : ℕ) → LAST < 32 + i → i < 32 → is_bit (inh_high bytes) i ≡ false
+
+-- ---- bytes that spell nothing
+
+-- why bytes spell no attribute: how many they are, or their revision
+pub data Fault : Type 0 where
+  WrongLength : ℕ → Fault
+  WrongRevision : ℕ → Fault
+
+-- n is a version (VFS_CAP_REVISION_2, VFS_CAP_REVISION_3)
+abbrev pub is_version : ℕ → Bool
+is_version n = (n == 2) || (n == 3)
+
+-- why bytes that spell no attribute do not: they are too few to have a revision; else their
+-- revision is no version; else they are not as many as that version has. execve(2) answers EINVAL
+-- to each (security/commoncap.c of Linux, get_vfs_caps_from_disk)
+abbrev pub fault : List ℕ → Fault
+fault bytes =
+    if nat_lt (length bytes) 4 then WrongLength (length bytes)
+    else if not (is_version (revision_of bytes)) then WrongRevision (revision_of bytes)
+    else WrongLength (length bytes)
+
+-- ---- attributes
+
+-- what holds of each attribute: it has a version, and in version 2 the root id 0
+pub record IsVersioned (version root : ℕ) : Type 0 where
+  pub known : IsTrue (is_version version)
+  pub initial : version ≡ 2 → root ≡ 0
+
+-- the attribute counts for a task whose user namespace and its ancestors have these root ids: one
+-- of version 2 always does, and one of version 3 where its root id is among them (capabilities(7),
+-- "Namespaced file capabilities")
+abbrev pub counts : Attribute → List ℕ → Bool
+counts a chain = (a.version == 2) || list_any (λ id. id == a.root) chain
