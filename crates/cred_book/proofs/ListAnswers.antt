@@ -14,6 +14,7 @@ use Rattle.cred_record.specs.Credential.{Credential, first_credential}
 use Rattle.cred_record.specs.declared.refusal.Denial.{Denial}
 use Rattle.cred_rules.specs.SetId.{set_id}
 use Rattle.cred_rules.specs.Adjust.{adjust}
+use Rattle.cred_model.specs.Script.{Script}
 use Rattle.cred_model.specs.State.{State, Prepared, task_of, hold_of, prepared_of, numbered, current_of, held_by}
 use Rattle.cred_model.specs.Slots.{room, free}
 use Rattle.cred_model.specs.Step.{TASKS, HOLDS, PREPARED, ◌>>=◌, none_or, fewer_or, by_rule, by_change, with_change, born, replaced, preparing, given_up, committed, done, settled}
@@ -57,26 +58,26 @@ settles : (s : State) (place : ℕ) (p : Prepared) (current : ℕ) (c : Credenti
 settles s place p current c true = record { leaves = λ list. absurd list }
 settles s place p current c false = record { leaves = λ list. absurd list }
 
-by_event : (s : State) (event : Event) → Leaves s (done s event)
+by_event : (script : Script) (s : State) (event : Event) → Leaves s (done script s event)
 unfolding altered_to
-by_event s (Init task process user group ns) =
+by_event script s (Init task process user group ns) =
     tested s (none_or (task_of s task) (Exists named.Task task)) _
     (λ new. tested s (fewer_or (length s.tasks) TASKS (TooMany counted.Tasks)) _
     (λ few. in_slot s (room s) (λ r slot.
     let number = length r.creds in
     (Sealed number slot, born r (record { number = task; process = process; current = number }) (first_credential user group ns) slot))
     (free s) (λ slot list. list)))
-by_event s (Take label task side) =
+by_event script s (Take label task side) =
     tested s (ok_or (current_of s task) (NoTask task)) _
     (λ taken. tested s (none_or (hold_of s label) (Exists named.Label label)) _
     (λ new. tested s (none_or (prepared_of s label) (Exists named.Label label)) _
     (λ unprepared. tested s (fewer_or (length s.holds) HOLDS (TooMany counted.Holds)) _ (λ few. record { leaves = λ list. absurd list }))))
-by_event s (Release label) =
+by_event script s (Release label) =
     tested s (ok_or (position (λ h. h.label == label) s.holds) (NoHold label)) _
     (λ place. tested s (ok_or (slice_get s.holds place) (NoHold label)) _ (λ hold. record { leaves = λ list. absurd list }))
-by_event s (Ask label query) =
+by_event script s (Ask label query) =
     tested s (ok_or (held_by s label) (NoHold label)) _ (λ held. record { leaves = λ list. refl })
-by_event s (Prepare label task hold) =
+by_event script s (Prepare label task hold) =
     tested s (ok_or (task_of s task) (NoTask task)) _
     (λ owner. tested s (ok_or (hold_of s hold) (NoHold hold)) _
     (λ base. tested s (none_or (hold_of s label) (Exists named.Label label)) _
@@ -85,33 +86,33 @@ by_event s (Prepare label task hold) =
     (λ few. in_slot s (room s) (λ r slot.
     (Kept slot, preparing r (record { label = label; task = task; base = base.number; slot = slot; changed = None })))
     (free s) (λ slot list. list))))))
-by_event s (Alter label change) =
+by_event script s (Alter label change) =
     tested s (ok_or (prepared_of s label) (NoPrepared label)) _
     (λ p. tested s (ok_or (numbered s.creds p.base) (NoPrepared label)) _
     (λ base. altered s label change base.cred))
-by_event s (Commit label) =
+by_event script s (Commit label) =
     tested s (ok_or (position (λ p. p.label == label) s.prepared) (NoPrepared label)) _
     (λ place. tested s (ok_or (slice_get s.prepared place) (NoPrepared label)) _
     (λ p. tested s (ok_or p.changed (NoPrepared label)) _
     (λ last. tested s (ok_or (current_of s p.task) (NoTask p.task)) _
     (λ now. settles s place p now.number last.cred (now.number == p.base)))))
-by_event s (Abort label) =
+by_event script s (Abort label) =
     tested s (ok_or (position (λ p. p.label == label) s.prepared) (NoPrepared label)) _
     (λ place. tested s (ok_or (slice_get s.prepared place) (NoPrepared label)) _ (λ p. record { leaves = λ list. absurd list }))
-by_event s (Begin task call) =
+by_event script s (Begin task call) =
     tested s (ok_or (current_of s task) (NoTask task)) _
     (λ old. tested s (by_rule (set_id old.cred call)) _
     (λ new. in_slot s (room s) (λ r slot. (Began (length r.creds) slot 0, replaced r task old.number new slot)) (free s) (λ slot list. list)))
-by_event s Sweep = record { leaves = λ list. absurd list }
-by_event s event = record { leaves = λ list. refl }
+by_event script s Sweep = record { leaves = λ list. absurd list }
+by_event script s event = record { leaves = λ list. refl }
 
 -- an event that is answered with a list leaves the state
-pub list_leaves : (s : State) (event : Event) → HoldsList (settled s (done s event)).0 → (settled s (done s event)).1 ≡ s
-list_leaves s event = (by_event s event).leaves
+pub list_leaves : (script : Script) (s : State) (event : Event) → HoldsList (settled s (done script s event)).0 → (settled s (done script s event)).1 ≡ s
+list_leaves script s event = (by_event script s event).leaves
 
 -- what is so where the event was made
-pub made_leaves : (s after : State) (event : Event) (answer : Answer) → settled s (done s event) ≡ (answer, after) → HoldsList answer
+pub made_leaves : (script : Script) (s after : State) (event : Event) (answer : Answer) → settled s (done script s event) ≡ (answer, after) → HoldsList answer
     → after ≡ s
-made_leaves s after event answer made list =
-    let own : HoldsList (settled s (done s event)).0 = subst HoldsList (sym (ap (λ (p : Answer × State). p.0) made)) list in
-    sym (ap (λ (p : Answer × State). p.1) made) ∙ list_leaves s event own
+made_leaves script s after event answer made list =
+    let own : HoldsList (settled s (done script s event)).0 = subst HoldsList (sym (ap (λ (p : Answer × State). p.0) made)) list in
+    sym (ap (λ (p : Answer × State). p.1) made) ∙ list_leaves script s event own

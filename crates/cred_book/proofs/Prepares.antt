@@ -4,12 +4,11 @@ use Rattle.std.specs.Option.{option_and_then, option_map, IfSome}
 use Rattle.std.proofs.lemmas.Bool.{eq-eqb}
 use Rattle.std.proofs.lemmas.Bool.Decides.{nat_tests}
 use Rattle.cred_record.specs.Credential.{Credential}
-use Rattle.cred_event.specs.declared.event.Event.TheVariants.{Prepare, Commit, Abort}
 use Rattle.cred_event.specs.declared.answer.Answer.{Answer}
 use Rattle.cred_event.specs.declared.answer.Answer.TheVariants.{Done, Sealed, Kept, NoTask, NoPrepared, Stale, TableFull}
 use Rattle.cred_model.specs.State.{State, Task, Hold, Prepared, Changed, Sealing, Numbered, task_of, hold_of, prepared_of, current_of}
 use Rattle.cred_model.specs.Step as step
-use Rattle.cred_model.specs.Step.{done, settled, settle, in_slot, with_current}
+use Rattle.cred_model.specs.Step.{by_abort, by_commit, by_prepare, settled, settle, in_slot, with_current}
 use Rattle.cred_slots.specs.Table.{Table, IsSameBag, is_kept}
 use Rattle.cred_slots.specs.Table as table
 use Rattle.cred_slots.proofs.Tables.{held_is_referred, room-free, room-full}
@@ -79,7 +78,7 @@ few_prepared n few = grind (arith, nat_tests)
 
 prepare_tests : (s : State) (label task hold : ℕ) (owner : Task) (base : Hold) → task_of s task ≡ Some owner → hold_of s hold ≡ Some base
     → hold_of s label ≡ None → prepared_of s label ≡ None → length s.prepared < 64
-    → settled s (done s (Prepare label task hold)) ≡ in_slot s (prepare_does label task base.number)
+    → settled s (by_prepare s label task hold) ≡ in_slot s (prepare_does label task base.number)
 unfolding prepare_does
 prepare_tests s label task hold owner base lives holds new unprepared few =
     rw (lives, holds, new, unprepared, few_prepared (length s.prepared) few) refl
@@ -88,7 +87,7 @@ pub prepare_full : (tasks : List Task) (holds : List Hold) (ps : List Prepared) 
     → IsCounted tasks holds ps cs t → find (λ u. u.number == task) tasks ≡ Some owner → find (λ h. h.label == hold) holds ≡ Some base
     → find (λ h. h.label == label) holds ≡ None → find (λ p. p.label == label) ps ≡ None → length ps < 64
     → table.free t ≡ None → kept_state tasks holds ps cs (table.room t) ≡ kept_state tasks holds ps cs after
-    → settled (kept_state tasks holds ps cs t) (done (kept_state tasks holds ps cs t) (Prepare label task hold)) ≡ (TableFull, kept_state tasks holds ps cs after)
+    → settled (kept_state tasks holds ps cs t) (by_prepare (kept_state tasks holds ps cs t) label task hold) ≡ (TableFull, kept_state tasks holds ps cs after)
 prepare_full tasks holds ps cs t after label task hold owner base is lives has new unprepared few full makes =
     prepare_tests (kept_state tasks holds ps cs t) label task hold owner base lives has new unprepared few
     ∙ finds_full (kept_state tasks holds ps cs t) (kept_state tasks holds ps cs after) (prepare_does label task base.number)
@@ -100,7 +99,7 @@ pub prepare_kept : (tasks : List Task) (holds : List Hold) (ps ps' : List Prepar
     → find (λ h. h.label == label) holds ≡ None → find (λ p. p.label == label) ps ≡ None → length ps < 64
     → table.free t ≡ Some slot → ps' ≡ ps ++ record { label = label; task = task; base = base.number; slot = slot; changed = None } ∷ []
     → after.sealed ≡ t.sealed → after.deferred ≡ (table.room t).deferred
-    → settled (kept_state tasks holds ps cs t) (done (kept_state tasks holds ps cs t) (Prepare label task hold)) ≡ (Kept slot, kept_state tasks holds ps' cs after)
+    → settled (kept_state tasks holds ps cs t) (by_prepare (kept_state tasks holds ps cs t) label task hold) ≡ (Kept slot, kept_state tasks holds ps' cs after)
 unfolding prepare_does
 prepare_kept tasks holds ps ps' cs t after label task hold slot owner base is lives has new unprepared few takes ps_is sealed_is deferred_is =
     let s : State = kept_state tasks holds ps cs t in
@@ -114,13 +113,13 @@ prepare_kept tasks holds ps ps' cs t after label task hold slot owner base is li
 -- ---- a label gives up
 
 abort_tests : (s : State) (label place : ℕ) (p : Prepared) → position (λ q. q.label == label) s.prepared ≡ Some place → slice_get s.prepared place ≡ Some p
-    → settled s (done s (Abort label)) ≡ (Done, step.given_up s place p)
+    → settled s (by_abort s label) ≡ (Done, step.given_up s place p)
 abort_tests s label place p at there = rw (at, there) refl
 
 pub abort_done : (tasks : List Task) (holds : List Hold) (ps ps' : List Prepared) (cs : List Credential) (t after : Table) (label place : ℕ) (p : Prepared)
     → position (λ q. q.label == label) ps ≡ Some place → slice_get ps place ≡ Some p → ps' ≡ remove ps place
     → after.sealed ≡ t.sealed → after.deferred ≡ t.deferred ++ p.base ∷ []
-    → settled (kept_state tasks holds ps cs t) (done (kept_state tasks holds ps cs t) (Abort label)) ≡ (Done, kept_state tasks holds ps' cs after)
+    → settled (kept_state tasks holds ps cs t) (by_abort (kept_state tasks holds ps cs t) label) ≡ (Done, kept_state tasks holds ps' cs after)
 abort_done tasks holds ps ps' cs t after label place p at there ps_is sealed_is deferred_is =
     let s : State = kept_state tasks holds ps cs t in
     abort_tests s label place p at there
@@ -132,31 +131,31 @@ abort_done tasks holds ps ps' cs t after label place p at there ps_is sealed_is 
 
 commit_tests : (s : State) (label place : ℕ) (p : Prepared) (last : Changed) (now : Numbered)
     → position (λ q. q.label == label) s.prepared ≡ Some place → slice_get s.prepared place ≡ Some p → p.changed ≡ Some last → current_of s p.task ≡ Some now
-    → settled s (done s (Commit label)) ≡ settle s place p now.number last.cred
+    → settled s (by_commit s label) ≡ settle s place p now.number last.cred
 commit_tests s label place p last now at there changed lives = rw (at, there, changed, lives) refl
 
 -- where the label isn't prepared, or was never changed
-pub commit_none : (s : State) (label : ℕ) → changed_of s.prepared label ≡ None → settled s (done s (Commit label)) ≡ (NoPrepared label, s)
+pub commit_none : (s : State) (label : ℕ) → changed_of s.prepared label ≡ None → settled s (by_commit s label) ≡ (NoPrepared label, s)
 commit_none s label none = by_place (position (λ p. p.label == label) s.prepared) refl
   where
     by_prepared : (place : ℕ) → position (λ p. p.label == label) s.prepared ≡ Some place → (found : Option Prepared) → slice_get s.prepared place ≡ found
-        → settled s (done s (Commit label)) ≡ (NoPrepared label, s)
+        → settled s (by_commit s label) ≡ (NoPrepared label, s)
     by_prepared place at None there = rw (at, there) refl
     by_prepared place at (Some p) there =
         let unchanged : p.changed ≡ None
         = sym (ap (option_and_then (λ (q : Prepared). q.changed)) (find-at (λ q. q.label == label) s.prepared place p at there)) ∙ none in
         rw (at, there, unchanged) refl
 
-    by_place : (found : Option ℕ) → position (λ p. p.label == label) s.prepared ≡ found → settled s (done s (Commit label)) ≡ (NoPrepared label, s)
+    by_place : (found : Option ℕ) → position (λ p. p.label == label) s.prepared ≡ found → settled s (by_commit s label) ≡ (NoPrepared label, s)
     by_place None at = rw at refl
     by_place (Some place) at = by_prepared place at (slice_get s.prepared place) refl
 
 untasked : (s : State) (label place : ℕ) (p : Prepared) (last : Changed) → position (λ q. q.label == label) s.prepared ≡ Some place
-    → slice_get s.prepared place ≡ Some p → p.changed ≡ Some last → current_of s p.task ≡ None → settled s (done s (Commit label)) ≡ (NoTask p.task, s)
+    → slice_get s.prepared place ≡ Some p → p.changed ≡ Some last → current_of s p.task ≡ None → settled s (by_commit s label) ≡ (NoTask p.task, s)
 untasked s label place p last at there changed none = rw (at, there, changed, none) refl
 
 pub commit_no_task : (s : State) (label : ℕ) (p : Prepared) (last : Changed) → prepared_of s label ≡ Some p → p.changed ≡ Some last → current_of s p.task ≡ None
-    → settled s (done s (Commit label)) ≡ (NoTask p.task, s)
+    → settled s (by_commit s label) ≡ (NoTask p.task, s)
 commit_no_task s label p last found changed none =
     let at = place-of_found (λ q. q.label == label) s.prepared p found in
     untasked s label at.0 p last at.1 at.2 changed none
@@ -172,8 +171,8 @@ settle_current s place p current c same = rw same refl
 -- A stale label is given up as an abort does.
 pub commit_stale : (s after : State) (answer : Answer) (label : ℕ) (p : Prepared) (last : Changed) (now : Numbered)
     → prepared_of s label ≡ Some p → p.changed ≡ Some last → current_of s p.task ≡ Some now → (now.number ≡ p.base → ⊥)
-    → settled s (done s (Abort label)) ≡ (answer, after)
-    → settled s (done s (Commit label)) ≡ (Stale p.base now.number, after)
+    → settled s (by_abort s label) ≡ (answer, after)
+    → settled s (by_commit s label) ≡ (Stale p.base now.number, after)
 commit_stale s after answer label p last now found changed lives other aborts =
     let at = place-of_found (λ q. q.label == label) s.prepared p found in
     let differs : (now.number == p.base) ≡ false = grind (arith, nat_tests) in
@@ -188,7 +187,7 @@ pub commit_sealed : (tasks tasks' : List Task) (holds : List Hold) (ps ps' : Lis
     → current_of (kept_state tasks holds ps cs t) p.task ≡ Some now → now.number ≡ p.base → number ≡ length t.sealed
     → tasks' ≡ with_current tasks p.task number → ps' ≡ remove ps place → cs' ≡ cs ++ last.cred ∷ []
     → after.sealed ≡ t.sealed ++ p.slot ∷ [] → after.deferred ≡ (t.deferred ++ now.number ∷ []) ++ p.base ∷ []
-    → settled (kept_state tasks holds ps cs t) (done (kept_state tasks holds ps cs t) (Commit label)) ≡ (Sealed number p.slot, kept_state tasks' holds ps' cs' after)
+    → settled (kept_state tasks holds ps cs t) (by_commit (kept_state tasks holds ps cs t) label) ≡ (Sealed number p.slot, kept_state tasks' holds ps' cs' after)
 commit_sealed tasks tasks' holds ps ps' cs cs' t after label place number p last now is at there changed lives base counted tasks_is ps_is cs_is sealed_is deferred_is =
     let s : State = kept_state tasks holds ps cs t in
     let count : length (sealings cs t.sealed) ≡ number = length-sealings cs t.sealed is.sealed ∙ is.sealed ∙ sym counted in

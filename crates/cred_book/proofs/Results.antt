@@ -5,13 +5,12 @@ use Rattle.std.proofs.lemmas.Bool.Decides.{nat_tests}
 use Rattle.cred_record.specs.Credential.{Credential, first_credential}
 use Rattle.cred_record.specs.declared.id_call.IdCall.{IdCall}
 use Rattle.cred_rules.specs.SetId.{set_id}
-use Rattle.cred_event.specs.declared.event.Event.TheVariants.{Init, Release, Begin}
 use Rattle.cred_event.specs.declared.answer.Answer.{Answer}
 use Rattle.cred_event.specs.declared.answer.Answer.TheVariants.{Done, Sealed, Began, TableFull}
 use Rattle.cred_model.specs.State.{State, Task, Hold, Prepared, Sealing, Numbered, current_of, numbered}
 use Rattle.cred_model.specs.Slots as model
 use Rattle.cred_model.specs.Step as step
-use Rattle.cred_model.specs.Step.{done, settled, in_slot, with_current}
+use Rattle.cred_model.specs.Step.{by_begin, by_init, by_release, settled, in_slot, with_current}
 use Rattle.cred_slots.specs.Table.{Table, IsSameBag, is_kept}
 use Rattle.cred_slots.specs.Table as table
 use Rattle.cred_slots.proofs.Counting.{count-cons, count-append}
@@ -72,14 +71,14 @@ few_tasks : (n : ℕ) → n < 64 → nat_lt n 64 ≡ true
 few_tasks n few = grind (arith, nat_tests)
 
 init_tests : (s : State) (task process user group ns : ℕ) → find (λ t. t.number == task) s.tasks ≡ None → length s.tasks < 64
-    → settled s (done s (Init task process user group ns)) ≡ in_slot s (init_does task process user group ns)
+    → settled s (by_init s task process user group ns) ≡ in_slot s (init_does task process user group ns)
 unfolding init_does
 init_tests s task process user group ns new few = rw (new, few_tasks (length s.tasks) few) refl
 
 pub init_full : (tasks : List Task) (holds : List Hold) (ps : List Prepared) (cs : List Credential) (t after : Table) (task process user group ns : ℕ)
     → IsCounted tasks holds ps cs t → find (λ u. u.number == task) tasks ≡ None → length tasks < 64
     → table.free t ≡ None → kept_state tasks holds ps cs (table.room t) ≡ kept_state tasks holds ps cs after
-    → settled (kept_state tasks holds ps cs t) (done (kept_state tasks holds ps cs t) (Init task process user group ns))
+    → settled (kept_state tasks holds ps cs t) (by_init (kept_state tasks holds ps cs t) task process user group ns)
     ≡ (TableFull, kept_state tasks holds ps cs after)
 init_full tasks holds ps cs t after task process user group ns is new few full makes =
     init_tests (kept_state tasks holds ps cs t) task process user group ns new few
@@ -91,7 +90,7 @@ pub init_sealed : (tasks tasks' : List Task) (holds : List Hold) (ps : List Prep
     → IsCounted tasks holds ps cs t → find (λ u. u.number == task) tasks ≡ None → length tasks < 64 → Seals t after number slot
     → tasks' ≡ tasks ++ record { number = task; process = process; current = number } ∷ []
     → cs' ≡ cs ++ first_credential user group ns ∷ []
-    → settled (kept_state tasks holds ps cs t) (done (kept_state tasks holds ps cs t) (Init task process user group ns))
+    → settled (kept_state tasks holds ps cs t) (by_init (kept_state tasks holds ps cs t) task process user group ns)
     ≡ (Sealed number slot, kept_state tasks' holds ps cs' after)
 unfolding init_does
 init_sealed tasks tasks' holds ps cs cs' t after task process user group ns number slot is new few seals tasks_is cs_is =
@@ -130,14 +129,14 @@ begin_does : (task old : ℕ) (new : Credential) → State → ℕ → Answer ×
 begin_does task old new s slot = (Began (length s.creds) slot 0, step.replaced s task old new slot)
 
 begin_tests : (s : State) (task : ℕ) (call : IdCall) (old : Numbered) (new : Credential) → current_of s task ≡ Some old → set_id old.cred call ≡ Ok new
-    → settled s (done s (Begin task call)) ≡ in_slot s (begin_does task old.number new)
+    → settled s (by_begin s task call) ≡ in_slot s (begin_does task old.number new)
 unfolding begin_does
 begin_tests s task call old new has rule = rw (has, rule) refl
 
 pub begin_full : (tasks : List Task) (holds : List Hold) (ps : List Prepared) (cs : List Credential) (t after : Table) (task : ℕ) (call : IdCall) (old : Numbered) (new : Credential)
     → IsCounted tasks holds ps cs t → current_of (kept_state tasks holds ps cs t) task ≡ Some old → set_id old.cred call ≡ Ok new
     → table.free t ≡ None → kept_state tasks holds ps cs (table.room t) ≡ kept_state tasks holds ps cs after
-    → settled (kept_state tasks holds ps cs t) (done (kept_state tasks holds ps cs t) (Begin task call)) ≡ (TableFull, kept_state tasks holds ps cs after)
+    → settled (kept_state tasks holds ps cs t) (by_begin (kept_state tasks holds ps cs t) task call) ≡ (TableFull, kept_state tasks holds ps cs after)
 begin_full tasks holds ps cs t after task call old new is has rule full makes =
     begin_tests (kept_state tasks holds ps cs t) task call old new has rule
     ∙ finds_full (kept_state tasks holds ps cs t) (kept_state tasks holds ps cs after) (begin_does task old.number new)
@@ -149,7 +148,7 @@ pub begin_sealed : (tasks tasks' : List Task) (holds : List Hold) (ps : List Pre
     → Seals t between number slot
     → tasks' ≡ with_current tasks task number → cs' ≡ cs ++ new ∷ []
     → after.sealed ≡ between.sealed → after.deferred ≡ between.deferred ++ old.number ∷ []
-    → settled (kept_state tasks holds ps cs t) (done (kept_state tasks holds ps cs t) (Begin task call)) ≡ (Began number slot 0, kept_state tasks' holds ps cs' after)
+    → settled (kept_state tasks holds ps cs t) (by_begin (kept_state tasks holds ps cs t) task call) ≡ (Began number slot 0, kept_state tasks' holds ps cs' after)
 unfolding begin_does
 begin_sealed tasks tasks' holds ps cs cs' t between after task call old new number slot is has rule seals tasks_is cs_is sealed_is deferred_is =
     let s : State = kept_state tasks holds ps cs t in
@@ -221,10 +220,10 @@ acting tasks holds ps cs t task old has =
 pub release_done : (tasks : List Task) (holds holds' : List Hold) (ps : List Prepared) (cs : List Credential) (t after : Table) (label place : ℕ) (hold : Hold)
     → position (λ h. h.label == label) holds ≡ Some place → slice_get holds place ≡ Some hold → holds' ≡ remove holds place
     → after.sealed ≡ t.sealed → after.deferred ≡ t.deferred ++ hold.number ∷ []
-    → settled (kept_state tasks holds ps cs t) (done (kept_state tasks holds ps cs t) (Release label)) ≡ (Done, kept_state tasks holds' ps cs after)
+    → settled (kept_state tasks holds ps cs t) (by_release (kept_state tasks holds ps cs t) label) ≡ (Done, kept_state tasks holds' ps cs after)
 release_done tasks holds holds' ps cs t after label place hold at there holds_is sealed_is deferred_is =
     let s : State = kept_state tasks holds ps cs t in
-    let found : settled s (done s (Release label)) ≡ (Done, record s { holds = remove holds place; deferred = t.deferred ++ hold.number ∷ [] })
+    let found : settled s (by_release s label) ≡ (Done, record s { holds = remove holds place; deferred = t.deferred ++ hold.number ∷ [] })
     = rw (at, there) refl in
     found
     ∙ ap (λ (hs : List Hold). (Done, record s { holds = hs; deferred = t.deferred ++ hold.number ∷ [] })) (sym holds_is)

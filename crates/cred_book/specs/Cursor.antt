@@ -43,7 +43,8 @@ Stands book = IsCursor book.script book.journal book.cursor
 
 -- how many steps may be left where the cursor stands here, at most
 abbrev pub left_at : Script → Option Course → ℕ
-left_at script cursor = option_map_or (λ course. 64 * (length script.lines - course.line) + model.left course) cursor 0
+left_at script cursor =
+    option_map_or (λ course. 64 * (length script.lines - course.line) + model.left course) cursor 0
 
 abbrev pub left : Recorded → ℕ
 left book = left_at book.script book.cursor

@@ -15,7 +15,13 @@ sealings (c ∷ cs) (slot ∷ slots) = record { cred = c; slot = slot } ∷ seal
 -- the state that is kept so
 abbrev pub kept_state : List Task → List Hold → List Prepared → List Credential → Table → State
 kept_state tasks holds prepared creds table =
-    record { tasks = tasks; holds = holds; prepared = prepared; deferred = table.deferred; creds = sealings creds table.sealed }
+    record {
+      tasks = tasks;
+      holds = holds;
+      prepared = prepared;
+      deferred = table.deferred;
+      creds = sealings creds table.sealed;
+    }
 
 -- no two tasks have one number
 abbrev pub AreDistinct : List Task → Type 0
@@ -33,7 +39,8 @@ AreApart (p ∷ ps) = (is_kept_by ps p.slot ≡ false) × AreApart ps
 
 -- the numbers that tasks, holds and prepared labels refer to
 abbrev pub referred : List Task → List Hold → List Prepared → List ℕ
-referred tasks holds prepared = map (λ t. t.current) tasks ++ map (λ h. h.number) holds ++ map (λ p. p.base) prepared
+referred tasks holds prepared =
+    map (λ t. t.current) tasks ++ map (λ h. h.number) holds ++ map (λ p. p.base) prepared
 
 -- The table counts just the references of the tasks, the holds and the prepared labels, has the slot of each credential,
 -- and keeps just the slots that prepared labels keep, each for one of them.

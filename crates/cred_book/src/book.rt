@@ -99,7 +99,7 @@ impl Book {
         ensures err { OnErr result (self.new ≡ self.old) }
     {
         self.journal.reserve(1)?;
-        let answer = self.state.step(&event)?;
+        let answer = self.state.step(&self.script, &event)?;
         let copied = copy_answer(&answer)?;
         self.journal.push(Entry {
             line,

@@ -1,19 +1,26 @@
 //! What a question about a credential is told.
-ghost use Rattle.std.specs.Prelude.{◌≡◌, IfOk};
+ghost use Rattle.std.specs.Prelude.{◌≡◌, IfOk, slice_get};
 ghost use Rattle.cred_rules.specs.Adjust.{read_in};
-ghost use Rattle.cred_model.specs.Answers.{flag, reply};
+ghost use Rattle.cred_model.specs.Answers.{checked, flag, reply};
 
+use cred_access::{capable, may};
 use cred_adjust::{amb_is_set, bset_read};
-use cred_caps::{Cap, CapSet};
+use cred_caps::Cap;
 use cred_event::{Answer, Query, Told};
 use cred_ids::NoMemory;
-use cred_record::{Cred, IdList};
+use cred_record::{Cred, IdList, Want};
+use cred_script::Script;
 use std::alloc::Global;
 
-/// What a question about a credential is told. `NoMemory` comes where its groups could not be
-/// copied.
-pub fn reply_to(alloc: Global, cred: &Cred, query: Query) -> Result<Answer, NoMemory>
-    ensures { IfOk result (λ answer. answer ≡ reply cred.now query) }
+/// What a question about a credential is told. A check is of a file of the script. `NoMemory` comes
+/// where the credential's groups could not be copied.
+pub fn reply_to(
+    alloc: Global,
+    script: &Script,
+    cred: &Cred,
+    query: Query,
+) -> Result<Answer, NoMemory>
+    ensures { IfOk result (λ answer. answer ≡ reply script.now.files cred.now query) }
 {
     let told = match query {
         Query::Ids => Told::Ids {
@@ -32,10 +39,10 @@ pub fn reply_to(alloc: Global, cred: &Cred, query: Query) -> Result<Answer, NoMe
             bits: cred.bits,
             nnp: cred.nnp,
         },
-        Query::Capable(n) => return Ok(flag(read_in(&cred.eff, n))),
+        Query::Capable(n) => return Ok(flag(is_capable(cred, n))),
         Query::Bset(n) => return Ok(flag(bset_read(cred, n))),
         Query::AmbIs(n) => return Ok(flag(amb_is_set(cred, n))),
-        Query::Check { .. } => return Ok(Answer::Einval),
+        Query::Check { file, want } => return Ok(checked(script, cred, file, want)),
     };
     Ok(Answer::Told(told))
 }
@@ -50,9 +57,19 @@ fn flag(is: Option<bool>) -> Answer
     }
 }
 
-/// Whether capability n is in the set. `None` exactly above 40.
-fn read_in(set: &CapSet, n: u32) -> Option<bool>
-    ensures { result ≡ read_in set.now n }
+/// Whether the credential has capability n (capabilities(7)). `None` exactly above 40.
+fn is_capable(cred: &Cred, n: u32) -> Option<bool>
+    ensures { result ≡ read_in cred.now.eff n }
 {
-    Some(set.has(Cap::new(n)?))
+    Some(capable(cred, Cap::new(n)?))
+}
+
+/// What the check of the file at this place is told: `Done` where all that is wanted is permitted.
+fn checked(script: &Script, cred: &Cred, file: u32, want: Want) -> Answer
+    ensures { result ≡ checked cred.now (slice_get script.now.files file) want }
+{
+    match script.file(file) {
+        Some(file) if may(cred, file, want) => Answer::Done,
+        _ => Answer::Eacces,
+    }
 }

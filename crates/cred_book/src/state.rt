@@ -4,7 +4,7 @@ ghost use Rattle.std.specs.Prelude.{◌≡◌, ◌||◌, is_some, IfOk, OnErr};
 ghost use Rattle.std.specs.Option.{option_map};
 ghost use Rattle.cred_model.specs.State.{opening, hold_of, prepared_of, current_of, held_by};
 ghost use Rattle.cred_model.specs.Slots as model;
-ghost use Rattle.cred_model.specs.Step.{done, settled};
+ghost use Rattle.cred_model.specs.Step.{by_ask, by_begin, by_init, by_release, by_take, done, settled};
 
 mod prepare;
 
@@ -16,6 +16,7 @@ use crate::table::{Numbered, Task, sealed_at, set_current, task_among};
 use cred_event::{Answer, Counted, Event, Named, Query, Side};
 use cred_ids::{Id, NoMemory};
 use cred_record::{Cred, IdCall, Refusal, first};
+use cred_script::Script;
 use cred_setid::apply;
 use cred_slots::Slots;
 use std::alloc::Global;
@@ -66,10 +67,10 @@ impl State {
         })
     }
 
-    /// Makes one event, and answers it. Without memory nothing changes.
-    pub fn step(&mut self, event: &Event) -> Result<Answer, NoMemory>
+    /// Makes one event of the script, and answers it. Without memory nothing changes.
+    pub fn step(&mut self, script: &Script, event: &Event) -> Result<Answer, NoMemory>
         ensures ok { IfOk result (λ answer.
-            settled self.old (done self.old event.now) ≡ (answer, self.new)) }
+            settled self.old (done script.now self.old event.now) ≡ (answer, self.new)) }
         ensures err { OnErr result (self.new ≡ self.old) }
     {
         match event {
@@ -82,7 +83,7 @@ impl State {
             } => self.init(*task, *process, *user, *group, *ns),
             Event::Take { label, task, side } => self.take(*label, *task, *side),
             Event::Release { label } => Ok(self.release(*label)),
-            Event::Ask { label, query } => self.ask(*label, *query),
+            Event::Ask { label, query } => self.ask(script, *label, *query),
             Event::Prepare { label, task, hold } => self.prepare(*label, *task, *hold),
             Event::Alter { label, change } => self.alter(*label, *change),
             Event::Commit { label } => self.commit(*label),
@@ -139,7 +140,7 @@ impl State {
         ns: u32,
     ) -> Result<Answer, NoMemory>
         ensures ok { IfOk result (λ answer.
-            settled self.old (done self.old (Event.Init number process user group ns))
+            settled self.old (by_init self.old number process user group ns)
             ≡ (answer, self.new)) }
         ensures err { OnErr result (self.new ≡ self.old) }
     {
@@ -173,7 +174,7 @@ impl State {
 
     fn take(&mut self, label: u32, task: u32, side: Side) -> Result<Answer, NoMemory>
         ensures ok { IfOk result (λ answer.
-            settled self.old (done self.old (Event.Take label task side)) ≡ (answer, self.new)) }
+            settled self.old (by_take self.old label task side) ≡ (answer, self.new)) }
         ensures err { OnErr result (self.new ≡ self.old) }
     {
         let Some(Numbered { number, slot, .. }) = self.current(task) else {
@@ -195,7 +196,7 @@ impl State {
     }
 
     fn release(&mut self, label: u32) -> Answer
-        ensures { settled self.old (done self.old (Event.Release label)) ≡ (result, self.new) }
+        ensures { settled self.old (by_release self.old label) ≡ (result, self.new) }
     {
         let Some(number) = self.holds.release(label) else {
             return Answer::NoHold(label);
@@ -204,19 +205,19 @@ impl State {
         Answer::Done
     }
 
-    fn ask(&self, label: u32, query: Query) -> Result<Answer, NoMemory>
+    fn ask(&self, script: &Script, label: u32, query: Query) -> Result<Answer, NoMemory>
         ensures { IfOk result (λ answer.
-            settled self.now (done self.now (Event.Ask label query)) ≡ (answer, self.now)) }
+            settled self.now (by_ask script.now.files self.now label query) ≡ (answer, self.now)) }
     {
         match self.held(label) {
-            Some(held) => reply_to(self.alloc, held.cred, query),
+            Some(held) => reply_to(self.alloc, script, held.cred, query),
             None => Ok(Answer::NoHold(label)),
         }
     }
 
     fn begin(&mut self, task: u32, call: &IdCall) -> Result<Answer, NoMemory>
         ensures ok { IfOk result (λ answer.
-            settled self.old (done self.old (Event.Begin task call.now)) ≡ (answer, self.new)) }
+            settled self.old (by_begin self.old task call.now) ≡ (answer, self.new)) }
         ensures err { OnErr result (self.new ≡ self.old) }
     {
         let Some(

@@ -1,15 +1,18 @@
 -- What a rule and a question answer, and which answers are refusals.
-use Rattle.std.specs.Prelude.{Bool, true, false, Some, None}
+use Rattle.std.specs.Prelude.{Bool, true, false, List, slice_get, Some, None, if◌then◌else◌}
 use Rattle.std.specs.declared.option.Option.{Option}
 use Rattle.cred_record.specs.Credential.{Credential}
+use Rattle.cred_record.specs.declared.want.Want.{Want}
 use Rattle.cred_record.specs.declared.refusal.Denial.{Denial}
 use Rattle.cred_record.specs.declared.refusal.Denial.TheVariants.{Perm, Invalid}
 use Rattle.cred_rules.specs.Adjust.{read_in, bset_read, amb_is_set}
+use Rattle.cred_rules.specs.Access.{may}
 use Rattle.cred_event.specs.declared.answer.Answer.{Answer}
 use Rattle.cred_event.specs.declared.answer.Answer.TheVariants as answer
 use Rattle.cred_event.specs.declared.answer.Told.TheVariants as told
 use Rattle.cred_event.specs.declared.event.Query.{Query}
-use Rattle.cred_event.specs.declared.event.Query.TheVariants.{Ids, Caps, Groups, Bits, Capable, Bset, AmbIs}
+use Rattle.cred_event.specs.declared.event.Query.TheVariants.{Ids, Caps, Groups, Bits, Capable, Bset, AmbIs, Check}
+use Rattle.cred_model.specs.Script.{NamedFile}
 
 -- a rule's refusal, as the manual's error
 abbrev pub refusal : Denial → Answer
@@ -21,16 +24,21 @@ abbrev pub flag : Option Bool → Answer
 flag None = answer.Einval
 flag (Some is) = answer.Told (told.Flag is)
 
--- What a question about a credential is told. A question that no line asks yet is refused.
-abbrev pub reply : Credential → Query → Answer
-reply c Ids = answer.Told (told.Ids c.uid c.gid)
-reply c Caps = answer.Told (told.Caps c.perm c.inh c.eff c.bound c.amb)
-reply c Groups = answer.Told (told.Groups c.groups)
-reply c Bits = answer.Told (told.Bits c.bits c.nnp)
-reply c (Capable n) = flag (read_in c.eff n)
-reply c (Bset n) = flag (bset_read c n)
-reply c (AmbIs n) = flag (amb_is_set c n)
-reply c query = answer.Einval
+-- what a check of a file is told; a file that isn't declared can't be reached
+abbrev pub checked : Credential → Option NamedFile → Want → Answer
+checked c None asked = answer.Eacces
+checked c (Some file) asked = if may c file.info asked then answer.Done else answer.Eacces
+
+-- What a question about a credential is told, where these are the declared files.
+abbrev pub reply : List NamedFile → Credential → Query → Answer
+reply files c Ids = answer.Told (told.Ids c.uid c.gid)
+reply files c Caps = answer.Told (told.Caps c.perm c.inh c.eff c.bound c.amb)
+reply files c Groups = answer.Told (told.Groups c.groups)
+reply files c Bits = answer.Told (told.Bits c.bits c.nnp)
+reply files c (Capable n) = flag (read_in c.eff n)
+reply files c (Bset n) = flag (bset_read c n)
+reply files c (AmbIs n) = flag (amb_is_set c n)
+reply files c (Check file asked) = checked c (slice_get files file) asked
 
 -- the event did what it says
 abbrev pub is_ok : Answer → Bool

@@ -13,7 +13,8 @@ use Rattle.cred_event.specs.declared.content.Content.{Content}
 use Rattle.cred_event.specs.declared.content.Content.TheVariants.{One, Id, Question, Change}
 use Rattle.cred_model.specs.Answers.{is_ok}
 
--- the labels that a line takes for itself: for what it holds, and for the new credential that it prepares
+-- the labels that a line takes for itself: for what it holds, and for the new credential that it
+-- prepares
 abbrev pub hold_label : ℕ → ℕ
 hold_label line = 100000 + 10 * line
 
@@ -24,7 +25,8 @@ new_label line = 100001 + 10 * line
 abbrev pub TRIES : ℕ
 TRIES = 8
 
--- How far a line has come: the stage that comes next, or none where it has ended, and which try this is.
+-- How far a line has come: the stage that comes next, or none where it has ended, and which try
+-- this is.
 pub record Course : Type 0 where
   pub line : ℕ
   pub stage : Option Stage
@@ -40,10 +42,15 @@ makes_events content = false
 
 -- a line before its first event
 abbrev pub start : ℕ → Content → Course
-start line content = record { line = line; stage = if makes_events content then Some First else None; tries = 1 }
+start line content = record {
+  line = line;
+  stage = if makes_events content then Some First else None;
+  tries = 1;
+}
 
--- The event of a stage. A question takes hold of the credential that the task acts with, asks, and lets go. A change takes
--- hold of it too, prepares a new one from it, changes that, commits it, and lets go.
+-- The event of a stage. A question takes hold of the credential that the task acts with, asks, and
+-- lets go. A change takes hold of it too, prepares a new one from it, changes that, commits it, and
+-- lets go.
 abbrev pub event_in : ℕ → Content → Stage → Option Event
 event_in line (One event) First = Some event
 event_in line (Id task call) First = Some (Begin task call)
@@ -51,7 +58,8 @@ event_in line (Question task query) First = Some (Take (hold_label line) task Su
 event_in line (Question task query) Asking = Some (Ask (hold_label line) query)
 event_in line (Question task query) Releasing = Some (Release (hold_label line))
 event_in line (Change task change) First = Some (Take (hold_label line) task Subjective)
-event_in line (Change task change) Preparing = Some (Prepare (new_label line) task (hold_label line))
+event_in line (Change task change) Preparing =
+    Some (Prepare (new_label line) task (hold_label line))
 event_in line (Change task change) Altering = Some (Alter (new_label line) change)
 event_in line (Change task change) Committing = Some (Commit (new_label line))
 event_in line (Change task change) Aborting = Some (Abort (new_label line))
@@ -63,15 +71,18 @@ event_in line content stage = None
 abbrev pub event_at : Content → Course → Option Event
 event_at content course = option_and_then (event_in course.line content) course.stage
 
--- The stage after an answer. Where the hold is refused the line ends. A refusal after that leads to the release of what was
--- taken: first what is prepared, then what is held.
+-- The stage after an answer. Where the hold is refused the line ends. A refusal after that leads to
+-- the release of what was taken: first what is prepared, then what is held.
 abbrev pub next_stage : Content → Stage → Answer → Option Stage
 next_stage (Question task query) First answer = if is_ok answer then Some Asking else None
 next_stage (Question task query) Asking answer = Some Releasing
 next_stage (Change task change) First answer = if is_ok answer then Some Preparing else None
-next_stage (Change task change) Preparing answer = Some (if is_ok answer then Altering else Releasing)
-next_stage (Change task change) Altering answer = Some (if is_ok answer then Committing else Aborting)
-next_stage (Change task change) Committing answer = Some (if is_ok answer then Releasing else Aborting)
+next_stage (Change task change) Preparing answer =
+    Some (if is_ok answer then Altering else Releasing)
+next_stage (Change task change) Altering answer =
+    Some (if is_ok answer then Committing else Aborting)
+next_stage (Change task change) Committing answer =
+    Some (if is_ok answer then Releasing else Aborting)
 next_stage (Change task change) Aborting answer = Some Releasing
 next_stage (Change task change) Retrying answer = Some First
 next_stage content stage answer = None
@@ -84,14 +95,17 @@ is_late stage answer = false
 -- The next try begins with the release of the hold. After the last one the line ends with it.
 abbrev pub again : Course → Course
 again course =
-    if nat_lt course.tries TRIES then record course { stage = Some Retrying; tries = course.tries + 1 }
+    if nat_lt course.tries TRIES
+    then record course { stage = Some Retrying; tries = course.tries + 1 }
     else record course { stage = Some Releasing }
 
 -- how far the line has come after one more answer
 abbrev pub after : Content → Course → Answer → Course
 after content course answer =
     if is_late course.stage answer then again course
-    else record course { stage = option_and_then (λ stage. next_stage content stage answer) course.stage }
+    else record course {
+      stage = option_and_then (λ stage. next_stage content stage answer) course.stage;
+    }
 
 -- how many events a try may still have from this stage on, at most
 abbrev pub most : Stage → ℕ

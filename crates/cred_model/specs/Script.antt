@@ -13,8 +13,8 @@ pub record Line : Type 0 where
   pub lane : ℕ
   pub content : Content
 
--- The files that a script declares, and its lines, each in its order. An event names a file by its place. A line's number
--- is its place, counted from 1.
+-- The files that a script declares, and its lines, each in its order. An event names a file by its
+-- place. A line's number is its place, counted from 1.
 pub record Script : Type 0 where
   pub files : List NamedFile
   pub lines : List Line

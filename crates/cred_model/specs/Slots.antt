@@ -9,14 +9,18 @@ use Rattle.cred_model.specs.State.{State, Sealing}
 abbrev pub SLOTS : ℕ
 SLOTS = 256
 
--- Every reference to a credential, by its number: one for each task's current credential, one for each hold, one for the
--- base of each prepared label, and one for each that was given up since the last sweep.
+-- Every reference to a credential, by its number: one for each task's current credential, one for
+-- each hold, one for the base of each prepared label, and one for each that was given up since the
+-- last sweep.
 abbrev pub refs : State → List ℕ
-refs s = map (λ t. t.current) s.tasks ++ map (λ h. h.number) s.holds ++ map (λ p. p.base) s.prepared ++ s.deferred
+refs s =
+    map (λ t. t.current) s.tasks ++ map (λ h. h.number) s.holds ++ map (λ p. p.base) s.prepared ++
+    s.deferred
 
 -- the credential of this number stands in the slot
 abbrev pub stands_in : List Sealing → ℕ → ℕ → Bool
-stands_in creds slot number = option_map_or (λ sealing. sealing.slot == slot) (slice_get creds number) false
+stands_in creds slot number =
+    option_map_or (λ sealing. sealing.slot == slot) (slice_get creds number) false
 
 -- how many references there are to credentials in the slot
 abbrev pub uses : State → ℕ → ℕ

@@ -36,8 +36,9 @@ pub record Sealing : Type 0 where
   pub cred : Credential
   pub slot : ℕ
 
--- The live tasks, the holds, the prepared labels, the numbers that were given up since the last sweep, and all
--- credentials that were ever sealed. The place of a credential in that list is its number.
+-- The live tasks, the holds, the prepared labels, the numbers that were given up since the last
+-- sweep, and all credentials that were ever sealed. The place of a credential in that list is its
+-- number.
 pub record State : Type 0 where
   pub tasks : List Task
   pub holds : List Hold
@@ -66,7 +67,8 @@ pub record Numbered : Type 0 where
 
 abbrev pub numbered : List Sealing → ℕ → Option Numbered
 numbered creds number =
-    option_map (λ sealing. record { number = number; cred = sealing.cred; slot = sealing.slot }) (slice_get creds number)
+    option_map (λ sealing. record { number = number; cred = sealing.cred; slot = sealing.slot })
+    (slice_get creds number)
 
 -- the current credential of a task
 abbrev pub current_of : State → ℕ → Option Numbered

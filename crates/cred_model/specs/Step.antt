@@ -3,6 +3,7 @@ use Rattle.std.specs.Prelude.{ℕ, ◌==◌, nat_lt, [], ◌∷◌, ◌++◌, le
 use Rattle.std.specs.declared.option.Option.{Option}
 use Rattle.std.specs.Option.{option_map_or}
 use Rattle.cred_record.specs.Credential.{Credential, first_credential}
+use Rattle.cred_record.specs.declared.id_call.IdCall.{IdCall}
 use Rattle.cred_record.specs.declared.refusal.Denial.{Denial}
 use Rattle.cred_rules.specs.SetId.{set_id}
 use Rattle.cred_rules.specs.SetFs.{set_fs, old_fs}
@@ -10,12 +11,14 @@ use Rattle.cred_rules.specs.Adjust.{adjust}
 use Rattle.cred_event.specs.declared.event.Change.{Change}
 use Rattle.cred_event.specs.declared.event.Change.TheVariants.{SetFs, Adjust}
 use Rattle.cred_event.specs.declared.event.Event.{Event}
+use Rattle.cred_event.specs.declared.event.Query.{Query}
+use Rattle.cred_event.specs.declared.event.Side.{Side}
 use Rattle.cred_event.specs.declared.event.Event.TheVariants.{Init, Take, Release, Ask, Prepare, Alter, Commit, Abort, Begin, Sweep}
 use Rattle.cred_event.specs.declared.answer.Answer.{Answer}
 use Rattle.cred_event.specs.declared.answer.Answer.TheVariants.{Done, Sealed, Kept, Was, Began, Einval, NoTask, NoHold, NoPrepared, Exists, Stale, TooMany, TableFull}
 use Rattle.cred_event.specs.declared.answer.Named.TheVariants as named
 use Rattle.cred_event.specs.declared.answer.Counted.TheVariants as counted
-use Rattle.cred_model.specs.Script.{Script}
+use Rattle.cred_model.specs.Script.{Script, NamedFile}
 use Rattle.cred_model.specs.State.{State, Task, Prepared, Changed, task_of, hold_of, prepared_of, numbered, current_of, held_by}
 use Rattle.cred_model.specs.Slots.{room, free, swept}
 use Rattle.cred_model.specs.Answers.{refusal, reply}
@@ -49,7 +52,8 @@ abbrev pub by_rule : Result Credential Denial → Result Credential Answer
 by_rule (Ok c) = Ok c
 by_rule (Err denial) = Err (refusal denial)
 
--- What happens where a slot is free, or that the table is full. The sweep that was made to find one stands either way.
+-- What happens where a slot is free, or that the table is full. The sweep that was made to find one
+-- stands either way.
 abbrev pub in_slot : State → (State → ℕ → Answer × State) → Answer × State
 in_slot s does = option_map_or (does (room s)) (free s) (TableFull, room s)
 
@@ -70,17 +74,22 @@ born s task c slot =
     let now = sealed s c slot in
     record now { tasks = s.tasks ++ task ∷ [] }
 
--- The task's credential is replaced: the new one is sealed and becomes its current one, and the old one is given up.
+-- The task's credential is replaced: the new one is sealed and becomes its current one, and the old
+-- one is given up.
 abbrev pub replaced : State → ℕ → ℕ → Credential → ℕ → State
 replaced s task old c slot =
     let now = sealed s c slot in
-    record now { tasks = with_current s.tasks task (length s.creds); deferred = s.deferred ++ old ∷ [] }
+    record now {
+      tasks = with_current s.tasks task (length s.creds);
+      deferred = s.deferred ++ old ∷ [];
+    }
 
 -- A label prepares a new credential.
 abbrev pub preparing : State → Prepared → State
 preparing s p = record s { prepared = s.prepared ++ p ∷ [] }
 
--- what a change makes of the base credential, with its answer; a change that no line makes yet is refused
+-- what a change makes of the base credential, with its answer; a change that no line makes yet is
+-- refused
 abbrev pub by_change : Credential → Change → Result (Answer × Credential) Answer
 by_change c (SetFs kind id) = Ok (Was (old_fs c kind), set_fs c kind id)
 by_change c (Adjust call) = do
@@ -95,12 +104,16 @@ changed label to p = if p.label == label then record p { changed = Some to } els
 abbrev pub with_change : List Prepared → ℕ → Changed → List Prepared
 with_change prepared label to = map (changed label to) prepared
 
--- The prepared label at this place is given up, and its slot with it: it refers to its base no more.
+-- The prepared label at this place is given up, and its slot with it: it refers to its base no
+-- more.
 abbrev pub given_up : State → ℕ → Prepared → State
-given_up s place p = record s { prepared = remove s.prepared place; deferred = s.deferred ++ p.base ∷ [] }
+given_up s place p = record s {
+  prepared = remove s.prepared place;
+  deferred = s.deferred ++ p.base ∷ [];
+}
 
--- The prepared label at this place is committed: the credential is sealed in the slot that was kept for it, and becomes
--- the task's current one. The old one and the base are given up.
+-- The prepared label at this place is committed: the credential is sealed in the slot that was kept
+-- for it, and becomes the task's current one. The old one and the base are given up.
 abbrev pub committed : State → ℕ → Prepared → ℕ → Credential → State
 committed s place p old c =
     let now = sealed s c p.slot in
@@ -110,63 +123,117 @@ committed s place p old c =
       deferred = s.deferred ++ old ∷ p.base ∷ [];
     }
 
--- Only a credential whose base is still the task's current one is committed. Another one is stale, and is given up.
+-- Only a credential whose base is still the task's current one is committed. Another one is stale,
+-- and is given up.
 abbrev pub settle : State → ℕ → Prepared → ℕ → Credential → Answer × State
 settle s place p current c =
     if current == p.base
     then (Sealed (length s.creds) p.slot, committed s place p current c)
     else (Stale p.base current, given_up s place p)
 
--- what an event does if nothing refuses it, with its answer
-abbrev pub done : State → Event → Result (Answer × State) Answer
-done s (Init task process user group ns) = do
+-- init: a first task is born
+abbrev pub by_init : State → ℕ → ℕ → ℕ → ℕ → ℕ → Result (Answer × State) Answer
+by_init s task process user group ns = do
   new ← none_or (task_of s task) (Exists named.Task task)
   few ← fewer_or (length s.tasks) TASKS (TooMany counted.Tasks)
   Ok (in_slot s (λ s slot.
       let number = length s.creds in
-      (Sealed number slot, born s (record { number = task; process = process; current = number }) (first_credential user group ns) slot)))
-done s (Take label task side) = do
+      let first : Task = record { number = task; process = process; current = number } in
+      (Sealed number slot, born s first (first_credential user group ns) slot)))
+
+-- a label takes hold of the credential that the task acts with, or is acted on by
+abbrev pub by_take : State → ℕ → ℕ → Side → Result (Answer × State) Answer
+by_take s label task side = do
   taken ← ok_or (current_of s task) (NoTask task)
   new ← none_or (hold_of s label) (Exists named.Label label)
   unprepared ← none_or (prepared_of s label) (Exists named.Label label)
   few ← fewer_or (length s.holds) HOLDS (TooMany counted.Holds)
-  Ok (Sealed taken.number taken.slot, record s { holds = s.holds ++ record { label = label; number = taken.number } ∷ [] })
-done s (Release label) = do
+  Ok (
+    Sealed taken.number taken.slot,
+    record s { holds = s.holds ++ record { label = label; number = taken.number } ∷ [] },
+  )
+
+-- a label lets go
+abbrev pub by_release : State → ℕ → Result (Answer × State) Answer
+by_release s label = do
   place ← ok_or (position (λ h. h.label == label) s.holds) (NoHold label)
   hold ← ok_or (slice_get s.holds place) (NoHold label)
   Ok (Done, record s { holds = remove s.holds place; deferred = s.deferred ++ hold.number ∷ [] })
-done s (Ask label query) = do
+
+-- a question about what a label holds, where these are the declared files
+abbrev pub by_ask : List NamedFile → State → ℕ → Query → Result (Answer × State) Answer
+by_ask files s label query = do
   held ← ok_or (held_by s label) (NoHold label)
-  Ok (reply held.cred query, s)
-done s (Prepare label task hold) = do
+  Ok (reply files held.cred query, s)
+
+-- a label prepares a new credential for a task, based on what another holds
+abbrev pub by_prepare : State → ℕ → ℕ → ℕ → Result (Answer × State) Answer
+by_prepare s label task hold = do
   owner ← ok_or (task_of s task) (NoTask task)
   base ← ok_or (hold_of s hold) (NoHold hold)
   new ← none_or (hold_of s label) (Exists named.Label label)
   unprepared ← none_or (prepared_of s label) (Exists named.Label label)
   few ← fewer_or (length s.prepared) PREPARED (TooMany counted.Prepared)
-  Ok (in_slot s (λ s slot.
-      (Kept slot, preparing s (record { label = label; task = task; base = base.number; slot = slot; changed = None }))))
-done s (Alter label change) = do
+  Ok (in_slot s (λ s slot. (
+    Kept slot,
+    preparing s (record {
+      label = label;
+      task = task;
+      base = base.number;
+      slot = slot;
+      changed = None;
+    }),
+  )))
+
+-- what a label prepared is its base, changed
+abbrev pub by_alter : State → ℕ → Change → Result (Answer × State) Answer
+by_alter s label change = do
   p ← ok_or (prepared_of s label) (NoPrepared label)
   base ← ok_or (numbered s.creds p.base) (NoPrepared label)
   made ← by_change base.cred change
-  Ok (made.0, record s { prepared = with_change s.prepared label (record { change = change; cred = made.1 }) })
-done s (Commit label) = do
+  Ok (
+    made.0,
+    record s {
+      prepared = with_change s.prepared label (record { change = change; cred = made.1 });
+    },
+  )
+
+-- what a label prepared becomes the current credential of its task
+abbrev pub by_commit : State → ℕ → Result (Answer × State) Answer
+by_commit s label = do
   place ← ok_or (position (λ p. p.label == label) s.prepared) (NoPrepared label)
   p ← ok_or (slice_get s.prepared place) (NoPrepared label)
   last ← ok_or p.changed (NoPrepared label)
   now ← ok_or (current_of s p.task) (NoTask p.task)
   Ok (settle s place p now.number last.cred)
-done s (Abort label) = do
+
+-- what a label prepared is given up
+abbrev pub by_abort : State → ℕ → Result (Answer × State) Answer
+by_abort s label = do
   place ← ok_or (position (λ p. p.label == label) s.prepared) (NoPrepared label)
   p ← ok_or (slice_get s.prepared place) (NoPrepared label)
   Ok (Done, given_up s place p)
-done s (Begin task call) = do
+
+-- a task makes an id call
+abbrev pub by_begin : State → ℕ → IdCall → Result (Answer × State) Answer
+by_begin s task call = do
   old ← ok_or (current_of s task) (NoTask task)
   new ← by_rule (set_id old.cred call)
   Ok (in_slot s (λ s slot. (Began (length s.creds) slot 0, replaced s task old.number new slot)))
-done s Sweep = Ok (Done, swept s)
-done s event = Err Einval
+
+-- what an event does if nothing refuses it, with its answer
+abbrev pub done : Script → State → Event → Result (Answer × State) Answer
+done script s (Init task process user group ns) = by_init s task process user group ns
+done script s (Take label task side) = by_take s label task side
+done script s (Release label) = by_release s label
+done script s (Ask label query) = by_ask script.files s label query
+done script s (Prepare label task hold) = by_prepare s label task hold
+done script s (Alter label change) = by_alter s label change
+done script s (Commit label) = by_commit s label
+done script s (Abort label) = by_abort s label
+done script s (Begin task call) = by_begin s task call
+done script s Sweep = Ok (Done, swept s)
+done script s event = Err Einval
 
 -- A refusal leaves the state.
 abbrev pub settled : State → Result (Answer × State) Answer → Answer × State
@@ -175,4 +242,4 @@ settled s (Err answer) = (answer, s)
 
 -- What a line's event answers in a state, and the state after it.
 abbrev pub step : Script → State → ℕ → Event → Answer × State
-step script s line event = settled s (done s event)
+step script s line event = settled s (done script s event)

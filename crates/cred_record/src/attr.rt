@@ -31,6 +31,13 @@ impl Attr {
         })
     }
 
+    /// The attribute of these bytes, in the memory that they stand in.
+    pub fn from_vec(bytes: Vec<u8>) -> Attr
+        ensures { result ≡ bytes.items }
+    {
+        Attr { bytes }
+    }
+
     /// Its bytes.
     pub fn items(&self) -> &[u8]
         ensures { result.now ≡ self.now }

@@ -3,7 +3,7 @@ use crate::runs::ran;
 use cred_program::Status;
 use std::test::Fail;
 
-const REFUSED: [(&str, &str); 34] = [
+const REFUSED: [(&str, &str); 38] = [
     // A byte outside 0x20 to 0x7E is bad in comments too, and in lines without words.
     ("init t1 p1 0 0 n0\r\n", "bad 1 byte\n"),
     ("init t1 p1 0 0 n0\n# a\ttab\n", "bad 2 byte\n"),
@@ -46,6 +46,11 @@ const REFUSED: [(&str, &str); 34] = [
     // Namespace 0 alone is there without being declared.
     ("init t1 p1 0 0 n1\n", "bad 1 name\n"),
     ("\ninit t1 p1 0 0 n15\nfrob\n", "bad 2 name\n"),
+    // A file is declared once, before all calls, and before it is named.
+    ("file a reg 0 0 0644\nt1 check b r\n", "bad 2 name\n"),
+    ("file a reg 0 0 0644\nfile a dir 0 0 0755\n", "bad 2 name\n"),
+    ("t1 ids\nfile a reg 0 0 0644\n", "bad 2 order\n"),
+    ("file a reg 0 0 0888\n", "bad 1 word\n"),
 ];
 
 #[test]

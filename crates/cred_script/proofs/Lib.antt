@@ -3,5 +3,8 @@ pub mod Numerals
 pub mod CapNames
 pub mod Hexadecimals
 pub mod Fronts
+pub mod FileMap
+pub mod Grown
+pub mod FileNames
 pub mod IdLists
 pub mod FirstBadLine

@@ -1,5 +1,5 @@
 -- What is told of a text that is no script: its first bad line.
-use Rattle.std.specs.Prelude.{◌≡◌, ℕ, ◌-◌, ◌≤◌, true, List, length, take, Result, Ok, Err}
+use Rattle.std.specs.Prelude.{◌≡◌, ℕ, ◌-◌, ◌≤◌, true, List, [], length, take, Result, Ok, Err}
 use Rattle.std.specs.Result.{is_ok}
 use Rattle.cred_model.specs.Script.{Script}
 use Rattle.cred_script.specs.declared.refusal.Reason.{Reason}
@@ -12,8 +12,8 @@ use Rattle.cred_script.specs.Grammar.{lines_from}
 pub record IsFirstBad (texts : List (List ℕ)) (line : ℕ) (reason : Reason) : Type 0 where
   pub above : 1 ≤ line
   pub within : line ≤ length texts
-  pub before : is_ok (lines_from 1 nothing (take (line - 1) texts)) ≡ true
-  pub bad : lines_from 1 nothing (take line texts) ≡ Err (line, reason)
+  pub before : is_ok (lines_from 1 nothing [] (take (line - 1) texts)) ≡ true
+  pub bad : lines_from 1 nothing [] (take line texts) ≡ Err (line, reason)
 
 -- a line that is told is the first bad one
 abbrev pub TellsFirstBad : List (List ℕ) → Result Script ScriptRefusal → Type 0

@@ -1,12 +1,14 @@
 -- The forms of a line: what its words are, and what it then holds. Each definition takes the words
 -- that stand after the one that names the form. How many there are is asked before what they spell.
-use Rattle.std.specs.Prelude.{ℕ, List, [], ◌∷◌, Result, Ok, Err, ok_or}
+use Rattle.std.specs.Prelude.{ℕ, List, [], ◌∷◌, Some, None, Result, Ok, Err, ok_or}
+use Rattle.std.specs.declared.option.Option.{Option}
 use Rattle.cred_event.specs.declared.event.Event.TheVariants.{Init, Take, Release, Ask, Prepare, Alter, Commit, Abort, Begin, Sweep}
 use Rattle.cred_event.specs.declared.event.Side.{Side}
 use Rattle.cred_event.specs.declared.event.Query.{Query}
 use Rattle.cred_event.specs.declared.event.Query.TheVariants as query
 use Rattle.cred_event.specs.declared.content.Content.{Content}
-use Rattle.cred_event.specs.declared.content.Content.TheVariants.{One, Id, Change, Question}
+use Rattle.cred_event.specs.declared.content.Content.TheVariants.{Nothing, One, Id, Change, Question}
+use Rattle.cred_model.specs.Script.{NamedFile}
 use Rattle.cred_script.specs.declared.names.Form.{Form}
 use Rattle.cred_script.specs.declared.names.Form.TheVariants as form
 use Rattle.cred_script.specs.declared.names.QueryName.{QueryName}
@@ -16,34 +18,40 @@ use Rattle.cred_script.specs.declared.names.CallName.TheVariants as call
 use Rattle.cred_script.specs.declared.refusal.Reason.{Reason}
 use Rattle.cred_script.specs.declared.refusal.Reason.TheVariants.{Word}
 use Rattle.cred_script.specs.Words.{◌>>=◌, none, one, two, two_or_more, three, five}
-use Rattle.cred_script.specs.Spellings.{id_of, task_of, process_of, label_of, namespace_of}
+use Rattle.cred_script.specs.Spellings.{id_of, task_of, process_of, label_of, namespace_of, want_of}
+use Rattle.cred_script.specs.Files.{name_of, place_or_next, file_of}
 use Rattle.cred_script.specs.IdCalls.{id_call_of}
 use Rattle.cred_script.specs.Changes.{one_cap, change_of}
 use Rattle.cred_script.specs.Names as names
 
 -- a question, by its name
-unfoldable pub query_of : QueryName → List (List ℕ) → Result Query Reason
-query_of query_name.Ids words = do
+unfoldable pub query_of : List NamedFile → QueryName → List (List ℕ) → Result Query Reason
+query_of files query_name.Ids words = do
   end ← none words
   Ok query.Ids
-query_of query_name.Caps words = do
+query_of files query_name.Caps words = do
   end ← none words
   Ok query.Caps
-query_of query_name.Groups words = do
+query_of files query_name.Groups words = do
   end ← none words
   Ok query.Groups
-query_of query_name.Bits words = do
+query_of files query_name.Bits words = do
   end ← none words
   Ok query.Bits
-query_of query_name.Capable words = do
+query_of files query_name.Capable words = do
   cap ← one_cap words
   Ok (query.Capable cap)
-query_of query_name.Bset words = do
+query_of files query_name.Bset words = do
   cap ← one_cap words
   Ok (query.Bset cap)
-query_of query_name.AmbIs words = do
+query_of files query_name.AmbIs words = do
   cap ← one_cap words
   Ok (query.AmbIs cap)
+query_of files query_name.Check words = do
+  word ← two words
+  name ← name_of word.0
+  want ← ok_or (want_of word.1) Word
+  Ok (query.Check (place_or_next files name) want)
 
 -- `init T P ID ID N`: a first task is born, with its process, user, group and namespace.
 unfoldable pub init_content : List (List ℕ) → Result Content Reason
@@ -72,11 +80,11 @@ release_content words = do
   Ok (One (Release label))
 
 -- `ask H QUERY`
-unfoldable pub ask_content : List (List ℕ) → Result Content Reason
-ask_content words = do
+unfoldable pub ask_content : List NamedFile → List (List ℕ) → Result Content Reason
+ask_content files words = do
   word ← two_or_more words
   name ← ok_or (names.query_name word.1) Word
-  question ← query_of name word.2
+  question ← query_of files name word.2
   label ← ok_or (label_of word.0) Word
   Ok (One (Ask label question))
 
@@ -128,34 +136,48 @@ sweep_content words = do
   Ok (One Sweep)
 
 -- what the task does, by its name
-unfoldable pub call_content : ℕ → CallName → List (List ℕ) → Result Content Reason
-call_content task (call.Id name) words = do
+unfoldable pub call_content : List NamedFile → ℕ → CallName → List (List ℕ) → Result Content Reason
+call_content files task (call.Id name) words = do
   made ← id_call_of name words
   Ok (Id task made)
-call_content task (call.Change name) words = do
+call_content files task (call.Change name) words = do
   made ← change_of name words
   Ok (Change task made)
-call_content task (call.Question name) words = do
-  asked ← query_of name words
+call_content files task (call.Question name) words = do
+  asked ← query_of files name words
   Ok (Question task asked)
 
 -- a call or a question of the task: the line names it after the task
-unfoldable pub own_content : ℕ → List (List ℕ) → Result Content Reason
-own_content task [] = Err Word
-own_content task (word ∷ words) = do
+unfoldable pub own_content : List NamedFile → ℕ → List (List ℕ) → Result Content Reason
+own_content files task [] = Err Word
+own_content files task (word ∷ words) = do
   name ← ok_or (names.call_name word) Word
-  call_content task name words
+  call_content files task name words
 
--- what a line of this form holds
-abbrev pub form_content : Form → List (List ℕ) → Result Content Reason
-form_content form.Init words = init_content words
-form_content (form.Own task) words = own_content task words
-form_content (form.Take side) words = take_content side words
-form_content form.Release words = release_content words
-form_content form.Ask words = ask_content words
-form_content form.Prepare words = prepare_content words
-form_content form.Alter words = alter_content words
-form_content form.Commit words = commit_content words
-form_content form.Abort words = abort_content words
-form_content form.Begin words = begin_content words
-form_content form.Sweep words = sweep_content words
+-- What a line says: what it holds, and the file that it declares.
+pub record Said : Type 0 where
+  pub content : Content
+  pub file : Option NamedFile
+
+-- a line that declares no file
+abbrev pub holds : Result Content Reason → Result Said Reason
+holds content = content >>= λ held. Ok (record { content = held; file = None })
+
+-- a line that declares a file, and holds nothing
+abbrev pub declares : Result NamedFile Reason → Result Said Reason
+declares file = file >>= λ named. Ok (record { content = Nothing; file = Some named })
+
+-- what a line of this form says, where these files are declared before it
+abbrev pub form_said : List NamedFile → Form → List (List ℕ) → Result Said Reason
+form_said files form.Init words = holds (init_content words)
+form_said files form.File words = declares (file_of files words)
+form_said files (form.Own task) words = holds (own_content files task words)
+form_said files (form.Take side) words = holds (take_content side words)
+form_said files form.Release words = holds (release_content words)
+form_said files form.Ask words = holds (ask_content files words)
+form_said files form.Prepare words = holds (prepare_content words)
+form_said files form.Alter words = holds (alter_content words)
+form_said files form.Commit words = holds (commit_content words)
+form_said files form.Abort words = holds (abort_content words)
+form_said files form.Begin words = holds (begin_content words)
+form_said files form.Sweep words = holds (sweep_content words)

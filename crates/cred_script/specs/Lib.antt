@@ -1,6 +1,7 @@
 pub mod Lines
 pub mod Words
 pub mod Spellings
+pub mod Files
 pub mod Names
 pub mod IdCalls
 pub mod Changes
@@ -10,3 +11,4 @@ pub mod Grammar
 pub mod FirstBad
 pub mod Sound
 pub mod Read
+pub mod Kept

@@ -21,6 +21,7 @@ use Rattle.cred_script.specs.Spellings.{task_of}
 abbrev pub form_of : List ℕ → Option Form
 form_of word =
     if bytes_eq word (codes "init") then Some form.Init
+    else if bytes_eq word (codes "file") then Some form.File
     else if bytes_eq word (codes "take") then Some (form.Take Subjective)
     else if bytes_eq word (codes "takereal") then Some (form.Take Objective)
     else if bytes_eq word (codes "drop") then Some form.Release
@@ -72,6 +73,7 @@ query_name word =
     else if bytes_eq word (codes "capable") then Some query.Capable
     else if bytes_eq word (codes "bset") then Some query.Bset
     else if bytes_eq word (codes "ambis") then Some query.AmbIs
+    else if bytes_eq word (codes "check") then Some query.Check
     else None
 
 -- what a task may do on a line of its own

@@ -41,6 +41,14 @@ abbrev pub five_nows : Bor (List ℕ) × Bor (List ℕ) × Bor (List ℕ) × Bor
     → List ℕ × List ℕ × List ℕ × List ℕ × List ℕ
 five_nows words = (words.0.now, words.1.now, words.2.now, words.3.now, words.4.now)
 
+-- five words, and those after them
+abbrev pub options_nows
+    : Bor (List ℕ) × Bor (List ℕ) × Bor (List ℕ) × Bor (List ℕ) × Bor (List ℕ)
+    × Bor (List (Bor (List ℕ)))
+    → List ℕ × List ℕ × List ℕ × List ℕ × List ℕ × List (List ℕ)
+options_nows words =
+    (words.0.now, words.1.now, words.2.now, words.3.now, words.4.now, nows words.5.now)
+
 -- the line that a lane and a content make
 abbrev pub seen : ℕ × Bor Content → Line
 seen found = record { lane = found.0; content = found.1.now }

@@ -1,5 +1,6 @@
 -- What is true of the lines of every script.
-use Rattle.std.specs.Prelude.{◌≡◌, ℕ, ◌≤◌, ◌<◌, List, [], ◌∷◌, length, All}
+use Rattle.std.specs.Prelude.{◌≡◌, ℕ, ◌≤◌, ◌<◌, List, [], ◌∷◌, length, All, None, IfSome}
+use Rattle.std.specs.declared.option.Option.{Option}
 use Rattle.cred_event.specs.declared.event.Event.{Event}
 use Rattle.cred_event.specs.declared.event.Event.TheVariants.{Init, Take, TakeFile, Release, Ask, Signal, Prepare, Alter, Commit, Abort, Override, OpenFile}
 use Rattle.cred_event.specs.declared.event.Query.{Query}
@@ -9,7 +10,9 @@ use Rattle.cred_event.specs.declared.event.Change.TheVariants.{Exec}
 use Rattle.cred_event.specs.declared.content.Content.{Content}
 use Rattle.cred_event.specs.declared.content.Content.TheVariants.{One, Question, Open, Access}
 use Rattle.cred_event.specs.declared.content.Content.TheVariants as content
-use Rattle.cred_model.specs.Script.{Line}
+use Rattle.cred_model.specs.Script.{Line, NamedFile}
+use Rattle.cred_script.specs.Files.{place_of}
+use Rattle.cred_script.specs.Forms.{Said}
 
 -- the labels that an event names
 abbrev pub event_labels : Event → List ℕ
@@ -66,11 +69,9 @@ files content = []
 abbrev pub AreAmong : ℕ → List ℕ → Type 0
 AreAmong count files = All (λ file. file < count) files
 
--- What a line names, whatever stands before it. Greater labels than 99999 are those that a line
--- takes for itself, and no form names a file.
-pub record NamesOwn (content : Content) : Type 0 where
-  pub labels : All (λ label. label ≤ 99999) (labels content)
-  pub files : AreAmong 0 (files content)
+-- Greater labels than 99999 are those that a line takes for itself.
+abbrev pub NamesOwn : Content → Type 0
+NamesOwn content = All (λ label. label ≤ 99999) (labels content)
 
 -- Namespace 0 is the only one that is declared.
 abbrev pub HasDeclaredNamespaces : Content → Type 0
@@ -83,7 +84,17 @@ pub record IsSound (count : ℕ) (line : Line) : Type 0 where
   pub namespaces : HasDeclaredNamespaces line.content
   pub files : AreAmong count (files line.content)
 
--- what is true of the lines of a script
+-- none of these files has the name of the one that a line declares
+abbrev pub IsNew : List NamedFile → Option NamedFile → Type 0
+IsNew declared file = IfSome file (λ f. place_of declared f.name ≡ None)
+
+-- what is true of what a line says, where these files are declared before it
+pub record IsSaid (declared : List NamedFile) (said : Said) : Type 0 where
+  pub sound : IsSound (length declared) (record { lane = 0; content = said.content })
+  pub room : IfSome said.file (λ _. length declared < 256)
+  pub new : IsNew declared said.file
+
+-- what is true of the lines of a script that declares so many files
 pub record AreSound (count : ℕ) (lines : List Line) : Type 0 where
   pub few : length lines ≤ 20000
   pub each : All (IsSound count) lines

@@ -1,5 +1,5 @@
 -- What a word spells.
-use Rattle.std.specs.Prelude.{ℕ, ◌^◌, Bool, false, ◌&&◌, ◌==◌, nat_le, nat_lt, List, [], ◌∷◌, length, take, drop, position, codes, Some, None, if◌then◌else◌}
+use Rattle.std.specs.Prelude.{ℕ, ◌^◌, ◌+◌, ◌-◌, ◌*◌, Bool, true, false, ◌&&◌, ◌||◌, ◌==◌, nat_le, nat_lt, List, [], ◌∷◌, length, take, drop, position, codes, Some, None, if◌then◌else◌}
 use Rattle.std.specs.declared.option.Option.{Option}
 use Rattle.std.specs.Option.{option_map, option_and_then, option_or}
 use Rattle.std.specs.List.{list_all}
@@ -11,6 +11,9 @@ use Rattle.hex.specs.Hex.{decode_of}
 use Rattle.cred_caps.specs.Names.{cap_names}
 use Rattle.cred_ids.specs.declared.arg.Arg.{Arg}
 use Rattle.cred_ids.specs.declared.arg.Arg.TheVariants.{Keep, Set}
+use Rattle.cred_record.specs.declared.file.FileKind.{FileKind}
+use Rattle.cred_record.specs.declared.file.FileKind.TheVariants.{Regular, Directory}
+use Rattle.cred_record.specs.declared.want.Want.{Want}
 
 -- `0`, or a digit from 1 to 9 and further digits
 abbrev pub is_numeral : List ℕ → Bool
@@ -62,11 +65,14 @@ set_of word =
 abbrev pub without_0x : List ℕ → List ℕ
 without_0x word = if bytes_eq (take 2 word) (codes "0x") then drop 2 word else word
 
--- Bytes are 2 to 128 hexadecimal digits of either case, an even number, with or without `0x` before them.
+-- Bytes are 2 to 128 hexadecimal digits of either case, an even number, with or without `0x` before
+-- them.
 abbrev pub bytes_of : List ℕ → Option (List ℕ)
 bytes_of word =
     let digits = without_0x word in
-    if nat_le 2 (length digits) && nat_le (length digits) 128 then result_ok (decode_of digits) else None
+    if nat_le 2 (length digits) && nat_le (length digits) 128
+    then result_ok (decode_of digits)
+    else None
 
 -- the number, if it is from the least to the most
 abbrev pub within : ℕ → ℕ → ℕ → Option ℕ
@@ -93,3 +99,50 @@ label_of word = numbered 104 1 99999 word
 -- a namespace, as `n0`
 abbrev pub namespace_of : List ℕ → Option ℕ
 namespace_of word = numbered 110 0 15 word
+
+-- a letter of either case
+abbrev pub is_letter : ℕ → Bool
+is_letter byte = nat_le 65 byte && nat_le byte 90 || nat_le 97 byte && nat_le byte 122
+
+-- a letter, a digit, `_`, `.` or `-`
+abbrev pub is_name_byte : ℕ → Bool
+is_name_byte byte =
+    is_letter byte || nat_le 48 byte && nat_le byte 57 || byte == 95 || byte == 46 || byte == 45
+
+-- A file's name is 1 to 32 letters, digits, `_`, `.` and `-`, and begins with a letter.
+abbrev pub is_name : List ℕ → Bool
+is_name [] = false
+is_name (first ∷ rest) = is_letter first && list_all is_name_byte rest && nat_le (length rest) 31
+
+-- a file is regular or a directory
+abbrev pub kind_of : List ℕ → Option FileKind
+kind_of word =
+    if bytes_eq word (codes "reg") then Some Regular
+    else if bytes_eq word (codes "dir") then Some Directory
+    else None
+
+-- an octal digit
+abbrev pub octal_of : ℕ → Option ℕ
+octal_of byte = if nat_le 48 byte && nat_le byte 55 then Some (byte - 48) else None
+
+-- A mode is four octal digits.
+abbrev pub mode_of : List ℕ → Option ℕ
+mode_of (a ∷ b ∷ c ∷ d ∷ []) =
+    option_and_then (λ first.
+    option_and_then (λ second.
+    option_and_then (λ third.
+    option_map (λ fourth. 512 * first + 64 * second + 8 * third + fourth)
+    (octal_of d)) (octal_of c)) (octal_of b)) (octal_of a)
+mode_of word = None
+
+-- what is wanted of a file: at least one of `r`, `w` and `x`, in this order
+abbrev pub want_of : List ℕ → Option Want
+want_of word =
+    if bytes_eq word (codes "r") then Some (record { r = true; w = false; x = false })
+    else if bytes_eq word (codes "w") then Some (record { r = false; w = true; x = false })
+    else if bytes_eq word (codes "x") then Some (record { r = false; w = false; x = true })
+    else if bytes_eq word (codes "rw") then Some (record { r = true; w = true; x = false })
+    else if bytes_eq word (codes "rx") then Some (record { r = true; w = false; x = true })
+    else if bytes_eq word (codes "wx") then Some (record { r = false; w = true; x = true })
+    else if bytes_eq word (codes "rwx") then Some (record { r = true; w = true; x = true })
+    else None

@@ -1,9 +1,7 @@
 //! The changes of a credential that a line names: their arguments. How many there are is asked
 //! before what they spell.
-ghost use Rattle.std.specs.Prelude.{IfOk};
 ghost use Rattle.cred_script.specs.Changes as spec;
 ghost use Rattle.cred_script.specs.Read.{Says, nows};
-ghost use Rattle.cred_script.specs.Sound.{AreAmong, change_files};
 
 use crate::id_calls::one_arg;
 use crate::names::ChangeName;
@@ -46,8 +44,7 @@ fn three_sets(words: &[&[u8]]) -> Result<(CapSet, CapSet, CapSet), Reason>
 /// A change, by its name.
 #[tactic(auto, unfolding(crate::specs::Changes::change_of))]
 pub(crate) fn change_of(name: ChangeName, words: &[&[u8]]) -> Result<Change, Reason>
-    ensures change { Says (λ change. change) result (spec.change_of name (nows words.now)) }
-    ensures files { IfOk result (λ change. AreAmong 0 (change_files change)) }
+    ensures { Says (λ change. change) result (spec.change_of name (nows words.now)) }
 {
     match name {
         ChangeName::SetFs(kind) => Ok(Change::SetFs(kind, one_arg(words)?)),

@@ -1,12 +1,17 @@
 //! What the lines before a line have declared, and what that asks of the line.
-ghost use Rattle.std.specs.Prelude.{◌≡◌, IfOk};
+ghost use Rattle.std.specs.Prelude.{◌≡◌, ◌≤◌, [], IfOk, IsTrue, length};
+ghost use Rattle.std.specs.List.{cons_option};
+ghost use Rattle.std.specs.Option.{option_map};
 ghost use Rattle.cred_script.specs.Earlier as spec;
 ghost use Rattle.cred_script.specs.Read.{Says};
-ghost use Rattle.cred_script.specs.Sound.{HasDeclaredNamespaces};
+ghost use Rattle.cred_script.specs.Sound as sound;
+ghost use Rattle.cred_script.specs.Sound.{AreAmong, HasDeclaredNamespaces, IsNew};
 
+use crate::files::{Files, ScriptFile};
+use crate::forms::Said;
 use crate::names::{Form, form_of};
 use crate::refusal::Reason;
-use cred_event::{Content, Event};
+use cred_event::{Change, Content, Event, Query};
 
 /// What the lines before a line have said.
 #[derive(Clone, Copy, Debug)]
@@ -67,7 +72,7 @@ fn is_declaration(form: Form) -> bool
     ensures { result ≡ spec.is_declaration form }
 {
     match form {
-        Form::Init => true,
+        Form::Init | Form::File => true,
         _ => false,
     }
 }
@@ -81,15 +86,82 @@ fn starts_task(form: Form) -> bool
     }
 }
 
-/// Each name that the line uses was declared.
-pub(crate) fn names_declared(content: &Content) -> Result<(), Reason>
-    ensures answer { Says (λ x. x) result (spec.names_declared content.now) }
-    ensures namespaces { IfOk result (λ _. HasDeclaredNamespaces content.now) }
+/// The names that the line uses are declared, and the one that it declares is not.
+pub(crate) fn names_declared(files: &Files, said: &Said) -> Result<(), Reason>
+    ensures answer { Says (λ x. x) result (spec.names_declared files.now said.now) }
+    ensures namespaces { IfOk result (λ _. HasDeclaredNamespaces said.now.content) }
+    ensures files { IfOk result (λ _. AreAmong (length files.now) (sound.files said.now.content)) }
+    ensures new { IfOk result (λ _. IsNew files.now said.now.file) }
+{
+    if has_namespaces(&said.content)
+        && has_files(files, &said.content)
+        && is_new(files, said.file.as_ref())
+    {
+        Ok(())
+    } else {
+        Err(Reason::Name)
+    }
+}
+
+/// Namespace 0 is the only one that is declared.
+fn has_namespaces(content: &Content) -> bool
+    ensures answer { result ≡ spec.has_namespaces content.now }
+    ensures namespaces { IsTrue result → HasDeclaredNamespaces content.now }
 {
     match content {
-        Content::One(Event::Init { ns, .. }) => {
-            if *ns == 0 { Ok(()) } else { Err(Reason::Name) }
+        Content::One(Event::Init { ns, .. }) => *ns == 0,
+        _ => true,
+    }
+}
+
+/// Each file that the line names is declared.
+fn has_files(declared: &Files, content: &Content) -> bool
+    ensures answer { result ≡ spec.has_files declared.now content.now }
+    ensures files { IsTrue result → AreAmong (length declared.now) (sound.files content.now) }
+{
+    match named_file(content) {
+        Some(file) => (file as usize) < declared.len(),
+        None => true,
+    }
+}
+
+/// The file that a line names, by its place. No line names two.
+fn named_file(content: &Content) -> Option<u32>
+    ensures { sound.files content.now ≡ cons_option result [] }
+{
+    match content {
+        Content::Question {
+            query: Query::Check { file, .. },
+            ..
         }
-        _ => Ok(()),
+        | Content::One(
+            Event::Ask {
+                query: Query::Check { file, .. },
+                ..
+            }
+            | Event::Alter {
+                change: Change::Exec { file },
+                ..
+            }
+            | Event::OpenFile { file, .. },
+        )
+        | Content::Open { file, .. }
+        | Content::Change {
+            change: Change::Exec { file },
+            ..
+        }
+        | Content::Access { file, .. } => Some(*file),
+        _ => None,
+    }
+}
+
+/// No file before it has the name of the one that the line declares.
+fn is_new(declared: &Files, file: Option<&ScriptFile>) -> bool
+    ensures answer { result ≡ spec.is_new declared.now (option_map (λ f. f.now) file.entry) }
+    ensures new { IsTrue result → IsNew declared.now (option_map (λ f. f.now) file.entry) }
+{
+    match file {
+        Some(file) => declared.place_of(&file.name).is_none(),
+        None => true,
     }
 }

@@ -1,48 +1,86 @@
-//! The forms of a line: what its words are, and what it then holds. Each function takes the words
+//! The forms of a line: what its words are, and what it then says. Each function takes the words
 //! that stand after the one that names the form. Their number is asked before what they spell.
-ghost use Rattle.std.specs.Prelude.{◌≡◌, IfOk};
+ghost use Rattle.std.specs.Prelude.{◌≡◌, ◌≤◌, ◌<◌, IfOk, IfSome, None, length};
 ghost use Rattle.cred_script.specs.Read.{Says, Tells, nows};
 ghost use Rattle.cred_script.specs.Forms as spec;
-ghost use Rattle.cred_script.specs.Sound.{AreAmong, NamesOwn, query_files};
+ghost use Rattle.cred_script.specs.Sound.{NamesOwn};
 
 use crate::changes::{change_of, one_cap};
+use crate::file_line::{file_of, name_of};
+use crate::files::{Files, ScriptFile};
 use crate::id_calls::id_call_of;
 use crate::names::{CallName, Form, QueryName, call_name, change_name, id_name, query_name};
 use crate::refusal::{LineRefusal, Reason};
-use crate::spellings::{id_of, label_of, namespace_of, process_of, task_of};
+use crate::spellings::{id_of, label_of, namespace_of, process_of, task_of, want_of};
 use crate::words::{five, none, one, three, two, two_or_more};
 use cred_event::{Content, Event, Query, Side};
 use std::alloc::Global;
+use std::marker::Model;
 
-/// What a line of this form holds.
-pub(crate) fn form_content(
+/// What a line says: what it holds, and the file that it declares.
+#[derive(Drop, Debug)]
+pub(crate) struct Said {
+    pub(crate) content: Content,
+    pub(crate) file: Option<ScriptFile>,
+}
+
+impl Model for Said {
+    ghost use Rattle.cred_script.specs.Forms as spec;
+
+    ghost Value = { spec.Said };
+
+    ghost view = { λ s. record { content = s.content; file = s.file } };
+}
+
+impl Said {
+    /// A line that declares no file.
+    pub(crate) fn held(content: Content) -> Said
+        ensures { result ≡ record { content = content; file = None } }
+    {
+        Said {
+            content,
+            file: None,
+        }
+    }
+}
+
+/// What a line of this form says, where these files are declared before it.
+pub(crate) fn form_said(
     alloc: Global,
+    files: &Files,
     form: Form,
     words: &[&[u8]],
-) -> Result<Content, LineRefusal>
-    ensures content { Tells (λ content. content) result (spec.form_content form (nows words.now)) }
-    ensures own { IfOk result NamesOwn }
+) -> Result<Said, LineRefusal>
+    ensures said { Tells (λ said. said) result (spec.form_said files.now form (nows words.now)) }
+    ensures own { IfOk result (λ said. NamesOwn said.content) }
+    ensures room { IfOk result (λ said. IfSome said.file (λ _. length files.now < 256)) }
 {
-    match form {
-        Form::Init => Ok(init_content(words)?),
-        Form::Own(task) => own_content(alloc, task, words),
-        Form::Take(side) => Ok(take_content(side, words)?),
-        Form::Release => Ok(release_content(words)?),
-        Form::Ask => Ok(ask_content(words)?),
-        Form::Prepare => Ok(prepare_content(words)?),
-        Form::Alter => Ok(alter_content(words)?),
-        Form::Commit => Ok(commit_content(words)?),
-        Form::Abort => Ok(abort_content(words)?),
-        Form::Begin => begin_content(alloc, words),
-        Form::Sweep => Ok(sweep_content(words)?),
-    }
+    let content = match form {
+        Form::Init => init_content(words)?,
+        Form::File => {
+            return Ok(Said {
+                content: Content::Nothing,
+                file: Some(file_of(alloc, files, words)?),
+            });
+        }
+        Form::Own(task) => own_content(alloc, files, task, words)?,
+        Form::Take(side) => take_content(side, words)?,
+        Form::Release => release_content(words)?,
+        Form::Ask => ask_content(files, words)?,
+        Form::Prepare => prepare_content(words)?,
+        Form::Alter => alter_content(words)?,
+        Form::Commit => commit_content(words)?,
+        Form::Abort => abort_content(words)?,
+        Form::Begin => begin_content(alloc, words)?,
+        Form::Sweep => sweep_content(words)?,
+    };
+    Ok(Said::held(content))
 }
 
 /// A question, by its name.
 #[tactic(auto, unfolding(crate::specs::Forms::query_of))]
-fn query_of(name: QueryName, words: &[&[u8]]) -> Result<Query, Reason>
-    ensures query { Says (λ query. query) result (spec.query_of name (nows words.now)) }
-    ensures files { IfOk result (λ query. AreAmong 0 (query_files query)) }
+fn query_of(files: &Files, name: QueryName, words: &[&[u8]]) -> Result<Query, Reason>
+    ensures { Says (λ query. query) result (spec.query_of files.now name (nows words.now)) }
 {
     match name {
         QueryName::Ids => {
@@ -64,6 +102,12 @@ fn query_of(name: QueryName, words: &[&[u8]]) -> Result<Query, Reason>
         QueryName::Capable => Ok(Query::Capable(one_cap(words)?)),
         QueryName::Bset => Ok(Query::Bset(one_cap(words)?)),
         QueryName::AmbIs => Ok(Query::AmbIs(one_cap(words)?)),
+        QueryName::Check => {
+            let (name, want) = two(words)?;
+            let file = files.place_or_next(name_of(name)?);
+            let want = want_of(want).ok_or(Reason::Word)?;
+            Ok(Query::Check { file, want })
+        }
     }
 }
 
@@ -111,13 +155,14 @@ fn release_content(words: &[&[u8]]) -> Result<Content, Reason>
 
 /// `ask H QUERY`
 #[tactic(auto, unfolding(crate::specs::Forms::ask_content))]
-fn ask_content(words: &[&[u8]]) -> Result<Content, Reason>
-    ensures content { Says (λ content. content) result (spec.ask_content (nows words.now)) }
+fn ask_content(files: &Files, words: &[&[u8]]) -> Result<Content, Reason>
+    ensures content { Says (λ content. content) result
+        (spec.ask_content files.now (nows words.now)) }
     ensures own { IfOk result NamesOwn }
 {
     let (label, name, rest) = two_or_more(words)?;
     let name = query_name(name).ok_or(Reason::Word)?;
-    let query = query_of(name, rest)?;
+    let query = query_of(files, name, rest)?;
     let label = label_of(label).ok_or(Reason::Word)?;
     Ok(Content::One(Event::Ask { label, query }))
 }
@@ -200,11 +245,13 @@ fn sweep_content(words: &[&[u8]]) -> Result<Content, Reason>
 #[tactic(auto, unfolding(crate::specs::Forms::call_content))]
 fn call_content(
     alloc: Global,
+    files: &Files,
     task: u32,
     name: CallName,
     words: &[&[u8]],
 ) -> Result<Content, LineRefusal>
-    ensures content { Tells (λ made. made) result (spec.call_content task name (nows words.now)) }
+    ensures content { Tells (λ made. made) result
+        (spec.call_content files.now task name (nows words.now)) }
     ensures own { IfOk result NamesOwn }
 {
     match name {
@@ -218,22 +265,28 @@ fn call_content(
         }),
         CallName::Question(name) => Ok(Content::Question {
             task,
-            query: query_of(name, words)?,
+            query: query_of(files, name, words)?,
         }),
     }
 }
 
 /// A call or a question of the task: the line names it after the task.
 #[tactic(auto, unfolding(crate::specs::Forms::own_content))]
-fn own_content(alloc: Global, task: u32, words: &[&[u8]]) -> Result<Content, LineRefusal>
-    ensures content { Tells (λ content. content) result (spec.own_content task (nows words.now)) }
+fn own_content(
+    alloc: Global,
+    files: &Files,
+    task: u32,
+    words: &[&[u8]],
+) -> Result<Content, LineRefusal>
+    ensures content { Tells (λ content. content) result
+        (spec.own_content files.now task (nows words.now)) }
     ensures own { IfOk result NamesOwn }
 {
     match words {
         [] => Err(LineRefusal::Bad(Reason::Word)),
         [name, rest @ ..] => {
             let name = call_name(name).ok_or(Reason::Word)?;
-            call_content(alloc, task, name, rest)
+            call_content(alloc, files, task, name, rest)
         }
     }
 }

@@ -11,6 +11,8 @@ use cred_ids::Kind;
 pub(crate) enum Form {
     /// A first task is born.
     Init,
+    /// A file is declared.
+    File,
     /// A call or a question of the task.
     Own(u32),
     /// A label takes hold of a credential.
@@ -71,6 +73,7 @@ pub(crate) enum QueryName {
     Capable,
     Bset,
     AmbIs,
+    Check,
 }
 
 /// What a task may do on a line of its own.
@@ -87,6 +90,8 @@ pub(crate) fn form_of(word: &[u8]) -> Option<Form>
 {
     if is(word, "init") {
         Some(Form::Init)
+    } else if is(word, "file") {
+        Some(Form::File)
     } else if is(word, "take") {
         Some(Form::Take(Side::Subjective))
     } else if is(word, "takereal") {
@@ -183,6 +188,8 @@ pub(crate) fn query_name(word: &[u8]) -> Option<QueryName>
         Some(QueryName::Bset)
     } else if is(word, "ambis") {
         Some(QueryName::AmbIs)
+    } else if is(word, "check") {
+        Some(QueryName::Check)
     } else {
         None
     }

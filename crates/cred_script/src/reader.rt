@@ -1,15 +1,16 @@
 //! Reading a script.
-ghost use Rattle.std.specs.Prelude.{◌≡◌, ◌≤◌, All, IfOk, length, vec_len};
-ghost use Rattle.cred_script.specs.Earlier.{nothing};
+ghost use Rattle.std.specs.Prelude.{◌≡◌, ◌≤◌, ◌<◌, [], ◌++◌, IfErr, IfOk, IfSome, OnOk, length};
+ghost use Rattle.std.specs.List.{cons_option};
 ghost use Rattle.cred_script.specs.FirstBad.{TellsFirstBad};
 ghost use Rattle.cred_script.specs.Lines.{lines_of};
-ghost use Rattle.cred_script.specs.Grammar.{at_line, lines_from, script_of};
+ghost use Rattle.cred_script.specs.Grammar.{at_line, script_of};
 ghost use Rattle.cred_script.specs.Grammar as spec;
 ghost use Rattle.cred_script.specs.Read.{Gives, Tells, nows};
-ghost use Rattle.cred_script.specs.Sound.{IsSound};
+ghost use Rattle.cred_script.specs.Sound.{IsNew, IsSaid};
 
 use crate::earlier::{Earlier, names_declared};
-use crate::forms::form_content;
+use crate::files::{Files, ScriptFile};
+use crate::forms::{Said, form_said};
 use crate::lines::{first_line, is_printable};
 use crate::refusal::{LineRefusal, Reason, ScriptRefusal};
 use crate::script::{Script, ScriptLine};
@@ -21,54 +22,65 @@ use std::alloc::Global;
 ///
 /// # Errors
 ///
-/// `Bad` with the first bad line and its reason, where the bytes are no script.
+/// `Bad` with the first bad line and its reason, exactly where the bytes are no script; `Memory`
+/// where its words or what it keeps found none.
 pub fn read(alloc: Global, bytes: &[u8]) -> Result<Script, ScriptRefusal>
     requires few { length (lines_of bytes.now) ≤ 20000 }
     ensures given { Gives (λ script. script) result (script_of bytes.now) }
     ensures first { TellsFirstBad (lines_of bytes.now) result }
     ensures lines { IfOk result (λ script. length script.lines ≡ length (lines_of bytes.now)) }
 {
-    match read_lines(alloc, bytes) {
-        Ok(lines) => Ok(Script {
-            files: Vec::new(alloc),
-            lines,
-        }),
-        Err(refusal) => Err(refusal),
-    }
+    read_lines(alloc, bytes)
 }
 
-/// The lines of a script.
-fn read_lines(alloc: Global, bytes: &[u8]) -> Result<Vec<ScriptLine>, ScriptRefusal>
+/// The script that these bytes are.
+fn read_lines(alloc: Global, bytes: &[u8]) -> Result<Script, ScriptRefusal>
     requires few { length (lines_of bytes.now) ≤ 20000 }
-    ensures given { Gives (λ v. v.items) result (lines_from 1 nothing (lines_of bytes.now)) }
-    ensures lines { IfOk result (λ v. vec_len v ≡ length (lines_of bytes.now)) }
-    ensures sound { IfOk result (λ v. All (IsSound 0) v.items) }
+    ensures given { Gives (λ script. script) result (script_of bytes.now) }
+    ensures lines { IfOk result (λ script. length script.lines ≡ length (lines_of bytes.now)) }
 {
+    let mut files = Files::new(alloc);
     let mut lines = Vec::new(alloc);
     let mut earlier = Earlier::nothing();
     let mut rest = bytes;
     while !rest.is_empty() {
         let (text, after) = first_line(rest);
         let number = lines.len() as u32 + 1;
-        let (content, then) = read_line(alloc, number, earlier, text)?;
+        let (Said { content, file }, then) = read_line(alloc, number, earlier, &files, text)?;
         lines.push(ScriptLine { lane: 0, content })?;
+        add_file(&mut files, file)?;
         earlier = then;
         rest = after;
     }
-    Ok(lines)
+    Ok(Script { files, lines })
 }
 
-/// What the line of this number holds, and what is declared after it.
+/// The files, and one more where a line declares one.
+fn add_file(files: &mut Files, file: Option<ScriptFile>) -> Result<(), ScriptRefusal>
+    requires room { IfSome file (λ _. length files.old < 256) }
+    requires new { IsNew files.old file }
+    ensures ok { OnOk result (files.new ≡ files.old ++ cons_option file []) }
+    ensures err { IfErr result (λ e. e ≡ ScriptRefusal.Memory) }
+{
+    if let Some(file) = file {
+        files.add(file)?;
+    }
+    Ok(())
+}
+
+/// What the line of this number says, and what is declared after it.
 fn read_line(
     alloc: Global,
     number: u32,
     earlier: Earlier,
+    files: &Files,
     text: &[u8],
-) -> Result<(Content, Earlier), ScriptRefusal>
-    ensures content { Gives (λ x. x) result (at_line number (spec.line_content earlier text.now)) }
-    ensures sound { IfOk result (λ found. IsSound 0 (spec.setup_line found.0)) }
+) -> Result<(Said, Earlier), ScriptRefusal>
+    ensures said { Gives (λ x. x) result
+        (at_line number (spec.line_said earlier files.now text.now)) }
+    ensures sound { IfOk result (λ found. IsSaid files.now found.0) }
 {
-    match line_content(alloc, earlier, text) {
+    match line_said(alloc, earlier, files, text) {
         Ok(found) => Ok(found),
         Err(LineRefusal::Bad(reason)) => Err(ScriptRefusal::Bad {
             line: number,
@@ -78,57 +90,61 @@ fn read_line(
     }
 }
 
-/// What a line holds, and what is declared after it.
-fn line_content(
+/// What a line says, and what is declared after it.
+fn line_said(
     alloc: Global,
     earlier: Earlier,
+    files: &Files,
     text: &[u8],
-) -> Result<(Content, Earlier), LineRefusal>
-    ensures content { Tells (λ x. x) result (spec.line_content earlier text.now) }
-    ensures sound { IfOk result (λ found. IsSound 0 (spec.setup_line found.0)) }
+) -> Result<(Said, Earlier), LineRefusal>
+    ensures said { Tells (λ x. x) result (spec.line_said earlier files.now text.now) }
+    ensures sound { IfOk result (λ found. IsSaid files.now found.0) }
 {
     if !is_printable(text) {
         return Err(LineRefusal::Bad(Reason::Byte));
     }
     let words = words_of(alloc, text)?;
-    words_content(alloc, earlier, &words)
+    words_said(alloc, earlier, files, &words)
 }
 
-/// A line without words, and a comment, hold nothing and declare nothing.
-fn words_content(
+/// A line without words, and a comment, say nothing.
+fn words_said(
     alloc: Global,
     earlier: Earlier,
+    files: &Files,
     words: &[&[u8]],
-) -> Result<(Content, Earlier), LineRefusal>
-    ensures content { Tells (λ x. x) result (spec.words_content earlier (nows words.now)) }
-    ensures sound { IfOk result (λ found. IsSound 0 (spec.setup_line found.0)) }
+) -> Result<(Said, Earlier), LineRefusal>
+    ensures said { Tells (λ x. x) result (spec.words_said earlier files.now (nows words.now)) }
+    ensures sound { IfOk result (λ found. IsSaid files.now found.0) }
 {
     match words {
-        [] => Ok((Content::Nothing, earlier)),
+        [] => Ok((Said::held(Content::Nothing), earlier)),
         [first, rest @ ..] => {
             if is_comment(first) {
-                Ok((Content::Nothing, earlier))
+                Ok((Said::held(Content::Nothing), earlier))
             } else {
-                full_content(alloc, earlier, first, rest)
+                full_said(alloc, earlier, files, first, rest)
             }
         }
     }
 }
 
-/// What a line that isn't empty holds, by the tests in their order.
-#[tactic(auto, unfolding(crate::specs::Grammar::full_content))]
-fn full_content(
+/// What a line that isn't empty says, by the tests in their order.
+#[tactic(auto, unfolding(crate::specs::Grammar::full_said))]
+fn full_said(
     alloc: Global,
     earlier: Earlier,
+    files: &Files,
     first: &[u8],
     words: &[&[u8]],
-) -> Result<(Content, Earlier), LineRefusal>
-    ensures content { Tells (λ x. x) result (spec.full_content earlier first.now (nows words.now)) }
-    ensures sound { IfOk result (λ found. IsSound 0 (spec.setup_line found.0)) }
+) -> Result<(Said, Earlier), LineRefusal>
+    ensures said { Tells (λ x. x) result
+        (spec.full_said earlier files.now first.now (nows words.now)) }
+    ensures sound { IfOk result (λ found. IsSaid files.now found.0) }
 {
     let form = earlier.form_at(first)?;
-    let content = form_content(alloc, form, words)?;
+    let said = form_said(alloc, files, form, words)?;
     earlier.in_order(form)?;
-    names_declared(&content)?;
-    Ok((content, earlier.after(form)))
+    names_declared(files, &said)?;
+    Ok((said, earlier.after(form)))
 }

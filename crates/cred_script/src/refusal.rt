@@ -3,6 +3,7 @@ ghost use Rattle.std.specs.Prelude.{◌≡◌};
 ghost use Rattle.cred_script.specs.declared.refusal.ScriptRefusal.TheVariants as script;
 ghost use Rattle.cred_script.specs.declared.refusal.LineRefusal.TheVariants as line;
 
+use cred_ids::NoMemory;
 use std::alloc::{AllocError, AllocFailed};
 
 /// What is wrong with a line.
@@ -47,6 +48,14 @@ impl<T: Drop> From<AllocFailed<T>> for ScriptRefusal {
     }
 }
 
+impl From<NoMemory> for ScriptRefusal {
+    ghost from_gives = { λ _ e. e ≡ script.Memory };
+
+    fn from(_: NoMemory) -> Self {
+        ScriptRefusal::Memory
+    }
+}
+
 /// Why a line holds nothing.
 #[derive(Clone, Copy, Debug)]
 pub(crate) enum LineRefusal {
@@ -76,6 +85,14 @@ impl<T: Drop> From<AllocFailed<T>> for LineRefusal {
     ghost from_gives = { λ _ e. e ≡ line.Memory };
 
     fn from(_: AllocFailed<T>) -> Self {
+        LineRefusal::Memory
+    }
+}
+
+impl From<NoMemory> for LineRefusal {
+    ghost from_gives = { λ _ e. e ≡ line.Memory };
+
+    fn from(_: NoMemory) -> Self {
         LineRefusal::Memory
     }
 }

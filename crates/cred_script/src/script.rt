@@ -1,10 +1,12 @@
 //! A script: its lines, each with its lane and what it holds.
 ghost use Rattle.std.specs.Prelude.{◌≡◌, ◌≤◌, IfSome, length, slice_get};
 ghost use Rattle.std.specs.Option.{option_map};
+ghost use Rattle.cred_script.specs.Files as spec;
 ghost use Rattle.cred_script.specs.Grammar.{line_at};
 ghost use Rattle.cred_script.specs.Read.{seen};
 ghost use Rattle.cred_script.specs.Sound.{IsSound};
 
+use crate::files::Files;
 use cred_event::Content;
 use cred_record::FileInfo;
 use std::marker::Model;
@@ -24,26 +26,10 @@ impl Model for ScriptLine {
     ghost view = { λ l. record { lane = l.lane; content = l.content } };
 }
 
-/// A file that a script declares.
-#[derive(Drop, Debug)]
-pub(crate) struct ScriptFile {
-    pub(crate) name: String,
-    pub(crate) info: FileInfo,
-}
-
-impl Model for ScriptFile {
-    ghost use Rattle.std.specs.Prelude.{string_bytes};
-    ghost use Rattle.cred_model.specs.Script.{NamedFile};
-
-    ghost Value = { NamedFile };
-
-    ghost view = { λ f. record { name = string_bytes f.name; info = f.info } };
-}
-
-/// A script. Its lines are numbered from 1; there are at most 20,000.
+/// A script. Its lines are numbered from 1; there are at most 20,000, and at most 256 files.
 #[derive(Drop, Debug)]
 pub struct Script {
-    pub(crate) files: Vec<ScriptFile>,
+    pub(crate) files: Files,
     pub(crate) lines: Vec<ScriptLine>,
 }
 
@@ -54,9 +40,9 @@ impl Model for Script {
 
     ghost Value = { Script };
 
-    ghost view = { λ s. record { files = s.files.items; lines = s.lines.items } };
+    ghost view = { λ s. record { files = s.files; lines = s.lines.items } };
 
-    ghost invariant = { λ s. AreSound (length s.files.items) s.lines.items };
+    ghost invariant = { λ s. AreSound (length s.files) s.lines.items };
 }
 
 impl Script {
@@ -73,8 +59,22 @@ impl Script {
         ensures { option_map (λ name. name.now) result
             ≡ option_map (λ file. file.name) (slice_get self.now.files place) }
     {
-        let file = self.files.get(place as usize)?;
-        Some(&file.name)
+        self.files.name(place)
+    }
+
+    /// What checks and execve see of the file at this place; none past the last.
+    pub fn file(&self, place: u32) -> Option<&FileInfo>
+        ensures { option_map (λ info. info.now) result
+            ≡ option_map (λ file. file.info) (slice_get self.now.files place) }
+    {
+        self.files.info(place)
+    }
+
+    /// The place of the file of this name; none for a name that isn't declared.
+    pub fn place_of(&self, name: &str) -> Option<u32>
+        ensures { result ≡ spec.place_of self.now.files name.now }
+    {
+        self.files.place_of(name)
     }
 
     /// The lane and the content of the line of this number; none for 0 and past the last line.

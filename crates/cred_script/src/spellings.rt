@@ -1,10 +1,12 @@
 //! What one word spells.
 ghost use Rattle.std.specs.Prelude.{◌≡◌, ◌≤◌, IfSome, length, slice_index};
+ghost use Rattle.std.specs.List.{list_all};
 ghost use Rattle.std.specs.Str.{bytes_eq};
 ghost use Rattle.cred_script.specs.Spellings as spec;
 
 use cred_caps::{CapSet, cap_of_name};
 use cred_ids::{Arg, Id};
+use cred_record::{FileKind, Want};
 use std::str;
 
 /// Whether the word is this text.
@@ -140,5 +142,94 @@ fn numbered(letter: u8, least: u32, most: u32, word: &[u8]) -> Option<u32>
             }
         }
         _ => None,
+    }
+}
+
+/// Whether the word is a file's name: 1 to 32 letters, digits, `_`, `.` and `-`, a letter first.
+pub(crate) fn is_name(word: &[u8]) -> bool
+    ensures { result ≡ spec.is_name word.now }
+{
+    match word {
+        [first, rest @ ..] => { is_letter(*first) && are_name_bytes(rest) && rest.len() <= 31 }
+        [] => false,
+    }
+}
+
+fn are_name_bytes(bytes: &[u8]) -> bool
+    ensures { result ≡ list_all spec.is_name_byte bytes.now }
+{
+    bytes.iter().all(|byte| is_name_byte(*byte))
+}
+
+fn is_letter(byte: u8) -> bool
+    ensures { result ≡ spec.is_letter byte }
+{
+    matches!(byte, b'A'..=b'Z' | b'a'..=b'z')
+}
+
+fn is_name_byte(byte: u8) -> bool
+    ensures { result ≡ spec.is_name_byte byte }
+{
+    is_letter(byte) || matches!(byte, b'0'..=b'9' | b'_' | b'.' | b'-')
+}
+
+/// A file's kind.
+pub(crate) fn kind_of(word: &[u8]) -> Option<FileKind>
+    ensures { result ≡ spec.kind_of word.now }
+{
+    if is(word, "reg") {
+        Some(FileKind::Regular)
+    } else if is(word, "dir") {
+        Some(FileKind::Directory)
+    } else {
+        None
+    }
+}
+
+fn octal_of(byte: u8) -> Option<u16>
+    ensures value { result ≡ spec.octal_of byte }
+    ensures digit { IfSome result (λ digit. digit ≤ 7) }
+{
+    match byte {
+        b'0'..=b'7' => Some(u16::from(byte - b'0')),
+        _ => None,
+    }
+}
+
+/// A file's mode: four octal digits.
+pub(crate) fn mode_of(word: &[u8]) -> Option<u16>
+    ensures value { result ≡ spec.mode_of word.now }
+    ensures mode { IfSome result (λ mode. mode ≤ 4095) }
+{
+    match word {
+        [a, b, c, d] => {
+            let high = 512 * octal_of(*a)? + 64 * octal_of(*b)?;
+            Some(high + 8 * octal_of(*c)? + octal_of(*d)?)
+        }
+        _ => None,
+    }
+}
+
+/// What is wanted of a file.
+pub(crate) fn want_of(word: &[u8]) -> Option<Want>
+    ensures { result ≡ spec.want_of word.now }
+{
+    let want = |r, w, x| Some(Want { r, w, x });
+    if is(word, "r") {
+        want(true, false, false)
+    } else if is(word, "w") {
+        want(false, true, false)
+    } else if is(word, "x") {
+        want(false, false, true)
+    } else if is(word, "rw") {
+        want(true, true, false)
+    } else if is(word, "rx") {
+        want(true, false, true)
+    } else if is(word, "wx") {
+        want(false, true, true)
+    } else if is(word, "rwx") {
+        want(true, true, true)
+    } else {
+        None
     }
 }

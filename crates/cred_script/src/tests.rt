@@ -1,4 +1,6 @@
 //! What the reader answers at the edges of the grammar.
+mod files;
+
 use crate::{Reason, ScriptRefusal, line_count, read};
 use std::alloc::Global;
 use std::test::Fail;
@@ -13,6 +15,20 @@ fn answer(alloc: Global, text: &str) -> Result<Result<u32, (u32, Reason)>, Fail>
         Err(ScriptRefusal::Bad { line, reason }) => Ok(Err((line, reason))),
         Err(ScriptRefusal::Memory) => Err(ScriptRefusal::Memory)?,
     }
+}
+
+/// The first of these lines that is answered otherwise, each as a script of its own.
+fn first_other<'a>(
+    alloc: Global,
+    lines: &'a str,
+    want: Result<u32, (u32, Reason)>,
+) -> Result<Option<&'a str>, Fail> {
+    for line in lines.lines() {
+        if answer(alloc, line)? != want {
+            return Ok(Some(line));
+        }
+    }
+    Ok(None)
 }
 
 #[test]
@@ -89,9 +105,7 @@ abort h1";
 
 #[test]
 fn accepts_good_lines(rt: HostRuntime) -> Result<(), Fail> {
-    for text in GOOD_LINES.lines() {
-        assert_eq!(rt; answer(rt.alloc(), text)?, Ok(1), "{text}");
-    }
+    assert_eq!(rt; first_other(rt.alloc(), GOOD_LINES, Ok(1))?, None);
     for text in USES.lines() {
         let both = format!(in rt.alloc(); "{text}\ninit t1 p1 0 0 n0")?;
         assert_eq!(rt;
@@ -201,16 +215,10 @@ abort";
 
 #[test]
 fn counts_words_before_their_spelling(rt: HostRuntime) -> Result<(), Fail> {
-    for text in BAD_WORDS.lines() {
-        assert_eq!(rt; answer(rt.alloc(), text)?, Err((1, Reason::Word)), "{text}");
-    }
-    for text in BAD_COUNTS.lines() {
-        assert_eq!(rt;
-            answer(rt.alloc(), text)?,
-            Err((1, Reason::Count)),
-            "{text}"
-        );
-    }
+    let word = Err((1, Reason::Word));
+    let count = Err((1, Reason::Count));
+    assert_eq!(rt; first_other(rt.alloc(), BAD_WORDS, word)?, None);
+    assert_eq!(rt; first_other(rt.alloc(), BAD_COUNTS, count)?, None);
     Ok(())
 }
 

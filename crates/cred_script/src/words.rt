@@ -1,6 +1,7 @@
 //! The words of a line.
 ghost use Rattle.std.specs.Prelude.{◌≡◌, IfOk};
-ghost use Rattle.cred_script.specs.Read.{Says, nows, more_nows, five_nows};
+ghost use Rattle.cred_script.specs.Files.{five_and_options};
+ghost use Rattle.cred_script.specs.Read.{Says, nows, more_nows, five_nows, options_nows};
 ghost use Rattle.cred_script.specs.Words as spec;
 
 use crate::refusal::Reason;
@@ -87,6 +88,28 @@ pub(crate) fn five<'b>(words: &[&'b [u8]]) -> Result<Five<'b>, Reason>
 {
     match words {
         [a, b, c, d, e] => Ok((a, b, c, d, e)),
+        _ => Err(Reason::Count),
+    }
+}
+
+/// Five words, and those after them.
+type FiveAndOptions<'w, 'b> = (
+    &'b [u8],
+    &'b [u8],
+    &'b [u8],
+    &'b [u8],
+    &'b [u8],
+    &'w [&'b [u8]],
+);
+
+/// There are five words, and at most three more.
+pub(crate) fn five_and_options<'w, 'b>(
+    words: &'w [&'b [u8]],
+) -> Result<FiveAndOptions<'w, 'b>, Reason>
+    ensures { Says options_nows result (five_and_options (nows words.now)) }
+{
+    match words {
+        [a, b, c, d, e, options @ ..] if options.len() <= 3 => Ok((a, b, c, d, e, options)),
         _ => Err(Reason::Count),
     }
 }

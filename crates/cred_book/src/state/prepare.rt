@@ -1,9 +1,8 @@
 //! The events on prepared labels.
 ghost use Rattle.std.specs.Prelude.{◌≡◌, IfOk, OnErr};
 ghost use Rattle.std.specs.Option.{option_map, option_and_then};
-ghost use Rattle.cred_event.specs.declared.event.Event.TheVariants as event;
 ghost use Rattle.cred_model.specs.State.{prepared_of, numbered};
-ghost use Rattle.cred_model.specs.Step.{done, settled};
+ghost use Rattle.cred_model.specs.Step.{by_abort, by_alter, by_commit, by_prepare, settled};
 
 use crate::change::change_of;
 use crate::prepared::{Changed, Preparation, Ready};
@@ -21,7 +20,7 @@ impl State {
     /// leave the state; `TableFull` leaves it swept.
     pub fn prepare(&mut self, label: u32, task: u32, hold: u32) -> Result<Answer, NoMemory>
         ensures ok { IfOk result (λ answer.
-            settled self.old (done self.old (event.Prepare label task hold))
+            settled self.old (by_prepare self.old label task hold)
             ≡ (answer, self.new)) }
         ensures err { OnErr result (self.new ≡ self.old) }
     {
@@ -64,7 +63,7 @@ impl State {
     /// the state, and with it what an earlier change made of the base.
     pub fn alter(&mut self, label: u32, change: Change) -> Result<Answer, NoMemory>
         ensures ok { IfOk result (λ answer.
-            settled self.old (done self.old (event.Alter label change)) ≡ (answer, self.new)) }
+            settled self.old (by_alter self.old label change) ≡ (answer, self.new)) }
         ensures err { OnErr result (self.new ≡ self.old) }
     {
         let Some(base) = self.base(label) else {
@@ -84,7 +83,7 @@ impl State {
     /// current credential isn't the base any more: then the label is given up.
     pub fn commit(&mut self, label: u32) -> Result<Answer, NoMemory>
         ensures ok { IfOk result (λ answer.
-            settled self.old (done self.old (event.Commit label)) ≡ (answer, self.new)) }
+            settled self.old (by_commit self.old label) ≡ (answer, self.new)) }
         ensures err { OnErr result (self.new ≡ self.old) }
     {
         let Some(Ready { task, base }) = self.prepared.ready(label) else {
@@ -111,7 +110,7 @@ impl State {
     /// The label gives up what it prepared, with its slot and the reference to its base.
     /// `NoPrepared` leaves the state.
     pub fn abort(&mut self, label: u32) -> Answer
-        ensures { settled self.old (done self.old (event.Abort label)) ≡ (result, self.new) }
+        ensures { settled self.old (by_abort self.old label) ≡ (result, self.new) }
     {
         let Some(Preparation { base, slot, .. }) = self.prepared.give_up(label) else {
             return Answer::NoPrepared(label);

@@ -14,5 +14,5 @@ invariant_of-self-2 c =
 pub invariant_of-self-in_err-copied : goal.invariant_of-self-in_err-copied
 invariant_of-self-in_err-copied c =
     let same =
-    made_leaves c.self.inside.state c.step.new.self c.args.event c.in_ok-answer.answer c.in_ok-answer.ensures.ok c.in_err-copied.ensures.refusal in
+    made_leaves c.self.inside.script c.self.inside.state c.step.new.self c.args.event c.in_ok-answer.answer c.in_ok-answer.ensures.ok c.in_err-copied.ensures.refusal in
     rw (same, c.in_ok-reserve.ensures.items) c.self.invariant

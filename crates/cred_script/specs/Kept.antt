@@ -1,0 +1,11 @@
+-- The files, as a map from names keeps them.
+use Rattle.std.specs.Prelude.{List, map, string_bytes, String}
+use Rattle.std.specs.declared.alloc.Global.{Global}
+use Rattle.cred_record.specs.File.{File}
+use Rattle.cred_model.specs.Script.{NamedFile}
+
+abbrev pub file_of : String Global × File → NamedFile
+file_of entry = record { name = string_bytes entry.0; info = entry.1 }
+
+abbrev pub files_of : List (String Global × File) → List NamedFile
+files_of entries = map file_of entries

@@ -1,0 +1,119 @@
+//! The files that a script declares.
+ghost use Rattle.std.specs.Prelude.{◌≡◌, ◌<◌, ◌∷◌, ◌++◌, [], None, OnErr, OnOk, length, nat_lt, not, slice_get};
+ghost use Rattle.std.specs.Option.{option_map};
+ghost use Rattle.cred_script.specs.Files as spec;
+
+use cred_ids::NoMemory;
+use cred_record::FileInfo;
+use indexmap::IndexMap;
+use std::alloc::Global;
+use std::marker::Model;
+
+/// How many files a script may declare.
+const FILES: usize = 256;
+
+/// A file that a line declares.
+#[derive(Drop, Debug)]
+pub(crate) struct ScriptFile {
+    pub(crate) name: String,
+    pub(crate) info: FileInfo,
+}
+
+impl Model for ScriptFile {
+    ghost use Rattle.std.specs.Prelude.{string_bytes};
+    ghost use Rattle.cred_model.specs.Script.{NamedFile};
+
+    ghost Value = { NamedFile };
+
+    ghost view = { λ f. record { name = string_bytes f.name; info = f.info } };
+}
+
+/// The files that are declared, in the order of their lines. No two have one name, and there are at
+/// most 256.
+#[derive(Drop, Debug)]
+pub(crate) struct Files {
+    by_name: IndexMap<String, FileInfo>,
+}
+
+impl Model for Files {
+    ghost use Rattle.std.specs.Prelude.{◌≤◌, List, length};
+    ghost use Rattle.cred_model.specs.Script.{NamedFile};
+    ghost use Rattle.cred_script.specs.Kept.{files_of};
+
+    ghost Value = { List NamedFile };
+
+    ghost view = { λ f. files_of f.by_name.entries };
+
+    ghost invariant = { λ f. length f.by_name.entries ≤ 256 };
+}
+
+impl Files {
+    /// No file.
+    pub(crate) fn new(alloc: Global) -> Files
+        ensures { result ≡ [] }
+    {
+        Files {
+            by_name: IndexMap::new(alloc),
+        }
+    }
+
+    /// How many there are.
+    pub(crate) fn len(&self) -> usize
+        ensures { result ≡ length self.now }
+    {
+        self.by_name.len()
+    }
+
+    /// Whether there are as many as there may be.
+    pub(crate) fn is_full(&self) -> bool
+        ensures { result ≡ not (nat_lt (length self.now) 256) }
+    {
+        self.by_name.len() >= FILES
+    }
+
+    /// The place of the file of this name, or none.
+    pub(crate) fn place_of(&self, name: &str) -> Option<u32>
+        ensures { result ≡ spec.place_of self.now name.now }
+    {
+        Some(self.by_name.get_index_of(name)? as u32)
+    }
+
+    /// The place of the file of this name, or, where none has it, the next one that a file may take.
+    pub(crate) fn place_or_next(&self, name: &str) -> u32
+        ensures { result ≡ spec.place_or_next self.now name.now }
+    {
+        match self.place_of(name) {
+            Some(place) => place,
+            None => self.by_name.len() as u32,
+        }
+    }
+
+    /// The name of the file at this place; none past the last.
+    pub(crate) fn name(&self, place: u32) -> Option<&str>
+        ensures { option_map (λ name. name.now) result
+            ≡ option_map (λ file. file.name) (slice_get self.now place) }
+    {
+        let (name, _) = self.by_name.get_index(place as usize)?;
+        Some(name)
+    }
+
+    /// What checks and execve see of the file at this place; none past the last.
+    pub(crate) fn info(&self, place: u32) -> Option<&FileInfo>
+        ensures { option_map (λ info. info.now) result
+            ≡ option_map (λ file. file.info) (slice_get self.now place) }
+    {
+        let (_, info) = self.by_name.get_index(place as usize)?;
+        Some(info)
+    }
+
+    /// One more file. Without memory nothing changes.
+    pub(crate) fn add(&mut self, file: ScriptFile) -> Result<(), NoMemory>
+        requires room { length self.old < 256 }
+        requires new { spec.place_of self.old file.name ≡ None }
+        ensures ok { OnOk result (self.new ≡ self.old ++ file ∷ []) }
+        ensures err { OnErr result (self.new ≡ self.old) }
+    {
+        self.by_name.insert(file.name, file.info)?;
+        Ok(())
+    }
+}

@@ -1,0 +1,164 @@
+//! Lines that declare files, and lines that name them.
+use crate::tests::{answer, first_other};
+use crate::{Reason, line_count, read};
+use std::alloc::Global;
+use std::test::Fail;
+
+/// Each of these lines declares a file.
+const GOOD_FILES: &str = "file a reg 0 0 0000
+file Z9_.- dir 4294967294 1 7777
+file abcdefghijklmnopqrstuvwxyz012345 reg 1 2 0644
+file a dir 0 0 1755 nosuid
+file a reg 0 0 4755 caps 00
+file a reg 0 0 4755 caps 0xAbCd
+ file  a  reg 0 0 4755 nosuid  caps 0100000200200000000000000000000000000000";
+
+/// Each of these has so many words as a file's declaration may have, and one that it may not.
+const BAD_WORDS: &str = "file 1a reg 0 0 0644
+file _a reg 0 0 0644
+file a/b reg 0 0 0644
+file abcdefghijklmnopqrstuvwxyz0123456 reg 0 0 0644
+file a lnk 0 0 0644
+file a Reg 0 0 0644
+file a reg 4294967295 0 0644
+file a reg 0 -1 0644
+file a reg 0 0 644
+file a reg 0 0 00644
+file a reg 0 0 0684
+file a reg 0 0 0644 caps
+file a reg 0 0 0644 nosuids
+file a reg 0 0 0644 nosuid nosuid
+file a reg 0 0 0644 nosuid caps
+file a reg 0 0 0644 caps 0
+file a reg 0 0 0644 caps 0x
+file a reg 0 0 0644 caps 0X00
+file a reg 0 0 0644 caps 00 nosuid
+file a reg 0 0 0644 nosuid caps 0g
+t1 check 1a r
+t1 check a wr
+t1 check a R
+t1 check a rwxr
+ask h0 check a r
+ask h1 check a ok";
+
+/// Each of these lines has too many words, or too few, whatever they spell.
+const BAD_COUNTS: &str = "file
+file 1a lnk x
+file 1a reg 0 0
+file 1a lnk x x x nosuid caps 00 00
+t1 check
+t1 check 1a
+t1 check a r w
+ask x check 1a
+ask x check a r w";
+
+#[test]
+fn reads_lines_that_declare_files(rt: HostRuntime) -> Result<(), Fail> {
+    let word = Err((1, Reason::Word));
+    let count = Err((1, Reason::Count));
+    assert_eq!(rt; first_other(rt.alloc(), GOOD_FILES, Ok(1))?, None);
+    assert_eq!(rt; first_other(rt.alloc(), BAD_WORDS, word)?, None);
+    assert_eq!(rt; first_other(rt.alloc(), BAD_COUNTS, count)?, None);
+    Ok(())
+}
+
+#[test]
+fn asks_for_declared_names(rt: HostRuntime) -> Result<(), Fail> {
+    let cases = [
+        // A file is declared before it is named, once, and before all calls and events.
+        (
+            "file a reg 0 0 0644\ninit t1 p1 0 0 n0\nfile b reg 0 0 0644\nt1 check b r",
+            Ok(4),
+        ),
+        (
+            "file a reg 0 0 0644\nask h1 check a rwx\nt2 check a x",
+            Ok(3),
+        ),
+        ("t1 check a r", Err((1, Reason::Name))),
+        ("file a reg 0 0 0644\nt1 check b r", Err((2, Reason::Name))),
+        (
+            "file a reg 0 0 0644\nask h1 check A r",
+            Err((2, Reason::Name)),
+        ),
+        (
+            "file a reg 0 0 0644\nfile a dir 1 1 0755",
+            Err((2, Reason::Name)),
+        ),
+        ("sweep\nfile a reg 0 0 0644", Err((2, Reason::Order))),
+        (
+            "file a reg 0 0 0644\nt1 ids\nfile a reg 0 0 0644",
+            Err((3, Reason::Order)),
+        ),
+        // The count and the spelling are asked before, and the name after the order.
+        ("sweep\nfile a reg 0 0", Err((2, Reason::Count))),
+        ("sweep\nfile a reg 0 0 9", Err((2, Reason::Word))),
+        ("t1 check a", Err((1, Reason::Count))),
+        ("t1 check a rr", Err((1, Reason::Word))),
+    ];
+    for (text, want) in cases {
+        assert_eq!(rt; answer(rt.alloc(), text)?, want, "{text}");
+    }
+    Ok(())
+}
+
+/// A script that declares so many files.
+fn declaring(alloc: Global, count: u32) -> Result<String, Fail> {
+    let mut script = String::new(alloc);
+    for number in 1..=count {
+        writeln!(script, "file f{number} reg 0 0 0644")?;
+    }
+    Ok(script)
+}
+
+#[test]
+fn has_room_for_256_files(rt: HostRuntime) -> Result<(), Fail> {
+    let mut script = declaring(rt.alloc(), 256)?;
+    script.push_str("t1 check f256 r\n")?;
+    assert_eq!(rt; answer(rt.alloc(), &script)?, Ok(257));
+    // One more is too many, whatever it spells and wherever it stands.
+    for line in ["file f257 reg 0 0 0644", "file f1", "file"] {
+        let longer = format!(in rt.alloc(); "{script}{line}")?;
+        assert_eq!(rt;
+            answer(rt.alloc(), &longer)?,
+            Err((258, Reason::Count)),
+            "{line}"
+        );
+    }
+    Ok(())
+}
+
+#[test]
+fn keeps_what_files_and_checks_hold(rt: HostRuntime) -> Result<(), Fail> {
+    let text = "file a reg 1 2 4750 nosuid caps 0x00fF\nfile b dir 3 4 0001\nt5 check b rx\n\
+        ask h6 check a w\n";
+    assert!(rt; line_count(text.as_bytes()) <= 20000);
+    let script = read(rt.alloc(), text.as_bytes())?;
+    let held = [
+        "Nothing",
+        "Nothing",
+        "Question { task: 5, query: Check { file: 1, want: Want { r: true, w: false, x: true } } }",
+        "One(Ask { label: 6, query: Check { file: 0, want: Want { r: false, w: true, x: false } } })",
+    ];
+    for (number, want) in (1..).zip(held) {
+        let (_, content) = script.line(number).ok_or("a line")?;
+        let got = format!(in rt.alloc(); "{content:?}")?;
+        assert_eq!(rt; got.as_str(), want);
+    }
+    let files = [
+        "FileInfo { kind: Regular, owner: Id(1), group: Id(2), mode: 2536, nosuid: true, \
+         attr: Some(Attr { bytes: [0, 255] }) }",
+        "FileInfo { kind: Directory, owner: Id(3), group: Id(4), mode: 1, nosuid: false, \
+         attr: None }",
+    ];
+    for (place, want) in (0..).zip(files) {
+        let file = script.file(place).ok_or("a file")?;
+        let got = format!(in rt.alloc(); "{file:?}")?;
+        assert_eq!(rt; got.as_str(), want);
+    }
+    assert_eq!(rt; script.name(0), Some("a"));
+    assert_eq!(rt; script.name(1), Some("b"));
+    assert_eq!(rt; script.place_of("b"), Some(1));
+    assert!(rt; script.name(2).is_none() && script.file(2).is_none());
+    assert!(rt; script.place_of("c").is_none() && script.place_of("").is_none());
+    Ok(())
+}
