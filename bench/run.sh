@@ -1,5 +1,5 @@
 #!/bin/sh
-# Measures the proved program on two inputs of 20,000 lines: entries, bytes, user time of one run (the
+# Measures the proved program on three inputs of 20,000 lines: entries, bytes, user time of one run (the
 # mean of 50), entries a second, and the greatest resident memory. It needs GNU time. No part of the gate.
 set -eu
 top=$(cd "$(dirname "$0")/.." && pwd)
@@ -16,6 +16,12 @@ awk 'BEGIN {
   print "init t1 p1 0 0 n0"
   for (i = 1; i < 20000; i++) print i % 2 ? "take h" int(i / 2) % 50 + 1 " t1" : "drop h" (int(i / 2) - 1) % 50 + 1
 }' > "$dir/holds"
+
+awk 'BEGIN {
+  for (i = 1; i <= 256; i++) print "file f" i " reg " i " 0 0640"
+  print "init t1 p1 0 0 n0"
+  for (i = 258; i <= 20000; i++) print "t1 check f" (i * 7) % 256 + 1 " rw"
+}' > "$dir/checks"
 
 measure() {
   "$program" run < "$dir/$1" > "$dir/report"
@@ -38,3 +44,4 @@ measure() {
 
 measure calls
 measure holds
+measure checks

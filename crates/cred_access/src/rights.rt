@@ -24,7 +24,8 @@ fn owns(user: Id, target: &Ids4) -> bool
 /// Whether a task with the credential `from` may send a signal to one with the credential `to`
 /// (kill(2)). `same` says that both are in one process, where it always may. Else it may with
 /// CAP_KILL in its effective set, or where its real or its effective user id is the target's real
-/// or saved user id. The target's effective and filesystem user ids do not count, nor do groups.
+/// or saved user id. The target's effective and filesystem user ids do not count, nor do groups and
+/// user namespaces. The exception that kill(2) makes for SIGCONT within a session is not made.
 pub fn may_signal(from: &Cred, to: &Cred, same: bool) -> bool
     ensures { result ≡ may_signal from.now to.now same }
 {

@@ -197,11 +197,6 @@ starts script line is = record {
   stands = refl;
 }
 
-pub starts_over : (script : Script) → line_at script 1 ≡ None → IsOver script []
-starts_over script none =
-    let long = slice_get-none script.lines 0 (sym (line_at-place script 0) ∙ none) in
-    record { in_order = λ k lt. absurd (omega arith); ended = λ k lt. absurd (omega (arith, long, lt)) }
-
 -- ---- an answer
 
 -- the next event in order is that of the course's line

@@ -87,14 +87,6 @@ moves_by book grown after course event answer here stands has is answer_is scrip
     moves book after course event at.line here stands line due_at (script_is ∙ same) (journal_is ∙ ap (λ (b : Recorded). b.journal) is)
     (subst (λ (a : Answer). Passes book.script (model.after at.line.content course a) after.cursor) answer_is passes_line)
 
--- the course of the cursor is one of its line
-pub own_line : (book : Recorded) (course : Course) → book.cursor ≡ Some course → Stands book → IsOfLine book.script course
-own_line book course here stands =
-    of_line book.script book.journal course (subst (IsCursor book.script book.journal) here stands).0
-
-pub own_stage : (book : Recorded) (course : Course) → book.cursor ≡ Some course → Stands book → is_some course.stage ≡ true
-own_stage book course here stands = (subst (IsCursor book.script book.journal) here stands).1
-
 -- where no line is left
 pub over : (book : Recorded) → Stands book → book.cursor ≡ None → next_in_order book.script book.journal ≡ None
 over book stands none =
@@ -142,14 +134,8 @@ is_sequence before after at made =
 zero_test : (lane : ℕ) → lane ≡ 0 → (lane == 0) ≡ true
 zero_test lane is = grind (arith, nat_tests)
 
-other_test : (lane : ℕ) → lane ≢ 0 → (lane == 0) ≡ false
-other_test lane differ = grind (arith, nat_tests)
-
 pub next_of-setup : (book : Recorded) (lane : ℕ) → lane ≡ 0 → next_of book lane ≡ next_in_order book.script book.journal
 next_of-setup book lane is = ap (λ b. cond b (next_in_order book.script book.journal) None) (zero_test lane is)
-
-pub next_of-other : (book : Recorded) (lane : ℕ) → lane ≢ 0 → next_of book lane ≡ None
-next_of-other book lane differ = ap (λ b. cond b (next_in_order book.script book.journal) None) (other_test lane differ)
 
 -- ---- a lane's next entry, where all lines are of lane 0
 

@@ -30,7 +30,8 @@ pub enum Query {
     Bset(u32),
     /// Whether its ambient set has it.
     AmbIs(u32),
-    /// Whether it may use the file, named by its place among the script's files, as wanted.
+    /// Whether it may do to the file all that is wanted. A file is named by its place among the
+    /// script's files, counted from 0.
     Check { file: u32, want: Want },
 }
 
@@ -41,7 +42,7 @@ pub enum Change {
     SetFs(Kind, Arg),
     /// capset(2), or a call of prctl(2).
     Adjust(AdjCall),
-    /// execve(2) of the file, named by its place among the script's files.
+    /// execve(2) of the file, named by its place among the script's files, counted from 0.
     Exec { file: u32 },
     /// What access(2) decides on.
     Access,

@@ -4,7 +4,7 @@ use Rattle.std.specs.Int.RustNames.{bit_and, bit_or}
 use Rattle.std.specs.Int.{bit_at}
 use Rattle.std.proofs.Math.Bool.{and-true}
 use Rattle.std.proofs.lemmas.Bool.{ltb-true, ltb-false}
-use Rattle.std.proofs.lemmas.Nat.{and_le_r, or_shifted, shl_whole, shr-shr, shr_below}
+use Rattle.std.proofs.lemmas.Nat.{and_le_r, or_shifted, shl_whole, shr-shr}
 use Rattle.std.proofs.lemmas.Nat.Bits.{bit_at_and, bit_at_cat_low, bit_at_cat_high, bit_at_ones, bit_at_above, bit_at-lt}
 use Rattle.cred_caps.specs.Caps.{IsCap, IsCaps, full, has, meet}
 use Rattle.cred_caps.proofs.SetLaws.{has-meet, has-full, same_caps}
@@ -48,9 +48,6 @@ high-word s n = ap (λ d. d % 2 == 1) (sym (shr-shr s 32 n))
 
 pub words-spell : (s : ℕ) → IsCaps s → SpellsSet (bit_and s (2 ^ 32 - 1)) (s / 2 ^ 32) s
 words-spell s caps = record { below = low-word s; above = λ n _. high-word s n; others = caps }
-
-pub high-small : (s : ℕ) → IsCaps s → s / 2 ^ 32 < 2 ^ 9
-high-small s caps = shr_below s 9 32 caps
 
 -- the bits of a word that is below 2 ^ 9
 pub high-canonical : (w i : ℕ) → w < 2 ^ 9 → 40 < 32 + i → is_bit w i ≡ false

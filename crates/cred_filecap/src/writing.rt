@@ -14,6 +14,10 @@ use std::alloc::Global;
 /// The bytes of an attribute, 20 in version 2 and 24 in version 3 (linux/capability.h, `struct
 /// vfs_ns_cap_data`). Every bit that spells nothing is zero. They are the attribute of a file as
 /// setxattr(2) takes it.
+///
+/// # Errors
+///
+/// `NoMemory` where the bytes found none.
 pub fn encode(alloc: Global, caps: &FileCaps) -> Result<Attr, NoMemory>
     ensures spells { IfOk result (λ attr. Spells attr caps.now) }
     ensures canonical { IfOk result (λ attr. IsCanonical attr) }

@@ -2,7 +2,7 @@
 use Rattle.std.proofs.Common.{◌≡◌, ℕ, ◌+◌, ◌-◌, ◌<◌, ◌≤◌, min, List, [], ◌++◌, length, take, drop, Option, sym, ap, ◌∙◌, arith, take-append-drop, length-append, length-drop}
 use Rattle.std.proofs.Math.Seq.{take-add}
 use Rattle.std.proofs.lemmas.List.{take_rest, take-append-le, take-take, length-take, nil_from_length}
-use Rattle.std.proofs.KnownBytes.{Consumes-nil, Consumes-trans, Consumes-kept, Appends-nil, Appends-trans, Appends-kept}
+use Rattle.std.proofs.KnownBytes.{Consumes-nil, Consumes-trans, Appends-trans, Appends-kept}
 use Rattle.std.specs.Io.KnownBytes.{Consumes, Appends, Keeps}
 
 pub consumes_nothing : (known : Option (List ℕ)) → Consumes known known []
@@ -10,12 +10,6 @@ consumes_nothing known = Consumes-nil known
 
 pub consumes_more : (a b c : Option (List ℕ)) (xs ys : List ℕ) → Consumes a b xs → Consumes b c ys → Consumes a c (xs ++ ys)
 consumes_more a b c xs ys first second = Consumes-trans a b c xs ys first second
-
-pub consumes_kept : (a b c : Option (List ℕ)) (xs : List ℕ) → Consumes a b xs → Keeps b c → Consumes a c xs
-consumes_kept a b c xs taken kept = Consumes-kept a b c xs taken kept
-
-pub appends_nothing : (known : Option (List ℕ)) → Appends known known []
-appends_nothing known = Appends-nil known
 
 pub appends_more : (a b c : Option (List ℕ)) (xs ys : List ℕ) → Appends a b xs → Appends b c ys → Appends a c (xs ++ ys)
 appends_more a b c xs ys first second = Appends-trans a b c xs ys first second

@@ -174,12 +174,6 @@ after_step P s c script line event = c.same event
 pub in_room : (P : State → Type 0) (s : State) → P s → P (swept s) → P (room s)
 in_room P s kept fresh = elim (is_some (least_free s)) as (λ b. P (cond b s (swept s))) [ true ↦ kept | false ↦ fresh ]
 
-pub room_tasks : (s : State) → (room s).tasks ≡ s.tasks
-room_tasks s = in_room (λ now. now.tasks ≡ s.tasks) s refl refl
-
-pub room_holds : (s : State) → (room s).holds ≡ s.holds
-room_holds s = in_room (λ now. now.holds ≡ s.holds) s refl refl
-
 pub room_creds : (s : State) → (room s).creds ≡ s.creds
 room_creds s = in_room (λ now. now.creds ≡ s.creds) s refl refl
 

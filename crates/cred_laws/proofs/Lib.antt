@@ -10,4 +10,3 @@ pub mod ChangeLaws
 pub mod PermittedLaws
 pub mod OrderLaws
 pub mod Lawful
-pub mod Gains

@@ -235,7 +235,3 @@ pub sequence_has_lines : SequenceHasLines
 sequence_has_lines script journal sequence k d lt =
     let of = in_order_next script (take k journal) (get_or journal k d) (sequence.in_order k lt ∙ slice_get-get_or journal k d lt) in
     ap is_some of.1.lane_is
-
--- where all lines are of the setup, it comes first
-pub setup_alone : (script : Script) → All (λ line. line.lane ≡ 0) script.lines → SetupFirst script
-setup_alone script all i j d lt within later = all i d (omega arith)

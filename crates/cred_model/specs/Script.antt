@@ -3,7 +3,7 @@ use Rattle.std.specs.Prelude.{ℕ, List}
 use Rattle.cred_record.specs.File.{File}
 use Rattle.cred_event.specs.declared.content.Content.{Content}
 
--- A declared file has a name, the codes of its letters, and what a check reads of it.
+-- A declared file has a name, the bytes of its text, and what checks and execve see of it.
 pub record NamedFile : Type 0 where
   pub name : List ℕ
   pub info : File

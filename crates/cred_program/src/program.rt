@@ -20,7 +20,14 @@ use std::alloc::Global;
 /// What is written to words that are no command.
 const USAGE: &str = "usage: credtrace run|lanes|audit|gen N|decode HEX\n";
 
-/// The program, over its words, its input and its output.
+/// The program, over its words (those after its name), its input and its output: `run` reads a
+/// script and writes its report, `decode HEX` tells what an attribute says, and all other words get
+/// the usage line. It answers how that ended.
+///
+/// `ReadFault` and `WriteFault` come only where the source or the sink counted a fault in this call.
+/// `Memory` comes where an allocation or the sink found none; the source may then have been read in
+/// part. After `WriteFault` and `Memory` what was written is a front of the text; after `ReadFault`
+/// and `TooLarge` nothing was.
 pub fn credtrace<S: Source, K: Sink>(
     alloc: Global,
     words: &[String],

@@ -7,11 +7,12 @@ use cred_io::SinkRefusal;
 /// How a run of the program ended. The number of its place, from 0, is the process's exit status.
 #[derive(Clone, Copy, PartialEq, Eq, Debug)]
 pub enum Status {
-    /// The whole text was written.
+    /// The whole text of the command was written.
     Done,
     /// The words are no command, and the usage line was written.
     Usage,
-    /// The input is no script, and its first bad line was written.
+    /// The input is no script, and its first bad line was written; or the word of `decode` spells no
+    /// attribute, and the reason was written.
     Bad,
     /// The input could not be read.
     ReadFault,

@@ -18,7 +18,7 @@ letter_small byte is = grind (arith, nat_tests)
 name_byte_small : (byte : ℕ) → is_name_byte byte ≡ true → byte < 128
 name_byte_small byte is = grind (arith, nat_tests)
 
-pub name_is_text : (word : List ℕ) → is_name word ≡ true → IsUtf8 word
+name_is_text : (word : List ℕ) → is_name word ≡ true → IsUtf8 word
 name_is_text [] is = absurd (cc)
 name_is_text (first ∷ rest) is =
     let outer = both _ _ is in
@@ -27,3 +27,11 @@ name_is_text (first ∷ rest) is =
     (IsAscii-from_all (first ∷ rest)
     (All-cons (λ byte. byte < 128) first rest (letter_small first parts.0)
     (λ j d inside. name_byte_small (get_or rest j d) (AllPass-from_list_all is_name_byte rest parts.1 j d inside))))
+
+by_test : (word : List ℕ) (test : Bool) → is_name word ≡ test → (IsUtf8 word → ⊥) → is_name word ≡ false
+by_test word true is bad = absurd (bad (name_is_text word is))
+by_test word false is bad = is
+
+-- what is no text is no name
+pub no_text : (word : List ℕ) → (IsUtf8 word → ⊥) → is_name word ≡ false
+no_text word bad = by_test word (is_name word) refl bad

@@ -7,9 +7,9 @@ use Rattle.cred_script.specs.declared.refusal.Reason.{Reason}
 use Rattle.cred_script.specs.declared.refusal.ScriptRefusal.{ScriptRefusal}
 use Rattle.cred_script.specs.declared.refusal.ScriptRefusal.TheVariants.{Bad, Memory}
 use Rattle.cred_script.specs.Words.{◌>>=◌}
-use Rattle.cred_script.specs.Forms.{Said}
+use Rattle.cred_script.specs.Forms.{ParsedLine}
 use Rattle.cred_script.specs.Earlier.{nothing}
-use Rattle.cred_script.specs.Grammar.{line_said, at_line, setup_line, with_file, onto, lines_from}
+use Rattle.cred_script.specs.Grammar.{parse_line, at_line, setup_line, with_file, onto, lines_from}
 use Rattle.cred_script.specs.Read.{Gives}
 use Rattle.cred_script.specs.FirstBad.{IsFirstBad, TellsFirstBad}
 
@@ -37,14 +37,14 @@ added_ok line (Ok more) h = refl
 added_ok line (Err d) h = h
 
 -- the lines after one whose content is known
-abbrev step : ℕ → Result (Said × Earlier) Reason → List NamedFile → List (List ℕ) → Lines
+abbrev step : ℕ → Result (ParsedLine × Earlier) Reason → List NamedFile → List (List ℕ) → Lines
 step number found files texts = at_line number found >>= λ line. added (setup_line line.0.content) (lines_from (number + 1) line.1 (with_file files line.0) texts)
 
 same_line : (a b : ℕ) (q r : Reason) → (let e : Lines = Err (a, q) in e) ≡ Err (b, r) → a ≡ b
 same_line a b q r h = let pair : (let p : ℕ × Reason = (a, q) in p) ≡ (b, r) = cc in ap (λ (p : ℕ × Reason). p.0) pair
 
-by_content : (found : Result (Said × Earlier) Reason) (text : List ℕ) (texts : List (List ℕ)) (number : ℕ) (earlier : Earlier) (files : List NamedFile) (line : ℕ) (reason : Reason)
-    → line_said earlier files text ≡ found
+by_content : (found : Result (ParsedLine × Earlier) Reason) (text : List ℕ) (texts : List (List ℕ)) (number : ℕ) (earlier : Earlier) (files : List NamedFile) (line : ℕ) (reason : Reason)
+    → parse_line earlier files text ≡ found
     → step number found files texts ≡ Err (line, reason)
     → ((then : Earlier) (more : List NamedFile) → lines_from (number + 1) then more texts ≡ Err (line, reason) → StandsAfter (number + 1) (lines_from (number + 1) then more) texts line reason)
     → StandsAfter number (lines_from number earlier files) (text ∷ texts) line reason
@@ -69,7 +69,7 @@ first_bad : (texts : List (List ℕ)) (number : ℕ) (earlier : Earlier) (files 
     → lines_from number earlier files texts ≡ Err (line, reason) → StandsAfter number (lines_from number earlier files) texts line reason
 first_bad [] number earlier files line reason h = absurd (cc)
 first_bad (text ∷ texts) number earlier files line reason h =
-    by_content (line_said earlier files text) text texts number earlier files line reason refl h
+    by_content (parse_line earlier files text) text texts number earlier files line reason refl h
     (λ then more e. first_bad texts (number + 1) then more line reason e)
 
 is_first : (texts : List (List ℕ)) (line : ℕ) (reason : Reason) → StandsAfter 1 (lines_from 1 nothing []) texts line reason → IsFirstBad texts line reason

@@ -12,14 +12,14 @@ use Rattle.cred_script.specs.declared.refusal.Reason.TheVariants.{Word, Order, N
 use Rattle.cred_script.specs.Words.{◌>>=◌}
 use Rattle.cred_script.specs.Names.{form_of}
 use Rattle.cred_script.specs.Files.{place_of}
-use Rattle.cred_script.specs.Forms.{Said}
+use Rattle.cred_script.specs.Forms.{ParsedLine}
 use Rattle.cred_script.specs.Sound.{files, namespaces}
 
 -- before the first line
 abbrev pub nothing : Earlier
 nothing = record { has_task = false; is_used = false }
 
--- Declarations stand before all that uses them.
+-- Declarations stand before all calls and events.
 abbrev pub is_declaration : Form → Bool
 is_declaration form.Init = true
 is_declaration form.File = true
@@ -54,9 +54,9 @@ is_new declared None = true
 is_new declared (Some file) = not (is_some (place_of declared file.name))
 
 -- the names that the line uses are declared, and the one that it declares is not
-abbrev pub names_declared : List NamedFile → Said → Result (Unit {0}) Reason
-names_declared declared said =
-    if has_namespaces said.content && has_files declared said.content && is_new declared said.file
+abbrev pub names_declared : List NamedFile → ParsedLine → Result (Unit {0}) Reason
+names_declared declared line =
+    if has_namespaces line.content && has_files declared line.content && is_new declared line.file
     then Ok tt
     else Err Name
 

@@ -31,7 +31,7 @@ name_of word = if is_name word then Ok word else Err Word
 
 -- the word is this text
 abbrev pub only : List ℕ → List ℕ → Result (Unit {0}) Reason
-only text word = if bytes_eq word text then Ok tt else Err Word
+only word text = if bytes_eq word text then Ok tt else Err Word
 
 -- five words, and those after them, which are at most three
 abbrev pub five_and_options : List (List ℕ)
@@ -43,20 +43,20 @@ five_and_options words = Err Count
 -- `caps HEX`
 unfoldable pub caps_of : List ℕ → List ℕ → Result (List ℕ) Reason
 caps_of word digits = do
-  caps ← only (codes "caps") word
+  caps ← only word (codes "caps")
   ok_or (bytes_of digits) Word
 
 -- what may follow: `nosuid`, and then `caps HEX`
 unfoldable pub options_of : List (List ℕ) → Result (Bool × Option (List ℕ)) Reason
 options_of [] = Ok (false, None)
 options_of (a ∷ []) = do
-  nosuid ← only (codes "nosuid") a
+  nosuid ← only a (codes "nosuid")
   Ok (true, None)
 options_of (a ∷ b ∷ []) = do
   attr ← caps_of a b
   Ok (false, Some attr)
 options_of (a ∷ b ∷ c ∷ []) = do
-  nosuid ← only (codes "nosuid") a
+  nosuid ← only a (codes "nosuid")
   attr ← caps_of b c
   Ok (true, Some attr)
 options_of words = Err Count

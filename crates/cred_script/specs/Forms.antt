@@ -148,36 +148,36 @@ call_content files task (call.Question name) words = do
   Ok (Question task asked)
 
 -- a call or a question of the task: the line names it after the task
-unfoldable pub own_content : List NamedFile → ℕ → List (List ℕ) → Result Content Reason
-own_content files task [] = Err Word
-own_content files task (word ∷ words) = do
+unfoldable pub task_content : List NamedFile → ℕ → List (List ℕ) → Result Content Reason
+task_content files task [] = Err Word
+task_content files task (word ∷ words) = do
   name ← ok_or (names.call_name word) Word
   call_content files task name words
 
--- What a line says: what it holds, and the file that it declares.
-pub record Said : Type 0 where
+-- A line that was parsed: what it holds, and the file that it declares.
+pub record ParsedLine : Type 0 where
   pub content : Content
   pub file : Option NamedFile
 
 -- a line that declares no file
-abbrev pub holds : Result Content Reason → Result Said Reason
-holds content = content >>= λ held. Ok (record { content = held; file = None })
+abbrev pub containing : Result Content Reason → Result ParsedLine Reason
+containing content = content >>= λ held. Ok (record { content = held; file = None })
 
 -- a line that declares a file, and holds nothing
-abbrev pub declares : Result NamedFile Reason → Result Said Reason
-declares file = file >>= λ named. Ok (record { content = Nothing; file = Some named })
+abbrev pub declaring : Result NamedFile Reason → Result ParsedLine Reason
+declaring file = file >>= λ named. Ok (record { content = Nothing; file = Some named })
 
--- what a line of this form says, where these files are declared before it
-abbrev pub form_said : List NamedFile → Form → List (List ℕ) → Result Said Reason
-form_said files form.Init words = holds (init_content words)
-form_said files form.File words = declares (file_of files words)
-form_said files (form.Own task) words = holds (own_content files task words)
-form_said files (form.Take side) words = holds (take_content side words)
-form_said files form.Release words = holds (release_content words)
-form_said files form.Ask words = holds (ask_content files words)
-form_said files form.Prepare words = holds (prepare_content words)
-form_said files form.Alter words = holds (alter_content words)
-form_said files form.Commit words = holds (commit_content words)
-form_said files form.Abort words = holds (abort_content words)
-form_said files form.Begin words = holds (begin_content words)
-form_said files form.Sweep words = holds (sweep_content words)
+-- a line of this form, where these files are declared before it
+abbrev pub parse_form : List NamedFile → Form → List (List ℕ) → Result ParsedLine Reason
+parse_form files form.Init words = containing (init_content words)
+parse_form files form.File words = declaring (file_of files words)
+parse_form files (form.Task task) words = containing (task_content files task words)
+parse_form files (form.Take side) words = containing (take_content side words)
+parse_form files form.Release words = containing (release_content words)
+parse_form files form.Ask words = containing (ask_content files words)
+parse_form files form.Prepare words = containing (prepare_content words)
+parse_form files form.Alter words = containing (alter_content words)
+parse_form files form.Commit words = containing (commit_content words)
+parse_form files form.Abort words = containing (abort_content words)
+parse_form files form.Begin words = containing (begin_content words)
+parse_form files form.Sweep words = containing (sweep_content words)

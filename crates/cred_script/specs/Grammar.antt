@@ -10,33 +10,33 @@ use Rattle.cred_script.specs.declared.refusal.Reason.{Reason}
 use Rattle.cred_script.specs.declared.refusal.Reason.TheVariants.{Byte}
 use Rattle.cred_script.specs.Lines.{lines_of, is_printable}
 use Rattle.cred_script.specs.Words.{◌>>=◌, words_of, is_comment}
-use Rattle.cred_script.specs.Forms.{Said, form_said}
+use Rattle.cred_script.specs.Forms.{ParsedLine, parse_form}
 use Rattle.cred_script.specs.Earlier.{nothing, form_at, in_order, names_declared, after}
 
--- What a line says that isn't empty, and what is declared after it. The tests stand in their
--- order: the first that fails tells the reason.
-unfoldable pub full_said : Earlier → List NamedFile → List ℕ → List (List ℕ)
-    → Result (Said × Earlier) Reason
-full_said earlier files first words = do
+-- A line that isn't empty, and what is declared after it. The tests stand in their order: the first
+-- that fails tells the reason.
+unfoldable pub parse_full : Earlier → List NamedFile → List ℕ → List (List ℕ)
+    → Result (ParsedLine × Earlier) Reason
+parse_full earlier files first words = do
   form ← form_at earlier first
-  said ← form_said files form words
+  line ← parse_form files form words
   order ← in_order earlier form
-  names ← names_declared files said
-  Ok (said, after earlier form)
+  names ← names_declared files line
+  Ok (line, after earlier form)
 
--- A line without words, and a comment, say nothing.
-abbrev pub nothing_said : Said
-nothing_said = record { content = Nothing; file = None }
+-- A line without words, and a comment, hold nothing and declare nothing.
+abbrev pub empty_line : ParsedLine
+empty_line = record { content = Nothing; file = None }
 
-abbrev pub words_said : Earlier → List NamedFile → List (List ℕ) → Result (Said × Earlier) Reason
-words_said earlier files [] = Ok (nothing_said, earlier)
-words_said earlier files (first ∷ words) =
-    if is_comment first then Ok (nothing_said, earlier) else full_said earlier files first words
+abbrev pub parse_words : Earlier → List NamedFile → List (List ℕ) → Result (ParsedLine × Earlier) Reason
+parse_words earlier files [] = Ok (empty_line, earlier)
+parse_words earlier files (first ∷ words) =
+    if is_comment first then Ok (empty_line, earlier) else parse_full earlier files first words
 
--- what a line says and what is declared after it, or why the line is bad
-abbrev pub line_said : Earlier → List NamedFile → List ℕ → Result (Said × Earlier) Reason
-line_said earlier files line =
-    if is_printable line then words_said earlier files (words_of line) else Err Byte
+-- a line and what is declared after it, or why the line is bad
+abbrev pub parse_line : Earlier → List NamedFile → List ℕ → Result (ParsedLine × Earlier) Reason
+parse_line earlier files line =
+    if is_printable line then parse_words earlier files (words_of line) else Err Byte
 
 -- a bad line is told by its number
 abbrev pub at_line : {A : Type 0} → ℕ → Result A Reason → Result A (ℕ × Reason)
@@ -48,8 +48,8 @@ abbrev pub setup_line : Content → Line
 setup_line content = record { lane = 0; content = content }
 
 -- the files, and the one that a line declares
-abbrev pub with_file : List NamedFile → Said → List NamedFile
-with_file files said = files ++ cons_option said.file []
+abbrev pub with_file : List NamedFile → ParsedLine → List NamedFile
+with_file files line = files ++ cons_option line.file []
 
 -- the script, with one more line before its others
 abbrev pub onto : Line → Script → Script
@@ -60,7 +60,7 @@ onto line script = record script { lines = line ∷ script.lines }
 abbrev pub lines_from : ℕ → Earlier → List NamedFile → List (List ℕ) → Result Script (ℕ × Reason)
 lines_from number earlier files [] = Ok (record { files = files; lines = [] })
 lines_from number earlier files (text ∷ texts) = do
-  line ← at_line number (line_said earlier files text)
+  line ← at_line number (parse_line earlier files text)
   script ← lines_from (number + 1) line.1 (with_file files line.0) texts
   Ok (onto (setup_line line.0.content) script)
 

@@ -32,7 +32,7 @@ form_of word =
     else if bytes_eq word (codes "abort") then Some form.Abort
     else if bytes_eq word (codes "begin") then Some form.Begin
     else if bytes_eq word (codes "sweep") then Some form.Sweep
-    else option_map form.Own (task_of word)
+    else option_map form.Task (task_of word)
 
 -- the id calls
 abbrev pub id_name : List ℕ → Option IdName

@@ -12,7 +12,7 @@ use Rattle.cred_event.specs.declared.content.Content.TheVariants.{One, Question,
 use Rattle.cred_event.specs.declared.content.Content.TheVariants as content
 use Rattle.cred_model.specs.Script.{Line, NamedFile}
 use Rattle.cred_script.specs.Files.{place_of}
-use Rattle.cred_script.specs.Forms.{Said}
+use Rattle.cred_script.specs.Forms.{ParsedLine}
 
 -- the labels that an event names
 abbrev pub event_labels : Event → List ℕ
@@ -88,11 +88,11 @@ pub record IsSound (count : ℕ) (line : Line) : Type 0 where
 abbrev pub IsNew : List NamedFile → Option NamedFile → Type 0
 IsNew declared file = IfSome file (λ f. place_of declared f.name ≡ None)
 
--- what is true of what a line says, where these files are declared before it
-pub record IsSaid (declared : List NamedFile) (said : Said) : Type 0 where
-  pub sound : IsSound (length declared) (record { lane = 0; content = said.content })
-  pub room : IfSome said.file (λ _. length declared < 256)
-  pub new : IsNew declared said.file
+-- what is true of a line that was parsed, where these files are declared before it
+pub record IsParsed (declared : List NamedFile) (line : ParsedLine) : Type 0 where
+  pub sound : IsSound (length declared) (record { lane = 0; content = line.content })
+  pub room : IfSome line.file (λ _. length declared < 256)
+  pub new : IsNew declared line.file
 
 -- what is true of the lines of a script that declares so many files
 pub record AreSound (count : ℕ) (lines : List Line) : Type 0 where

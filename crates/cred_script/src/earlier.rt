@@ -8,12 +8,12 @@ ghost use Rattle.cred_script.specs.Sound as sound;
 ghost use Rattle.cred_script.specs.Sound.{AreAmong, HasDeclaredNamespaces, IsNew};
 
 use crate::files::{Files, ScriptFile};
-use crate::forms::Said;
+use crate::forms::ParsedLine;
 use crate::names::{Form, form_of};
 use crate::refusal::Reason;
 use cred_event::{Change, Content, Event, Query};
 
-/// What the lines before a line have said.
+/// What the lines before a line have declared.
 #[derive(Clone, Copy, Debug)]
 pub(crate) struct Earlier {
     /// A first task was born.
@@ -87,15 +87,15 @@ fn starts_task(form: Form) -> bool
 }
 
 /// The names that the line uses are declared, and the one that it declares is not.
-pub(crate) fn names_declared(files: &Files, said: &Said) -> Result<(), Reason>
-    ensures answer { Says (λ x. x) result (spec.names_declared files.now said.now) }
-    ensures namespaces { IfOk result (λ _. HasDeclaredNamespaces said.now.content) }
-    ensures files { IfOk result (λ _. AreAmong (length files.now) (sound.files said.now.content)) }
-    ensures new { IfOk result (λ _. IsNew files.now said.now.file) }
+pub(crate) fn names_declared(files: &Files, line: &ParsedLine) -> Result<(), Reason>
+    ensures answer { Says (λ x. x) result (spec.names_declared files.now line.now) }
+    ensures namespaces { IfOk result (λ _. HasDeclaredNamespaces line.now.content) }
+    ensures files { IfOk result (λ _. AreAmong (length files.now) (sound.files line.now.content)) }
+    ensures new { IfOk result (λ _. IsNew files.now line.now.file) }
 {
-    if has_namespaces(&said.content)
-        && has_files(files, &said.content)
-        && is_new(files, said.file.as_ref())
+    if has_namespaces(&line.content)
+        && has_files(files, &line.content)
+        && is_new(files, line.file.as_ref())
     {
         Ok(())
     } else {

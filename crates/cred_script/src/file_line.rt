@@ -16,19 +16,17 @@ use std::str;
 pub(crate) fn name_of(word: &[u8]) -> Result<&str, Reason>
     ensures { Says (λ name. name.now) result (spec.name_of word.now) }
 {
-    if !is_name(word) {
-        return Err(Reason::Word);
-    }
-    // A name has letters, digits and three marks alone, so it is text.
     match str::from_utf8(word) {
-        Ok(name) => Ok(name),
+        Ok(name) if is_name(word) => Ok(name),
+        Ok(_) => Err(Reason::Word),
+        // A name has letters, digits and three marks alone: what is no text is no name.
         Err(_) => Err(Reason::Word),
     }
 }
 
 /// The word is this text.
-fn only(text: &str, word: &[u8]) -> Result<(), Reason>
-    ensures { Says (λ x. x) result (spec.only text.now word.now) }
+fn only(word: &[u8], text: &str) -> Result<(), Reason>
+    ensures { Says (λ x. x) result (spec.only word.now text.now) }
 {
     if is(word, text) {
         Ok(())
@@ -42,7 +40,7 @@ fn only(text: &str, word: &[u8]) -> Result<(), Reason>
 fn caps_of(alloc: Global, word: &[u8], digits: &[u8]) -> Result<Attr, LineRefusal>
     ensures { Tells (λ attr. attr) result (spec.caps_of word.now digits.now) }
 {
-    only("caps", word)?;
+    only(word, "caps")?;
     let bytes = bytes_of(alloc, digits)?.ok_or(Reason::Word)?;
     Ok(Attr::from_vec(bytes))
 }
@@ -55,12 +53,12 @@ fn options_of(alloc: Global, words: &[&[u8]]) -> Result<(bool, Option<Attr>), Li
     match words {
         [] => Ok((false, None)),
         [a] => {
-            only("nosuid", a)?;
+            only(a, "nosuid")?;
             Ok((true, None))
         }
         [a, b] => Ok((false, Some(caps_of(alloc, a, b)?))),
         [a, b, c] => {
-            only("nosuid", a)?;
+            only(a, "nosuid")?;
             Ok((true, Some(caps_of(alloc, b, c)?)))
         }
         _ => Err(LineRefusal::Bad(Reason::Count)),
@@ -74,7 +72,7 @@ pub(crate) fn file_of(
     files: &Files,
     words: &[&[u8]],
 ) -> Result<ScriptFile, LineRefusal>
-    ensures said { Tells (λ file. file) result (spec.file_of files.now (nows words.now)) }
+    ensures parsed { Tells (λ file. file) result (spec.file_of files.now (nows words.now)) }
     ensures room { IfOk result (λ _. length files.now < 256) }
 {
     if files.is_full() {

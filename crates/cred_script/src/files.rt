@@ -1,5 +1,5 @@
 //! The files that a script declares.
-ghost use Rattle.std.specs.Prelude.{◌≡◌, ◌<◌, ◌∷◌, ◌++◌, [], None, OnErr, OnOk, length, nat_lt, not, slice_get};
+ghost use Rattle.std.specs.Prelude.{◌≡◌, ◌<◌, ◌∷◌, ◌++◌, [], IfSome, None, OnErr, OnOk, length, nat_lt, not, slice_get};
 ghost use Rattle.std.specs.Option.{option_map};
 ghost use Rattle.cred_script.specs.Files as spec;
 
@@ -73,7 +73,8 @@ impl Files {
 
     /// The place of the file of this name, or none.
     pub(crate) fn place_of(&self, name: &str) -> Option<u32>
-        ensures { result ≡ spec.place_of self.now name.now }
+        ensures place { result ≡ spec.place_of self.now name.now }
+        ensures few { IfSome result (λ place. place < 256) }
     {
         Some(self.by_name.get_index_of(name)? as u32)
     }

@@ -1,4 +1,4 @@
-//! The forms of a line: what its words are, and what it then says. Each function takes the words
+//! The forms of a line: what its words are, and what it then holds. Each function takes the words
 //! that stand after the one that names the form. Their number is asked before what they spell.
 ghost use Rattle.std.specs.Prelude.{◌≡◌, ◌≤◌, ◌<◌, IfOk, IfSome, None, length};
 ghost use Rattle.cred_script.specs.Read.{Says, Tells, nows};
@@ -17,53 +17,53 @@ use cred_event::{Content, Event, Query, Side};
 use std::alloc::Global;
 use std::marker::Model;
 
-/// What a line says: what it holds, and the file that it declares.
+/// A line that was parsed: what it holds, and the file that it declares.
 #[derive(Drop, Debug)]
-pub(crate) struct Said {
+pub(crate) struct ParsedLine {
     pub(crate) content: Content,
     pub(crate) file: Option<ScriptFile>,
 }
 
-impl Model for Said {
+impl Model for ParsedLine {
     ghost use Rattle.cred_script.specs.Forms as spec;
 
-    ghost Value = { spec.Said };
+    ghost Value = { spec.ParsedLine };
 
-    ghost view = { λ s. record { content = s.content; file = s.file } };
+    ghost view = { λ l. record { content = l.content; file = l.file } };
 }
 
-impl Said {
+impl ParsedLine {
     /// A line that declares no file.
-    pub(crate) fn held(content: Content) -> Said
+    pub(crate) fn containing(content: Content) -> ParsedLine
         ensures { result ≡ record { content = content; file = None } }
     {
-        Said {
+        ParsedLine {
             content,
             file: None,
         }
     }
 }
 
-/// What a line of this form says, where these files are declared before it.
-pub(crate) fn form_said(
+/// A line of this form, where these files are declared before it.
+pub(crate) fn parse_form(
     alloc: Global,
     files: &Files,
     form: Form,
     words: &[&[u8]],
-) -> Result<Said, LineRefusal>
-    ensures said { Tells (λ said. said) result (spec.form_said files.now form (nows words.now)) }
-    ensures own { IfOk result (λ said. NamesOwn said.content) }
-    ensures room { IfOk result (λ said. IfSome said.file (λ _. length files.now < 256)) }
+) -> Result<ParsedLine, LineRefusal>
+    ensures parsed { Tells (λ line. line) result (spec.parse_form files.now form (nows words.now)) }
+    ensures own { IfOk result (λ line. NamesOwn line.content) }
+    ensures room { IfOk result (λ line. IfSome line.file (λ _. length files.now < 256)) }
 {
     let content = match form {
         Form::Init => init_content(words)?,
         Form::File => {
-            return Ok(Said {
+            return Ok(ParsedLine {
                 content: Content::Nothing,
                 file: Some(file_of(alloc, files, words)?),
             });
         }
-        Form::Own(task) => own_content(alloc, files, task, words)?,
+        Form::Task(task) => task_content(alloc, files, task, words)?,
         Form::Take(side) => take_content(side, words)?,
         Form::Release => release_content(words)?,
         Form::Ask => ask_content(files, words)?,
@@ -74,7 +74,7 @@ pub(crate) fn form_said(
         Form::Begin => begin_content(alloc, words)?,
         Form::Sweep => sweep_content(words)?,
     };
-    Ok(Said::held(content))
+    Ok(ParsedLine::containing(content))
 }
 
 /// A question, by its name.
@@ -271,15 +271,15 @@ fn call_content(
 }
 
 /// A call or a question of the task: the line names it after the task.
-#[tactic(auto, unfolding(crate::specs::Forms::own_content))]
-fn own_content(
+#[tactic(auto, unfolding(crate::specs::Forms::task_content))]
+fn task_content(
     alloc: Global,
     files: &Files,
     task: u32,
     words: &[&[u8]],
 ) -> Result<Content, LineRefusal>
     ensures content { Tells (λ content. content) result
-        (spec.own_content files.now task (nows words.now)) }
+        (spec.task_content files.now task (nows words.now)) }
     ensures own { IfOk result NamesOwn }
 {
     match words {

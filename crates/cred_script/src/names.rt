@@ -14,7 +14,7 @@ pub(crate) enum Form {
     /// A file is declared.
     File,
     /// A call or a question of the task.
-    Own(u32),
+    Task(u32),
     /// A label takes hold of a credential.
     Take(Side),
     /// A label lets go.
@@ -113,7 +113,7 @@ pub(crate) fn form_of(word: &[u8]) -> Option<Form>
     } else if is(word, "sweep") {
         Some(Form::Sweep)
     } else {
-        task_of(word).map(Form::Own)
+        task_of(word).map(Form::Task)
     }
 }
 

@@ -6,11 +6,11 @@ ghost use Rattle.cred_script.specs.Lines.{lines_of};
 ghost use Rattle.cred_script.specs.Grammar.{at_line, script_of};
 ghost use Rattle.cred_script.specs.Grammar as spec;
 ghost use Rattle.cred_script.specs.Read.{Gives, Tells, nows};
-ghost use Rattle.cred_script.specs.Sound.{IsNew, IsSaid};
+ghost use Rattle.cred_script.specs.Sound.{IsNew, IsParsed};
 
 use crate::earlier::{Earlier, names_declared};
 use crate::files::{Files, ScriptFile};
-use crate::forms::{Said, form_said};
+use crate::forms::{ParsedLine, parse_form};
 use crate::lines::{first_line, is_printable};
 use crate::refusal::{LineRefusal, Reason, ScriptRefusal};
 use crate::script::{Script, ScriptLine};
@@ -46,7 +46,7 @@ fn read_lines(alloc: Global, bytes: &[u8]) -> Result<Script, ScriptRefusal>
     while !rest.is_empty() {
         let (text, after) = first_line(rest);
         let number = lines.len() as u32 + 1;
-        let (Said { content, file }, then) = read_line(alloc, number, earlier, &files, text)?;
+        let (ParsedLine { content, file }, then) = read_line(alloc, number, earlier, &files, text)?;
         lines.push(ScriptLine { lane: 0, content })?;
         add_file(&mut files, file)?;
         earlier = then;
@@ -68,19 +68,19 @@ fn add_file(files: &mut Files, file: Option<ScriptFile>) -> Result<(), ScriptRef
     Ok(())
 }
 
-/// What the line of this number says, and what is declared after it.
+/// The line of this number, parsed, and what is declared after it.
 fn read_line(
     alloc: Global,
     number: u32,
     earlier: Earlier,
     files: &Files,
     text: &[u8],
-) -> Result<(Said, Earlier), ScriptRefusal>
-    ensures said { Gives (λ x. x) result
-        (at_line number (spec.line_said earlier files.now text.now)) }
-    ensures sound { IfOk result (λ found. IsSaid files.now found.0) }
+) -> Result<(ParsedLine, Earlier), ScriptRefusal>
+    ensures parsed { Gives (λ x. x) result
+        (at_line number (spec.parse_line earlier files.now text.now)) }
+    ensures sound { IfOk result (λ found. IsParsed files.now found.0) }
 {
-    match line_said(alloc, earlier, files, text) {
+    match parse_line(alloc, earlier, files, text) {
         Ok(found) => Ok(found),
         Err(LineRefusal::Bad(reason)) => Err(ScriptRefusal::Bad {
             line: number,
@@ -90,61 +90,61 @@ fn read_line(
     }
 }
 
-/// What a line says, and what is declared after it.
-fn line_said(
+/// A line, parsed, and what is declared after it.
+fn parse_line(
     alloc: Global,
     earlier: Earlier,
     files: &Files,
     text: &[u8],
-) -> Result<(Said, Earlier), LineRefusal>
-    ensures said { Tells (λ x. x) result (spec.line_said earlier files.now text.now) }
-    ensures sound { IfOk result (λ found. IsSaid files.now found.0) }
+) -> Result<(ParsedLine, Earlier), LineRefusal>
+    ensures parsed { Tells (λ x. x) result (spec.parse_line earlier files.now text.now) }
+    ensures sound { IfOk result (λ found. IsParsed files.now found.0) }
 {
     if !is_printable(text) {
         return Err(LineRefusal::Bad(Reason::Byte));
     }
     let words = words_of(alloc, text)?;
-    words_said(alloc, earlier, files, &words)
+    parse_words(alloc, earlier, files, &words)
 }
 
-/// A line without words, and a comment, say nothing.
-fn words_said(
+/// A line without words, and a comment, hold nothing and declare nothing.
+fn parse_words(
     alloc: Global,
     earlier: Earlier,
     files: &Files,
     words: &[&[u8]],
-) -> Result<(Said, Earlier), LineRefusal>
-    ensures said { Tells (λ x. x) result (spec.words_said earlier files.now (nows words.now)) }
-    ensures sound { IfOk result (λ found. IsSaid files.now found.0) }
+) -> Result<(ParsedLine, Earlier), LineRefusal>
+    ensures parsed { Tells (λ x. x) result (spec.parse_words earlier files.now (nows words.now)) }
+    ensures sound { IfOk result (λ found. IsParsed files.now found.0) }
 {
     match words {
-        [] => Ok((Said::held(Content::Nothing), earlier)),
+        [] => Ok((ParsedLine::containing(Content::Nothing), earlier)),
         [first, rest @ ..] => {
             if is_comment(first) {
-                Ok((Said::held(Content::Nothing), earlier))
+                Ok((ParsedLine::containing(Content::Nothing), earlier))
             } else {
-                full_said(alloc, earlier, files, first, rest)
+                parse_full(alloc, earlier, files, first, rest)
             }
         }
     }
 }
 
-/// What a line that isn't empty says, by the tests in their order.
-#[tactic(auto, unfolding(crate::specs::Grammar::full_said))]
-fn full_said(
+/// A line that isn't empty, by the tests in their order.
+#[tactic(auto, unfolding(crate::specs::Grammar::parse_full))]
+fn parse_full(
     alloc: Global,
     earlier: Earlier,
     files: &Files,
     first: &[u8],
     words: &[&[u8]],
-) -> Result<(Said, Earlier), LineRefusal>
-    ensures said { Tells (λ x. x) result
-        (spec.full_said earlier files.now first.now (nows words.now)) }
-    ensures sound { IfOk result (λ found. IsSaid files.now found.0) }
+) -> Result<(ParsedLine, Earlier), LineRefusal>
+    ensures parsed { Tells (λ x. x) result
+        (spec.parse_full earlier files.now first.now (nows words.now)) }
+    ensures sound { IfOk result (λ found. IsParsed files.now found.0) }
 {
     let form = earlier.form_at(first)?;
-    let said = form_said(alloc, files, form, words)?;
+    let line = parse_form(alloc, files, form, words)?;
     earlier.in_order(form)?;
-    names_declared(files, &said)?;
-    Ok((said, earlier.after(form)))
+    names_declared(files, &line)?;
+    Ok((line, earlier.after(form)))
 }

@@ -13,9 +13,9 @@ pub enum Reason {
     Byte,
     /// A word is none of those that may stand at its place.
     Word,
-    /// It has too many words, or too few.
+    /// It has too many words, or too few; or it declares a file after 256 others.
     Count,
-    /// It declares something, and stands after a line that uses what was declared.
+    /// It declares something, and stands after a call or an event.
     Order,
     /// A name is used before it is declared, or declared a second time.
     Name,

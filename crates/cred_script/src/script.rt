@@ -1,5 +1,5 @@
-//! A script: its lines, each with its lane and what it holds.
-ghost use Rattle.std.specs.Prelude.{◌≡◌, ◌≤◌, IfSome, length, slice_get};
+//! A script: the files that it declares, and its lines, each with its lane and what it holds.
+ghost use Rattle.std.specs.Prelude.{◌≡◌, ◌≤◌, ◌<◌, IfSome, length, slice_get};
 ghost use Rattle.std.specs.Option.{option_map};
 ghost use Rattle.cred_script.specs.Files as spec;
 ghost use Rattle.cred_script.specs.Grammar.{line_at};
@@ -54,7 +54,8 @@ impl Script {
         self.lines.len() as u32
     }
 
-    /// The name of the file at this place; none past the last.
+    /// The name of the file at this place, counted from 0 in the order of the lines that declare
+    /// them; none past the last.
     pub fn name(&self, place: u32) -> Option<&str>
         ensures { option_map (λ name. name.now) result
             ≡ option_map (λ file. file.name) (slice_get self.now.files place) }
@@ -62,7 +63,7 @@ impl Script {
         self.files.name(place)
     }
 
-    /// What checks and execve see of the file at this place; none past the last.
+    /// What checks and execve see of the file at this place, counted from 0; none past the last.
     pub fn file(&self, place: u32) -> Option<&FileInfo>
         ensures { option_map (λ info. info.now) result
             ≡ option_map (λ file. file.info) (slice_get self.now.files place) }
@@ -70,9 +71,10 @@ impl Script {
         self.files.info(place)
     }
 
-    /// The place of the file of this name; none for a name that isn't declared.
+    /// The place of the file of this name, from 0 to 255; none for a name that isn't declared.
     pub fn place_of(&self, name: &str) -> Option<u32>
-        ensures { result ≡ spec.place_of self.now.files name.now }
+        ensures place { result ≡ spec.place_of self.now.files name.now }
+        ensures few { IfSome result (λ place. place < 256) }
     {
         self.files.place_of(name)
     }

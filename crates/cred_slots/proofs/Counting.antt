@@ -1,5 +1,5 @@
 -- How often a test passes in what rows count.
-use Rattle.std.proofs.Common.{◌≡◌, ◌≢◌, ℕ, zero, suc, ◌+◌, ◌*◌, ◌<◌, ◌≤◌, ◌||◌, Bool, true, false, cond, List, [], ◌∷◌, ◌++◌, length, refl, sym, ◌∙◌, inl, inr, arith, nat_lt}
+use Rattle.std.proofs.Common.{◌≡◌, ◌≢◌, ℕ, zero, suc, ◌+◌, ◌*◌, ◌<◌, ◌≤◌, ◌||◌, Bool, true, false, cond, List, [], ◌∷◌, ◌++◌, length, refl, sym, inl, inr, arith, nat_lt}
 use Rattle.std.proofs.Common.{slice_set, replicate}
 use Rattle.std.specs.List.{count_by, sum_by, list_any}
 use Rattle.std.proofs.lemmas.List.Sums.{sum_by-cons, sum_by-append, sum_by-set, get_or-le-sum_by}
@@ -86,16 +86,6 @@ sum_some f (row ∷ rows) some = elim (cases_lt 0 (f row)) [
       let rest = sum_some f rows (omega (arith, sum_by-cons f row rows)) in
       (suc rest.0, omega arith, rest.2)
 ]
-
--- bags
-pub bag_refl : (xs : List ℕ) → IsSameBag xs xs
-bag_refl xs = record { counts = λ test. refl }
-
-pub bag_sym : (xs ys : List ℕ) → IsSameBag xs ys → IsSameBag ys xs
-bag_sym xs ys e = record { counts = λ test. sym (e.counts test) }
-
-pub bag_trans : (xs ys zs : List ℕ) → IsSameBag xs ys → IsSameBag ys zs → IsSameBag xs zs
-bag_trans xs ys zs e f = record { counts = λ test. e.counts test ∙ f.counts test }
 
 pub bag_length : (xs ys : List ℕ) → IsSameBag xs ys → length xs ≡ length ys
 bag_length xs ys e = omega (arith, e.counts (λ _. true), count-all xs, count-all ys)

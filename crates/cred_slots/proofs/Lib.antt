@@ -4,5 +4,4 @@ pub mod Sound
 pub mod Live
 pub mod Rows
 pub mod Uses
-pub mod Bags
 pub mod Tables

@@ -101,6 +101,48 @@ fn asks_for_declared_names(rt: HostRuntime) -> Result<(), Fail> {
     Ok(())
 }
 
+#[test]
+fn reads_what_is_wanted(rt: HostRuntime) -> Result<(), Fail> {
+    for want in ["r", "w", "x", "rw", "rx", "wx", "rwx"] {
+        let text = format!(in rt.alloc(); "file a reg 0 0 0644\nt1 check a {want}")?;
+        assert_eq!(rt; answer(rt.alloc(), &text)?, Ok(2), "{want}");
+    }
+    for want in ["xr", "xw", "wr", "xwr", "rr", "R", "-"] {
+        let text = format!(in rt.alloc(); "file a reg 0 0 0644\nt1 check a {want}")?;
+        assert_eq!(rt;
+            answer(rt.alloc(), &text)?,
+            Err((2, Reason::Word)),
+            "{want}"
+        );
+    }
+    Ok(())
+}
+
+#[test]
+fn attributes_have_2_to_128_digits(rt: HostRuntime) -> Result<(), Fail> {
+    let bad = Err((1, Reason::Word));
+    let cases = [
+        ("", 2, Ok(1)),
+        ("0x", 2, Ok(1)),
+        ("", 128, Ok(1)),
+        ("0x", 128, Ok(1)),
+        ("", 1, bad),
+        ("0x", 1, bad),
+        ("", 127, bad),
+        ("", 130, bad),
+        ("0x", 130, bad),
+        ("0X", 4, bad),
+    ];
+    for (prefix, count, want) in cases {
+        let mut text = format!(in rt.alloc(); "file a reg 0 0 0644 caps {prefix}")?;
+        for _ in 0..count {
+            text.push('f')?;
+        }
+        assert_eq!(rt; answer(rt.alloc(), &text)?, want, "{text}");
+    }
+    Ok(())
+}
+
 /// A script that declares so many files.
 fn declaring(alloc: Global, count: u32) -> Result<String, Fail> {
     let mut script = String::new(alloc);
