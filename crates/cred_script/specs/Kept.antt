@@ -1,5 +1,8 @@
 -- The files, as a map from names keeps them.
-use Rattle.std.specs.Prelude.{List, map, string_bytes, String}
+use Rattle.std.specs.Prelude.{◌≤◌, List, length, map, string_bytes, String}
+use Rattle.std.specs.List.{IsDistinct}
+use Rattle.std.specs.Map.{keys_of}
+use Rattle.std.specs.String.{string_eq}
 use Rattle.std.specs.declared.alloc.Global.{Global}
 use Rattle.cred_record.specs.File.{File}
 use Rattle.cred_model.specs.Script.{NamedFile}
@@ -9,3 +12,8 @@ file_of entry = record { name = string_bytes entry.0; info = entry.1 }
 
 abbrev pub files_of : List (String Global × File) → List NamedFile
 files_of entries = map file_of entries
+
+-- There are at most 256 files, and no two of them have one name.
+pub record AreFew (entries : List (String Global × File)) : Type 0 where
+  pub few : length entries ≤ 256
+  pub apart : IsDistinct string_eq (keys_of entries)

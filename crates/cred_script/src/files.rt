@@ -1,5 +1,5 @@
 //! The files that a script declares.
-ghost use Rattle.std.specs.Prelude.{◌≡◌, ◌<◌, ◌∷◌, ◌++◌, [], IfSome, None, OnErr, OnOk, length, nat_lt, not, slice_get};
+ghost use Rattle.std.specs.Prelude.{◌≡◌, ◌<◌, ◌∷◌, ◌++◌, [], IfSome, None, Some, OnErr, OnOk, length, nat_lt, not, slice_get};
 ghost use Rattle.std.specs.Option.{option_map};
 ghost use Rattle.cred_script.specs.Files as spec;
 
@@ -36,15 +36,15 @@ pub(crate) struct Files {
 }
 
 impl Model for Files {
-    ghost use Rattle.std.specs.Prelude.{◌≤◌, List, length};
+    ghost use Rattle.std.specs.Prelude.{List};
     ghost use Rattle.cred_model.specs.Script.{NamedFile};
-    ghost use Rattle.cred_script.specs.Kept.{files_of};
+    ghost use Rattle.cred_script.specs.Kept.{AreFew, files_of};
 
     ghost Value = { List NamedFile };
 
     ghost view = { λ f. files_of f.by_name.entries };
 
-    ghost invariant = { λ f. length f.by_name.entries ≤ 256 };
+    ghost invariant = { λ f. AreFew f.by_name.entries };
 }
 
 impl Files {
@@ -89,10 +89,11 @@ impl Files {
         }
     }
 
-    /// The name of the file at this place; none past the last.
+    /// The name of the file at this place; none past the last. No other file has it.
     pub(crate) fn name(&self, place: u32) -> Option<&str>
-        ensures { option_map (λ name. name.now) result
+        ensures name { option_map (λ name. name.now) result
             ≡ option_map (λ file. file.name) (slice_get self.now place) }
+        ensures own { IfSome result (λ name. spec.place_of self.now name.now ≡ Some place) }
     {
         let (name, _) = self.by_name.get_index(place as usize)?;
         Some(name)

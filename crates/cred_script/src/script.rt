@@ -1,5 +1,5 @@
 //! A script: the files that it declares, and its lines, each with its lane and what it holds.
-ghost use Rattle.std.specs.Prelude.{◌≡◌, ◌≤◌, ◌<◌, IfSome, length, slice_get};
+ghost use Rattle.std.specs.Prelude.{◌≡◌, ◌≤◌, ◌<◌, IfSome, Some, length, slice_get};
 ghost use Rattle.std.specs.Option.{option_map};
 ghost use Rattle.cred_script.specs.Files as spec;
 ghost use Rattle.cred_script.specs.Grammar.{line_at};
@@ -55,10 +55,11 @@ impl Script {
     }
 
     /// The name of the file at this place, counted from 0 in the order of the lines that declare
-    /// them; none past the last.
+    /// them; none past the last. No other file has it.
     pub fn name(&self, place: u32) -> Option<&str>
-        ensures { option_map (λ name. name.now) result
+        ensures name { option_map (λ name. name.now) result
             ≡ option_map (λ file. file.name) (slice_get self.now.files place) }
+        ensures own { IfSome result (λ name. spec.place_of self.now.files name.now ≡ Some place) }
     {
         self.files.name(place)
     }
