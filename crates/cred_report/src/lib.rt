@@ -10,8 +10,6 @@ mod entry;
 mod events;
 mod numbers;
 mod questions;
-#[cfg(test)]
-mod tests;
 mod text;
 mod told;
 mod words;

@@ -1,5 +1,6 @@
-//! Worked examples of the whole program, as tests of its top call over ends in memory. There is no
-//! code here beside the tests.
+//! Worked examples of the whole program, as tests of its top call over ends in memory; the edges of
+//! the grammar, as tests of its reader; and the texts of entries, as tests of their printer. There is
+//! no code here beside the tests: a crate with tests is proved twice.
 #![tactic(auto)]
 
 #[cfg(test)]
@@ -13,6 +14,8 @@ mod decoding;
 #[cfg(test)]
 mod ends;
 #[cfg(test)]
+mod grammar;
+#[cfg(test)]
 mod lasts;
 #[cfg(test)]
 mod refused;
@@ -22,3 +25,5 @@ mod rows;
 mod runs;
 #[cfg(test)]
 mod sizes;
+#[cfg(test)]
+mod texts;

@@ -20,8 +20,6 @@ mod reader;
 mod refusal;
 mod script;
 mod spellings;
-#[cfg(test)]
-mod tests;
 mod words;
 
 pub use bytes::bytes_of;

@@ -1,9 +1,9 @@
 //! Entries built by hand, against their lines in worked reports.
-use crate::{append, print};
 use cred_caps::{CapSet, SecureBits};
 use cred_event::{AbortCause, Answer, Change, Counted, Entry, Event, Named, Query, Side, Told};
 use cred_ids::{Arg, Id, Ids4, Kind};
 use cred_record::{AdjCall, Gains, IdCall, IdList};
+use cred_report::{append, print};
 use cred_script::{Script, read};
 use std::alloc::Global;
 use std::test::Fail;

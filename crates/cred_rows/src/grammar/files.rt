@@ -1,6 +1,6 @@
 //! Lines that declare files, and lines that name them.
-use crate::tests::{answer, first_other};
-use crate::{Reason, line_count, read};
+use crate::grammar::{answer, first_other};
+use cred_script::{Reason, line_count, read};
 use std::alloc::Global;
 use std::test::Fail;
 

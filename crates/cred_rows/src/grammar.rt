@@ -1,7 +1,7 @@
 //! What the reader answers at the edges of the grammar.
 mod files;
 
-use crate::{Reason, ScriptRefusal, line_count, read};
+use cred_script::{Reason, ScriptRefusal, line_count, read};
 use std::alloc::Global;
 use std::test::Fail;
 
