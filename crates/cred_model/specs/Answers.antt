@@ -1,7 +1,8 @@
 -- What a rule and a question answer, and which answers are refusals.
-use Rattle.std.specs.Prelude.{Bool, true, false, List, slice_get, Some, None, if◌then◌else◌}
+use Rattle.std.specs.Prelude.{Bool, true, false, Some, None, if◌then◌else◌}
 use Rattle.std.specs.declared.option.Option.{Option}
 use Rattle.cred_record.specs.Credential.{Credential}
+use Rattle.cred_record.specs.File.{File}
 use Rattle.cred_record.specs.declared.want.Want.{Want}
 use Rattle.cred_record.specs.declared.refusal.Denial.{Denial}
 use Rattle.cred_record.specs.declared.refusal.Denial.TheVariants.{Perm, Invalid}
@@ -12,7 +13,6 @@ use Rattle.cred_event.specs.declared.answer.Answer.TheVariants as answer
 use Rattle.cred_event.specs.declared.answer.Told.TheVariants as told
 use Rattle.cred_event.specs.declared.event.Query.{Query}
 use Rattle.cred_event.specs.declared.event.Query.TheVariants.{Ids, Caps, Groups, Bits, Capable, Bset, AmbIs, Check}
-use Rattle.cred_model.specs.Script.{NamedFile}
 
 -- a rule's refusal, as the manual's error
 abbrev pub refusal : Denial → Answer
@@ -24,21 +24,21 @@ abbrev pub flag : Option Bool → Answer
 flag None = answer.Einval
 flag (Some is) = answer.Told (told.Flag is)
 
--- what a check of a file is told; a file that isn't declared can't be reached
-abbrev pub checked : Credential → Option NamedFile → Want → Answer
+-- what a check of a file is told; there is always a file, since a question names a declared one
+abbrev pub checked : Credential → Option File → Want → Answer
 checked c None asked = answer.Eacces
-checked c (Some file) asked = if may c file.info asked then answer.Done else answer.Eacces
+checked c (Some file) asked = if may c file asked then answer.Done else answer.Eacces
 
--- What a question about a credential is told, where these are the declared files.
-abbrev pub reply : List NamedFile → Credential → Query → Answer
-reply files c Ids = answer.Told (told.Ids c.uid c.gid)
-reply files c Caps = answer.Told (told.Caps c.perm c.inh c.eff c.bound c.amb)
-reply files c Groups = answer.Told (told.Groups c.groups)
-reply files c Bits = answer.Told (told.Bits c.bits c.nnp)
-reply files c (Capable n) = flag (read_in c.eff n)
-reply files c (Bset n) = flag (bset_read c n)
-reply files c (AmbIs n) = flag (amb_is_set c n)
-reply files c (Check file asked) = checked c (slice_get files file) asked
+-- What a question about a credential is told, where this is the file that it names, if any.
+abbrev pub reply : Option File → Credential → Query → Answer
+reply file c Ids = answer.Told (told.Ids c.uid c.gid)
+reply file c Caps = answer.Told (told.Caps c.perm c.inh c.eff c.bound c.amb)
+reply file c Groups = answer.Told (told.Groups c.groups)
+reply file c Bits = answer.Told (told.Bits c.bits c.nnp)
+reply file c (Capable n) = flag (read_in c.eff n)
+reply file c (Bset n) = flag (bset_read c n)
+reply file c (AmbIs n) = flag (amb_is_set c n)
+reply file c (Check place asked) = checked c file asked
 
 -- the event did what it says
 abbrev pub is_ok : Answer → Bool

@@ -118,9 +118,20 @@ most Asking = 2
 most Aborting = 2
 most Releasing = 1
 
+-- how many events one try may have, at most
+abbrev pub TRY_EVENTS : ℕ
+TRY_EVENTS = 8
+
 -- how many events the line may still make, at most
 abbrev pub left : Course → ℕ
-left course = option_map_or (λ stage. 8 * (TRIES - course.tries) + most stage) course.stage 0
+left course =
+    option_map_or (λ stage. TRY_EVENTS * (TRIES - course.tries) + most stage) course.stage 0
+
+-- The line makes no more events than its course allows. An id call has no such bound: each thread of
+-- the process makes it, however many there are by then.
+abbrev pub is_bounded : Content → Bool
+is_bounded (Id task call) = false
+is_bounded content = true
 
 -- how far the line of this number, with this content, has come after these answers
 abbrev pub leads : ℕ → Content → List Answer → Course

@@ -1,7 +1,10 @@
 pub mod Script
+pub mod Named
 pub mod State
 pub mod Slots
 pub mod Answers
+pub mod Change
 pub mod Step
+pub mod Like
 pub mod Course
 pub mod Journal

@@ -1,5 +1,8 @@
 -- What a script is.
-use Rattle.std.specs.Prelude.{ℕ, List}
+use Rattle.std.specs.Prelude.{◌≡◌, ℕ, List, [], ◌∷◌, slice_get, None}
+use Rattle.std.specs.declared.option.Option.{Option}
+use Rattle.std.specs.List.{AllPairs}
+use Rattle.std.specs.Option.{option_map}
 use Rattle.cred_record.specs.File.{File}
 use Rattle.cred_event.specs.declared.content.Content.{Content}
 
@@ -18,3 +21,17 @@ pub record Line : Type 0 where
 pub record Script : Type 0 where
   pub files : List NamedFile
   pub lines : List Line
+
+-- what the script says of the file that an event names, by its place; none where it names none
+abbrev pub info_of : Script → List ℕ → Option File
+info_of script [] = None
+info_of script (place ∷ places) = option_map (λ file. file.info) (slice_get script.files place)
+
+-- the root ids of a namespace and of its ancestors: namespace 0, the initial one, has root id 0 and
+-- no parent, and no other is declared so far (user_namespaces(7))
+abbrev pub chain_of : Script → ℕ → List ℕ
+chain_of script namespace = 0 ∷ []
+
+-- The setup's lines come before all others.
+abbrev pub SetupFirst : Script → Type 0
+SetupFirst script = AllPairs (λ earlier later. later.lane ≡ 0 → earlier.lane ≡ 0) script.lines

@@ -1,7 +1,7 @@
 -- Which slots are in use, and which one is taken next.
-use Rattle.std.specs.Prelude.{ℕ, ◌==◌, Bool, false, not, ◌||◌, List, [], ◌++◌, map, find, count_by, slice_get, is_some, if◌then◌else◌}
+use Rattle.std.specs.Prelude.{ℕ, ◌==◌, Bool, false, not, ◌||◌, List, [], ◌∷◌, ◌++◌, map, find, count_by, slice_get, is_some, if◌then◌else◌}
 use Rattle.std.specs.declared.option.Option.{Option}
-use Rattle.std.specs.List.{list_any, range_with_len}
+use Rattle.std.specs.List.{concat, flat_map, list_any, range_with_len}
 use Rattle.std.specs.Option.{option_map_or}
 use Rattle.cred_model.specs.State.{State, Sealing}
 
@@ -9,13 +9,26 @@ use Rattle.cred_model.specs.State.{State, Sealing}
 abbrev pub SLOTS : ℕ
 SLOTS = 256
 
--- Every reference to a credential, by its number: one for each task's current credential, one for
--- each hold, one for the base of each prepared label, and one for each that was given up since the
--- last sweep.
+-- The places that refer to a credential, by its number: a list for each kind of thing that refers.
+abbrev pub places : State → List (List ℕ)
+places s =
+    map (λ t. t.current) s.tasks ∷
+    flat_map (λ t. t.overrides) s.tasks ∷
+    map (λ h. h.number) s.holds ∷
+    map (λ p. p.base) s.prepared ∷
+    []
+
+-- all references that stand
+abbrev pub standing : State → List ℕ
+standing s = concat (places s)
+
+-- Every reference: those that stand, and those that were given up since the last sweep.
 abbrev pub refs : State → List ℕ
-refs s =
-    map (λ t. t.current) s.tasks ++ map (λ h. h.number) s.holds ++ map (λ p. p.base) s.prepared ++
-    s.deferred
+refs s = standing s ++ s.deferred
+
+-- the slots that prepared labels keep
+abbrev pub kept : State → List ℕ
+kept s = map (λ p. p.slot) s.prepared
 
 -- the credential of this number stands in the slot
 abbrev pub stands_in : List Sealing → ℕ → ℕ → Bool
@@ -28,7 +41,7 @@ uses s slot = count_by (λ number. stands_in s.creds slot number) (refs s)
 
 -- a prepared label keeps the slot for the credential that it will seal
 abbrev pub is_kept : State → ℕ → Bool
-is_kept s slot = list_any (λ p. p.slot == slot) s.prepared
+is_kept s slot = list_any (λ kept. kept == slot) (kept s)
 
 -- A slot is live if something refers to a credential in it, or if it is kept.
 abbrev pub is_live : State → ℕ → Bool

@@ -3,23 +3,28 @@ use Rattle.std.specs.Prelude.{ℕ, ◌==◌, List, [], find, slice_get}
 use Rattle.std.specs.declared.option.Option.{Option}
 use Rattle.std.specs.Option.{option_map, option_and_then}
 use Rattle.cred_record.specs.Credential.{Credential}
+use Rattle.cred_record.specs.declared.gains.Gains.{Gains}
 use Rattle.cred_event.specs.declared.event.Change.{Change}
 
--- A task (a thread) belongs to a process, and has the number of its current credential.
+-- A task (a thread) belongs to a process, and has the number of its current credential and those of
+-- the credentials that it acts with in its place, the newest first.
 pub record Task : Type 0 where
   pub number : ℕ
   pub process : ℕ
   pub current : ℕ
+  pub overrides : List ℕ
 
 -- A hold keeps the number of a credential under a label.
 pub record Hold : Type 0 where
   pub label : ℕ
   pub number : ℕ
 
--- What the last change of a prepared credential was, and the credential that it made of the base.
+-- What the last change of a prepared credential was, the credential that it made of the base, and
+-- what that one gains.
 pub record Changed : Type 0 where
   pub change : Change
   pub cred : Credential
+  pub gains : Gains
 
 -- A label prepares a new credential for a task. It keeps the number of the credential that the new
 -- one is based on, and the slot that the new one will stand in; once it was changed, also what the

@@ -4,24 +4,22 @@ use Rattle.std.specs.declared.option.Option.{Option}
 use Rattle.std.specs.Option.{option_map_or}
 use Rattle.cred_record.specs.Credential.{Credential, first_credential}
 use Rattle.cred_record.specs.declared.id_call.IdCall.{IdCall}
-use Rattle.cred_record.specs.declared.refusal.Denial.{Denial}
 use Rattle.cred_rules.specs.SetId.{set_id}
-use Rattle.cred_rules.specs.SetFs.{set_fs, old_fs}
-use Rattle.cred_rules.specs.Adjust.{adjust}
 use Rattle.cred_event.specs.declared.event.Change.{Change}
-use Rattle.cred_event.specs.declared.event.Change.TheVariants.{SetFs, Adjust}
 use Rattle.cred_event.specs.declared.event.Event.{Event}
 use Rattle.cred_event.specs.declared.event.Query.{Query}
 use Rattle.cred_event.specs.declared.event.Side.{Side}
 use Rattle.cred_event.specs.declared.event.Event.TheVariants.{Init, Take, Release, Ask, Prepare, Alter, Commit, Abort, Begin, Sweep}
 use Rattle.cred_event.specs.declared.answer.Answer.{Answer}
-use Rattle.cred_event.specs.declared.answer.Answer.TheVariants.{Done, Sealed, Kept, Was, Began, Einval, NoTask, NoHold, NoPrepared, Exists, Stale, TooMany, TableFull}
+use Rattle.cred_event.specs.declared.answer.Answer.TheVariants.{Done, Sealed, Kept, Began, Einval, NoTask, NoHold, NoPrepared, Exists, Stale, TooMany, TableFull}
 use Rattle.cred_event.specs.declared.answer.Named.TheVariants as named
 use Rattle.cred_event.specs.declared.answer.Counted.TheVariants as counted
-use Rattle.cred_model.specs.Script.{Script, NamedFile}
+use Rattle.cred_model.specs.Script.{Script, info_of, chain_of}
+use Rattle.cred_model.specs.Named.{query_files, change_files}
 use Rattle.cred_model.specs.State.{State, Task, Prepared, Changed, task_of, hold_of, prepared_of, numbered, current_of, held_by}
 use Rattle.cred_model.specs.Slots.{room, free, swept}
-use Rattle.cred_model.specs.Answers.{refusal, reply}
+use Rattle.cred_model.specs.Answers.{reply}
+use Rattle.cred_model.specs.Change.{by_change, by_rule}
 
 -- how many tasks may live, how many holds and how many prepared labels may stand
 abbrev pub TASKS : ℕ
@@ -47,15 +45,14 @@ none_or found answer = if is_some found then Err answer else Ok tt
 abbrev pub fewer_or : ℕ → ℕ → Answer → Result (Unit {0}) Answer
 fewer_or count limit answer = if nat_lt count limit then Ok tt else Err answer
 
--- what a rule gives, or its refusal
-abbrev pub by_rule : Result Credential Denial → Result Credential Answer
-by_rule (Ok c) = Ok c
-by_rule (Err denial) = Err (refusal denial)
+-- What happens where a slot is free, and where none is. The sweep that was made to find one stands
+-- either way.
+abbrev pub in_slot : State → (State → Answer × State) → (State → ℕ → Answer × State) → Answer × State
+in_slot s full does = option_map_or (does (room s)) (free s) (full (room s))
 
--- What happens where a slot is free, or that the table is full. The sweep that was made to find one
--- stands either way.
-abbrev pub in_slot : State → (State → ℕ → Answer × State) → Answer × State
-in_slot s does = option_map_or (does (room s)) (free s) (TableFull, room s)
+-- where no slot is free
+abbrev pub table_full : State → Answer × State
+table_full s = (TableFull, s)
 
 -- the state in which one more credential is sealed
 abbrev pub sealed : State → Credential → ℕ → State
@@ -68,9 +65,14 @@ renewed task number t = if t.number == task then record t { current = number } e
 abbrev pub with_current : List Task → ℕ → ℕ → List Task
 with_current tasks task number = map (renewed task number) tasks
 
--- A first task is born with its first credential.
-abbrev pub born : State → Task → Credential → ℕ → State
-born s task c slot =
+-- a task that overrides nothing
+abbrev pub first_task : ℕ → ℕ → ℕ → Task
+first_task task process number =
+    record { number = task; process = process; current = number; overrides = [] }
+
+-- A first task is created with its first credential.
+abbrev pub created : State → Task → Credential → ℕ → State
+created s task c slot =
     let now = sealed s c slot in
     record now { tasks = s.tasks ++ task ∷ [] }
 
@@ -88,21 +90,15 @@ replaced s task old c slot =
 abbrev pub preparing : State → Prepared → State
 preparing s p = record s { prepared = s.prepared ++ p ∷ [] }
 
--- what a change makes of the base credential, with its answer; a change that no line makes yet is
--- refused
-abbrev pub by_change : Credential → Change → Result (Answer × Credential) Answer
-by_change c (SetFs kind id) = Ok (Was (old_fs c kind), set_fs c kind id)
-by_change c (Adjust call) = do
-  new ← by_rule (adjust c call)
-  Ok (Done, new)
-by_change c change = Err Einval
-
 -- the prepared labels, where this one was changed
 abbrev pub changed : ℕ → Changed → Prepared → Prepared
 changed label to p = if p.label == label then record p { changed = Some to } else p
 
 abbrev pub with_change : List Prepared → ℕ → Changed → List Prepared
 with_change prepared label to = map (changed label to) prepared
+
+abbrev pub altered : State → ℕ → Changed → State
+altered s label to = record s { prepared = with_change s.prepared label to }
 
 -- The prepared label at this place is given up, and its slot with it: it refers to its base no
 -- more.
@@ -123,23 +119,27 @@ committed s place p old c =
       deferred = s.deferred ++ old ∷ p.base ∷ [];
     }
 
+-- what a commit answers, by what was changed last
+abbrev pub commit_answer : Changed → ℕ → ℕ → Answer
+commit_answer last number slot = Sealed number slot
+
 -- Only a credential whose base is still the task's current one is committed. Another one is stale,
 -- and is given up.
-abbrev pub settle : State → ℕ → Prepared → ℕ → Credential → Answer × State
-settle s place p current c =
+abbrev pub settle : State → ℕ → Prepared → ℕ → Changed → Answer × State
+settle s place p current last =
     if current == p.base
-    then (Sealed (length s.creds) p.slot, committed s place p current c)
+    then (commit_answer last (length s.creds) p.slot, committed s place p current last.cred)
     else (Stale p.base current, given_up s place p)
 
--- init: a first task is born
+-- init: a first task is created
 abbrev pub by_init : State → ℕ → ℕ → ℕ → ℕ → ℕ → Result (Answer × State) Answer
 by_init s task process user group ns = do
   new ← none_or (task_of s task) (Exists named.Task task)
   few ← fewer_or (length s.tasks) TASKS (TooMany counted.Tasks)
-  Ok (in_slot s (λ s slot.
+  Ok (in_slot s table_full (λ s slot.
       let number = length s.creds in
-      let first : Task = record { number = task; process = process; current = number } in
-      (Sealed number slot, born s first (first_credential user group ns) slot)))
+      let first = first_task task process number in
+      (Sealed number slot, created s first (first_credential user group ns) slot)))
 
 -- a label takes hold of the credential that the task acts with, or is acted on by
 abbrev pub by_take : State → ℕ → ℕ → Side → Result (Answer × State) Answer
@@ -160,11 +160,11 @@ by_release s label = do
   hold ← ok_or (slice_get s.holds place) (NoHold label)
   Ok (Done, record s { holds = remove s.holds place; deferred = s.deferred ++ hold.number ∷ [] })
 
--- a question about what a label holds, where these are the declared files
-abbrev pub by_ask : List NamedFile → State → ℕ → Query → Result (Answer × State) Answer
-by_ask files s label query = do
+-- a question about what a label holds
+abbrev pub by_ask : Script → State → ℕ → Query → Result (Answer × State) Answer
+by_ask script s label query = do
   held ← ok_or (held_by s label) (NoHold label)
-  Ok (reply files held.cred query, s)
+  Ok (reply (info_of script (query_files query)) held.cred query, s)
 
 -- a label prepares a new credential for a task, based on what another holds
 abbrev pub by_prepare : State → ℕ → ℕ → ℕ → Result (Answer × State) Answer
@@ -174,7 +174,7 @@ by_prepare s label task hold = do
   new ← none_or (hold_of s label) (Exists named.Label label)
   unprepared ← none_or (prepared_of s label) (Exists named.Label label)
   few ← fewer_or (length s.prepared) PREPARED (TooMany counted.Prepared)
-  Ok (in_slot s (λ s slot. (
+  Ok (in_slot s table_full (λ s slot. (
     Kept slot,
     preparing s (record {
       label = label;
@@ -186,17 +186,13 @@ by_prepare s label task hold = do
   )))
 
 -- what a label prepared is its base, changed
-abbrev pub by_alter : State → ℕ → Change → Result (Answer × State) Answer
-by_alter s label change = do
+abbrev pub by_alter : Script → State → ℕ → Change → Result (Answer × State) Answer
+by_alter script s label change = do
   p ← ok_or (prepared_of s label) (NoPrepared label)
   base ← ok_or (numbered s.creds p.base) (NoPrepared label)
-  made ← by_change base.cred change
-  Ok (
-    made.0,
-    record s {
-      prepared = with_change s.prepared label (record { change = change; cred = made.1 });
-    },
-  )
+  made ← by_change (info_of script (change_files change)) (chain_of script base.cred.ns) base.cred
+      change
+  Ok (made.answer, altered s label (record { change = change; cred = made.cred; gains = made.gains }))
 
 -- what a label prepared becomes the current credential of its task
 abbrev pub by_commit : State → ℕ → Result (Answer × State) Answer
@@ -205,7 +201,7 @@ by_commit s label = do
   p ← ok_or (slice_get s.prepared place) (NoPrepared label)
   last ← ok_or p.changed (NoPrepared label)
   now ← ok_or (current_of s p.task) (NoTask p.task)
-  Ok (settle s place p now.number last.cred)
+  Ok (settle s place p now.number last)
 
 -- what a label prepared is given up
 abbrev pub by_abort : State → ℕ → Result (Answer × State) Answer
@@ -219,21 +215,23 @@ abbrev pub by_begin : State → ℕ → IdCall → Result (Answer × State) Answ
 by_begin s task call = do
   old ← ok_or (current_of s task) (NoTask task)
   new ← by_rule (set_id old.cred call)
-  Ok (in_slot s (λ s slot. (Began (length s.creds) slot 0, replaced s task old.number new slot)))
+  Ok (in_slot s table_full (λ s slot.
+      (Began (length s.creds) slot 0, replaced s task old.number new slot)))
 
--- what an event does if nothing refuses it, with its answer
-abbrev pub done : Script → State → Event → Result (Answer × State) Answer
-done script s (Init task process user group ns) = by_init s task process user group ns
-done script s (Take label task side) = by_take s label task side
-done script s (Release label) = by_release s label
-done script s (Ask label query) = by_ask script.files s label query
-done script s (Prepare label task hold) = by_prepare s label task hold
-done script s (Alter label change) = by_alter s label change
-done script s (Commit label) = by_commit s label
-done script s (Abort label) = by_abort s label
-done script s (Begin task call) = by_begin s task call
-done script s Sweep = Ok (Done, swept s)
-done script s event = Err Einval
+-- What an event of a line does if nothing refuses it, with its answer. No line makes the other
+-- events yet, and no call is handed one.
+abbrev pub done : Script → State → ℕ → Event → Result (Answer × State) Answer
+done script s line (Init task process user group ns) = by_init s task process user group ns
+done script s line (Take label task side) = by_take s label task side
+done script s line (Release label) = by_release s label
+done script s line (Ask label query) = by_ask script s label query
+done script s line (Prepare label task hold) = by_prepare s label task hold
+done script s line (Alter label change) = by_alter script s label change
+done script s line (Commit label) = by_commit s label
+done script s line (Abort label) = by_abort s label
+done script s line (Begin task call) = by_begin s task call
+done script s line Sweep = Ok (Done, swept s)
+done script s line event = Err Einval
 
 -- A refusal leaves the state.
 abbrev pub settled : State → Result (Answer × State) Answer → Answer × State
@@ -242,4 +240,4 @@ settled s (Err answer) = (answer, s)
 
 -- What a line's event answers in a state, and the state after it.
 abbrev pub step : Script → State → ℕ → Event → Answer × State
-step script s line event = settled s (done script s event)
+step script s line event = settled s (done script s line event)

@@ -1,0 +1,51 @@
+-- What a change makes of a credential, and what that gains.
+use Rattle.std.specs.Prelude.{ℕ, List, Result, Ok, Err}
+use Rattle.std.specs.declared.option.Option.{Option}
+use Rattle.cred_caps.specs.Caps.{Caps, empty, union}
+use Rattle.cred_record.specs.Credential.{Credential}
+use Rattle.cred_record.specs.File.{File}
+use Rattle.cred_record.specs.declared.gains.Gains.{Gains}
+use Rattle.cred_record.specs.declared.refusal.Denial.{Denial}
+use Rattle.cred_rules.specs.SetFs.{set_fs, old_fs}
+use Rattle.cred_rules.specs.Adjust.{adjust}
+use Rattle.cred_event.specs.declared.event.Change.{Change}
+use Rattle.cred_event.specs.declared.event.Change.TheVariants.{SetFs, Adjust}
+use Rattle.cred_event.specs.declared.answer.Answer.{Answer}
+use Rattle.cred_event.specs.declared.answer.Answer.TheVariants as answer
+use Rattle.cred_model.specs.Answers.{refusal}
+
+-- What a change makes of a credential: its answer, the new credential, and what that one gains over
+-- the old.
+pub record Made : Type 0 where
+  pub answer : Answer
+  pub cred : Credential
+  pub gains : Gains
+
+-- only an execve gains anything
+abbrev pub no_gains : Gains
+no_gains = record { file = empty; inherit = empty; root = empty }
+
+abbrev pub made : Answer → Credential → Made
+made answer c = record { answer = answer; cred = c; gains = no_gains }
+
+-- what a rule gives, or its refusal
+abbrev pub by_rule : Result Credential Denial → Result Credential Answer
+by_rule (Ok c) = Ok c
+by_rule (Err denial) = Err (refusal denial)
+
+abbrev pub made_by_rule : Result Credential Denial → Result Made Answer
+made_by_rule (Ok c) = Ok (made answer.Done c)
+made_by_rule (Err denial) = Err (refusal denial)
+
+-- What a change makes of a base credential, or its refusal. It sees the file that it names, if any,
+-- and the root ids of the base's namespace and of that one's ancestors. No line makes the other
+-- changes yet, and no call is handed one.
+abbrev pub by_change : Option File → List ℕ → Credential → Change → Result Made Answer
+by_change file chain c (SetFs kind id) = Ok (made (answer.Was (old_fs c kind)) (set_fs c kind id))
+by_change file chain c (Adjust call) = made_by_rule (adjust c call)
+by_change file chain c change = Err answer.Einval
+
+-- what the answer says was gained
+abbrev pub gained : Answer → Caps
+gained (answer.Executed cred slot ended gains) = union gains.file (union gains.inherit gains.root)
+gained answer = empty

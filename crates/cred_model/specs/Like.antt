@@ -1,0 +1,26 @@
+-- States that no event can tell apart.
+use Rattle.std.specs.Prelude.{◌≡◌, map, slice_get, All}
+use Rattle.cred_event.specs.declared.answer.Answer.{Answer}
+use Rattle.cred_model.specs.State.{State}
+use Rattle.cred_model.specs.Slots.{refs}
+
+-- The two have the same tasks, holds, prepared labels and deferred numbers, sealed the same numbers
+-- in the same slots, and have the same credential under each number that is referred to. Of the
+-- other numbers, to which nothing refers any more, nothing is said: their credentials may be gone.
+pub record IsLike (a b : State) : Type 0 where
+  pub tasks : a.tasks ≡ b.tasks
+  pub holds : a.holds ≡ b.holds
+  pub prepared : a.prepared ≡ b.prepared
+  pub deferred : a.deferred ≡ b.deferred
+  pub slots : map (λ sealing. sealing.slot) a.creds ≡ map (λ sealing. sealing.slot) b.creds
+  pub creds : All (λ n. slice_get a.creds n ≡ slice_get b.creds n) (refs a)
+
+-- The same answer, and states that are alike.
+pub record AreAlike (a b : Answer × State) : Type 0 where
+  pub answers : a.0 ≡ b.0
+  pub states : IsLike a.1 b.1
+
+-- What an event gives is this answer, and a state like this one.
+pub record Does (gives : Answer × State) (answer : Answer) (after : State) : Type 0 where
+  pub answers : gives.0 ≡ answer
+  pub leads : IsLike after gives.1

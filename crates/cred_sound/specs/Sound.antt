@@ -1,0 +1,21 @@
+-- What holds in every state that a kernel comes to.
+use Rattle.std.specs.Prelude.{◌≡◌, ◌≢◌, List, All, None}
+use Rattle.std.specs.List.{AllPairs}
+use Rattle.cred_event.specs.declared.entry.Entry.{Entry}
+use Rattle.cred_model.specs.Script.{Script}
+use Rattle.cred_model.specs.State.{State, hold_of}
+use Rattle.cred_model.specs.Journal.{replay}
+use Rattle.cred_sound.specs.Ledger.{ledger, IsOrderly}
+
+-- No two tasks have one number, no two holds one label, and no two prepared labels one label; nor is
+-- a prepared label a hold's. The references and the slots are in order.
+pub record IsSound (s : State) : Type 0 where
+  pub tasks : AllPairs (λ a b. a.number ≢ b.number) s.tasks
+  pub holds : AllPairs (λ a b. a.label ≢ b.label) s.holds
+  pub prepared : AllPairs (λ a b. a.label ≢ b.label) s.prepared
+  pub labels : All (λ p. hold_of s p.label ≡ None) s.prepared
+  pub slots : IsOrderly (ledger s)
+
+-- so it is after every journal
+abbrev pub StatesAreSound : Type 0
+StatesAreSound = (script : Script) (journal : List Entry) → IsSound (replay script journal)
