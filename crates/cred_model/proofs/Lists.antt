@@ -77,17 +77,32 @@ none_found p (y ∷ ys) each =
 
 -- ---- two elements of a list
 
-pub AllPairs-map : {X : Type 0} (R : X → X → Type 0) (f : X → X) (xs : List X) → AllPairs (λ x y. R (f x) (f y)) xs
+pub AllPairs-map : {X Y : Type 0} (R : Y → Y → Type 0) (f : X → Y) (xs : List X) → AllPairs (λ x y. R (f x) (f y)) xs
     → AllPairs R (map f xs)
-AllPairs-map R f xs each i j d lt within =
-    let long : j < length xs = omega (arith, length-map xs f) in
+AllPairs-map R f [] each i j d lt within = absurd (omega arith)
+AllPairs-map R f (x ∷ xs) each i j d lt within =
+    let all = x ∷ xs in
+    let long : j < length all = omega (arith, length-map all f) in
+    let earlier : i < length all = omega arith in
+    subst (λ y. R y (get_or (map f all) j d)) (sym (get_or-map f all i x d earlier))
+    (subst (R (f (get_or all i x))) (sym (get_or-map f all j x d long)) (each i j x lt long))
+
+pub AllPairs-unmap : {X Y : Type 0} (R : Y → Y → Type 0) (f : X → Y) (xs : List X) → AllPairs R (map f xs)
+    → AllPairs (λ x y. R (f x) (f y)) xs
+AllPairs-unmap R f xs each i j d lt within =
+    let long : j < length (map f xs) = omega (arith, length-map xs f) in
     let earlier : i < length xs = omega arith in
-    subst (λ x. R x (get_or (map f xs) j d)) (sym (get_or-map f xs i d d earlier))
-    (subst (R (f (get_or xs i d))) (sym (get_or-map f xs j d d long)) (each i j d lt long))
+    subst (λ x. R x (f (get_or xs j d))) (get_or-map f xs i d (f d) earlier)
+    (subst (R (get_or (map f xs) i (f d))) (get_or-map f xs j d (f d) within) (each i j (f d) lt long))
 
 pub AllPairs-weaker : {X : Type 0} (R Q : X → X → Type 0) (xs : List X) → ((x y : X) → R x y → Q x y) → AllPairs R xs
     → AllPairs Q xs
 AllPairs-weaker R Q xs weaker each i j d lt within = weaker (get_or xs i d) (get_or xs j d) (each i j d lt within)
+
+-- a change of the elements that leaves what is seen of them
+pub map_same : {X Y : Type 0} (f : X → Y) (g : X → X) (xs : List X) → ((x : X) → f (g x) ≡ f x) → map f (map g xs) ≡ map f xs
+map_same f g [] same = refl
+map_same f g (x ∷ xs) same = ap (λ y. y ∷ map f (map g xs)) (same x) ∙ ap (λ ys. f x ∷ ys) (map_same f g xs same)
 
 -- ---- elements that have each a number of its own
 
