@@ -2,3 +2,4 @@ pub mod Journals
 pub mod Courses
 pub mod Lines
 pub mod Order
+pub mod Names
