@@ -6,3 +6,6 @@ pub mod Names
 pub mod Lists
 pub mod Referred
 pub mod Likes
+pub mod LikeReads
+pub mod LikeTests
+pub mod LikeEvents

@@ -1,19 +1,15 @@
 -- No event can tell apart two states that are alike.
-use Rattle.std.proofs.Common.{◌≡◌, ◌==◌, ◌||◌, not, ℕ, zero, suc, List, [], ◌∷◌, ◌++◌, length, map, position, slice_get, Option, Some, None, Result, Ok, Err, ok_or, Bool, true, false, cond, is_some, refl, sym, ap, ◌∙◌, subst, arith}
-use Rattle.std.specs.List.{All, find, list_any, remove}
-use Rattle.std.specs.Option.{IfSome, option_map, option_map_or, option_and_then}
-use Rattle.std.proofs.lemmas.List.{length-map}
-use Rattle.std.proofs.lemmas.Option.{slice_get-map}
-use Rattle.cred_record.specs.Credential.{Credential}
+use Rattle.std.proofs.Common.{◌≡◌, ℕ, slice_get, refl, sym, ap, ◌∙◌, subst}
+use Rattle.std.specs.List.{All}
 use Rattle.cred_event.specs.declared.event.Event.{Event}
 use Rattle.cred_event.specs.declared.answer.Answer.{Answer}
 use Rattle.cred_model.specs.Script.{Script}
-use Rattle.cred_model.specs.State.{State, Sealing, Task, Hold, Prepared, Numbered, task_of, hold_of, numbered, current_of, held_by}
-use Rattle.cred_model.specs.Slots.{refs, stands_in, is_live, is_kept, slots, least_free, swept, room, free}
-use Rattle.cred_model.specs.Step.{◌>>=◌, in_slot, table_full, settled}
+use Rattle.cred_model.specs.State.{State}
+use Rattle.cred_model.specs.Slots.{refs}
+use Rattle.cred_model.specs.Step.{step}
 use Rattle.cred_model.specs.Like.{IsLike, AreAlike, Does}
-use Rattle.cred_model.proofs.Lists.{find_each, then_same, then_each}
-use Rattle.cred_model.proofs.Referred.{EachRef, refs_each, each_ref}
+use Rattle.cred_model.proofs.LikeTests.{settled_like}
+use Rattle.cred_model.proofs.LikeEvents.{done_like}
 
 -- ---- likeness
 
@@ -49,4 +45,35 @@ like_trans a b c first second =
       deferred = first.deferred ∙ second.deferred;
       slots = first.slots ∙ second.slots;
       creds = λ k d lt. first.creds k d lt ∙ on k d lt;
+    }
+
+-- ---- a step
+
+pub like_step : (script : Script) (a b : State) (line : ℕ) (event : Event) → IsLike a b
+    → AreAlike (step script a line event) (step script b line event)
+like_step script a b line event like =
+    let other : record a { creds = b.creds } ≡ b
+    = ap (λ ts. record a { tasks = ts; creds = b.creds }) like.tasks
+    ∙ ap (λ hs. record a { tasks = b.tasks; holds = hs; creds = b.creds }) like.holds
+    ∙ ap (λ ps. record a { tasks = b.tasks; holds = b.holds; prepared = ps; creds = b.creds }) like.prepared
+    ∙ ap (λ ds. record b { deferred = ds }) like.deferred in
+    let with_creds : IsLike a (record a { creds = b.creds })
+    = record { tasks = refl; holds = refl; prepared = refl; deferred = refl; slots = like.slots; creds = like.creds } in
+    subst (λ b. AreAlike (step script a line event) (step script b line event)) other
+    (settled_like a (record a { creds = b.creds }) _ _ with_creds (done_like script a b.creds line with_creds event))
+
+-- ---- what an event does
+
+-- what an equation says
+pub does_same : (gives : Answer × State) (answer : Answer) (after : State) → gives ≡ (answer, after) → Does gives answer after
+does_same gives answer after is = rw is (record { answers = refl; leads = like_self after })
+
+-- in a state like the one before, it does the same
+pub does_like : (script : Script) (a b : State) (line : ℕ) (event : Event) (answer : Answer) (after : State) → IsLike a b
+    → Does (step script a line event) answer after → Does (step script b line event) answer after
+does_like script a b line event answer after like does =
+    let alike = like_step script a b line event like in
+    record {
+      answers = sym alike.answers ∙ does.answers;
+      leads = like_trans after (step script a line event).1 (step script b line event).1 does.leads alike.states;
     }

@@ -1,5 +1,5 @@
 -- What holds of each reference, by the kinds of things that refer.
-use Rattle.std.proofs.Common.{◌≡◌, ℕ, List, [], ◌∷◌, ◌++◌, map}
+use Rattle.std.proofs.Common.{ℕ, List, [], ◌++◌, map}
 use Rattle.std.specs.List.{All, flat_map}
 use Rattle.std.proofs.lemmas.List.Elements.{All-append, All-map, All-nil}
 use Rattle.cred_model.specs.State.{State, Task, Hold, Prepared}
