@@ -61,3 +61,25 @@ each_ref P s each =
       bases = All-unmap P (λ (p : Prepared). p.base) s.prepared all.in_d;
       deferred = all.in_e;
     }
+
+-- ---- a state that differs in one kind
+
+pub each_tasks : {P : ℕ → Type 0} {s : State} → EachRef P s → (ts : List Task) → All (λ t. P t.current) ts
+    → All (λ t. All P t.overrides) ts → EachRef P (record s { tasks = ts })
+each_tasks each ts currents overrides =
+    record { currents = currents; overrides = overrides; holds = each.holds; bases = each.bases; deferred = each.deferred }
+
+pub each_holds : {P : ℕ → Type 0} {s : State} → EachRef P s → (hs : List Hold) → All (λ h. P h.number) hs
+    → EachRef P (record s { holds = hs })
+each_holds each hs holds =
+    record { currents = each.currents; overrides = each.overrides; holds = holds; bases = each.bases; deferred = each.deferred }
+
+pub each_prepared : {P : ℕ → Type 0} {s : State} → EachRef P s → (ps : List Prepared) → All (λ p. P p.base) ps
+    → EachRef P (record s { prepared = ps })
+each_prepared each ps bases =
+    record { currents = each.currents; overrides = each.overrides; holds = each.holds; bases = bases; deferred = each.deferred }
+
+pub each_deferred : {P : ℕ → Type 0} {s : State} → EachRef P s → (numbers : List ℕ) → All P numbers
+    → EachRef P (record s { deferred = numbers })
+each_deferred each numbers deferred =
+    record { currents = each.currents; overrides = each.overrides; holds = each.holds; bases = each.bases; deferred = deferred }
