@@ -10,3 +10,4 @@ pub mod ChangeLaws
 pub mod PermittedLaws
 pub mod OrderLaws
 pub mod Lawful
+pub mod AnsweredLaws
