@@ -9,3 +9,4 @@ pub mod ChangeLaws
 pub mod PermittedLaws
 pub mod OrderLaws
 pub mod Lawful
+pub mod AnsweredLaws

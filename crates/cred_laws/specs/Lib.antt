@@ -3,3 +3,4 @@ pub mod Slots
 pub mod Held
 pub mod Permitted
 pub mod Journals
+pub mod Answered
