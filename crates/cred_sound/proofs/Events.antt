@@ -3,7 +3,7 @@ use Rattle.std.proofs.Common.{◌≡◌, ◌≢◌, ◌==◌, ◌<◌, ◌⊎◌
 use Rattle.std.specs.List.{All, Contains, remove}
 use Rattle.std.specs.Option.{option_map_or}
 use Rattle.std.proofs.lemmas.Bool.{eqb-true}
-use Rattle.std.proofs.lemmas.List.Elements.{All-append, All-cons, All-contains_itself, All-map, All-nil, All-push, All-weaker, Contains-append_left, Contains-append_right}
+use Rattle.std.proofs.lemmas.List.Elements.{All-append, All-cons, All-contains_itself, All-map, All-nil, All-push, All-weaker}
 use Rattle.std.proofs.lemmas.List.Quantifiers.{position-Some}
 use Rattle.cred_record.specs.Credential.{Credential, first_credential}
 use Rattle.cred_record.specs.declared.refusal.Denial.{Denial}
@@ -16,15 +16,15 @@ use Rattle.cred_event.specs.declared.event.Side.{Side}
 use Rattle.cred_event.specs.declared.answer.Answer.{Answer}
 use Rattle.cred_event.specs.declared.answer.Answer.TheVariants.{Done, Sealed, Kept, Began, Stale, TableFull}
 use Rattle.cred_model.specs.Script.{Script, info_of, chain_of}
-use Rattle.cred_model.specs.State.{State, Hold, Prepared, Changed, Numbered, numbered, task_of, hold_of, prepared_of, held_by, current_of}
-use Rattle.cred_model.specs.Slots.{SLOTS, standing, refs, kept, free, least_free, swept}
+use Rattle.cred_model.specs.State.{State, Prepared, Changed, Numbered, numbered, task_of, hold_of, prepared_of, held_by, current_of}
+use Rattle.cred_model.specs.Slots.{SLOTS, refs, kept, free, least_free, swept}
 use Rattle.cred_model.specs.Named.{change_files}
 use Rattle.cred_model.specs.Change.{by_change, by_rule}
 use Rattle.cred_model.specs.Step.{TASKS, HOLDS, PREPARED, ◌>>=◌, none_or, fewer_or, in_slot, table_full, first_task, created, replaced, preparing, committed, given_up, commit_answer, settle, settled, step}
-use Rattle.cred_model.proofs.Lists.{All-at, All-unmap, AllPairs-unmap, alone, at_place, found, others_differ}
+use Rattle.cred_model.proofs.Lists.{All-at, All-unmap, AllPairs-unmap, alone, at_place, others_differ}
 use Rattle.cred_sound.specs.Ledger.{IsClear, IsOrderly, ledger}
 use Rattle.cred_sound.proofs.Moves.{Apart}
-use Rattle.cred_sound.proofs.References.{IsFree, free_slot, current_stands, each_hold, each_base}
+use Rattle.cred_sound.proofs.References.{IsFree, free_slot, own_refs, current_stands, found_stands, held_stands, base_stands}
 use Rattle.cred_sound.proofs.Parts.{with_left, Fits, Changes, SameCreds, Seals, ByCall, ByCommit, SameTasks, Creates, Renews, SameHolds, Takes, Releases, SamePrepared, Prepares, Alters, Ends}
 
 -- ---- an event's tests
@@ -85,29 +85,14 @@ in_slots Q s full does none each =
     by left fewer None is = none left fewer
     by left fewer (Some slot) is = each left slot fewer (free_slot (with_left s left) slot is)
 
--- ---- the references that stay
+-- ---- the references that are left
 
-still_left : (s : State) (left : List ℕ) → All (Contains (standing s ++ left)) left
-still_left s left =
-    All-weaker (Contains left) (Contains (standing s ++ left)) (λ n. Contains-append_right (standing s) left n) left (All-contains_itself left)
+still_left : (s : State) (left : List ℕ) → All (Contains (refs (with_left s left))) left
+still_left s left = (own_refs (with_left s left)).deferred
 
--- one that stood is given up
-gives_up : (s : State) (n : ℕ) → Contains (standing s) n → All (Contains (standing s ++ s.deferred)) (s.deferred ++ n ∷ [])
-gives_up s n has = All-push (Contains (standing s ++ s.deferred)) s.deferred n (still_left s s.deferred) (Contains-append_left (standing s) s.deferred n has)
-
-held_stands : (s : State) (place : ℕ) (hold : Hold) → slice_get s.holds place ≡ Some hold → Contains (standing s) hold.number
-held_stands s place hold is =
-    All-at (λ h. Contains (standing s) h.number) s.holds place hold is
-    (each_hold (Contains (standing s)) s (All-contains_itself (standing s)))
-
-base_stands : (s : State) (place : ℕ) (p : Prepared) → slice_get s.prepared place ≡ Some p → Contains (standing s) p.base
-base_stands s place p is =
-    All-at (λ p. Contains (standing s) p.base) s.prepared place p is
-    (each_base (Contains (standing s)) s (All-contains_itself (standing s)))
-
-found_stands : (s : State) (label : ℕ) (hold : Hold) → hold_of s label ≡ Some hold → Contains (standing s) hold.number
-found_stands s label hold is =
-    (found (λ (h : Hold). Contains (standing s) h.number) (λ (h : Hold). h.label == label) s.holds hold is (each_hold (Contains (standing s)) s (All-contains_itself (standing s)))).0
+-- one more is given up
+gives_up : (s : State) (n : ℕ) → Contains (refs s) n → All (Contains (refs s)) (s.deferred ++ n ∷ [])
+gives_up s n has = All-push (Contains (refs s)) s.deferred n (still_left s s.deferred) has
 
 -- ---- a slot that is taken
 
@@ -246,7 +231,7 @@ prepare_changes script s line label task hold =
       fewer = fewer;
       tasks = SameTasks refl;
       holds = SameHolds refl;
-      prepared = Prepares (new_label slot base.number) refl refl new unprepared (found_stands s hold base held) free;
+      prepared = Prepares (new_label slot base.number) refl refl new unprepared (found_stands (with_left s left) hold base held) free;
       creds = SameCreds refl;
       deferred = still_left s left;
     })))))))
@@ -289,7 +274,7 @@ commit_fresh : (script : Script) (s : State) (label place : ℕ) (p : Prepared) 
     → p.changed ≡ Some last → current_of s p.task ≡ Some now → now.number ≡ p.base
     → Changes script s (Commit label) (commit_answer last (length s.creds) p.slot, committed s place p now.number last.cred)
 commit_fresh script s label place p last now at is changed current same =
-    let Stays = Contains (standing s ++ s.deferred) in
+    let Stays = Contains (refs s) in
     record {
       left = s.deferred;
       fewer = All-contains_itself s.deferred;
@@ -298,8 +283,8 @@ commit_fresh script s label place p last now at is changed current same =
       prepared = Ends label place p (inl refl) refl at is;
       creds = Seals last.cred p.slot refl (fits_own s (committed s place p now.number last.cred) label place p refl at is);
       deferred = All-append Stays s.deferred (now.number ∷ p.base ∷ []) (still_left s s.deferred)
-          (All-cons Stays now.number (p.base ∷ []) (Contains-append_left (standing s) s.deferred now.number (current_stands s p.task now current))
-          (All-cons Stays p.base [] (Contains-append_left (standing s) s.deferred p.base (base_stands s place p is)) (All-nil Stays)));
+          (All-cons Stays now.number (p.base ∷ []) (current_stands s p.task now current)
+          (All-cons Stays p.base [] (base_stands s place p is) (All-nil Stays)));
     }
 
 settle_changes : (script : Script) (s : State) (label place : ℕ) (p : Prepared) (last : Changed) (now : Numbered)
@@ -348,8 +333,7 @@ begin_changes script s line task call =
       holds = SameHolds refl;
       prepared = SamePrepared refl;
       creds = Seals new slot refl (λ order. fits_free s event left (replaced (with_left s left) task old.number new slot) slot refl free);
-      deferred = All-push (Contains (standing s ++ left)) left old.number (still_left s left)
-          (Contains-append_left (standing s) left old.number (current_stands s task old is));
+      deferred = gives_up (with_left s left) old.number (current_stands (with_left s left) task old is);
     }))))
 
 -- what an event changes

@@ -10,7 +10,7 @@ use Rattle.cred_event.specs.declared.event.Event.TheVariants.{Init, Release, Com
 use Rattle.cred_event.specs.declared.answer.Answer.{Answer}
 use Rattle.cred_model.specs.Script.{Script, info_of, chain_of}
 use Rattle.cred_model.specs.State.{State, Sealing, Hold, Prepared, Changed, Numbered, numbered, task_of, hold_of, prepared_of, current_of}
-use Rattle.cred_model.specs.Slots.{SLOTS, standing, kept}
+use Rattle.cred_model.specs.Slots.{SLOTS, refs, kept}
 use Rattle.cred_model.specs.Named.{change_files}
 use Rattle.cred_model.specs.Change.{by_change, gained}
 use Rattle.cred_model.specs.Step.{with_change, with_current, first_task, commit_answer}
@@ -28,7 +28,7 @@ sealing c slot = record { cred = c; slot = slot }
 -- and none after it.
 pub record Fits (s : State) (event : Event) (left : List ℕ) (t : State) (slot : ℕ) : Type 0 where
   pub below : slot < SLOTS
-  pub clear : IsClear (ledger s).slots slot (standing s ++ left)
+  pub clear : IsClear (ledger s).slots slot (refs (with_left s left))
   pub unkept : All (λ k. k ≢ slot) (kept t)
   pub own : All (λ p. p.slot ≡ slot → event ≡ Commit p.label) s.prepared
 
@@ -56,18 +56,18 @@ pub data TasksChange (s : State) (event : Event) (made : Answer × State) : Type
       → TasksChange s event made
 
 -- The holds: as they were, one more, or one less.
-pub data HoldsChange (s : State) (event : Event) (t : State) : Type 0 where
-  SameHolds : t.holds ≡ s.holds → HoldsChange s event t
+pub data HoldsChange (s : State) (event : Event) (left : List ℕ) (t : State) : Type 0 where
+  SameHolds : t.holds ≡ s.holds → HoldsChange s event left t
   Takes : (hold : Hold) → t.holds ≡ s.holds ++ hold ∷ [] → hold_of s hold.label ≡ None → prepared_of s hold.label ≡ None
-      → Contains (standing s) hold.number → HoldsChange s event t
+      → Contains (refs (with_left s left)) hold.number → HoldsChange s event left t
   Releases : (label place : ℕ) (hold : Hold) → event ≡ Release label → t.holds ≡ remove s.holds place
-      → position (λ h. h.label == label) s.holds ≡ Some place → slice_get s.holds place ≡ Some hold → HoldsChange s event t
+      → position (λ h. h.label == label) s.holds ≡ Some place → slice_get s.holds place ≡ Some hold → HoldsChange s event left t
 
 -- The prepared labels: as they were, one more, one of them changed, or one less.
 pub data PreparedChange (script : Script) (s : State) (event : Event) (left : List ℕ) (t : State) : Type 0 where
   SamePrepared : t.prepared ≡ s.prepared → PreparedChange script s event left t
   Prepares : (p : Prepared) → t.prepared ≡ s.prepared ++ p ∷ [] → p.changed ≡ None → hold_of t p.label ≡ None
-      → prepared_of s p.label ≡ None → Contains (standing s) p.base → IsFree (with_left s left) p.slot
+      → prepared_of s p.label ≡ None → Contains (refs (with_left s left)) p.base → IsFree (with_left s left) p.slot
       → PreparedChange script s event left t
   Alters : (label : ℕ) (to : Changed) (p : Prepared) (base : Numbered) (answer : Answer)
       → t.prepared ≡ with_change s.prepared label to → prepared_of s label ≡ Some p → numbered s.creds p.base ≡ Some base
@@ -82,7 +82,7 @@ pub record Changes (script : Script) (s : State) (event : Event) (made : Answer 
   pub left : List ℕ
   pub fewer : All (Contains s.deferred) left
   pub tasks : TasksChange s event made
-  pub holds : HoldsChange s event made.1
+  pub holds : HoldsChange s event left made.1
   pub prepared : PreparedChange script s event left made.1
   pub creds : CredsChange s event left made.1
-  pub deferred : All (Contains (standing s ++ left)) made.1.deferred
+  pub deferred : All (Contains (refs (with_left s left))) made.1.deferred

@@ -2,14 +2,14 @@
 use Rattle.std.proofs.Common.{◌≡◌, ◌≢◌, ◌==◌, ◌⊎◌, inl, inr, ℕ, ◌<◌, List, [], ◌∷◌, ◌++◌, length, map, fold, None, refl, sym, ap, ◌∙◌, subst, arith}
 use Rattle.std.specs.List.{All, AllPairs, Contains, find, remove}
 use Rattle.std.proofs.lemmas.List.{length_push, length-map, map_push}
-use Rattle.std.proofs.lemmas.List.Elements.{All-append, All-contains_itself, All-map, All-nil, All-push, All-weaker, Contains-append_left, Contains-append_right}
+use Rattle.std.proofs.lemmas.List.Elements.{All-contains, All-contains_itself, All-map, All-nil, All-push, All-weaker}
 use Rattle.std.proofs.lemmas.List.Quantifiers.{all_pairs_remove}
 use Rattle.std.proofs.lemmas.Option.{slice_get_within}
 use Rattle.cred_event.specs.declared.event.Event.{Event}
 use Rattle.cred_event.specs.declared.answer.Answer.{Answer}
 use Rattle.cred_event.specs.declared.entry.Entry.{Entry}
 use Rattle.cred_model.specs.Script.{Script}
-use Rattle.cred_model.specs.State.{State, Sealing, Task, Hold, Prepared, opening}
+use Rattle.cred_model.specs.State.{State, Sealing, Task, Prepared, opening}
 use Rattle.cred_model.specs.Slots.{standing, refs, kept}
 use Rattle.cred_model.specs.Like.{IsLike}
 use Rattle.cred_model.specs.Step.{renewed, changed, step}
@@ -18,7 +18,8 @@ use Rattle.cred_model.proofs.Numbers.{renewed_as}
 use Rattle.cred_sound.specs.Ledger.{Ledger, ledger, referred, IsOrderly}
 use Rattle.cred_sound.specs.Sound.{IsSound, StatesAreSound}
 use Rattle.cred_sound.proofs.Moves.{Apart, fewer, keeps, seals}
-use Rattle.cred_sound.proofs.References.{Refers, all_standing, each_task, each_hold, each_base}
+use Rattle.cred_model.proofs.Referred.{refs_each, each_deferred}
+use Rattle.cred_sound.proofs.References.{own_refs}
 use Rattle.cred_sound.proofs.Parts.{with_left, Changes, CredsChange, TasksChange, HoldsChange, PreparedChange, SameCreds, Seals, SameTasks, Creates, Renews, SameHolds, Takes, Releases, SamePrepared, Prepares, Alters, Ends}
 use Rattle.cred_sound.proofs.Events.{changes}
 use Rattle.cred_sound.proofs.Unique.{changed_as, tasks_differ, holds_differ, labels_differ, labels_unheld}
@@ -26,7 +27,7 @@ use Rattle.cred_sound.proofs.Unique.{changed_as, tasks_differ, holds_differ, lab
 -- ---- what is referred to after an event: what was before it, and the number of what it sealed
 
 abbrev Old : State → List ℕ → ℕ → Type 0
-Old s left n = Contains (standing s ++ left) n
+Old s left n = Contains (refs (with_left s left)) n
 
 -- the number of a credential that the event sealed
 abbrev IsNew : State → State → ℕ → Type 0
@@ -35,76 +36,69 @@ IsNew s t n = (n ≡ length s.creds) × (length s.creds < length t.creds)
 abbrev OldOrNew : State → List ℕ → State → ℕ → Type 0
 OldOrNew s left t n = Old s left n ⊎ IsNew s t n
 
-stands : (s : State) (left : List ℕ) → All (Old s left) (standing s)
-stands s left =
-    All-weaker (Contains (standing s)) (Old s left) (λ n has. Contains-append_left (standing s) left n has) (standing s)
-    (All-contains_itself (standing s))
-
 grows : (s t : State) (new : Sealing) → t.creds ≡ s.creds ++ new ∷ [] → IsNew s t (length s.creds)
 grows s t new creds =
     let long = ap (λ (xs : List Sealing). length xs) creds in (refl, omega (arith, length_push s.creds new))
 
+-- P holds of what the task refers to
+record Refers (P : ℕ → Type 0) (t : Task) : Type 0 where
+  current : P t.current
+  overrides : All P t.overrides
+
 tasks_refer : (s : State) (event : Event) (left : List ℕ) (made : Answer × State) → TasksChange s event made
-    → All (Refers (OldOrNew s left made.1)) made.1.tasks
-tasks_refer s event left made change =
-    by change
-    (All-weaker (Refers (Old s left)) (Refers (OldOrNew s left made.1))
-    (λ t one. record { current = inl one.current; overrides = All-weaker (Old s left) (OldOrNew s left made.1) (λ n has. inl has) t.overrides one.overrides })
-    s.tasks (each_task (Old s left) s (stands s left)))
-  where
-    P : Task → Type 0
-    P = Refers (OldOrNew s left made.1)
+    → All (Refers (OldOrNew s left made.1)) s.tasks → All (Refers (OldOrNew s left made.1)) made.1.tasks
+tasks_refer s event left made (SameTasks same) old = subst (All (Refers (OldOrNew s left made.1))) (sym same) old
+tasks_refer s event left made (Creates task process user group ns slot is tasks creds new) old =
+    subst (All (Refers (OldOrNew s left made.1))) (sym tasks)
+    (All-push (Refers (OldOrNew s left made.1)) s.tasks _ old
+    (record { current = inr (grows s made.1 _ creds); overrides = All-nil (OldOrNew s left made.1) }))
+tasks_refer s event left made (Renews task slot before c tasks creds current cause) old =
+    let P = Refers (OldOrNew s left made.1) in
+    subst (All P) (sym tasks)
+    (All-map P (renewed task (length s.creds)) s.tasks
+    (All-weaker P (λ t. P (renewed task (length s.creds) t))
+    (λ t one. renewed_as P task (length s.creds) t (record { current = inr (grows s made.1 _ creds); overrides = one.overrides }) one) s.tasks old))
 
-    by : TasksChange s event made → All P s.tasks → All P made.1.tasks
-    by (SameTasks same) old = subst (All P) (sym same) old
-    by (Creates task process user group ns slot is tasks creds new) old =
-        subst (All P) (sym tasks)
-        (All-push P s.tasks _ old (record { current = inr (grows s made.1 _ creds); overrides = All-nil (OldOrNew s left made.1) }))
-    by (Renews task slot before c tasks creds current cause) old =
-        subst (All P) (sym tasks)
-        (All-map P (renewed task (length s.creds)) s.tasks
-        (All-weaker P (λ t. P (renewed task (length s.creds) t))
-        (λ t one. renewed_as P task (length s.creds) t (record { current = inr (grows s made.1 _ creds); overrides = one.overrides }) one) s.tasks old))
+holds_refer : (s : State) (event : Event) (left : List ℕ) (t : State) → HoldsChange s event left t
+    → All (λ h. Old s left h.number) s.holds → All (λ h. Old s left h.number) t.holds
+holds_refer s event left t (SameHolds same) old = subst (All (λ h. Old s left h.number)) (sym same) old
+holds_refer s event left t (Takes hold holds new unprepared has) old =
+    subst (All (λ h. Old s left h.number)) (sym holds) (All-push (λ h. Old s left h.number) s.holds hold old has)
+holds_refer s event left t (Releases label place hold is holds at found) old =
+    subst (All (λ h. Old s left h.number)) (sym holds) (All-remove (λ h. Old s left h.number) s.holds place old)
 
-holds_refer : (s : State) (event : Event) (left : List ℕ) (t : State) → HoldsChange s event t
-    → All (λ h. Old s left h.number) t.holds
-holds_refer s event left t change = by change (each_hold (Old s left) s (stands s left))
-  where
-    P : Hold → Type 0
-    P h = Old s left h.number
-
-    by : HoldsChange s event t → All P s.holds → All P t.holds
-    by (SameHolds same) old = subst (All P) (sym same) old
-    by (Takes hold holds new unprepared has) old =
-        subst (All P) (sym holds) (All-push P s.holds hold old (Contains-append_left (standing s) left hold.number has))
-    by (Releases label place hold is holds at found) old = subst (All P) (sym holds) (All-remove P s.holds place old)
+abbrev OfBase : State → List ℕ → Prepared → Type 0
+OfBase s left p = Old s left p.base
 
 bases_refer : (script : Script) (s : State) (event : Event) (left : List ℕ) (t : State) → PreparedChange script s event left t
-    → All (λ p. Old s left p.base) t.prepared
-bases_refer script s event left t change = by change (each_base (Old s left) s (stands s left))
-  where
-    P : Prepared → Type 0
-    P p = Old s left p.base
-
-    by : PreparedChange script s event left t → All P s.prepared → All P t.prepared
-    by (SamePrepared same) old = subst (All P) (sym same) old
-    by (Prepares p prepared fresh unheld new has free) old =
-        subst (All P) (sym prepared) (All-push P s.prepared p old (Contains-append_left (standing s) left p.base has))
-    by (Alters label to p base answer prepared is at so) old =
-        subst (All P) (sym prepared)
-        (All-map P (changed label to) s.prepared
-        (All-weaker P (λ p. P (changed label to p)) (λ p one. changed_as P label to p (λ test. one) one) s.prepared old))
-    by (Ends label place p ends prepared at is) old = subst (All P) (sym prepared) (All-remove P s.prepared place old)
+    → All (OfBase s left) s.prepared → All (OfBase s left) t.prepared
+bases_refer script s event left t (SamePrepared same) old = subst (All (OfBase s left)) (sym same) old
+bases_refer script s event left t (Prepares p prepared fresh unheld new has free) old =
+    subst (All (OfBase s left)) (sym prepared) (All-push (OfBase s left) s.prepared p old has)
+bases_refer script s event left t (Alters label to p base answer prepared is at so) old =
+    let P = OfBase s left in
+    subst (All P) (sym prepared)
+    (All-map P (changed label to) s.prepared
+    (All-weaker P (λ p. P (changed label to p)) (λ p one. changed_as P label to p (λ test. one) one) s.prepared old))
+bases_refer script s event left t (Ends label place p ends prepared at is) old =
+    subst (All (OfBase s left)) (sym prepared) (All-remove (OfBase s left) s.prepared place old)
 
 all_refer : (script : Script) (s : State) (event : Event) (made : Answer × State) (c : Changes script s event made)
     → All (OldOrNew s c.left made.1) (refs made.1)
 all_refer script s event made c =
     let P = OldOrNew s c.left made.1 in
-    All-append P (standing made.1) made.1.deferred
-    (all_standing P made.1 (tasks_refer s event c.left made c.tasks)
-    (All-weaker (λ (h : Hold). Old s c.left h.number) (λ h. P h.number) (λ h has. inl has) made.1.holds (holds_refer s event c.left made.1 c.holds))
-    (All-weaker (λ (p : Prepared). Old s c.left p.base) (λ p. P p.base) (λ p has. inl has) made.1.prepared (bases_refer script s event c.left made.1 c.prepared)))
-    (All-weaker (Old s c.left) P (λ n has. inl has) made.1.deferred c.deferred)
+    let old = own_refs (with_left s c.left) in
+    let weaker : (numbers : List ℕ) → All (Old s c.left) numbers → All P numbers
+    = All-weaker (Old s c.left) P (λ n has. inl has) in
+    let tasks = tasks_refer s event c.left made c.tasks
+    (λ k d lt. record { current = inl (old.currents k d lt); overrides = weaker _ (old.overrides k d lt) }) in
+    refs_each P made.1 (record {
+      currents = λ k d lt. (tasks k d lt).current;
+      overrides = λ k d lt. (tasks k d lt).overrides;
+      holds = λ k d lt. inl (holds_refer s event c.left made.1 c.holds old.holds k d lt);
+      bases = λ k d lt. inl (bases_refer script s event c.left made.1 c.prepared old.bases k d lt);
+      deferred = weaker made.1.deferred c.deferred;
+    })
 
 -- ---- the ledger
 
@@ -112,8 +106,8 @@ all_refer script s event made c =
 swept_orderly : (s : State) (left : List ℕ) → All (Contains s.deferred) left → IsOrderly (ledger s) → IsOrderly (ledger (with_left s left))
 swept_orderly s left among order =
     fewer (ledger s) (standing s) left (kept s)
-    (All-append (Contains (refs s)) (standing s) left (stands s s.deferred)
-    (All-weaker (Contains s.deferred) (Contains (refs s)) (λ n has. Contains-append_right (standing s) s.deferred n has) left among))
+    (refs_each (Contains (refs s)) (with_left s left)
+    (each_deferred (own_refs s) left (All-weaker (Contains s.deferred) (Contains (refs s)) (λ n has. All-contains (Contains (refs s)) s.deferred n (own_refs s).deferred has) left among)))
     (All-contains_itself (kept s)) order.own order
 
 -- then the slots that are kept
@@ -154,7 +148,7 @@ not_new s t left n same (inr new) =
     let long = ap (λ (xs : List Sealing). length xs) same in
     let more = new.1 in absurd (omega arith)
 
-old_or_new : (s t : State) (left : List ℕ) (n : ℕ) → OldOrNew s left t n → Contains (standing s ++ left) n ⊎ (n ≡ length (ledger s).slots)
+old_or_new : (s t : State) (left : List ℕ) (n : ℕ) → OldOrNew s left t n → Old s left n ⊎ (n ≡ length (ledger s).slots)
 old_or_new s t left n (inl has) = inl has
 old_or_new s t left n (inr new) = inr (new.0 ∙ sym (length-map s.creds (λ (x : Sealing). x.slot)))
 
@@ -172,7 +166,7 @@ creds_orderly s event left t (Seals c slot creds fits) before refer order =
     subst (λ slots. IsOrderly (record (ledger t) { slots = slots }))
     (sym (ap (map (λ (x : Sealing). x.slot)) creds ∙ map_push (λ (x : Sealing). x.slot) s.creds _))
     (seals now slot (standing t) t.deferred fit.below fit.clear fit.unkept
-    (All-weaker (OldOrNew s left t) (λ n. Contains (standing s ++ left) n ⊎ (n ≡ length now.slots)) (λ n has. old_or_new s t left n has) (refs t) refer)
+    (All-weaker (OldOrNew s left t) (λ n. Old s left n ⊎ (n ≡ length now.slots)) (λ n has. old_or_new s t left n has) (refs t) refer)
     order)
 
 changes_orderly : (script : Script) (s : State) (event : Event) (made : Answer × State) → Changes script s event made
@@ -187,7 +181,7 @@ changes_sound : (script : Script) (s : State) (event : Event) (made : Answer × 
     → IsSound made.1
 changes_sound script s event made c sound = record {
   tasks = tasks_differ s event made c.tasks sound.tasks;
-  holds = holds_differ s event made.1 c.holds sound.holds;
+  holds = holds_differ s event c.left made.1 c.holds sound.holds;
   prepared = labels_differ script s event c.left made.1 c.prepared sound.prepared;
   labels = labels_unheld script s event c.left made.1 c.holds c.prepared sound.labels;
   slots = changes_orderly script s event made c sound.slots;

@@ -47,13 +47,13 @@ tasks_differ s event made (Renews task slot old c tasks creds current cause) dif
     subst (AllPairs (Differ number_of)) (sym tasks)
     (differ-map number_of (renewed task _) s.tasks (renewed_number task _) differ)
 
-pub holds_differ : (s : State) (event : Event) (t : State) → HoldsChange s event t → AllPairs (Differ held_as) s.holds
+pub holds_differ : (s : State) (event : Event) (left : List ℕ) (t : State) → HoldsChange s event left t → AllPairs (Differ held_as) s.holds
     → AllPairs (Differ held_as) t.holds
-holds_differ s event t (SameHolds same) differ = subst (AllPairs (Differ held_as)) (sym same) differ
-holds_differ s event t (Takes hold holds new unprepared stands) differ =
+holds_differ s event left t (SameHolds same) differ = subst (AllPairs (Differ held_as)) (sym same) differ
+holds_differ s event left t (Takes hold holds new unprepared stands) differ =
     subst (AllPairs (Differ held_as)) (sym holds)
     (all_pairs_push (Differ held_as) s.holds hold differ (none_has held_as s.holds hold.label new))
-holds_differ s event t (Releases label place hold is holds at found) differ =
+holds_differ s event left t (Releases label place hold is holds at found) differ =
     subst (AllPairs (Differ held_as)) (sym holds)
     (all_pairs_remove (Differ held_as) s.holds place (slice_get_within s.holds place hold found) differ)
 
@@ -100,14 +100,14 @@ not_held_without holds place p none =
     (All-remove (λ h. (h.label == p.label) ≡ false) holds place (found_none (λ (h : Hold). h.label == p.label) holds none))
 
 -- next to the other holds
-unheld_still : (s : State) (event : Event) (t : State) → HoldsChange s event t → All (IsNotHeld s.holds) s.prepared
+unheld_still : (s : State) (event : Event) (left : List ℕ) (t : State) → HoldsChange s event left t → All (IsNotHeld s.holds) s.prepared
     → All (IsNotHeld t.holds) s.prepared
-unheld_still s event t (SameHolds same) unheld = subst (λ holds. All (IsNotHeld holds) s.prepared) (sym same) unheld
-unheld_still s event t (Takes hold holds new unprepared stands) unheld =
+unheld_still s event left t (SameHolds same) unheld = subst (λ holds. All (IsNotHeld holds) s.prepared) (sym same) unheld
+unheld_still s event left t (Takes hold holds new unprepared stands) unheld =
     let others = none_has prepared_as s.prepared hold.label unprepared in
     subst (λ holds. All (IsNotHeld holds) s.prepared) (sym holds)
     (λ k d lt. not_held_with s.holds hold (get_or s.prepared k d) (others k d lt) (unheld k d lt))
-unheld_still s event t (Releases label place hold is holds at found) unheld =
+unheld_still s event left t (Releases label place hold is holds at found) unheld =
     subst (λ holds. All (IsNotHeld holds) s.prepared) (sym holds)
     (All-weaker (IsNotHeld s.holds) (IsNotHeld (remove s.holds place)) (not_held_without s.holds place) s.prepared unheld)
 
@@ -125,7 +125,7 @@ unheld_all script s event left t (Alters label to p base answer prepared is at s
 unheld_all script s event left t (Ends label place p ends prepared at is) unheld =
     subst (All (IsNotHeld t.holds)) (sym prepared) (All-remove (IsNotHeld t.holds) s.prepared place unheld)
 
-pub labels_unheld : (script : Script) (s : State) (event : Event) (left : List ℕ) (t : State) → HoldsChange s event t
+pub labels_unheld : (script : Script) (s : State) (event : Event) (left : List ℕ) (t : State) → HoldsChange s event left t
     → PreparedChange script s event left t → All (IsNotHeld s.holds) s.prepared → All (IsNotHeld t.holds) t.prepared
 labels_unheld script s event left t holds prepared unheld =
-    unheld_all script s event left t prepared (unheld_still s event t holds unheld)
+    unheld_all script s event left t prepared (unheld_still s event left t holds unheld)
