@@ -191,7 +191,7 @@ pub step_sound : (script : Script) (s : State) (line : ℕ) (event : Event) → 
 step_sound script s line event sound =
     changes_sound script s event (step script s line event) (changes script s line event) sound
 
-opening_sound : IsSound opening
+pub opening_sound : IsSound opening
 opening_sound = record {
   tasks = λ i j d lt within. absurd (omega arith);
   holds = λ i j d lt within. absurd (omega arith);
