@@ -1,5 +1,5 @@
 -- A table of slots, as its callers see it, and which slot of it is taken next.
-use Rattle.std.specs.Prelude.{◌≡◌, ℕ, ◌==◌, Bool, false, not, ◌||◌, List, [], ◌++◌, map, find, count_by, slice_get, slice_index_or, is_some, if◌then◌else◌}
+use Rattle.std.specs.Prelude.{◌≡◌, ℕ, ◌<◌, ◌==◌, Bool, true, false, not, ◌||◌, List, [], ◌++◌, map, find, count_by, slice_get, slice_index_or, is_some, if◌then◌else◌}
 use Rattle.std.specs.declared.option.Option.{Option}
 use Rattle.std.specs.List.{list_any, range_with_len}
 use Rattle.std.specs.Option.{option_map_or}
@@ -35,6 +35,11 @@ references_to t number = count_by (λ n. n == number) (references t)
 -- the number stands in the slot
 abbrev pub stands_in : List ℕ → ℕ → ℕ → Bool
 stands_in sealed slot number = option_map_or (λ place. place == slot) (slice_get sealed number) false
+
+-- Of the numbers that stand in the slot none but this one is referred to.
+pub record IsAlone (t : Table) (number slot : ℕ) : Type 0 where
+  pub only : (other : ℕ) → stands_in t.sealed slot other ≡ true
+      → 0 < references_to t other → other ≡ number
 
 -- how many references there are to numbers in the slot
 abbrev pub uses : Table → ℕ → ℕ
