@@ -36,11 +36,6 @@ references_to t number = count_by (λ n. n == number) (references t)
 abbrev pub stands_in : List ℕ → ℕ → ℕ → Bool
 stands_in sealed slot number = option_map_or (λ place. place == slot) (slice_get sealed number) false
 
--- Of the numbers that stand in the slot none but this one is referred to.
-pub record IsAlone (t : Table) (number slot : ℕ) : Type 0 where
-  pub only : (other : ℕ) → stands_in t.sealed slot other ≡ true
-      → 0 < references_to t other → other ≡ number
-
 -- how many references there are to numbers in the slot
 abbrev pub uses : Table → ℕ → ℕ
 uses t slot = count_by (λ number. stands_in t.sealed slot number) (references t)
@@ -75,3 +70,7 @@ free t = least_free (room t)
 -- Two lists have the same numbers, each as often, if each test passes as many of the one as of the other.
 pub record IsSameBag (xs ys : List ℕ) : Type 0 where
   pub counts : (test : ℕ → Bool) → count_by test xs ≡ count_by test ys
+
+-- Of all numbers that stand in the slot, only this one is referred to.
+pub record IsAlone (t : Table) (number slot : ℕ) : Type 0 where
+  pub only : (other : ℕ) → stands_in t.sealed slot other ≡ true → 0 < references_to t other → other ≡ number

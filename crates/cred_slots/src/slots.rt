@@ -1,6 +1,6 @@
 //! The table of slots.
 ghost use Rattle.std.specs.Prelude.{◌≡◌, ℕ, ◌<◌, ◌+◌, ◌-◌, ◌++◌, [], ◌∷◌, length, max, false, true, slice_get, slice_set, count_by, ◌==◌, IfOk, OnOk, OnErr, IfSome, IfNone, IsTrue};
-ghost use Rattle.cred_slots.specs.Table.{SLOTS, empty, references_to, uses, stands_in, is_kept, is_live, least_free, swept, room, free, IsAlone, IsSameBag};
+ghost use Rattle.cred_slots.specs.Table.{SLOTS, empty, references_to, uses, stands_in, is_kept, is_live, least_free, swept, room, free, IsSameBag, IsAlone};
 
 use crate::flags::Flags;
 use crate::row::{Row, UNUSED, forget_late};
