@@ -2,8 +2,9 @@ pub mod Journals
 pub mod Courses
 pub mod Lines
 pub mod Order
-pub mod Names
 pub mod Lists
+pub mod Numbers
+pub mod Names
 pub mod Referred
 pub mod Likes
 pub mod LikeReads

@@ -1,0 +1,6 @@
+pub mod Moves
+pub mod References
+pub mod Parts
+pub mod Events
+pub mod Unique
+pub mod Sound
