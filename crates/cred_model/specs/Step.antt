@@ -47,7 +47,8 @@ fewer_or count limit answer = if nat_lt count limit then Ok tt else Err answer
 
 -- What happens where a slot is free, and where none is. The sweep that was made to find one stands
 -- either way.
-abbrev pub in_slot : State → (State → Answer × State) → (State → ℕ → Answer × State) → Answer × State
+abbrev pub in_slot : State → (State → Answer × State) → (State → ℕ → Answer × State)
+    → Answer × State
 in_slot s full does = option_map_or (does (room s)) (free s) (full (room s))
 
 -- where no slot is free
@@ -193,7 +194,10 @@ by_alter script s label change = do
   base ← ok_or (numbered s.creds p.base) (NoPrepared label)
   made ← by_change (info_of script (change_files change)) (chain_of script base.cred.ns) base.cred
       change
-  Ok (made.answer, altered s label (record { change = change; cred = made.cred; gains = made.gains }))
+  Ok (
+    made.answer,
+    altered s label (record { change = change; cred = made.cred; gains = made.gains }),
+  )
 
 -- what a label prepared becomes the current credential of its task
 abbrev pub by_commit : State → ℕ → Result (Answer × State) Answer
