@@ -1,4 +1,3 @@
-pub mod Lists
 pub mod Changes
 pub mod References
 pub mod Prepared

@@ -147,3 +147,14 @@ pub find-remove_other : {X : Type 0} (f : X → ℕ) (xs : List X) (wanted other
 find-remove_other f xs wanted other place x at is differ =
     let there = position-Some (λ x. f x == other) xs place x at in
     find-remove (λ x. f x == wanted) xs place x there.0 (let test = there.1 in grind (arith, nat_tests))
+
+-- ---- a list that grows at its end
+
+pub slice_get-left : {X : Type 0} (xs ys : List X) (n : ℕ) → n < length xs → slice_get (xs ++ ys) n ≡ slice_get xs n
+slice_get-left [] ys n lt = absurd (omega arith)
+slice_get-left (x ∷ xs) ys zero lt = refl
+slice_get-left (x ∷ xs) ys (suc n) lt = slice_get-left xs ys n (omega arith)
+
+pub slice_get-last : {X : Type 0} (xs : List X) (x : X) → slice_get (xs ++ x ∷ []) (length xs) ≡ Some x
+slice_get-last [] x = refl
+slice_get-last (y ∷ ys) x = slice_get-last ys x
