@@ -4,3 +4,4 @@ pub mod Lines
 pub mod Order
 pub mod Lists
 pub mod Numbers
+pub mod Names
