@@ -5,8 +5,10 @@ pub mod Labels
 pub mod Bags
 pub mod Keeps
 pub mod Free
-pub mod Counts
-pub mod Changes
-pub mod Results
-pub mod Prepares
+pub mod Standing
+pub mod Stored
+pub mod Sealing
+pub mod Inits
+pub mod Begins
+pub mod Holding
 pub mod ListAnswers
