@@ -1,4 +1,5 @@
 pub mod Script
+pub mod Named
 pub mod State
 pub mod Slots
 pub mod Answers
