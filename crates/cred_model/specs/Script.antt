@@ -1,5 +1,5 @@
 -- What a script is.
-use Rattle.std.specs.Prelude.{ℕ, List}
+use Rattle.std.specs.Prelude.{◌≡◌, ℕ, List, AllPairs}
 use Rattle.cred_record.specs.File.{File}
 use Rattle.cred_event.specs.declared.content.Content.{Content}
 
@@ -18,3 +18,11 @@ pub record Line : Type 0 where
 pub record Script : Type 0 where
   pub files : List NamedFile
   pub lines : List Line
+
+-- A line of the setup has none but such lines before it.
+abbrev pub SetupBefore : Line → Line → Type 0
+SetupBefore earlier later = later.lane ≡ 0 → earlier.lane ≡ 0
+
+-- The setup's lines come before all others.
+abbrev pub SetupFirst : Script → Type 0
+SetupFirst script = AllPairs SetupBefore script.lines
