@@ -32,6 +32,10 @@ info_of script (place ∷ places) = option_map (λ file. file.info) (slice_get s
 abbrev pub chain_of : Script → ℕ → List ℕ
 chain_of script namespace = 0 ∷ []
 
+-- A line of the setup has none but such lines before it.
+abbrev pub SetupBefore : Line → Line → Type 0
+SetupBefore earlier later = later.lane ≡ 0 → earlier.lane ≡ 0
+
 -- The setup's lines come before all others.
 abbrev pub SetupFirst : Script → Type 0
-SetupFirst script = AllPairs (λ earlier later. later.lane ≡ 0 → earlier.lane ≡ 0) script.lines
+SetupFirst script = AllPairs SetupBefore script.lines

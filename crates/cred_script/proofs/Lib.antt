@@ -1,10 +1,5 @@
-pub mod FirstLine
-pub mod Numerals
-pub mod CapNames
-pub mod Hexadecimals
-pub mod Fronts
 pub mod FileMap
-pub mod Grown
-pub mod FileNames
 pub mod IdLists
+pub mod Own
+pub mod Steps
 pub mod FirstBadLine

@@ -1,13 +1,13 @@
--- The lines that declare files, and the names that lines use.
+-- The lines that declare files.
 use Rattle.std.specs.Prelude.{ℕ, Bool, true, false, nat_lt, List, [], ◌∷◌, length, position, codes, Some, None, Result, Ok, Err, ok_or, if◌then◌else◌}
 use Rattle.std.specs.declared.option.Option.{Option}
 use Rattle.std.specs.Option.{option_map_or}
 use Rattle.std.specs.Str.{bytes_eq}
 use Rattle.cred_model.specs.Script.{NamedFile}
-use Rattle.cred_script.specs.declared.refusal.Reason.{Reason}
-use Rattle.cred_script.specs.declared.refusal.Reason.TheVariants.{Word, Count}
-use Rattle.cred_script.specs.Words.{◌>>=◌}
-use Rattle.cred_script.specs.Spellings.{id_of, bytes_of, is_name, kind_of, mode_of}
+use Rattle.cred_spelling.specs.declared.reason.Reason.{Reason}
+use Rattle.cred_spelling.specs.declared.reason.Reason.TheVariants.{Word, Count}
+use Rattle.cred_spelling.specs.Words.{◌>>=◌, name_of}
+use Rattle.cred_spelling.specs.Spellings.{id_of, bytes_of, kind_of, mode_of}
 
 -- how many files a script may declare
 abbrev pub FILES : ℕ
@@ -24,10 +24,6 @@ place_or_next files name = option_map_or (λ place. place) (place_of files name)
 -- one file more may be declared
 abbrev pub has_room : List NamedFile → Result (Unit {0}) Reason
 has_room files = if nat_lt (length files) FILES then Ok tt else Err Count
-
--- the name of a file
-abbrev pub name_of : List ℕ → Result (List ℕ) Reason
-name_of word = if is_name word then Ok word else Err Word
 
 -- the word is this text
 abbrev pub only : List ℕ → List ℕ → Result (Unit {0}) Reason

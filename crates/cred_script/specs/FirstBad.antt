@@ -1,21 +1,21 @@
--- What is told of a text that is no script: its first bad line.
-use Rattle.std.specs.Prelude.{◌≡◌, ℕ, ◌-◌, ◌≤◌, true, List, [], length, take, Result, Ok, Err}
+-- What is reported of a text that is no script: its first bad line.
+use Rattle.std.specs.Prelude.{◌≡◌, ℕ, ◌-◌, ◌≤◌, true, List, length, take, Result, Ok, Err}
 use Rattle.std.specs.Result.{is_ok}
 use Rattle.cred_model.specs.Script.{Script}
-use Rattle.cred_script.specs.declared.refusal.Reason.{Reason}
+use Rattle.cred_spelling.specs.declared.reason.Reason.{Reason}
 use Rattle.cred_script.specs.declared.refusal.ScriptRefusal.{ScriptRefusal}
 use Rattle.cred_script.specs.declared.refusal.ScriptRefusal.TheVariants.{Bad, Memory}
-use Rattle.cred_script.specs.Earlier.{nothing}
-use Rattle.cred_script.specs.Grammar.{lines_from}
+use Rattle.cred_script.specs.Reading.{nothing}
+use Rattle.cred_script.specs.Grammar.{add_lines}
 
 -- The lines before it are good by themselves, and with it they are bad, for this reason.
 pub record IsFirstBad (texts : List (List ℕ)) (line : ℕ) (reason : Reason) : Type 0 where
   pub above : 1 ≤ line
   pub within : line ≤ length texts
-  pub before : is_ok (lines_from 1 nothing [] (take (line - 1) texts)) ≡ true
-  pub bad : lines_from 1 nothing [] (take line texts) ≡ Err (line, reason)
+  pub before : is_ok (add_lines nothing (take (line - 1) texts)) ≡ true
+  pub bad : add_lines nothing (take line texts) ≡ Err (line, reason)
 
--- a line that is told is the first bad one
+-- a line that is reported is the first bad one
 abbrev pub TellsFirstBad : List (List ℕ) → Result Script ScriptRefusal → Type 0
 TellsFirstBad texts (Ok script) = Unit {0}
 TellsFirstBad texts (Err (Bad line reason)) = IsFirstBad texts line reason

@@ -1,12 +1,10 @@
-pub mod Lines
-pub mod Words
-pub mod Spellings
+pub use Rattle.cred_spelling.specs.Lines
+pub use Rattle.cred_spelling.specs.Spellings
 pub mod Files
-pub mod Names
 pub mod IdCalls
 pub mod Changes
 pub mod Forms
-pub mod Earlier
+pub mod Reading
 pub mod Grammar
 pub mod FirstBad
 pub mod Sound

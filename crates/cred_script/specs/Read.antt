@@ -1,9 +1,10 @@
 -- What reading a script may answer.
-use Rattle.std.specs.Prelude.{◌≡◌, ℕ, List, map, Result, Ok, Err}
+use Rattle.std.specs.Prelude.{◌≡◌, ℕ, List, Result, Ok, Err}
 use Rattle.std.specs.Borrow.{Bor}
 use Rattle.cred_event.specs.declared.content.Content.{Content}
 use Rattle.cred_model.specs.Script.{Line}
-use Rattle.cred_script.specs.declared.refusal.Reason.{Reason}
+use Rattle.cred_spelling.specs.declared.reason.Reason.{Reason}
+use Rattle.cred_spelling.specs.Read.{nows}
 use Rattle.cred_script.specs.declared.refusal.LineRefusal.{LineRefusal}
 use Rattle.cred_script.specs.declared.refusal.LineRefusal.TheVariants as line
 use Rattle.cred_script.specs.declared.refusal.ScriptRefusal.{ScriptRefusal}
@@ -21,25 +22,6 @@ abbrev pub Tells : {V A : Type 0} → (V → A) → Result V LineRefusal → Res
 Tells view (Ok v) given = given ≡ Ok (view v)
 Tells view (Err (line.Bad reason)) given = given ≡ Err reason
 Tells view (Err line.Memory) given = Unit {0}
-
--- the same, where no memory is needed
-abbrev pub Says : {V A : Type 0} → (V → A) → Result V Reason → Result A Reason → Type 0
-Says view (Ok v) given = given ≡ Ok (view v)
-Says view (Err reason) given = given ≡ Err reason
-
--- what the words are, wherever they lie
-abbrev pub nows : List (Bor (List ℕ)) → List (List ℕ)
-nows words = map (λ word. word.now) words
-
--- two words, and those after them
-abbrev pub more_nows : Bor (List ℕ) × Bor (List ℕ) × Bor (List (Bor (List ℕ)))
-    → List ℕ × List ℕ × List (List ℕ)
-more_nows words = (words.0.now, words.1.now, nows words.2.now)
-
--- five words
-abbrev pub five_nows : Bor (List ℕ) × Bor (List ℕ) × Bor (List ℕ) × Bor (List ℕ) × Bor (List ℕ)
-    → List ℕ × List ℕ × List ℕ × List ℕ × List ℕ
-five_nows words = (words.0.now, words.1.now, words.2.now, words.3.now, words.4.now)
 
 -- five words, and those after them
 abbrev pub options_nows

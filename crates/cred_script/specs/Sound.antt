@@ -1,14 +1,15 @@
 -- What is true of the lines of every script.
-use Rattle.std.specs.Prelude.{◌≡◌, ℕ, ◌≤◌, ◌<◌, true, List, [], ◌∷◌, length, All, None, IfSome}
-use Rattle.std.specs.declared.option.Option.{Option}
+use Rattle.std.specs.Prelude.{◌≡◌, ℕ, ◌≤◌, ◌<◌, List, [], ◌∷◌, length, All, AllPairs, None}
 use Rattle.cred_event.specs.declared.event.Event.{Event}
 use Rattle.cred_event.specs.declared.event.Event.TheVariants.{Take, TakeFile, Release, Ask, Signal, Prepare, Alter, Commit, Abort, Override, OpenFile}
 use Rattle.cred_event.specs.declared.content.Content.{Content}
 use Rattle.cred_event.specs.declared.content.Content.TheVariants.{One}
-use Rattle.cred_model.specs.Named.{IsContentOf, is_built_line}
-use Rattle.cred_model.specs.Script.{Line, NamedFile}
+use Rattle.cred_model.specs.Script.{Line, NamedFile, SetupBefore}
+use Rattle.cred_model.specs.Named.{IsContentOf}
+use Rattle.cred_script.specs.declared.forms.Parsed.{Parsed}
+use Rattle.cred_script.specs.declared.forms.Parsed.TheVariants.{Empty, File, Starts, Holds}
 use Rattle.cred_script.specs.Files.{place_of}
-use Rattle.cred_script.specs.Forms.{ParsedLine}
+use Rattle.cred_script.specs.Reading.{setup_line}
 
 -- the labels that an event names
 abbrev pub event_labels : Event → List ℕ
@@ -30,11 +31,9 @@ abbrev pub labels : Content → List ℕ
 labels (One event) = event_labels event
 labels content = []
 
--- What is true of what a form holds. Greater labels than 99999 are those that a line takes for
--- itself.
-pub record IsFormed (content : Content) : Type 0 where
-  pub labels : All (λ label. label ≤ 99999) (labels content)
-  pub built : is_built_line content ≡ true
+-- Greater labels than 99999 are those that a line takes for itself.
+abbrev pub NamesOwn : Content → Type 0
+NamesOwn content = All (λ label. label ≤ 99999) (labels content)
 
 -- what is true of each line of a script that declares so many files
 pub record IsSound (count : ℕ) (line : Line) : Type 0 where
@@ -42,17 +41,21 @@ pub record IsSound (count : ℕ) (line : Line) : Type 0 where
   pub labels : All (λ label. label ≤ 99999) (labels line.content)
   pub content : IsContentOf count line.content
 
--- none of these files has the name of the one that a line declares
-abbrev pub IsNew : List NamedFile → Option NamedFile → Type 0
-IsNew declared file = IfSome file (λ f. place_of declared f.name ≡ None)
-
 -- what is true of a line that was parsed, where these files are declared before it
-pub record IsParsed (declared : List NamedFile) (line : ParsedLine) : Type 0 where
-  pub sound : IsSound (length declared) (record { lane = 0; content = line.content })
-  pub room : IfSome line.file (λ _. length declared < 256)
-  pub new : IsNew declared line.file
+abbrev pub IsParsed : List NamedFile → Parsed → Type 0
+IsParsed declared Empty = Unit {0}
+IsParsed declared (File file) = (length declared < 256) × (place_of declared file.name ≡ None)
+IsParsed declared (Starts content) = IsSound (length declared) (setup_line content)
+IsParsed declared (Holds content) = IsSound (length declared) (setup_line content)
 
--- what is true of the lines of a script that declares so many files
-pub record AreSound (count : ℕ) (lines : List Line) : Type 0 where
+-- what is true of the lines that were read, where so many files are declared
+pub record IsReading (count : ℕ) (lines : List Line) : Type 0 where
   pub few : length lines ≤ 20000
   pub each : All (IsSound count) lines
+  pub setup : All (λ line. line.lane ≡ 0) lines
+
+-- what is true of the lines of a script that declares so many files
+pub record IsSoundScript (count : ℕ) (lines : List Line) : Type 0 where
+  pub few : length lines ≤ 20000
+  pub each : All (IsSound count) lines
+  pub first : AllPairs SetupBefore lines

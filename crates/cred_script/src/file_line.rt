@@ -1,28 +1,13 @@
-//! The lines that declare files, and the names that lines use.
-ghost use Rattle.std.specs.Prelude.{◌≡◌, ◌<◌, IfOk, length};
+//! The lines that declare files.
+ghost use Rattle.cred_spelling.specs.Read.{Says, nows};
 ghost use Rattle.cred_script.specs.Files as spec;
-ghost use Rattle.cred_script.specs.Read.{Says, Tells, nows};
+ghost use Rattle.cred_script.specs.Read.{Tells, options_nows};
 
-use crate::bytes::bytes_of;
 use crate::files::{Files, ScriptFile};
-use crate::refusal::{LineRefusal, Reason};
-use crate::spellings::{id_of, is, is_name, kind_of, mode_of};
-use crate::words::five_and_options;
+use crate::refusal::LineRefusal;
 use cred_record::{Attr, FileInfo};
+use cred_spelling::{Reason, bytes_of, id_of, is, kind_of, mode_of, name_of};
 use std::alloc::Global;
-use std::str;
-
-/// The name of a file.
-pub(crate) fn name_of(word: &[u8]) -> Result<&str, Reason>
-    ensures { Says (λ name. name.now) result (spec.name_of word.now) }
-{
-    match str::from_utf8(word) {
-        Ok(name) if is_name(word) => Ok(name),
-        Ok(_) => Err(Reason::Word),
-        // A name has letters, digits and three marks alone: what is no text is no name.
-        Err(_) => Err(Reason::Word),
-    }
-}
 
 /// The word is this text.
 fn only(word: &[u8], text: &str) -> Result<(), Reason>
@@ -32,6 +17,26 @@ fn only(word: &[u8], text: &str) -> Result<(), Reason>
         Ok(())
     } else {
         Err(Reason::Word)
+    }
+}
+
+/// Five words, and those after them.
+type FiveAndOptions<'w, 'b> = (
+    &'b [u8],
+    &'b [u8],
+    &'b [u8],
+    &'b [u8],
+    &'b [u8],
+    &'w [&'b [u8]],
+);
+
+/// There are five words, and at most three more.
+fn five_and_options<'w, 'b>(words: &'w [&'b [u8]]) -> Result<FiveAndOptions<'w, 'b>, Reason>
+    ensures { Says options_nows result (spec.five_and_options (nows words.now)) }
+{
+    match words {
+        [a, b, c, d, e, options @ ..] if options.len() <= 3 => Ok((a, b, c, d, e, options)),
+        _ => Err(Reason::Count),
     }
 }
 
@@ -72,8 +77,7 @@ pub(crate) fn file_of(
     files: &Files,
     words: &[&[u8]],
 ) -> Result<ScriptFile, LineRefusal>
-    ensures parsed { Tells (λ file. file) result (spec.file_of files.now (nows words.now)) }
-    ensures room { IfOk result (λ _. length files.now < 256) }
+    ensures { Tells (λ file. file) result (spec.file_of files.now (nows words.now)) }
 {
     if files.is_full() {
         return Err(LineRefusal::Bad(Reason::Count));

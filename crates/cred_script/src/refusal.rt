@@ -4,24 +4,8 @@ ghost use Rattle.cred_script.specs.declared.refusal.ScriptRefusal.TheVariants as
 ghost use Rattle.cred_script.specs.declared.refusal.LineRefusal.TheVariants as line;
 
 use cred_ids::NoMemory;
+use cred_spelling::Reason;
 use std::alloc::{AllocError, AllocFailed};
-
-/// What is wrong with a line.
-#[derive(Clone, Copy, PartialEq, Eq, Debug)]
-pub enum Reason {
-    /// It has a byte outside 0x20 to 0x7E.
-    Byte,
-    /// A word is none of those that may stand at its place.
-    Word,
-    /// It has too many words, or too few; or it declares a file after 256 others.
-    Count,
-    /// It declares something, and stands after a call or an event.
-    Order,
-    /// A name is used before it is declared, or declared a second time.
-    Name,
-    /// It names what a line of another lane has named.
-    Lane,
-}
 
 /// Why no script was read.
 #[derive(Clone, Copy, PartialEq, Eq, Debug)]

@@ -1,7 +1,7 @@
 //! A script: the files that it declares, and its lines, each with its lane and what it holds.
 ghost use Rattle.std.specs.Prelude.{◌≡◌, ◌≤◌, ◌<◌, IfSome, Some, length, slice_get};
 ghost use Rattle.std.specs.Option.{option_map};
-ghost use Rattle.cred_model.specs.Named.{IsContentOf};
+ghost use Rattle.cred_model.specs.Script.{SetupFirst};
 ghost use Rattle.cred_script.specs.Files as spec;
 ghost use Rattle.cred_script.specs.Grammar.{line_at};
 ghost use Rattle.cred_script.specs.Read.{seen};
@@ -37,13 +37,13 @@ pub struct Script {
 impl Model for Script {
     ghost use Rattle.std.specs.Prelude.{length};
     ghost use Rattle.cred_model.specs.Script.{Script};
-    ghost use Rattle.cred_script.specs.Sound.{AreSound};
+    ghost use Rattle.cred_script.specs.Sound.{IsSoundScript};
 
     ghost Value = { Script };
 
     ghost view = { λ s. record { files = s.files; lines = s.lines.items } };
 
-    ghost invariant = { λ s. AreSound (length s.files) s.lines.items };
+    ghost invariant = { λ s. IsSoundScript (length s.files) s.lines.items };
 }
 
 impl Script {
@@ -51,6 +51,7 @@ impl Script {
     pub fn lines(&self) -> u32
         ensures count { result ≡ length self.now.lines }
         ensures few { result ≤ 20000 }
+        ensures setup { SetupFirst self.now }
     {
         self.lines.len() as u32
     }
@@ -86,8 +87,6 @@ impl Script {
         ensures found { option_map seen result ≡ line_at self.now number }
         ensures few { IfSome result (λ _. number ≤ 20000) }
         ensures sound { IfSome result (λ found. IsSound (length self.now.files) (seen found)) }
-        ensures kind { IfSome result
-            (λ found. IsContentOf (length self.now.files) (seen found).content) }
     {
         let place = number.checked_sub(1)?;
         let line = self.lines.get(place as usize)?;

@@ -1,4 +1,4 @@
-use Rattle.cred_script.specs.Lines.{lines_of}
+use Rattle.cred_spelling.specs.Lines.{lines_of}
 use Rattle.cred_script.proofs.FirstBadLine.{tells_first}
 use Rattle.cred_script.proofs.reader.read.Goals as goal
 

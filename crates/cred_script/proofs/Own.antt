@@ -1,0 +1,261 @@
+-- What is true of each line that the grammar gives: its labels are small, it is of a kind that is
+-- built, and what it names is declared.
+use Rattle.std.proofs.Common.{◌≡◌, ℕ, ◌≤◌, ◌<◌, Bool, true, false, not, ◌&&◌, ◌==◌, nat_le, nat_lt, cond, List, [], ◌∷◌, length, Option, Some, None, is_some, Result, Ok, Err, ok_or, refl, subst, arith}
+use Rattle.std.specs.List.{All, list_all}
+use Rattle.std.specs.Option.{IfSome, option_and_then}
+use Rattle.std.specs.Result.{IfOk}
+use Rattle.std.proofs.lemmas.Bool.Decides.{nat_tests}
+use Rattle.std.proofs.lemmas.List.Elements.{All-nil, All-cons}
+use Rattle.std.proofs.lemmas.List.Sums.{AllPass-from_list_all}
+use Rattle.cred_event.specs.declared.event.Event.{Event}
+use Rattle.cred_event.specs.declared.event.Side.{Side}
+use Rattle.cred_event.specs.declared.content.Content.{Content}
+use Rattle.cred_model.specs.Script.{NamedFile}
+use Rattle.cred_model.specs.Named.{is_built, is_built_change, is_built_line, files, namespaces}
+use Rattle.cred_spelling.specs.declared.names.Form.{Form}
+use Rattle.cred_spelling.specs.declared.names.Form.TheVariants as form
+use Rattle.cred_spelling.specs.declared.names.EventName.{EventName}
+use Rattle.cred_spelling.specs.declared.names.EventName.TheVariants as name
+use Rattle.cred_spelling.specs.declared.names.CallName.{CallName}
+use Rattle.cred_spelling.specs.declared.names.CallName.TheVariants as call
+use Rattle.cred_spelling.specs.declared.names.ChangeName.{ChangeName}
+use Rattle.cred_spelling.specs.declared.names.ChangeName.TheVariants as change
+use Rattle.cred_spelling.specs.declared.reason.Reason.{Reason}
+use Rattle.cred_spelling.specs.declared.reason.Reason.TheVariants.{Word, Name, Byte}
+use Rattle.cred_spelling.specs.Lines.{is_printable}
+use Rattle.cred_spelling.specs.Names.{id_name, change_name, call_name}
+use Rattle.cred_spelling.specs.Spellings.{number_of, within, id_of, arg_of, cap_of, set_of, label_of, task_of, process_of, namespace_of}
+use Rattle.cred_spelling.specs.Words.{◌>>=◌, words_of, is_comment, word_of, no_words, one_of, two_of, three_of, five_of}
+use Rattle.cred_script.specs.declared.forms.Parsed.{Parsed}
+use Rattle.cred_script.specs.declared.forms.Parsed.TheVariants.{Empty, File, Starts, Holds}
+use Rattle.cred_script.specs.Changes.{change_of}
+use Rattle.cred_script.specs.Files.{FILES, place_of, has_room, file_of}
+use Rattle.cred_script.specs.IdCalls.{id_call_of}
+use Rattle.cred_script.specs.Forms.{query_of, query_named, take_of, event_of, call_of, content_of, parse_form}
+use Rattle.cred_script.specs.Grammar.{parse_full, parse_words, parse_line}
+use Rattle.cred_script.specs.Reading.{Reading, has_namespaces, has_files, has_names, names_declared, form_at, in_order, setup_line}
+use Rattle.cred_script.specs.Sound.{event_labels, labels, IsSound, IsParsed}
+
+-- ---- what holds of a value, if there is one, through the steps that lead to it
+
+record Good {A E : Type 0} (P : A → Type 0) (r : Result A E) : Type 0 where
+  is : IfOk r P
+
+after : {A B E : Type 0} (P : A → Type 0) (Q : B → Type 0) (r : Result A E) (f : A → Result B E) → Good P r → ((x : A) → P x → Good Q (f x)) → Good Q (r >>= f)
+after P Q (Ok x) f good next = next x good.is
+after P Q (Err e) f good next = record { is = tt }
+
+skip : {A B E : Type 0} (Q : B → Type 0) (r : Result A E) (f : A → Result B E) → ((x : A) → Good Q (f x)) → Good Q (r >>= f)
+skip Q (Ok x) f next = next x
+skip Q (Err e) f next = record { is = tt }
+
+-- what holds whatever the value is
+always : {A E : Type 0} (P : Type 0) → P → (r : Result A E) → Good (λ _. P) r
+always P holds (Ok x) = record { is = holds }
+always P holds (Err e) = record { is = tt }
+
+one_of_both : {A E : Type 0} (P : A → Type 0) (b : Bool) (r s : Result A E) → Good P r → Good P s → Good P (cond b r s)
+one_of_both P true r s good other = good
+one_of_both P false r s good other = other
+
+tested : {E : Type 0} (b : Bool) (e : E) → Good (λ _. b ≡ true) (let r : Result (Unit {0}) E = cond b (Ok tt) (Err e) in r)
+tested true e = record { is = refl }
+tested false e = record { is = tt }
+
+-- ---- labels
+
+abbrev IsLabel : ℕ → Type 0
+IsLabel label = label ≤ 99999
+
+at_most : (a b : Bool) (n most : ℕ) → nat_le n most ≡ b → IfSome (cond (a && b) (Some n) None) (λ number. number ≤ most)
+at_most false b n most is = tt
+at_most true false n most is = tt
+at_most true true n most is = grind (arith, nat_tests)
+
+small : (b : Bool) (least most : ℕ) (o : Option ℕ) → IfSome (cond b (option_and_then (within least most) o) None) (λ number. number ≤ most)
+small false least most o = tt
+small true least most None = tt
+small true least most (Some n) = at_most (nat_le least n) (nat_le n most) n most refl
+
+label_small : (word : List ℕ) → IfSome (label_of word) IsLabel
+label_small [] = tt
+label_small (first ∷ digits) = small (first == 104) 1 99999 (number_of digits)
+
+spelled_good : {A : Type 0} (P : A → Type 0) (o : Option A) → IfSome o P → Good P (ok_or o Word)
+spelled_good P None holds = record { is = tt }
+spelled_good P (Some x) holds = record { is = holds }
+
+label_good : (word : List ℕ) → Good IsLabel (word_of label_of word)
+label_good word = spelled_good IsLabel (label_of word) (label_small word)
+
+one_label : (words : List (List ℕ)) → Good IsLabel (one_of label_of words)
+one_label [] = record { is = tt }
+one_label (a ∷ []) = label_good a
+one_label (a ∷ b ∷ words) = record { is = tt }
+
+-- a label and another word
+label_first : {B : Type 0} (also : List ℕ → Option B) (words : List (List ℕ)) → Good (λ word. IsLabel word.0) (two_of label_of also words)
+unfolding two_of
+label_first also [] = record { is = tt }
+label_first also (a ∷ []) = record { is = tt }
+label_first also (a ∷ b ∷ []) = after IsLabel _ _ _ (label_good a) (λ label fits. skip _ (word_of also b) _ (λ y. record { is = fits }))
+label_first also (a ∷ b ∷ c ∷ words) = record { is = tt }
+
+-- a label, another word, and a label
+label_first_and_last : {B : Type 0} (also : List ℕ → Option B) (words : List (List ℕ)) → Good (λ word. IsLabel word.0 × IsLabel word.2) (three_of label_of also label_of words)
+unfolding three_of
+label_first_and_last also [] = record { is = tt }
+label_first_and_last also (a ∷ []) = record { is = tt }
+label_first_and_last also (a ∷ b ∷ []) = record { is = tt }
+label_first_and_last also (a ∷ b ∷ c ∷ []) =
+    after IsLabel _ _ _ (label_good a) (λ first fits. skip _ (word_of also b) _ (λ y. after IsLabel _ _ _ (label_good c) (λ last fit. record { is = (fits, fit) })))
+label_first_and_last also (a ∷ b ∷ c ∷ d ∷ words) = record { is = tt }
+
+-- ---- events
+
+record OwnEvent (event : Event) : Type 0 where
+  labels : All IsLabel (event_labels event)
+  built : is_built event ≡ true
+
+none : All IsLabel []
+none = All-nil IsLabel
+
+one : (label : ℕ) → IsLabel label → All IsLabel (label ∷ [])
+one label fits = All-cons IsLabel label [] fits none
+
+-- an event of one label
+of_label : (event : Event) (label : ℕ) → event_labels event ≡ label ∷ [] → is_built event ≡ true → IsLabel label → Good OwnEvent (let r : Result Event Reason = Ok event in r)
+of_label event label labels_are built fits = record { is = record { labels = rw labels_are (one label fits); built = built } }
+
+own_change : (kind : ChangeName) (words : List (List ℕ)) → Good (λ made. is_built_change made ≡ true) (change_of kind words)
+unfolding change_of
+own_change (change.SetFs kind) words = skip _ (one_of arg_of words) _ (λ id. record { is = refl })
+own_change change.Capset words = skip _ (three_of set_of set_of set_of words) _ (λ sets. record { is = refl })
+own_change change.BoundDrop words = skip _ (one_of cap_of words) _ (λ cap. record { is = refl })
+own_change change.AmbRaise words = skip _ (one_of cap_of words) _ (λ cap. record { is = refl })
+own_change change.AmbLower words = skip _ (one_of cap_of words) _ (λ cap. record { is = refl })
+own_change change.AmbClear words = skip _ (no_words words) _ (λ end. record { is = refl })
+own_change change.Bits words = skip _ (one_of number_of words) _ (λ number. record { is = refl })
+own_change change.KeepCaps words = skip _ (one_of number_of words) _ (λ number. record { is = refl })
+own_change change.NoNewPrivs words = skip _ (one_of number_of words) _ (λ number. record { is = refl })
+
+own_take : (side : Side) (words : List (List ℕ)) → Good OwnEvent (take_of side words)
+unfolding take_of
+own_take side words = after (λ word. IsLabel word.0) OwnEvent _ _ (label_first task_of words) (λ word fits. of_label _ word.0 refl refl fits)
+
+own_event : (files : List NamedFile) (event : EventName) (words : List (List ℕ)) → Good OwnEvent (event_of files event words)
+unfolding event_of
+own_event files name.Take words = own_take _ words
+own_event files name.TakeReal words = own_take _ words
+own_event files name.Release words = after IsLabel OwnEvent _ _ (one_label words) (λ label fits. of_label _ label refl refl fits)
+own_event files name.Ask [] = record { is = tt }
+own_event files name.Ask (hold ∷ []) = record { is = tt }
+own_event files name.Ask (hold ∷ asked ∷ words) =
+    skip OwnEvent (query_named files asked words) _ (λ query. after IsLabel OwnEvent _ _ (label_good hold) (λ label fits. of_label _ label refl refl fits))
+own_event files name.Prepare words =
+    after (λ word. IsLabel word.0 × IsLabel word.2) OwnEvent _ _ (label_first_and_last task_of words)
+    (λ word fits. record { is = record { labels = All-cons IsLabel word.0 (word.2 ∷ []) fits.0 (one word.2 fits.1); built = refl } })
+own_event files name.Alter [] = record { is = tt }
+own_event files name.Alter (prepared ∷ []) = record { is = tt }
+own_event files name.Alter (prepared ∷ changed ∷ words) =
+    skip OwnEvent (ok_or (change_name changed) Word) _ (λ kind. after (λ made. is_built_change made ≡ true) OwnEvent _ _ (own_change kind words)
+    (λ made built. after IsLabel OwnEvent _ _ (label_good prepared) (λ label fits. of_label _ label refl built fits)))
+own_event files name.Commit words = after IsLabel OwnEvent _ _ (one_label words) (λ label fits. of_label _ label refl refl fits)
+own_event files name.Abort words = after IsLabel OwnEvent _ _ (one_label words) (λ label fits. of_label _ label refl refl fits)
+own_event files name.Begin [] = record { is = tt }
+own_event files name.Begin (caller ∷ []) = record { is = tt }
+own_event files name.Begin (caller ∷ called ∷ words) =
+    skip OwnEvent (ok_or (id_name called) Word) _ (λ kind. skip OwnEvent (id_call_of kind words) _ (λ made. skip OwnEvent (word_of task_of caller) _ (λ task. record { is = record { labels = none; built = refl } })))
+own_event files name.Sweep words = skip OwnEvent (no_words words) _ (λ end. record { is = record { labels = none; built = refl } })
+
+-- ---- lines
+
+record OwnContent (content : Content) : Type 0 where
+  labels : All IsLabel (labels content)
+  built : is_built_line content ≡ true
+
+own_call : (files : List NamedFile) (task : ℕ) (called : CallName) (words : List (List ℕ)) → Good OwnContent (call_of files task called words)
+unfolding call_of
+own_call files task (call.Id called) words = skip OwnContent (id_call_of called words) _ (λ made. record { is = record { labels = none; built = refl } })
+own_call files task (call.Change changed) words =
+    after (λ made. is_built_change made ≡ true) OwnContent _ _ (own_change changed words) (λ made built. record { is = record { labels = none; built = built } })
+own_call files task (call.Question asked) words = skip OwnContent (query_of files asked words) _ (λ query. record { is = record { labels = none; built = refl } })
+
+own_content : (files : List NamedFile) (task : ℕ) (words : List (List ℕ)) → Good OwnContent (content_of files task words)
+unfolding content_of
+own_content files task [] = record { is = tt }
+own_content files task (word ∷ words) = skip OwnContent (ok_or (call_name word) Word) _ (λ called. own_call files task called words)
+
+-- what is true of a line before its names are looked up
+abbrev OwnLine : List NamedFile → Parsed → Type 0
+OwnLine declared Empty = Unit {0}
+OwnLine declared (File file) = length declared < FILES
+OwnLine declared (Starts content) = OwnContent content
+OwnLine declared (Holds content) = OwnContent content
+
+room : (declared : List NamedFile) → Good (λ _. nat_lt (length declared) FILES ≡ true) (has_room declared)
+room declared = tested (nat_lt (length declared) FILES) _
+
+own_file : (declared : List NamedFile) (words : List (List ℕ)) → Good (λ _. length declared < FILES) (file_of declared words)
+unfolding file_of
+own_file declared words = after _ _ _ _ (room declared) (λ end test. always _ (grind (arith, nat_tests)) _)
+
+own_form : (declared : List NamedFile) (named : Form) (words : List (List ℕ)) → Good (OwnLine declared) (parse_form declared named words)
+unfolding parse_form
+own_form declared form.Init words = skip _ (five_of task_of process_of id_of id_of namespace_of words) _ (λ word. record { is = record { labels = none; built = refl } })
+own_form declared form.File words = after _ _ _ _ (own_file declared words) (λ file few. record { is = few })
+own_form declared (form.Task task) words = after _ _ _ _ (own_content declared task words) (λ content own. record { is = own })
+own_form declared (form.Event named) words = after _ _ _ _ (own_event declared named words) (λ event own. record { is = record { labels = own.labels; built = own.built } })
+
+-- ---- names
+
+both : (a b : Bool) → (a && b) ≡ true → (a ≡ true) × (b ≡ true)
+both true b h = (refl, h)
+both false b h = absurd (cc)
+
+no_place : (o : Option ℕ) → not (is_some o) ≡ true → o ≡ None
+no_place None h = refl
+no_place (Some place) h = absurd (cc)
+
+all_declared : (names : List ℕ) → list_all (λ namespace. namespace == 0) names ≡ true → All (λ namespace. namespace ≡ 0) names
+all_declared names h k d inside = let test = AllPass-from_list_all (λ namespace. namespace == 0) names h k d inside in grind (arith, nat_tests)
+
+all_among : (count : ℕ) (places : List ℕ) → list_all (λ file. nat_lt file count) places ≡ true → All (λ file. file < count) places
+all_among count places h k d inside = let test = AllPass-from_list_all (λ file. nat_lt file count) places h k d inside in grind (arith, nat_tests)
+
+sound : (declared : List NamedFile) (content : Content) → OwnContent content → (has_namespaces content && has_files declared content) ≡ true
+    → IsSound (length declared) (setup_line content)
+sound declared content own h =
+    let parts = both (has_namespaces content) (has_files declared content) h in
+    record {
+      lane = omega arith;
+      labels = own.labels;
+      content = record {
+        built = own.built;
+        files = all_among (length declared) (files content) parts.1;
+        namespaces = all_declared (namespaces content) parts.0;
+      };
+    }
+
+parsed : (declared : List NamedFile) (line : Parsed) → OwnLine declared line → has_names declared line ≡ true → IsParsed declared line
+parsed declared Empty own named = tt
+parsed declared (File file) own named = (own, no_place (place_of declared file.name) named)
+parsed declared (Starts content) own named = sound declared content own named
+parsed declared (Holds content) own named = sound declared content own named
+
+full : (reading : Reading) (first : List ℕ) (words : List (List ℕ)) → Good (IsParsed reading.files) (parse_full reading first words)
+unfolding parse_full
+full reading first words =
+    skip _ (form_at reading first) _ (λ named. after _ _ (parse_form reading.files named words) _ (own_form reading.files named words)
+    (λ line own. skip _ (in_order reading line) _ (λ order. after _ _ (names_declared reading.files line) _ (tested (has_names reading.files line) Name)
+    (λ end names. record { is = parsed reading.files line own names }))))
+
+words_good : (reading : Reading) (words : List (List ℕ)) → Good (IsParsed reading.files) (parse_words reading words)
+words_good reading [] = record { is = tt }
+words_good reading (first ∷ words) = one_of_both _ (is_comment first) _ _ (record { is = tt }) (full reading first words)
+
+-- a line that is good is sound
+pub parsed_sound : (reading : Reading) (text : List ℕ) (line : Parsed) → parse_line reading text ≡ Ok line → IsParsed reading.files line
+parsed_sound reading text line is =
+    let good = one_of_both (IsParsed reading.files) (is_printable text) (parse_words reading (words_of text)) (Err Byte) (words_good reading (words_of text)) (record { is = tt }) in
+    subst (λ (r : Result Parsed Reason). IfOk r (IsParsed reading.files)) is good.is

@@ -1,0 +1,47 @@
+-- One more line of a script.
+use Rattle.std.proofs.Common.{◌≡◌, ℕ, ◌+◌, ◌<◌, List, [], ◌∷◌, ◌++◌, length, Result, Ok, Err, refl, ap, length-append, arith}
+use Rattle.std.proofs.lemmas.List.Elements.{All-push}
+use Rattle.cred_model.specs.Script.{Line}
+use Rattle.cred_spelling.specs.declared.reason.Reason.{Reason}
+use Rattle.cred_spelling.specs.Words.{◌>>=◌}
+use Rattle.cred_script.specs.declared.forms.Parsed.{Parsed}
+use Rattle.cred_script.specs.declared.forms.Parsed.TheVariants.{Empty, File, Starts, Holds}
+use Rattle.cred_script.specs.Grammar.{parse_line, add_line, at_line, add_lines}
+use Rattle.cred_script.specs.Reading.{Reading, keep}
+use Rattle.cred_script.specs.Sound.{IsSound, IsReading}
+
+-- each line that is read is one line more
+longer_keep : (reading : Reading) (line : Parsed) → length (keep reading line).lines ≡ length reading.lines + 1
+longer_keep reading Empty = rw (length-append reading.lines) refl
+longer_keep reading (File file) = rw (length-append reading.lines) refl
+longer_keep reading (Starts content) = rw (length-append reading.lines) refl
+longer_keep reading (Holds content) = rw (length-append reading.lines) refl
+
+longer_by : (reading next : Reading) (found : Result Parsed Reason)
+    → (found >>= λ line. Ok (keep reading line)) ≡ Ok next → length next.lines ≡ length reading.lines + 1
+longer_by reading next (Ok line) is =
+    let same : keep reading line ≡ next = cc in rw (← same) (longer_keep reading line)
+longer_by reading next (Err reason) is = absurd (cc)
+
+pub longer : (reading next : Reading) (text : List ℕ) → add_line reading text ≡ Ok next → length next.lines ≡ length reading.lines + 1
+unfolding add_line
+longer reading next text is = longer_by reading next (parse_line reading text) is
+
+-- a line that is good is good by its number
+pub at_ok : (number : ℕ) (found : Result Reading Reason) (next : Reading) → at_line number found ≡ Ok next → found ≡ Ok next
+at_ok number (Ok reading) next is = let same : reading ≡ next = cc in ap (λ (r : Reading). let a : Result Reading Reason = Ok r in a) same
+at_ok number (Err reason) next is = absurd (cc)
+
+-- what is read of the lines after one that was read is what is read of all
+pub read_one : (reading next : Reading) (text : List ℕ) (texts all : List (List ℕ))
+    → at_line (length reading.lines + 1) (add_line reading text) ≡ Ok next → all ≡ text ∷ texts → add_lines next texts ≡ add_lines reading all
+read_one reading next text texts all is all_is = rw (all_is, is) refl
+
+-- what was read stays sound with a sound line more
+pub pushed : (count : ℕ) (lines longer : List Line) (line : Line) → longer ≡ lines ++ line ∷ [] → length lines < 20000 → IsReading count lines → IsSound count line → line.lane ≡ 0
+    → IsReading count longer
+pushed count lines longer line longer_is room old sound setup = rw longer_is (record {
+  few = rw (length-append lines (line ∷ [])) (omega arith);
+  each = All-push (IsSound count) lines line old.each sound;
+  setup = All-push (λ l. l.lane ≡ 0) lines line old.setup setup;
+})

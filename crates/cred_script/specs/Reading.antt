@@ -1,0 +1,86 @@
+-- What was read of a script before a line, what that asks of the line, and what the line adds to it.
+use Rattle.std.specs.Prelude.{ℕ, ◌==◌, Bool, true, false, not, ◌&&◌, nat_lt, List, [], ◌∷◌, ◌++◌, length, is_some, Result, Ok, Err, ok_or, if◌then◌else◌}
+use Rattle.std.specs.List.{list_all}
+use Rattle.cred_event.specs.declared.content.Content.{Content}
+use Rattle.cred_event.specs.declared.content.Content.TheVariants.{Nothing}
+use Rattle.cred_model.specs.Script.{Line, NamedFile, Script}
+use Rattle.cred_model.specs.Named.{files, namespaces}
+use Rattle.cred_spelling.specs.declared.names.Form.{Form}
+use Rattle.cred_spelling.specs.declared.names.Form.TheVariants.{Init}
+use Rattle.cred_spelling.specs.declared.reason.Reason.{Reason}
+use Rattle.cred_spelling.specs.declared.reason.Reason.TheVariants.{Word, Order, Name}
+use Rattle.cred_spelling.specs.Names.{form_of}
+use Rattle.cred_spelling.specs.Words.{◌>>=◌}
+use Rattle.cred_script.specs.declared.forms.Parsed.{Parsed}
+use Rattle.cred_script.specs.declared.forms.Parsed.TheVariants.{Empty, File, Starts, Holds}
+use Rattle.cred_script.specs.Files.{place_of}
+
+-- The files that are declared, the lines, whether a first task was created, and whether a call or an
+-- event stands there, so that nothing more may be declared.
+pub record Reading : Type 0 where
+  pub files : List NamedFile
+  pub lines : List Line
+  pub has_task : Bool
+  pub is_used : Bool
+
+-- before the first line
+abbrev pub nothing : Reading
+nothing = record { files = []; lines = []; has_task = false; is_used = false }
+
+-- the script that was read
+abbrev pub script : Reading → Script
+script reading = record { files = reading.files; lines = reading.lines }
+
+-- a script starts one task
+abbrev pub starts_again : Reading → Form → Bool
+starts_again reading Init = reading.has_task
+starts_again reading other = false
+
+-- the form that the first word names; a second `init` is none
+unfoldable pub form_at : Reading → List ℕ → Result Form Reason
+form_at reading word = do
+  form ← ok_or (form_of word) Word
+  if starts_again reading form then Err Word else Ok form
+
+-- Declarations stand before all calls and events.
+abbrev pub is_declaration : Parsed → Bool
+is_declaration (File file) = true
+is_declaration (Starts content) = true
+is_declaration other = false
+
+-- no declaration stands after a call or an event
+abbrev pub in_order : Reading → Parsed → Result (Unit {0}) Reason
+in_order reading line = if is_declaration line && reading.is_used then Err Order else Ok tt
+
+-- Namespace 0 is the only one that is declared.
+abbrev pub has_namespaces : Content → Bool
+has_namespaces content = list_all (λ namespace. namespace == 0) (namespaces content)
+
+-- Each file that the line names is one of those that are declared.
+abbrev pub has_files : List NamedFile → Content → Bool
+has_files declared content = list_all (λ file. nat_lt file (length declared)) (files content)
+
+-- the names that the line uses are declared, and the one that it declares is not
+abbrev pub has_names : List NamedFile → Parsed → Bool
+has_names declared Empty = true
+has_names declared (File file) = not (is_some (place_of declared file.name))
+has_names declared (Starts content) = has_namespaces content && has_files declared content
+has_names declared (Holds content) = has_namespaces content && has_files declared content
+
+abbrev pub names_declared : List NamedFile → Parsed → Result (Unit {0}) Reason
+names_declared declared line = if has_names declared line then Ok tt else Err Name
+
+-- every line belongs to the setup
+abbrev pub setup_line : Content → Line
+setup_line content = record { lane = 0; content = content }
+
+-- one more line, which holds this
+abbrev pub push : Reading → Content → Reading
+push reading content = record reading { lines = reading.lines ++ setup_line content ∷ [] }
+
+-- what a line adds
+abbrev pub keep : Reading → Parsed → Reading
+keep reading Empty = push reading Nothing
+keep reading (File file) = record (push reading Nothing) { files = reading.files ++ file ∷ [] }
+keep reading (Starts content) = record (push reading content) { has_task = true }
+keep reading (Holds content) = record (push reading content) { is_used = true }

@@ -1,0 +1,230 @@
+//! What was read of a script, and one more line of it.
+ghost use Rattle.std.specs.Prelude.{◌≡◌, ◌<◌, ◌+◌, IfErr, OnOk, length};
+ghost use Rattle.cred_spelling.specs.Read.{Says, nows};
+ghost use Rattle.cred_script.specs.Grammar as grammar;
+ghost use Rattle.cred_script.specs.Grammar.{at_line};
+ghost use Rattle.cred_script.specs.Read.{Gives, Tells};
+ghost use Rattle.cred_script.specs.Reading as spec;
+ghost use Rattle.cred_script.specs.Sound.{IsParsed, IsSound};
+
+use crate::files::Files;
+use crate::forms::{Parsed, parse_form};
+use crate::refusal::{LineRefusal, ScriptRefusal};
+use crate::script::{Script, ScriptLine};
+use crate::uses::{has_files, has_namespaces};
+use cred_event::Content;
+use cred_spelling::{Form, Reason, form_of, is_comment, is_printable, split_into};
+use std::alloc::Global;
+use std::marker::Model;
+
+/// What was read of a script.
+#[derive(Drop, Debug)]
+pub(crate) struct Reading {
+    files: Files,
+    lines: Vec<ScriptLine>,
+    /// A first task was created.
+    has_task: bool,
+    /// A call or an event stands there, so that nothing more may be declared.
+    is_used: bool,
+}
+
+impl Model for Reading {
+    ghost use Rattle.std.specs.Prelude.{length};
+    ghost use Rattle.cred_script.specs.Reading as spec;
+    ghost use Rattle.cred_script.specs.Sound.{IsReading};
+
+    ghost Value = { spec.Reading };
+
+    ghost view = { λ r. record {
+      files = r.files;
+      lines = r.lines.items;
+      has_task = r.has_task;
+      is_used = r.is_used;
+    } };
+
+    ghost invariant = { λ r. IsReading (length r.files) r.lines.items };
+}
+
+impl Reading {
+    /// Before the first line.
+    pub(crate) fn nothing(alloc: Global) -> Reading
+        ensures { result ≡ spec.nothing }
+    {
+        Reading {
+            files: Files::new(alloc),
+            lines: Vec::new(alloc),
+            has_task: false,
+            is_used: false,
+        }
+    }
+
+    /// The script that was read.
+    pub(crate) fn into_script(self) -> Script
+        ensures { result ≡ spec.script self }
+    {
+        let Reading { files, lines, .. } = self;
+        Script { files, lines }
+    }
+
+    /// One more line. A bad one is reported by its number. The list of words is one that an earlier
+    /// line left, to be used again.
+    pub(crate) fn add_numbered<'b>(
+        &mut self,
+        alloc: Global,
+        words: &mut Vec<&'b [u8]>,
+        text: &'b [u8],
+    ) -> Result<(), ScriptRefusal>
+        requires { length self.old.lines < 20000 }
+        ensures { Gives (λ _. self.new) result
+            (at_line (length self.old.lines + 1) (grammar.add_line self.old text.now)) }
+    {
+        let number = self.lines.len() as u32 + 1;
+        match self.add_line(alloc, words, text) {
+            Ok(()) => Ok(()),
+            Err(LineRefusal::Bad(reason)) => Err(ScriptRefusal::Bad {
+                line: number,
+                reason,
+            }),
+            Err(LineRefusal::Memory) => Err(ScriptRefusal::Memory),
+        }
+    }
+
+    /// One more line.
+    #[tactic(auto, unfolding(crate::specs::Grammar::add_line))]
+    fn add_line<'b>(
+        &mut self,
+        alloc: Global,
+        words: &mut Vec<&'b [u8]>,
+        text: &'b [u8],
+    ) -> Result<(), LineRefusal>
+        requires { length self.old.lines < 20000 }
+        ensures { Tells (λ _. self.new) result (grammar.add_line self.old text.now) }
+    {
+        let line = self.parse_line(alloc, words, text)?;
+        self.keep(line)
+    }
+
+    /// The reading, and what this line adds to it.
+    fn keep(&mut self, line: Parsed) -> Result<(), LineRefusal>
+        requires few { length self.old.lines < 20000 }
+        requires sound { IsParsed self.old.files line }
+        ensures ok { OnOk result (self.new ≡ spec.keep self.old line) }
+        ensures err { IfErr result (λ e. e ≡ LineRefusal.Memory) }
+    {
+        match line {
+            Parsed::Empty => self.push(Content::Nothing),
+            Parsed::File(file) => {
+                self.push(Content::Nothing)?;
+                self.files.add(file)?;
+                Ok(())
+            }
+            Parsed::Starts(content) => {
+                self.push(content)?;
+                self.has_task = true;
+                Ok(())
+            }
+            Parsed::Holds(content) => {
+                self.push(content)?;
+                self.is_used = true;
+                Ok(())
+            }
+        }
+    }
+
+    /// One more line, which holds this.
+    fn push(&mut self, content: Content) -> Result<(), LineRefusal>
+        requires few { length self.old.lines < 20000 }
+        requires sound { IsSound (length self.old.files) (spec.setup_line content) }
+        ensures ok { OnOk result (self.new ≡ spec.push self.old content) }
+        ensures err { IfErr result (λ e. e ≡ LineRefusal.Memory) }
+    {
+        self.lines.push(ScriptLine { lane: 0, content })?;
+        Ok(())
+    }
+
+    /// A line, parsed.
+    fn parse_line<'b>(
+        &self,
+        alloc: Global,
+        words: &mut Vec<&'b [u8]>,
+        text: &'b [u8],
+    ) -> Result<Parsed, LineRefusal>
+        ensures { Tells (λ line. line) result (grammar.parse_line self.now text.now) }
+    {
+        if !is_printable(text) {
+            return Err(LineRefusal::Bad(Reason::Byte));
+        }
+        split_into(words, text)?;
+        self.parse_words(alloc, words)
+    }
+
+    /// A line without words, and a comment, declare nothing and hold nothing.
+    fn parse_words(&self, alloc: Global, words: &[&[u8]]) -> Result<Parsed, LineRefusal>
+        ensures { Tells (λ line. line) result (grammar.parse_words self.now (nows words.now)) }
+    {
+        match words {
+            [] => Ok(Parsed::Empty),
+            [first, rest @ ..] => {
+                if is_comment(first) {
+                    Ok(Parsed::Empty)
+                } else {
+                    self.parse_full(alloc, first, rest)
+                }
+            }
+        }
+    }
+
+    /// A line that isn't empty, by the tests in their order.
+    #[tactic(auto, unfolding(crate::specs::Grammar::parse_full))]
+    fn parse_full(
+        &self,
+        alloc: Global,
+        first: &[u8],
+        words: &[&[u8]],
+    ) -> Result<Parsed, LineRefusal>
+        ensures { Tells (λ line. line) result
+            (grammar.parse_full self.now first.now (nows words.now)) }
+    {
+        let form = self.form_at(first)?;
+        let line = parse_form(alloc, &self.files, form, words)?;
+        self.in_order(&line)?;
+        self.names_declared(&line)?;
+        Ok(line)
+    }
+
+    /// The form that the first word names.
+    #[tactic(auto, unfolding(crate::specs::Reading::form_at))]
+    fn form_at(&self, word: &[u8]) -> Result<Form, Reason>
+        ensures { Says (λ form. form) result (spec.form_at self.now word.now) }
+    {
+        match form_of(word) {
+            None => Err(Reason::Word),
+            Some(Form::Init) if self.has_task => Err(Reason::Word),
+            Some(form) => Ok(form),
+        }
+    }
+
+    /// No declaration stands after a call or an event.
+    fn in_order(&self, line: &Parsed) -> Result<(), Reason>
+        ensures { Says (λ x. x) result (spec.in_order self.now line.now) }
+    {
+        match line {
+            Parsed::File(_) | Parsed::Starts(_) if self.is_used => Err(Reason::Order),
+            _ => Ok(()),
+        }
+    }
+
+    /// The names that the line uses are declared, and the one that it declares is not.
+    fn names_declared(&self, line: &Parsed) -> Result<(), Reason>
+        ensures { Says (λ x. x) result (spec.names_declared self.now.files line.now) }
+    {
+        let good = match line {
+            Parsed::Empty => true,
+            Parsed::File(file) => self.files.place_of(&file.name).is_none(),
+            Parsed::Starts(content) | Parsed::Holds(content) => {
+                has_namespaces(content) && has_files(&self.files, content)
+            }
+        };
+        if good { Ok(()) } else { Err(Reason::Name) }
+    }
+}

@@ -1,0 +1,58 @@
+//! The names that a line uses.
+ghost use Rattle.std.specs.Prelude.{◌≡◌, []};
+ghost use Rattle.std.specs.List.{cons_option};
+ghost use Rattle.cred_model.specs.Named as named;
+ghost use Rattle.cred_script.specs.Reading as spec;
+
+use crate::files::Files;
+use cred_event::{Change, Content, Event, Query};
+
+/// Namespace 0 is the only one that is declared.
+pub(crate) fn has_namespaces(content: &Content) -> bool
+    ensures { result ≡ spec.has_namespaces content.now }
+{
+    match content {
+        Content::One(Event::Init { ns, .. }) => *ns == 0,
+        _ => true,
+    }
+}
+
+/// Each file that the line names is declared.
+pub(crate) fn has_files(declared: &Files, content: &Content) -> bool
+    ensures { result ≡ spec.has_files declared.now content.now }
+{
+    match named_file(content) {
+        Some(file) => (file as usize) < declared.len(),
+        None => true,
+    }
+}
+
+/// The file that a line names, by its place. No line names two.
+fn named_file(content: &Content) -> Option<u32>
+    ensures { named.files content.now ≡ cons_option result [] }
+{
+    match content {
+        Content::Question {
+            query: Query::Check { file, .. },
+            ..
+        }
+        | Content::One(
+            Event::Ask {
+                query: Query::Check { file, .. },
+                ..
+            }
+            | Event::Alter {
+                change: Change::Exec { file },
+                ..
+            }
+            | Event::OpenFile { file, .. },
+        )
+        | Content::Open { file, .. }
+        | Content::Change {
+            change: Change::Exec { file },
+            ..
+        }
+        | Content::Access { file, .. } => Some(*file),
+        _ => None,
+    }
+}

@@ -1,0 +1,12 @@
+use Rattle.std.proofs.Common.{arith}
+use Rattle.cred_spelling.proofs.Numerals.{nine_fit}
+use Rattle.cred_spelling.proofs.spellings.decimal.Goals as goal
+
+pub overflow_mul-number : goal.overflow_mul-number
+overflow_mul-number c =
+    let room = nine_fit c.loop-byte.number c.loop-byte.byte-index c.loop-byte.invariant.small (omega arith) in omega arith
+
+pub overflow_add-number : goal.overflow_add-number
+overflow_add-number c =
+    let room = nine_fit c.loop-byte.number c.loop-byte.byte-index c.loop-byte.invariant.small (omega arith) in
+    omega (arith, c.in_ok-digit.ensures.small)

@@ -1,0 +1,6 @@
+pub mod Lines
+pub mod Words
+pub mod Table
+pub mod Spellings
+pub mod Names
+pub mod Read

@@ -1,0 +1,100 @@
+-- The tables of keywords: which words may begin a line, and name a call, a change and a question.
+use Rattle.std.specs.Prelude.{ℕ, List, [], ◌∷◌, codes}
+use Rattle.std.specs.declared.option.Option.{Option}
+use Rattle.std.specs.Option.{option_map, option_or}
+use Rattle.cred_ids.specs.declared.id.Kind.TheVariants.{User, Group}
+use Rattle.cred_spelling.specs.declared.names.Form.{Form}
+use Rattle.cred_spelling.specs.declared.names.Form.TheVariants.{Init, File, Task, Event}
+use Rattle.cred_spelling.specs.declared.names.EventName.TheVariants as event
+use Rattle.cred_spelling.specs.declared.names.IdName.{IdName}
+use Rattle.cred_spelling.specs.declared.names.IdName.TheVariants as id
+use Rattle.cred_spelling.specs.declared.names.ChangeName.{ChangeName}
+use Rattle.cred_spelling.specs.declared.names.ChangeName.TheVariants as change
+use Rattle.cred_spelling.specs.declared.names.QueryName.{QueryName}
+use Rattle.cred_spelling.specs.declared.names.QueryName.TheVariants as query
+use Rattle.cred_spelling.specs.declared.names.CallName.{CallName}
+use Rattle.cred_spelling.specs.declared.names.CallName.TheVariants as call
+use Rattle.cred_spelling.specs.Spellings.{task_of}
+use Rattle.cred_spelling.specs.Table.{named}
+
+-- the lines that no task calls
+unfoldable pub forms : List (List ℕ × Form)
+forms =
+    (codes "init", Init) ∷
+    (codes "file", File) ∷
+    (codes "take", Event event.Take) ∷
+    (codes "takereal", Event event.TakeReal) ∷
+    (codes "drop", Event event.Release) ∷
+    (codes "ask", Event event.Ask) ∷
+    (codes "prepare", Event event.Prepare) ∷
+    (codes "change", Event event.Alter) ∷
+    (codes "commit", Event event.Commit) ∷
+    (codes "abort", Event event.Abort) ∷
+    (codes "begin", Event event.Begin) ∷
+    (codes "sweep", Event event.Sweep) ∷
+    []
+
+-- the id calls
+unfoldable pub id_names : List (List ℕ × IdName)
+id_names =
+    (codes "setuid", id.SetUid) ∷
+    (codes "seteuid", id.SetEuid) ∷
+    (codes "setreuid", id.SetReuid) ∷
+    (codes "setresuid", id.SetResuid) ∷
+    (codes "setgid", id.SetGid) ∷
+    (codes "setegid", id.SetEgid) ∷
+    (codes "setregid", id.SetRegid) ∷
+    (codes "setresgid", id.SetResgid) ∷
+    (codes "setgroups", id.SetGroups) ∷
+    []
+
+-- the changes of a credential
+unfoldable pub change_names : List (List ℕ × ChangeName)
+change_names =
+    (codes "setfsuid", change.SetFs User) ∷
+    (codes "setfsgid", change.SetFs Group) ∷
+    (codes "capset", change.Capset) ∷
+    (codes "capdrop", change.BoundDrop) ∷
+    (codes "ambraise", change.AmbRaise) ∷
+    (codes "amblower", change.AmbLower) ∷
+    (codes "ambclear", change.AmbClear) ∷
+    (codes "securebits", change.Bits) ∷
+    (codes "keepcaps", change.KeepCaps) ∷
+    (codes "nonewprivs", change.NoNewPrivs) ∷
+    []
+
+-- the questions
+unfoldable pub query_names : List (List ℕ × QueryName)
+query_names =
+    (codes "ids", query.Ids) ∷
+    (codes "caps", query.Caps) ∷
+    (codes "groups", query.Groups) ∷
+    (codes "bits", query.Bits) ∷
+    (codes "capable", query.Capable) ∷
+    (codes "bset", query.Bset) ∷
+    (codes "ambis", query.AmbIs) ∷
+    (codes "check", query.Check) ∷
+    []
+
+-- what a line is by its first word: a call or a question of a task is named by the task
+abbrev pub form_of : List ℕ → Option Form
+form_of word = option_or (option_map Task (task_of word)) (named forms word)
+
+-- the id call that a word names
+abbrev pub id_name : List ℕ → Option IdName
+id_name word = named id_names word
+
+-- the change that a word names
+abbrev pub change_name : List ℕ → Option ChangeName
+change_name word = named change_names word
+
+-- the question that a word names
+abbrev pub query_name : List ℕ → Option QueryName
+query_name word = named query_names word
+
+-- what a task does on a line of its own, by its name
+abbrev pub call_name : List ℕ → Option CallName
+call_name word =
+    option_or (option_map call.Question (query_name word))
+    (option_or (option_map call.Id (id_name word))
+    (option_map call.Change (change_name word)))

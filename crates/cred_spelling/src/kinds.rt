@@ -1,0 +1,138 @@
+//! The kinds of words, each with its spelling.
+ghost use Rattle.std.specs.Prelude.{◌≡◌, ℕ, List};
+ghost use Rattle.std.specs.declared.option.Option.{Option};
+ghost use Rattle.cred_spelling.specs.Spellings as spec;
+
+use crate::spellings;
+use cred_caps::CapSet;
+use cred_ids::{Arg, Id};
+use cred_record::Want;
+
+/// A kind of words, and what such a word spells.
+pub trait Spelling {
+    type Value: Copy;
+
+    ghost spelled: { List ℕ → Option Self.Value };
+
+    /// What the word spells, or none where it is no word of this kind.
+    fn of(word: &[u8]) -> Option<Self::Value>
+        ensures { result ≡ spelled word.now };
+}
+
+/// A number in decimal.
+pub enum Number {}
+
+impl Spelling for Number {
+    type Value = u32;
+
+    ghost spelled = { spec.number_of };
+
+    fn of(word: &[u8]) -> Option<u32> {
+        spellings::number_of(word)
+    }
+}
+
+/// A capability, by its number or its name.
+pub enum Cap {}
+
+impl Spelling for Cap {
+    type Value = u32;
+
+    ghost spelled = { spec.cap_of };
+
+    fn of(word: &[u8]) -> Option<u32> {
+        spellings::cap_of(word)
+    }
+}
+
+/// A task, as `t1`.
+pub enum Task {}
+
+impl Spelling for Task {
+    type Value = u32;
+
+    ghost spelled = { spec.task_of };
+
+    fn of(word: &[u8]) -> Option<u32> {
+        spellings::task_of(word)
+    }
+}
+
+/// A process, as `p1`.
+pub enum Process {}
+
+impl Spelling for Process {
+    type Value = u32;
+
+    ghost spelled = { spec.process_of };
+
+    fn of(word: &[u8]) -> Option<u32> {
+        spellings::process_of(word)
+    }
+}
+
+/// A label, as `h1`.
+pub enum Label {}
+
+impl Spelling for Label {
+    type Value = u32;
+
+    ghost spelled = { spec.label_of };
+
+    fn of(word: &[u8]) -> Option<u32> {
+        spellings::label_of(word)
+    }
+}
+
+/// A namespace, as `n0`.
+pub enum Namespace {}
+
+impl Spelling for Namespace {
+    type Value = u32;
+
+    ghost spelled = { spec.namespace_of };
+
+    fn of(word: &[u8]) -> Option<u32> {
+        spellings::namespace_of(word)
+    }
+}
+
+impl Spelling for Id {
+    type Value = Id;
+
+    ghost spelled = { spec.id_of };
+
+    fn of(word: &[u8]) -> Option<Id> {
+        spellings::id_of(word)
+    }
+}
+
+impl Spelling for Arg {
+    type Value = Arg;
+
+    ghost spelled = { spec.arg_of };
+
+    fn of(word: &[u8]) -> Option<Arg> {
+        spellings::arg_of(word)
+    }
+}
+
+impl Spelling for CapSet {
+    type Value = CapSet;
+
+    ghost spelled = { spec.set_of };
+
+    fn of(word: &[u8]) -> Option<CapSet> {
+        spellings::set_of(word)
+    }
+}
+
+impl Spelling for Want {
+    type Value = Want;
+
+    ghost spelled = { spec.want_of };
+
+    fn of(word: &[u8]) -> Option<Want> {
+        spellings::want_of(word)
+    }
+}

@@ -1,0 +1,29 @@
+//! The words of scripts and of entries: how a text is split into lines and words, what a word
+//! spells, and which words name something.
+//!
+//! `Lines` and `Words` split a text. `Spellings` says what one word may be, `Names` has the tables of
+//! keywords, and the trait `Spelling` gives each kind of word its spelling, so that a form's words are
+//! read by naming their kinds.
+#![tactic(auto)]
+
+mod bytes;
+mod file_name;
+mod kinds;
+mod lines;
+mod names;
+mod reason;
+mod spellings;
+mod table;
+mod words;
+
+pub use bytes::bytes_of;
+pub use file_name::name_of;
+pub use kinds::{Cap, Label, Namespace, Number, Process, Spelling, Task};
+pub use lines::{first_line, is_printable, line_count};
+pub use names::{
+    CallName, ChangeName, EventName, Form, IdName, QueryName, call_name, change_name, form_of,
+    id_name, query_name,
+};
+pub use reason::Reason;
+pub use spellings::{id_of, is, kind_of, mode_of, want_of};
+pub use words::{five, is_comment, no_words, one, split_into, three, two, word};

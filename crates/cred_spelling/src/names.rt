@@ -1,0 +1,193 @@
+//! The tables of keywords: which words may begin a line, and name a call, a change and a question.
+ghost use Rattle.std.specs.Prelude.{◌≡◌};
+ghost use Rattle.cred_spelling.specs.Names as spec;
+
+use crate::spellings::task_of;
+use crate::table::named;
+use cred_ids::Kind;
+
+/// What a line is.
+#[derive(Clone, Copy, Debug)]
+pub enum Form {
+    /// A first task is created.
+    Init,
+    /// A file is declared.
+    File,
+    /// A call or a question of the task.
+    Task(u32),
+    /// An event.
+    Event(EventName),
+}
+
+/// The events that a line may name.
+#[derive(Clone, Copy, Debug)]
+pub enum EventName {
+    /// A label takes hold of the credential that a task acts with.
+    Take,
+    /// A label takes hold of the credential that a task is acted on by.
+    TakeReal,
+    /// A label lets go.
+    Release,
+    /// A question about what a label holds.
+    Ask,
+    /// A label prepares a credential.
+    Prepare,
+    /// A prepared credential is changed.
+    Alter,
+    /// A prepared credential becomes its task's.
+    Commit,
+    /// A prepared credential is given up.
+    Abort,
+    /// A task begins a call.
+    Begin,
+    /// All that was given up is let go.
+    Sweep,
+}
+
+/// The id calls that a line may name.
+#[derive(Clone, Copy, Debug)]
+pub enum IdName {
+    SetUid,
+    SetEuid,
+    SetReuid,
+    SetResuid,
+    SetGid,
+    SetEgid,
+    SetRegid,
+    SetResgid,
+    SetGroups,
+}
+
+/// The changes of a credential that a line may name.
+#[derive(Clone, Copy, Debug)]
+pub enum ChangeName {
+    SetFs(Kind),
+    Capset,
+    BoundDrop,
+    AmbRaise,
+    AmbLower,
+    AmbClear,
+    Bits,
+    KeepCaps,
+    NoNewPrivs,
+}
+
+/// The questions that a line may name.
+#[derive(Clone, Copy, Debug)]
+pub enum QueryName {
+    Ids,
+    Caps,
+    Groups,
+    Bits,
+    Capable,
+    Bset,
+    AmbIs,
+    Check,
+}
+
+/// What a task may do on a line of its own.
+#[derive(Clone, Copy, Debug)]
+pub enum CallName {
+    Id(IdName),
+    Change(ChangeName),
+    Question(QueryName),
+}
+
+static FORMS: [(&str, Form); 12] = [
+    ("init", Form::Init),
+    ("file", Form::File),
+    ("take", Form::Event(EventName::Take)),
+    ("takereal", Form::Event(EventName::TakeReal)),
+    ("drop", Form::Event(EventName::Release)),
+    ("ask", Form::Event(EventName::Ask)),
+    ("prepare", Form::Event(EventName::Prepare)),
+    ("change", Form::Event(EventName::Alter)),
+    ("commit", Form::Event(EventName::Commit)),
+    ("abort", Form::Event(EventName::Abort)),
+    ("begin", Form::Event(EventName::Begin)),
+    ("sweep", Form::Event(EventName::Sweep)),
+];
+
+static ID_NAMES: [(&str, IdName); 9] = [
+    ("setuid", IdName::SetUid),
+    ("seteuid", IdName::SetEuid),
+    ("setreuid", IdName::SetReuid),
+    ("setresuid", IdName::SetResuid),
+    ("setgid", IdName::SetGid),
+    ("setegid", IdName::SetEgid),
+    ("setregid", IdName::SetRegid),
+    ("setresgid", IdName::SetResgid),
+    ("setgroups", IdName::SetGroups),
+];
+
+static CHANGE_NAMES: [(&str, ChangeName); 10] = [
+    ("setfsuid", ChangeName::SetFs(Kind::User)),
+    ("setfsgid", ChangeName::SetFs(Kind::Group)),
+    ("capset", ChangeName::Capset),
+    ("capdrop", ChangeName::BoundDrop),
+    ("ambraise", ChangeName::AmbRaise),
+    ("amblower", ChangeName::AmbLower),
+    ("ambclear", ChangeName::AmbClear),
+    ("securebits", ChangeName::Bits),
+    ("keepcaps", ChangeName::KeepCaps),
+    ("nonewprivs", ChangeName::NoNewPrivs),
+];
+
+static QUERY_NAMES: [(&str, QueryName); 8] = [
+    ("ids", QueryName::Ids),
+    ("caps", QueryName::Caps),
+    ("groups", QueryName::Groups),
+    ("bits", QueryName::Bits),
+    ("capable", QueryName::Capable),
+    ("bset", QueryName::Bset),
+    ("ambis", QueryName::AmbIs),
+    ("check", QueryName::Check),
+];
+
+/// The form that a line's first word names: a call or a question of a task is named by the task.
+#[tactic(auto, unfolding(crate::specs::Names::forms))]
+pub fn form_of(word: &[u8]) -> Option<Form>
+    ensures { result ≡ spec.form_of word.now }
+{
+    if let Some(task) = task_of(word) {
+        return Some(Form::Task(task));
+    }
+    named(&FORMS, word)
+}
+
+/// The id call that the word names.
+#[tactic(auto, unfolding(crate::specs::Names::id_names))]
+pub fn id_name(word: &[u8]) -> Option<IdName>
+    ensures { result ≡ spec.id_name word.now }
+{
+    named(&ID_NAMES, word)
+}
+
+/// The change of a credential that the word names.
+#[tactic(auto, unfolding(crate::specs::Names::change_names))]
+pub fn change_name(word: &[u8]) -> Option<ChangeName>
+    ensures { result ≡ spec.change_name word.now }
+{
+    named(&CHANGE_NAMES, word)
+}
+
+/// The question that the word names.
+#[tactic(auto, unfolding(crate::specs::Names::query_names))]
+pub fn query_name(word: &[u8]) -> Option<QueryName>
+    ensures { result ≡ spec.query_name word.now }
+{
+    named(&QUERY_NAMES, word)
+}
+
+/// What a task does on a line of its own, by its name.
+pub fn call_name(word: &[u8]) -> Option<CallName>
+    ensures { result ≡ spec.call_name word.now }
+{
+    if let Some(name) = query_name(word) {
+        return Some(CallName::Question(name));
+    }
+    if let Some(name) = id_name(word) {
+        return Some(CallName::Id(name));
+    }
+    Some(CallName::Change(change_name(word)?))
+}
