@@ -1,12 +1,10 @@
 -- What each event changes.
-use Rattle.std.proofs.Common.{◌≡◌, ◌≢◌, ◌==◌, ◌<◌, ◌⊎◌, inl, inr, ℕ, List, [], ◌∷◌, ◌++◌, length, map, slice_get, nat_lt, Option, Some, None, Result, Ok, Err, ok_or, Bool, true, false, cond, is_some, refl, sym, ap, ◌∙◌, subst, position}
+use Rattle.std.proofs.Common.{◌≡◌, ◌≢◌, ◌==◌, ◌<◌, ◌⊎◌, inl, inr, ℕ, List, [], ◌∷◌, ◌++◌, length, map, slice_get, Some, None, true, false, cond, refl, sym, ap, ◌∙◌, subst, position}
 use Rattle.std.specs.List.{All, Contains, remove}
-use Rattle.std.specs.Option.{option_map_or}
 use Rattle.std.proofs.lemmas.Bool.{eqb-true}
 use Rattle.std.proofs.lemmas.List.Elements.{All-append, All-cons, All-contains_itself, All-map, All-nil, All-push, All-weaker}
 use Rattle.std.proofs.lemmas.List.Quantifiers.{position-Some}
 use Rattle.cred_record.specs.Credential.{Credential, first_credential}
-use Rattle.cred_record.specs.declared.refusal.Denial.{Denial}
 use Rattle.cred_record.specs.declared.id_call.IdCall.{IdCall}
 use Rattle.cred_rules.specs.SetId.{set_id}
 use Rattle.cred_event.specs.declared.event.Event.{Event}
@@ -16,74 +14,17 @@ use Rattle.cred_event.specs.declared.event.Side.{Side}
 use Rattle.cred_event.specs.declared.answer.Answer.{Answer}
 use Rattle.cred_event.specs.declared.answer.Answer.TheVariants.{Done, Sealed, Kept, Began, Stale, TableFull}
 use Rattle.cred_model.specs.Script.{Script, info_of, chain_of}
-use Rattle.cred_model.specs.State.{State, Prepared, Changed, Numbered, numbered, task_of, hold_of, prepared_of, held_by, current_of}
-use Rattle.cred_model.specs.Slots.{SLOTS, refs, kept, free, least_free, swept}
+use Rattle.cred_model.specs.State.{State, Task, Hold, Prepared, Changed, Numbered, numbered, task_of, hold_of, prepared_of, held_by, current_of}
+use Rattle.cred_model.specs.Slots.{SLOTS, refs, kept, free}
 use Rattle.cred_model.specs.Named.{change_files}
-use Rattle.cred_model.specs.Change.{by_change, by_rule}
-use Rattle.cred_model.specs.Step.{TASKS, HOLDS, PREPARED, ◌>>=◌, none_or, fewer_or, in_slot, table_full, first_task, created, replaced, preparing, committed, given_up, commit_answer, settle, settled, step}
+use Rattle.cred_model.specs.Change.{by_change}
+use Rattle.cred_model.specs.Step.{TASKS, HOLDS, PREPARED, table_full, with_change, with_current, first_task, created, replaced, preparing, committed, given_up, commit_answer, settle, step}
 use Rattle.cred_model.proofs.Lists.{All-at, All-unmap, AllPairs-unmap, alone, at_place, others_differ}
 use Rattle.cred_sound.specs.Ledger.{IsClear, IsOrderly, ledger}
 use Rattle.cred_sound.proofs.Moves.{Apart}
-use Rattle.cred_sound.proofs.References.{IsFree, free_slot, own_refs, current_stands, found_stands, held_stands, base_stands}
-use Rattle.cred_sound.proofs.Parts.{with_left, Fits, Changes, SameCreds, Seals, ByCall, ByCommit, SameTasks, Creates, Renews, SameHolds, Takes, Releases, SamePrepared, Prepares, Alters, Ends}
-
--- ---- an event's tests
-
--- Q holds of what an event does, where it isn't refused
-abbrev Does : (Answer × State → Type 0) → Result (Answer × State) Answer → Type 0
-Does Q (Ok made) = Q made
-Does Q (Err answer) = Unit {0}
-
-settles : (Q : Answer × State → Type 0) (s : State) (r : Result (Answer × State) Answer) → ((answer : Answer) → Q (answer, s))
-    → Does Q r → Q (settled s r)
-settles Q s (Ok made) refused does = does
-settles Q s (Err answer) refused does = refused answer
-
-if_some : {A : Type 0} (Q : Answer × State → Type 0) (found : Option A) (answer : Answer) (f : A → Result (Answer × State) Answer)
-    → ((x : A) → found ≡ Some x → Does Q (f x)) → Does Q (ok_or found answer >>= f)
-if_some Q None answer f each = tt
-if_some Q (Some x) answer f each = each x refl
-
-if_none : {A : Type 0} (Q : Answer × State → Type 0) (found : Option A) (answer : Answer)
-    (f : Unit {0} → Result (Answer × State) Answer) → (found ≡ None → Does Q (f tt)) → Does Q (none_or found answer >>= f)
-if_none Q None answer f each = each refl
-if_none Q (Some x) answer f each = tt
-
-passed : (Q : Answer × State → Type 0) (test : Bool) (answer : Answer) (f : Unit {0} → Result (Answer × State) Answer)
-    → Does Q (f tt) → Does Q (cond test (Ok tt) (Err answer) >>= f)
-passed Q true answer f does = does
-passed Q false answer f does = tt
-
-if_fewer : (Q : Answer × State → Type 0) (count limit : ℕ) (answer : Answer) (f : Unit {0} → Result (Answer × State) Answer)
-    → Does Q (f tt) → Does Q (fewer_or count limit answer >>= f)
-if_fewer Q count limit answer f does = passed Q (nat_lt count limit) answer f does
-
-if_rule : (Q : Answer × State → Type 0) (r : Result Credential Denial) (f : Credential → Result (Answer × State) Answer)
-    → ((c : Credential) → r ≡ Ok c → Does Q (f c)) → Does Q (by_rule r >>= f)
-if_rule Q (Ok c) f each = each c refl
-if_rule Q (Err denial) f each = tt
-
-if_ok : {A : Type 0} (Q : Answer × State → Type 0) (r : Result A Answer) (f : A → Result (Answer × State) Answer)
-    → ((x : A) → r ≡ Ok x → Does Q (f x)) → Does Q (r >>= f)
-if_ok Q (Ok x) f each = each x refl
-if_ok Q (Err answer) f each = tt
-
--- ---- a slot, after the sweep that makes room
-
-in_slots : (Q : Answer × State → Type 0) (s : State) (full : State → Answer × State) (does : State → ℕ → Answer × State)
-    → ((left : List ℕ) → All (Contains s.deferred) left → Q (full (with_left s left)))
-    → ((left : List ℕ) (slot : ℕ) → All (Contains s.deferred) left → IsFree (with_left s left) slot → Q (does (with_left s left) slot))
-    → Q (in_slot s full does)
-in_slots Q s full does none each =
-    elim (is_some (least_free s)) as (λ b. Q (option_map_or (does (cond b s (swept s))) (least_free (cond b s (swept s))) (full (cond b s (swept s))))) [
-      | true ↦ by s.deferred (All-contains_itself s.deferred) (least_free s) refl
-      | false ↦ by [] (All-nil (Contains s.deferred)) (least_free (swept s)) refl
-    ]
-  where
-    by : (left : List ℕ) → All (Contains s.deferred) left → (o : Option ℕ) → least_free (with_left s left) ≡ o
-        → Q (option_map_or (does (with_left s left)) o (full (with_left s left)))
-    by left fewer None is = none left fewer
-    by left fewer (Some slot) is = each left slot fewer (free_slot (with_left s left) slot is)
+use Rattle.cred_sound.proofs.References.{IsFree, own_refs, current_stands, found_stands, held_stands, base_stands}
+use Rattle.cred_sound.proofs.Tests.{settles, if_some, if_none, if_fewer, if_rule, if_ok, in_slots}
+use Rattle.cred_sound.proofs.Parts.{with_left, sealing, Fits, Changes, TasksChange, HoldsChange, PreparedChange, SameCreds, Seals, ByCall, ByCommit, SameTasks, Creates, Renews, SameHolds, Takes, Releases, SamePrepared, Prepares, Alters, Ends}
 
 -- ---- the references that are left
 
@@ -127,24 +68,12 @@ fits_own s t label place p rest at is order =
           (λ q same kept. ap Commit (sym (ap (λ (q : Prepared). q.label) (same kept) ∙ eqb-true p.label label test))) s.prepared one;
     }
 
--- ---- the events
+-- ---- a change of one part, and of what hangs on it
 
--- the event is refused, or only reads
-reads : (script : Script) (s : State) (event : Event) (answer : Answer) → Changes script s event (answer, s)
-reads script s event answer = record {
-  left = s.deferred;
-  fewer = All-contains_itself s.deferred;
-  tasks = SameTasks refl;
-  holds = SameHolds refl;
-  prepared = SamePrepared refl;
-  creds = SameCreds refl;
-  deferred = still_left s s.deferred;
-}
-
--- all it does is to sweep, or to leave it
-sweeps : (script : Script) (s : State) (event : Event) (answer : Answer) (left : List ℕ) → All (Contains s.deferred) left
+-- the event is refused, only reads, or only sweeps
+still : (script : Script) (s : State) (event : Event) (answer : Answer) (left : List ℕ) → All (Contains s.deferred) left
     → Changes script s event (answer, with_left s left)
-sweeps script s event answer left fewer = record {
+still script s event answer left fewer = record {
   left = left;
   fewer = fewer;
   tasks = SameTasks refl;
@@ -154,120 +83,139 @@ sweeps script s event answer left fewer = record {
   deferred = still_left s left;
 }
 
-pub init_changes : (script : Script) (s : State) (line task process user group ns : ℕ)
+refused : (script : Script) (s : State) (event : Event) (answer : Answer) → Changes script s event (answer, s)
+refused script s event answer = still script s event answer s.deferred (All-contains_itself s.deferred)
+
+-- a task is created, or has another credential, which is sealed in a free slot
+with_tasks : (script : Script) (s : State) (event : Event) (answer : Answer) (left : List ℕ) (tasks : List Task) (c : Credential)
+    (slot : ℕ) (deferred : List ℕ)
+    → let t = record s { tasks = tasks; deferred = deferred; creds = s.creds ++ sealing c slot ∷ [] } in
+    All (Contains s.deferred) left → IsFree (with_left s left) slot → TasksChange s event (answer, t)
+    → All (Contains (refs (with_left s left))) deferred → Changes script s event (answer, t)
+with_tasks script s event answer left tasks c slot deferred fewer free change refer =
+    let t : State = record s { tasks = tasks; deferred = deferred; creds = s.creds ++ sealing c slot ∷ [] } in
+    record {
+      left = left;
+      fewer = fewer;
+      tasks = change;
+      holds = SameHolds refl;
+      prepared = SamePrepared refl;
+      creds = Seals c slot refl (λ order. fits_free s event left t slot refl free);
+      deferred = refer;
+    }
+
+with_holds : (script : Script) (s : State) (event : Event) (answer : Answer) (holds : List Hold) (deferred : List ℕ)
+    → HoldsChange s event s.deferred (record s { holds = holds; deferred = deferred }) → All (Contains (refs s)) deferred
+    → Changes script s event (answer, record s { holds = holds; deferred = deferred })
+with_holds script s event answer holds deferred change refer = record {
+  left = s.deferred;
+  fewer = All-contains_itself s.deferred;
+  tasks = SameTasks refl;
+  holds = change;
+  prepared = SamePrepared refl;
+  creds = SameCreds refl;
+  deferred = refer;
+}
+
+with_prepared : (script : Script) (s : State) (event : Event) (answer : Answer) (left : List ℕ) (prepared : List Prepared)
+    (deferred : List ℕ) → All (Contains s.deferred) left
+    → PreparedChange script s event left (record s { prepared = prepared; deferred = deferred })
+    → All (Contains (refs (with_left s left))) deferred
+    → Changes script s event (answer, record s { prepared = prepared; deferred = deferred })
+with_prepared script s event answer left prepared deferred fewer change refer = record {
+  left = left;
+  fewer = fewer;
+  tasks = SameTasks refl;
+  holds = SameHolds refl;
+  prepared = change;
+  creds = SameCreds refl;
+  deferred = refer;
+}
+
+-- ---- the events
+
+init_changes : (script : Script) (s : State) (line task process user group ns : ℕ)
     → Changes script s (Init task process user group ns) (step script s line (Init task process user group ns))
 init_changes script s line task process user group ns =
     let event = Init task process user group ns in
     let Q = Changes script s event in
-    let first = first_credential user group ns in
-    settles Q s _ (reads script s event)
+    let first = first_task task process (length s.creds) in
+    let c = first_credential user group ns in
+    settles Q s _ (refused script s event)
     (if_none Q (task_of s task) _ _
     (λ new. if_fewer Q (length s.tasks) TASKS _ _
-    (in_slots Q s table_full (λ s slot. (Sealed (length s.creds) slot, created s (first_task task process (length s.creds)) first slot))
-    (sweeps script s event TableFull) (λ left slot fewer free. record {
-      left = left;
-      fewer = fewer;
-      tasks = Creates task process user group ns slot refl refl refl new;
-      holds = SameHolds refl;
-      prepared = SamePrepared refl;
-      creds = Seals first slot refl
-          (λ order. fits_free s event left (created (with_left s left) (first_task task process (length s.creds)) first slot) slot refl free);
-      deferred = still_left s left;
-    }))))
+    (in_slots Q s table_full (λ s slot. (Sealed (length s.creds) slot, created s (first_task task process (length s.creds)) c slot))
+    (still script s event TableFull)
+    (λ left slot fewer free.
+    with_tasks script s event (Sealed (length s.creds) slot) left (s.tasks ++ first ∷ []) c slot left fewer free
+    (Creates task process user group ns slot refl refl refl new) (still_left s left)))))
 
-pub take_changes : (script : Script) (s : State) (line label task : ℕ) (side : Side)
+take_changes : (script : Script) (s : State) (line label task : ℕ) (side : Side)
     → Changes script s (Take label task side) (step script s line (Take label task side))
 take_changes script s line label task side =
     let event = Take label task side in
     let Q = Changes script s event in
-    settles Q s _ (reads script s event)
+    settles Q s _ (refused script s event)
     (if_some Q (current_of s task) _ _
     (λ taken is. if_none Q (hold_of s label) _ _
     (λ new. if_none Q (prepared_of s label) _ _
-    (λ unprepared. if_fewer Q (length s.holds) HOLDS _ _ (record {
-      left = s.deferred;
-      fewer = All-contains_itself s.deferred;
-      tasks = SameTasks refl;
-      holds = Takes (record { label = label; number = taken.number }) refl new unprepared (current_stands s task taken is);
-      prepared = SamePrepared refl;
-      creds = SameCreds refl;
-      deferred = still_left s s.deferred;
-    })))))
+    (λ unprepared. if_fewer Q (length s.holds) HOLDS _ _
+    (let hold : Hold = record { label = label; number = taken.number } in
+    with_holds script s event (Sealed taken.number taken.slot) (s.holds ++ hold ∷ []) s.deferred
+    (Takes hold refl new unprepared (current_stands s task taken is)) (still_left s s.deferred))))))
 
-pub release_changes : (script : Script) (s : State) (line label : ℕ)
-    → Changes script s (Release label) (step script s line (Release label))
+release_changes : (script : Script) (s : State) (line label : ℕ) → Changes script s (Release label) (step script s line (Release label))
 release_changes script s line label =
     let event = Release label in
     let Q = Changes script s event in
-    settles Q s _ (reads script s event)
+    settles Q s _ (refused script s event)
     (if_some Q (position (λ h. h.label == label) s.holds) _ _
     (λ place at. if_some Q (slice_get s.holds place) _ _
-    (λ hold is. record {
-      left = s.deferred;
-      fewer = All-contains_itself s.deferred;
-      tasks = SameTasks refl;
-      holds = Releases label place hold refl refl at is;
-      prepared = SamePrepared refl;
-      creds = SameCreds refl;
-      deferred = gives_up s hold.number (held_stands s place hold is);
-    })))
+    (λ hold is.
+    with_holds script s event Done (remove s.holds place) (s.deferred ++ hold.number ∷ [])
+    (Releases label place hold refl refl at is) (gives_up s hold.number (held_stands s place hold is)))))
 
-pub prepare_changes : (script : Script) (s : State) (line label task hold : ℕ)
+prepare_changes : (script : Script) (s : State) (line label task hold : ℕ)
     → Changes script s (Prepare label task hold) (step script s line (Prepare label task hold))
 prepare_changes script s line label task hold =
     let event = Prepare label task hold in
     let Q = Changes script s event in
     let new_label : ℕ → ℕ → Prepared
     = λ slot base. record { label = label; task = task; base = base; slot = slot; changed = None } in
-    settles Q s _ (reads script s event)
+    settles Q s _ (refused script s event)
     (if_some Q (task_of s task) _ _
     (λ owner is. if_some Q (hold_of s hold) _ _
     (λ base held. if_none Q (hold_of s label) _ _
     (λ new. if_none Q (prepared_of s label) _ _
     (λ unprepared. if_fewer Q (length s.prepared) PREPARED _ _
     (in_slots Q s table_full (λ s slot. (Kept slot, preparing s (new_label slot base.number)))
-    (sweeps script s event TableFull) (λ left slot fewer free. record {
-      left = left;
-      fewer = fewer;
-      tasks = SameTasks refl;
-      holds = SameHolds refl;
-      prepared = Prepares (new_label slot base.number) refl refl new unprepared (found_stands (with_left s left) hold base held) free;
-      creds = SameCreds refl;
-      deferred = still_left s left;
-    })))))))
+    (still script s event TableFull)
+    (λ left slot fewer free.
+    with_prepared script s event (Kept slot) left (s.prepared ++ new_label slot base.number ∷ []) left fewer
+    (Prepares (new_label slot base.number) refl refl new unprepared (found_stands (with_left s left) hold base held) free)
+    (still_left s left))))))))
 
-pub alter_changes : (script : Script) (s : State) (line label : ℕ) (change : Change)
+alter_changes : (script : Script) (s : State) (line label : ℕ) (change : Change)
     → Changes script s (Alter label change) (step script s line (Alter label change))
 alter_changes script s line label change =
     let event = Alter label change in
     let Q = Changes script s event in
-    settles Q s _ (reads script s event)
+    settles Q s _ (refused script s event)
     (if_some Q (prepared_of s label) _ _
     (λ p is. if_some Q (numbered s.creds p.base) _ _
     (λ base at. if_ok Q (by_change (info_of script (change_files change)) (chain_of script base.cred.ns) base.cred change) _
-    (λ made so. record {
-      left = s.deferred;
-      fewer = All-contains_itself s.deferred;
-      tasks = SameTasks refl;
-      holds = SameHolds refl;
-      prepared = Alters label (record { change = change; cred = made.cred; gains = made.gains }) p base made.answer refl is at so;
-      creds = SameCreds refl;
-      deferred = still_left s s.deferred;
-    }))))
+    (λ made so.
+    let to : Changed = record { change = change; cred = made.cred; gains = made.gains } in
+    with_prepared script s event made.answer s.deferred (with_change s.prepared label to) s.deferred (All-contains_itself s.deferred)
+    (Alters label to p base made.answer refl is at so) (still_left s s.deferred)))))
 
 -- what a label prepared is given up, by its abort or by a commit that is stale
 gives_up_prepared : (script : Script) (s : State) (event : Event) (answer : Answer) (label place : ℕ) (p : Prepared)
     → (event ≡ Commit label) ⊎ (event ≡ Abort label) → position (λ p. p.label == label) s.prepared ≡ Some place
     → slice_get s.prepared place ≡ Some p → Changes script s event (answer, given_up s place p)
-gives_up_prepared script s event answer label place p ends at is = record {
-  left = s.deferred;
-  fewer = All-contains_itself s.deferred;
-  tasks = SameTasks refl;
-  holds = SameHolds refl;
-  prepared = Ends label place p ends refl at is;
-  creds = SameCreds refl;
-  deferred = gives_up s p.base (base_stands s place p is);
-}
+gives_up_prepared script s event answer label place p ends at is =
+    with_prepared script s event answer s.deferred (remove s.prepared place) (s.deferred ++ p.base ∷ []) (All-contains_itself s.deferred)
+    (Ends label place p ends refl at is) (gives_up s p.base (base_stands s place p is))
 
 commit_fresh : (script : Script) (s : State) (label place : ℕ) (p : Prepared) (last : Changed) (now : Numbered)
     → position (λ p. p.label == label) s.prepared ≡ Some place → slice_get s.prepared place ≡ Some p
@@ -297,44 +245,38 @@ settle_changes script s label place p last now at is changed current =
       | false ↦ λ same. gives_up_prepared script s (Commit label) (Stale p.base now.number) label place p (inl refl) at is
     ] (eqb-true now.number p.base)
 
-pub commit_changes : (script : Script) (s : State) (line label : ℕ)
-    → Changes script s (Commit label) (step script s line (Commit label))
+commit_changes : (script : Script) (s : State) (line label : ℕ) → Changes script s (Commit label) (step script s line (Commit label))
 commit_changes script s line label =
     let Q = Changes script s (Commit label) in
-    settles Q s _ (reads script s (Commit label))
+    settles Q s _ (refused script s (Commit label))
     (if_some Q (position (λ p. p.label == label) s.prepared) _ _
     (λ place at. if_some Q (slice_get s.prepared place) _ _
     (λ p is. if_some Q p.changed _ _
     (λ last changed. if_some Q (current_of s p.task) _ _
     (λ now current. settle_changes script s label place p last now at is changed current)))))
 
-pub abort_changes : (script : Script) (s : State) (line label : ℕ)
-    → Changes script s (Abort label) (step script s line (Abort label))
+abort_changes : (script : Script) (s : State) (line label : ℕ) → Changes script s (Abort label) (step script s line (Abort label))
 abort_changes script s line label =
     let Q = Changes script s (Abort label) in
-    settles Q s _ (reads script s (Abort label))
+    settles Q s _ (refused script s (Abort label))
     (if_some Q (position (λ p. p.label == label) s.prepared) _ _
     (λ place at. if_some Q (slice_get s.prepared place) _ _
     (λ p is. gives_up_prepared script s (Abort label) Done label place p (inr refl) at is)))
 
-pub begin_changes : (script : Script) (s : State) (line task : ℕ) (call : IdCall)
+begin_changes : (script : Script) (s : State) (line task : ℕ) (call : IdCall)
     → Changes script s (Begin task call) (step script s line (Begin task call))
 begin_changes script s line task call =
     let event = Begin task call in
     let Q = Changes script s event in
-    settles Q s _ (reads script s event)
+    settles Q s _ (refused script s event)
     (if_some Q (current_of s task) _ _
     (λ old is. if_rule Q (set_id old.cred call) _
     (λ new ruled. in_slots Q s table_full (λ s slot. (Began (length s.creds) slot 0, replaced s task old.number new slot))
-    (sweeps script s event TableFull) (λ left slot fewer free. record {
-      left = left;
-      fewer = fewer;
-      tasks = Renews task slot old new refl refl is (ByCall call ruled refl);
-      holds = SameHolds refl;
-      prepared = SamePrepared refl;
-      creds = Seals new slot refl (λ order. fits_free s event left (replaced (with_left s left) task old.number new slot) slot refl free);
-      deferred = gives_up (with_left s left) old.number (current_stands (with_left s left) task old is);
-    }))))
+    (still script s event TableFull)
+    (λ left slot fewer free.
+    with_tasks script s event (Began (length s.creds) slot 0) left (with_current s.tasks task (length s.creds)) new slot
+    (left ++ old.number ∷ []) fewer free (Renews task slot old new refl refl is (ByCall call ruled refl))
+    (gives_up (with_left s left) old.number (current_stands (with_left s left) task old is))))))
 
 -- what an event changes
 pub changes : (script : Script) (s : State) (line : ℕ) (event : Event) → Changes script s event (step script s line event)
@@ -342,12 +284,12 @@ changes script s line (Init task process user group ns) = init_changes script s 
 changes script s line (Take label task side) = take_changes script s line label task side
 changes script s line (Release label) = release_changes script s line label
 changes script s line (Ask label query) =
-    settles (Changes script s (Ask label query)) s _ (reads script s (Ask label query))
-    (if_some _ (held_by s label) _ _ (λ held is. reads script s (Ask label query) _))
+    settles (Changes script s (Ask label query)) s _ (refused script s (Ask label query))
+    (if_some _ (held_by s label) _ _ (λ held is. refused script s (Ask label query) _))
 changes script s line (Prepare label task hold) = prepare_changes script s line label task hold
 changes script s line (Alter label change) = alter_changes script s line label change
 changes script s line (Commit label) = commit_changes script s line label
 changes script s line (Abort label) = abort_changes script s line label
 changes script s line (Begin task call) = begin_changes script s line task call
-changes script s line Sweep = sweeps script s Sweep Done [] (All-nil (Contains s.deferred))
-changes script s line event = reads script s event _
+changes script s line Sweep = still script s Sweep Done [] (All-nil (Contains s.deferred))
+changes script s line event = refused script s event _
