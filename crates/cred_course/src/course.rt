@@ -97,7 +97,7 @@ impl Course {
     }
 
     /// Leads the line on by the answer to its event. The content is the line's. Then it has fewer
-    /// events left, unless it is an id call, which has one for each thread of the process.
+    /// events left; nothing is said of an id call, which every thread of the process makes.
     pub fn took(&mut self, content: &Content, answer: &Answer)
         requires leads { Leads content.now self.old }
         requires goes_on { is_some self.old.stage ≡ true }
