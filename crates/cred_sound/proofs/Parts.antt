@@ -39,8 +39,8 @@ pub data CredsChange (s : State) (event : Event) (left : List ℕ) (t : State) :
   Seals : (c : Credential) (slot : ℕ) → t.creds ≡ s.creds ++ sealing c slot ∷ []
       → (IsOrderly (ledger s) → Fits s event left t slot) → CredsChange s event left t
 
--- Why a task's new credential comes in the place of its old one: it is what a call makes of that, or
--- what a label prepared.
+-- Why a task's new credential comes in the place of its old one: it is what a call makes of that,
+-- or what a label prepared.
 pub data Cause (s : State) (event : Event) (old : Numbered) (c : Credential) (answer : Answer) : Type 0 where
   ByCall : (call : IdCall) → set_id old.cred call ≡ Ok c → gained answer ≡ empty → Cause s event old c answer
   ByCommit : (place slot : ℕ) (p : Prepared) (last : Changed) → slice_get s.prepared place ≡ Some p → p.changed ≡ Some last
