@@ -12,13 +12,12 @@ use Rattle.cred_model.specs.Script.{Script}
 use Rattle.cred_model.specs.State.{State, Sealing, Prepared, numbered, prepared_of, opening}
 use Rattle.cred_model.specs.Step.{changed, step}
 use Rattle.cred_model.proofs.Lists.{All-remove, alone, found}
-use Rattle.cred_model.proofs.Numbers.{numbered_is, numbered_before, sealing_of}
+use Rattle.cred_model.proofs.Numbers.{changed_as, numbered_is, numbered_before, sealing_of}
 use Rattle.cred_model.proofs.Referred.{each_ref}
 use Rattle.cred_sound.specs.Sound.{IsSound}
 use Rattle.cred_sound.proofs.Parts.{CredsChange, PreparedChange, SameCreds, Seals, SamePrepared, Prepares, Alters, Ends}
 use Rattle.cred_sound.proofs.Events.{changes}
 use Rattle.cred_sound.proofs.Sound.{step_sound, opening_sound}
-use Rattle.cred_sound.proofs.Unique.{changed_as}
 use Rattle.cred_laws.specs.Made.{IsMadeOf, IsMade, AreMade, PreparedAreMade}
 
 -- what was sealed stays under its number

@@ -13,9 +13,9 @@ use Rattle.cred_model.specs.Step.{changed, step}
 use Rattle.cred_laws.specs.Held.{prepared_as, ends, PreparedStays}
 use Rattle.std.proofs.lemmas.Bool.{eqb-false}
 use Rattle.cred_model.proofs.Lists.{find-map, find-remove_other}
+use Rattle.cred_model.proofs.Numbers.{changed_as, changed_label}
 use Rattle.cred_sound.proofs.Parts.{PreparedChange, SamePrepared, Prepares, Alters, Ends}
 use Rattle.cred_sound.proofs.Events.{changes}
-use Rattle.cred_sound.proofs.Unique.{changed_as, changed_label}
 use Rattle.cred_laws.proofs.HeldLaws.{goes_on}
 
 -- what is prepared, as it was before its first change

@@ -12,7 +12,8 @@ use Rattle.cred_sound.proofs.Parts.{CredsChange, SameCreds, Seals, sealing}
 use Rattle.cred_sound.proofs.Events.{changes}
 use Rattle.cred_laws.specs.Slots.{IsUnused, NoHeldSlotIsRewritten}
 
--- of the credentials after an event, those that the state had not stand in slots that were not in use
+-- Of the credentials after an event, those that the state had not stand in slots that were not in
+-- use.
 unused : (s : State) (event : Event) (left : List ℕ) (t : State) → CredsChange s event left t → IsOrderly (ledger s)
     → (number : ℕ) (new : Numbered) → length s.creds ≤ number → numbered t.creds number ≡ Some new
     → IsUnused s event new.slot

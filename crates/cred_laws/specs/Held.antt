@@ -37,7 +37,8 @@ HeldStays =
 -- What a label prepares, as it was before the first change of its credential: the task, the base
 -- and the slot.
 abbrev pub prepared_as : State → ℕ → Option Prepared
-prepared_as s label = option_map (λ (p : Prepared). record p { changed = None }) (prepared_of s label)
+prepared_as s label =
+    option_map (λ (p : Prepared). record p { changed = None }) (prepared_of s label)
 
 -- the event ends what the label prepares
 abbrev pub ends : ℕ → Event → Bool

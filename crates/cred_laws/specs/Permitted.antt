@@ -19,8 +19,8 @@ pub record Gains (answer : Answer) (before after : Numbered) : Type 0 where
   pub other : after.number ≢ before.number
       → less after.cred.perm before.cred.perm ≡ gained answer
 
--- So it is with each task that is alive before and after an event, where each prepared credential is
--- what its change makes of its base.
+-- So it is with each task that is alive before and after an event, where each prepared credential
+-- is what its change makes of its base.
 abbrev pub PermittedGains : Type 0
 PermittedGains =
     (script : Script) (s : State) (line : ℕ) (event : Event) (task : ℕ) (before after : Numbered)

@@ -1,7 +1,7 @@
 -- Each event does the same in two states that are alike.
-use Rattle.std.proofs.Common.{◌≡◌, ◌==◌, ℕ, List, [], ◌∷◌, ◌++◌, length, position, Some, None, ok_or, true, false, cond, refl, sym, ap, ◌∙◌, subst}
+use Rattle.std.proofs.Common.{◌≡◌, ◌==◌, ℕ, List, [], ◌∷◌, ◌++◌, length, position, None, ok_or, true, false, cond, refl, sym, ap, ◌∙◌, subst}
 use Rattle.std.specs.List.{All, remove}
-use Rattle.std.proofs.lemmas.List.Elements.{All-append, All-cons, All-push, All-map, All-nil, All-weaker}
+use Rattle.std.proofs.lemmas.List.Elements.{All-append, All-cons, All-push, All-nil}
 use Rattle.cred_record.specs.Credential.{first_credential}
 use Rattle.cred_record.specs.declared.id_call.IdCall.{IdCall}
 use Rattle.cred_rules.specs.SetId.{set_id}
@@ -17,50 +17,12 @@ use Rattle.cred_model.specs.Named.{change_files}
 use Rattle.cred_model.specs.State.{State, Sealing, Task, Hold, Prepared, Changed, Numbered, task_of, hold_of, prepared_of}
 use Rattle.cred_model.specs.Slots.{swept}
 use Rattle.cred_model.specs.Change.{by_change, by_rule}
-use Rattle.cred_model.specs.Step.{TASKS, HOLDS, PREPARED, none_or, fewer_or, settle, done, first_task, with_current, renewed, with_change, changed, given_up, committed, altered, preparing, created, replaced, commit_answer}
+use Rattle.cred_model.specs.Step.{TASKS, HOLDS, PREPARED, none_or, fewer_or, settle, done, first_task, with_current, given_up, committed, altered, preparing, created, replaced, commit_answer}
 use Rattle.cred_model.specs.Like.{IsLike, AreAlike}
 use Rattle.cred_model.proofs.Lists.{All-remove, find_each, get_each}
-use Rattle.cred_model.proofs.Referred.{EachRef, each_tasks, each_holds, each_prepared, each_deferred}
+use Rattle.cred_model.proofs.Referred.{EachRef, each_renewed, each_changed, each_tasks, each_holds, each_prepared, each_deferred}
 use Rattle.cred_model.proofs.LikeReads.{with, Same, slots_of, each_same, same_numbered, same_current, same_held, current_by}
 use Rattle.cred_model.proofs.LikeTests.{BothAre, tested, read, found, like_with, like_sealed, same_next, gave, in_slots}
-
--- ---- the tasks, where one has another credential
-
-renewed_current : (P : ℕ → Type 0) (task n : ℕ) (t : Task) → P n → P t.current → P (renewed task n t).current
-renewed_current P task n t new old =
-    elim (t.number == task) as (λ b. P (cond b (record t { current = n }) t).current) [ true ↦ new | false ↦ old ]
-
-renewed_overrides : (P : ℕ → Type 0) (task n : ℕ) (t : Task) → All P t.overrides → All P (renewed task n t).overrides
-renewed_overrides P task n t old =
-    elim (t.number == task) as (λ b. All P (cond b (record t { current = n }) t).overrides) [ true ↦ old | false ↦ old ]
-
-currents_renewed : (P : ℕ → Type 0) (tasks : List Task) (task n : ℕ) → P n → All (λ t. P t.current) tasks
-    → All (λ t. P t.current) (with_current tasks task n)
-currents_renewed P tasks task n new each =
-    All-map (λ (t : Task). P t.current) (renewed task n) tasks
-    (All-weaker (λ (t : Task). P t.current) (λ t. P (renewed task n t).current) (λ t. renewed_current P task n t new) tasks each)
-
-overrides_renewed : (P : ℕ → Type 0) (tasks : List Task) (task n : ℕ) → All (λ t. All P t.overrides) tasks
-    → All (λ t. All P t.overrides) (with_current tasks task n)
-overrides_renewed P tasks task n each =
-    All-map (λ (t : Task). All P t.overrides) (renewed task n) tasks
-    (All-weaker (λ (t : Task). All P t.overrides) (λ t. All P (renewed task n t).overrides) (λ t. renewed_overrides P task n t) tasks each)
-
--- the state where the task has another credential
-each_renewed : {P : ℕ → Type 0} {s : State} → EachRef P s → (task n : ℕ) → P n
-    → EachRef P (record s { tasks = with_current s.tasks task n })
-each_renewed {P} {s} each task n new =
-    each_tasks each (with_current s.tasks task n) (currents_renewed P s.tasks task n new each.currents)
-    (overrides_renewed P s.tasks task n each.overrides)
-
--- a change leaves the base
-bases_changed : (P : ℕ → Type 0) (prepared : List Prepared) (label : ℕ) (to : Changed) → All (λ p. P p.base) prepared
-    → All (λ p. P p.base) (with_change prepared label to)
-bases_changed P prepared label to each =
-    All-map (λ (p : Prepared). P p.base) (changed label to) prepared
-    (All-weaker (λ (p : Prepared). P p.base) (λ p. P (changed label to p).base)
-    (λ p old. elim (p.label == label) as (λ b. P (cond b (record p { changed = Some to }) p).base) [ true ↦ old | false ↦ old ])
-    prepared each)
 
 -- ---- the events
 
@@ -150,7 +112,7 @@ module _ (script : Script) (s : State) (cs : List Sealing) (line : ℕ) (like : 
       (λ made.
       let to : Changed = record { change = change; cred = made.cred; gains = made.gains } in
       leaves made.answer (altered s label to) refl
-      (each_prepared refs _ (bases_changed Here s.prepared label to refs.bases)))))
+      (each_changed refs label to))))
 
   -- a prepared label is given up
   ended_like : (answer : Answer) (place : ℕ) (p : Prepared) → Here p.base

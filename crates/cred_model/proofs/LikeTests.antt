@@ -9,7 +9,7 @@ use Rattle.cred_model.specs.State.{State, Sealing}
 use Rattle.cred_model.specs.Slots.{refs, least_free, swept}
 use Rattle.cred_model.specs.Step.{◌>>=◌, in_slot, table_full, settled}
 use Rattle.cred_model.specs.Like.{IsLike, AreAlike}
-use Rattle.cred_model.proofs.Referred.{EachRef, refs_each}
+use Rattle.cred_model.proofs.Referred.{EachRef, refs_each, each_deferred}
 use Rattle.cred_model.proofs.LikeReads.{with, Same, slots_of, each_same, same_length, same_free, same_past}
 
 -- ---- the tests of an event
@@ -123,13 +123,7 @@ pub in_slots : (s : State) (cs : List Sealing) (does : State → ℕ → Answer 
     → AreAlike (in_slot s table_full does) (in_slot (with s cs) table_full does)
 in_slots s cs does like each =
     let refs = each_same s cs like in
-    let none : EachRef (Same s.creds cs) (swept s) = record {
-      currents = refs.currents;
-      overrides = refs.overrides;
-      holds = refs.holds;
-      bases = refs.bases;
-      deferred = All-nil (Same s.creds cs);
-    } in
+    let none : EachRef (Same s.creds cs) (swept s) = each_deferred refs [] (All-nil (Same s.creds cs)) in
     subst (λ o. AreAlike (taken_from does s (least_free s)) (taken_from does (with s cs) o)) (same_free s cs like.slots)
     (elim (least_free s) as (λ o. AreAlike (taken_from does s o) (taken_from does (with s cs) o)) [
       | None ↦ one_slot (swept s) cs does (like_with (swept s) cs like.slots none) (each [] none)

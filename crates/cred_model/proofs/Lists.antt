@@ -4,7 +4,7 @@ use Rattle.std.specs.List.{All, AllPairs, find, flat_map, list_any, position, re
 use Rattle.std.specs.Option.{IfSome, option_and_then, option_map}
 use Rattle.std.proofs.lemmas.List.{get_or_append_left, get_or-append-add, get_or-map, length-append, length-map}
 use Rattle.std.proofs.lemmas.List.Edits.{get_or-remove_below, get_or-remove_above, length-remove}
-use Rattle.std.proofs.lemmas.List.Elements.{All-append, All-take, All-drop, All-head, All-tail, All-cons, All-nil}
+use Rattle.std.proofs.lemmas.List.Elements.{All-append, All-map, All-weaker, All-take, All-drop, All-head, All-tail, All-cons, All-nil}
 use Rattle.std.proofs.lemmas.List.Quantifiers.{position-Some}
 use Rattle.std.proofs.lemmas.Option.{get_or_from_slice_get, slice_get-get_or, slice_get_within}
 use Rattle.std.proofs.lemmas.Bool.{cases_lt}
@@ -22,6 +22,10 @@ All-unmap P f xs each k d lt = subst P (get_or-map f xs k d (f d) lt) (each k (f
 
 pub All-remove : {X : Type 0} (P : X → Type 0) (xs : List X) (n : ℕ) → All P xs → All P (remove xs n)
 All-remove P xs n each = All-append P _ _ (All-take P n xs each) (All-drop P (suc n) xs each)
+
+-- what a change of the elements keeps
+pub All-kept : {X : Type 0} (P : X → Type 0) (f : X → X) (xs : List X) → ((x : X) → P x → P (f x)) → All P xs → All P (map f xs)
+All-kept P f xs keeps each = All-map P f xs (All-weaker P (λ x. P (f x)) keeps xs each)
 
 pub All-at : {X : Type 0} (P : X → Type 0) (xs : List X) (n : ℕ) (x : X) → slice_get xs n ≡ Some x → All P xs → P x
 All-at P xs n x is each = subst P (get_or_from_slice_get xs n x x is) (each n x (slice_get_within xs n x is))

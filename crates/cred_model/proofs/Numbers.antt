@@ -1,11 +1,11 @@
 -- What stands under a number, and under the number of a task.
-use Rattle.std.proofs.Common.{◌≡◌, ◌==◌, ℕ, ◌<◌, List, [], ◌∷◌, ◌++◌, length, slice_get, Option, Some, None, true, cond, refl, sym, ap, ◌∙◌, arith}
+use Rattle.std.proofs.Common.{◌≡◌, ◌==◌, ℕ, ◌<◌, List, [], ◌∷◌, ◌++◌, length, slice_get, Option, Some, None, true, false, cond, refl, sym, ap, ◌∙◌, arith}
 use Rattle.std.specs.List.{find}
 use Rattle.std.specs.Option.{option_map, option_and_then}
 use Rattle.std.proofs.lemmas.Bool.Decides.{nat_tests}
 use Rattle.std.proofs.lemmas.Option.{slice_get_within}
-use Rattle.cred_model.specs.State.{State, Sealing, Task, Numbered, numbered, task_of, current_of}
-use Rattle.cred_model.specs.Step.{renewed, with_current}
+use Rattle.cred_model.specs.State.{State, Sealing, Task, Prepared, Changed, Numbered, numbered, task_of, current_of}
+use Rattle.cred_model.specs.Step.{renewed, with_current, changed}
 use Rattle.cred_model.proofs.Lists.{find-map, found, slice_get-left, slice_get-last}
 
 abbrev under : ℕ → Sealing → Numbered
@@ -82,3 +82,16 @@ pub renewed_task : (tasks : List Task) (acting n task : ℕ)
     → find (λ t. t.number == task) (with_current tasks acting n) ≡ option_map (renewed acting n) (find (λ t. t.number == task) tasks)
 renewed_task tasks acting n task =
     find-map (λ (t : Task). t.number == task) (renewed acting n) tasks (λ t. ap (λ n. n == task) (renewed_number acting n t))
+
+-- ---- the prepared labels, where one has another change
+
+pub changed_as : (Q : Prepared → Type 0) (label : ℕ) (to : Changed) (p : Prepared)
+    → ((p.label == label) ≡ true → Q (record p { changed = Some to })) → Q p → Q (changed label to p)
+changed_as Q label to p new old =
+    elim (p.label == label) as (λ b. (b ≡ true → Q (record p { changed = Some to })) → Q (cond b (record p { changed = Some to }) p)) [
+      | true ↦ λ new. new refl
+      | false ↦ λ new. old
+    ] new
+
+pub changed_label : (label : ℕ) (to : Changed) (p : Prepared) → (changed label to p).label ≡ p.label
+changed_label label to p = changed_as (λ q. q.label ≡ p.label) label to p (λ test. refl) refl

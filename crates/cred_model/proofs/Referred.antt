@@ -1,10 +1,12 @@
 -- What holds of each reference, by the kinds of things that refer.
-use Rattle.std.proofs.Common.{ℕ, List, [], ◌++◌, map}
+use Rattle.std.proofs.Common.{ℕ, ◌==◌, List, [], ◌++◌, Some, true, false, cond, map}
 use Rattle.std.specs.List.{All, flat_map}
 use Rattle.std.proofs.lemmas.List.Elements.{All-append, All-map, All-nil}
-use Rattle.cred_model.specs.State.{State, Task, Hold, Prepared}
+use Rattle.cred_model.specs.State.{State, Task, Hold, Prepared, Changed}
 use Rattle.cred_model.specs.Slots.{refs}
-use Rattle.cred_model.proofs.Lists.{All-left, All-right, All-unmap, All-flat_map, All-unflat_map}
+use Rattle.cred_model.specs.Step.{renewed, with_current, changed, with_change}
+use Rattle.cred_model.proofs.Lists.{All-kept, All-left, All-right, All-unmap, All-flat_map, All-unflat_map}
+use Rattle.cred_model.proofs.Numbers.{renewed_as}
 
 pub record EachRef (P : ℕ → Type 0) (s : State) : Type 0 where
   pub currents : All (λ t. P t.current) s.tasks
@@ -69,6 +71,14 @@ pub each_tasks : {P : ℕ → Type 0} {s : State} → EachRef P s → (ts : List
 each_tasks each ts currents overrides =
     record { currents = currents; overrides = overrides; holds = each.holds; bases = each.bases; deferred = each.deferred }
 
+-- the task has another current credential
+pub each_renewed : {P : ℕ → Type 0} {s : State} → EachRef P s → (task n : ℕ) → P n
+    → EachRef P (record s { tasks = with_current s.tasks task n })
+each_renewed {P} {s} each task n new =
+    each_tasks each (with_current s.tasks task n)
+    (All-kept (λ (t : Task). P t.current) (renewed task n) s.tasks (λ t. renewed_as (λ r. P r.current) task n t new) each.currents)
+    (All-kept (λ (t : Task). All P t.overrides) (renewed task n) s.tasks (λ t old. renewed_as (λ r. All P r.overrides) task n t old old) each.overrides)
+
 pub each_holds : {P : ℕ → Type 0} {s : State} → EachRef P s → (hs : List Hold) → All (λ h. P h.number) hs
     → EachRef P (record s { holds = hs })
 each_holds each hs holds =
@@ -78,6 +88,14 @@ pub each_prepared : {P : ℕ → Type 0} {s : State} → EachRef P s → (ps : L
     → EachRef P (record s { prepared = ps })
 each_prepared each ps bases =
     record { currents = each.currents; overrides = each.overrides; holds = each.holds; bases = bases; deferred = each.deferred }
+
+-- the label has another change
+pub each_changed : {P : ℕ → Type 0} {s : State} → EachRef P s → (label : ℕ) (to : Changed)
+    → EachRef P (record s { prepared = with_change s.prepared label to })
+each_changed {P} {s} each label to =
+    each_prepared each (with_change s.prepared label to)
+    (All-kept (λ (p : Prepared). P p.base) (changed label to) s.prepared
+    (λ p old. elim (p.label == label) as (λ b. P (cond b (record p { changed = Some to }) p).base) [ true ↦ old | false ↦ old ]) each.bases)
 
 pub each_deferred : {P : ℕ → Type 0} {s : State} → EachRef P s → (numbers : List ℕ) → All P numbers
     → EachRef P (record s { deferred = numbers })

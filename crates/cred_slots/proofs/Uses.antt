@@ -1,14 +1,14 @@
 -- What a slot's row says of the references to the numbers in it.
-use Rattle.std.proofs.Common.{◌≡◌, ◌≢◌, ℕ, ◌+◌, ◌<◌, ◌≤◌, ◌==◌, Bool, true, false, List, ◌++◌, refl, ap, ◌∙◌, subst, inl, inr, arith, Option, Some, None, slice_get}
+use Rattle.std.proofs.Common.{◌≡◌, ◌≢◌, ℕ, ◌+◌, ◌<◌, ◌≤◌, ◌==◌, Bool, true, false, List, ◌++◌, refl, ap, ◌∙◌, subst, inl, inr, arith, Option, Some, None, slice_get, slice_set, length, get_or-set_same, sym}
 use Rattle.std.specs.List.{count_by}
 use Rattle.std.specs.Option.{option_map_or}
 use Rattle.std.proofs.lemmas.Bool.{cases_lt, cases_eq}
 use Rattle.std.proofs.lemmas.Bool.Decides.{nat_tests}
 use Rattle.cred_slots.specs.declared.row.Row.{Row}
 use Rattle.cred_slots.specs.Table.{stands_in}
-use Rattle.cred_slots.specs.Rows.{row_at, repeated, held_in, held_count, late_count, IsSound}
+use Rattle.cred_slots.specs.Rows.{unused, row_at, repeated, held_in, held_count, late_count, IsSound}
 use Rattle.cred_slots.proofs.Counting.{weight, count-append, count-repeated, sum_only, sum_zero}
-use Rattle.cred_slots.proofs.Sound.{referred_standing}
+use Rattle.cred_slots.proofs.Sound.{Standing, referred_standing}
 use Rattle.cred_slots.proofs.Live.{held-in_slot, late-in_slot, weight_none, weight_elsewhere}
 
 pub uses_here : {rows : List Row} {sealed deferred : List ℕ} {kept used late : List Bool} {held spare sealable referable : ℕ}
@@ -72,23 +72,40 @@ in_one {rows = rows} {sealed = sealed} s count bounded slot number within place 
     another sealed count (row_at rows i) number slot i ne place (λ more. s.stands i i_within (omega (arith, bounded (row_at rows i)))))
     ∙ rw same refl
 
+-- A number in the slot that is referred to is the one that the slot's row counts.
+pub of_row : {rows : List Row} {sealed deferred : List ℕ} {kept used late : List Bool} {held spare sealable referable : ℕ}
+    → IsSound rows sealed deferred kept used late held spare sealable referable
+    → (slot number : ℕ) → stands_in sealed slot number ≡ true → 0 < count_by (λ n. n == number) (held_in rows ++ deferred)
+    → Standing rows sealed number slot
+of_row {rows = rows} {sealed = sealed} s slot number is some =
+    let found = referred_standing s number some in
+    let place : slice_get sealed number ≡ Some slot = stands_is (slice_get sealed number) slot is in
+    let there : slice_get sealed number ≡ Some found.0 = found.1.place in
+    let same : found.0 ≡ slot = cc in
+    subst (λ (k : ℕ). Standing rows sealed number k) same found.1
+
 -- all references to numbers in the slot are to the one that is referred to
 pub one_number : {rows : List Row} {sealed deferred : List ℕ} {kept used late : List Bool} {held spare sealable referable : ℕ}
     → IsSound rows sealed deferred kept used late held spare sealable referable
     → (slot number : ℕ) → stands_in sealed slot number ≡ true → 0 < count_by (λ n. n == number) (held_in rows ++ deferred)
     → (row_at rows slot).held + (row_at rows slot).late ≡ count_by (λ n. n == number) (held_in rows ++ deferred)
 one_number {rows = rows} {sealed = sealed} {deferred = deferred} s slot number is some =
-    let found = referred_standing s number some in
-    let place : slice_get sealed number ≡ Some slot = stands_is (slice_get sealed number) slot is in
-    let there : slice_get sealed number ≡ Some found.0 = found.1.place in
-    let same : found.0 ≡ slot = cc in
-    let within : slot < 256 = omega (arith, found.1.in_table) in
-    let number_is : (row_at rows slot).number ≡ number = subst (λ (k : ℕ). (row_at rows k).number ≡ number) same found.1.number_is in
+    let at = of_row s slot number is some in
     let test : ℕ → Bool = λ n. n == number in
     omega (
       arith,
       count-append test (held_in rows) deferred,
       s.given_up.counts test,
-      in_one s held_count (λ row. omega arith) slot number within place number_is,
-      in_one s late_count (λ row. omega arith) slot number within place number_is,
+      in_one s held_count (λ row. omega arith) slot number at.in_table at.place at.number_is,
+      in_one s late_count (λ row. omega arith) slot number at.in_table at.place at.number_is,
     )
+
+-- Where a row is set to count a number, no other number in its slot is referred to.
+pub alone-set : (rows : List Row) (slot : ℕ) (row : Row) {sealed deferred : List ℕ} {kept used late : List Bool} {held spare sealable referable : ℕ}
+    → IsSound (slice_set rows slot row) sealed deferred kept used late held spare sealable referable
+    → slot < length rows
+    → (other : ℕ) → stands_in sealed slot other ≡ true → 0 < count_by (λ n. n == other) (held_in (slice_set rows slot row) ++ deferred)
+    → other ≡ row.number
+alone-set rows slot row s within other is some =
+    let at = of_row s slot other is some in
+    sym at.number_is ∙ ap (λ (r : Row). r.number) (get_or-set_same rows slot row unused within)

@@ -1,5 +1,5 @@
 -- A table of slots, as its callers see it, and which slot of it is taken next.
-use Rattle.std.specs.Prelude.{◌≡◌, ℕ, ◌==◌, Bool, false, not, ◌||◌, List, [], ◌++◌, map, find, count_by, slice_get, slice_index_or, is_some, if◌then◌else◌}
+use Rattle.std.specs.Prelude.{◌≡◌, ℕ, ◌<◌, ◌==◌, Bool, true, false, not, ◌||◌, List, [], ◌++◌, map, find, count_by, slice_get, slice_index_or, is_some, if◌then◌else◌}
 use Rattle.std.specs.declared.option.Option.{Option}
 use Rattle.std.specs.List.{list_any, range_with_len}
 use Rattle.std.specs.Option.{option_map_or}
@@ -70,3 +70,7 @@ free t = least_free (room t)
 -- Two lists have the same numbers, each as often, if each test passes as many of the one as of the other.
 pub record IsSameBag (xs ys : List ℕ) : Type 0 where
   pub counts : (test : ℕ → Bool) → count_by test xs ≡ count_by test ys
+
+-- Of all numbers that stand in the slot, only this one is referred to.
+pub record IsAlone (t : Table) (number slot : ℕ) : Type 0 where
+  pub only : (other : ℕ) → stands_in t.sealed slot other ≡ true → 0 < references_to t other → other ≡ number

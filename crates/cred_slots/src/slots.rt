@@ -1,6 +1,6 @@
 //! The table of slots.
 ghost use Rattle.std.specs.Prelude.{◌≡◌, ℕ, ◌<◌, ◌+◌, ◌-◌, ◌++◌, [], ◌∷◌, length, max, false, true, slice_get, slice_set, count_by, ◌==◌, IfOk, OnOk, OnErr, IfSome, IfNone, IsTrue};
-ghost use Rattle.cred_slots.specs.Table.{SLOTS, empty, references_to, uses, stands_in, is_kept, is_live, least_free, swept, room, free, IsSameBag};
+ghost use Rattle.cred_slots.specs.Table.{SLOTS, empty, references_to, uses, stands_in, is_kept, is_live, least_free, swept, room, free, IsSameBag, IsAlone};
 
 use crate::flags::Flags;
 use crate::row::{Row, UNUSED, forget_late};
@@ -130,6 +130,8 @@ impl Slots {
         requires kept { IsTrue (is_kept self.old slot) }
         requires spare { 0 < self.old.spare }
         ensures number { result ≡ length self.old.sealed }
+        ensures in_table { slot < SLOTS }
+        ensures alone { IsAlone self.new result slot }
         ensures held { IsSameBag self.new.held (result ∷ self.old.held) }
         ensures table { self.new ≡ record self.old {
           sealed = self.old.sealed ++ slot ∷ [];

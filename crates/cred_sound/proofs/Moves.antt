@@ -1,5 +1,5 @@
--- The moves that lead from one ledger in order to another: fewer references and fewer kept slots, one
--- slot more that is kept, one credential more that is sealed.
+-- The moves that lead from one ledger in order to another: fewer references and fewer kept slots,
+-- one slot more that is kept, one credential more that is sealed.
 use Rattle.std.proofs.Common.{◌≡◌, ◌≢◌, ◌⊎◌, inl, inr, ℕ, ◌<◌, List, [], ◌∷◌, ◌++◌, length, slice_get, Some, sym, ap, ◌∙◌, arith}
 use Rattle.std.specs.List.{All, AllPairs, Contains}
 use Rattle.std.proofs.lemmas.List.{length_push}

@@ -17,15 +17,16 @@ use Rattle.cred_model.specs.Step.{with_change, with_current, first_task, commit_
 use Rattle.cred_sound.specs.Ledger.{IsClear, IsOrderly, ledger}
 use Rattle.cred_sound.proofs.References.{IsFree}
 
--- The state, where only these of the deferred references are left: an event that takes a slot may sweep first.
+-- The state, where only these of the deferred references are left: an event that takes a slot may
+-- sweep first.
 abbrev pub with_left : State → List ℕ → State
 with_left s left = record s { deferred = left }
 
 abbrev pub sealing : Credential → ℕ → Sealing
 sealing c slot = record { cred = c; slot = slot }
 
--- Nothing that is referred to stands in the slot, and no label keeps it: before the event none but the one that it commits,
--- and none after it.
+-- Nothing that is referred to stands in the slot, and no label keeps it: before the event none but
+-- the one that it commits, and none after it.
 pub record Fits (s : State) (event : Event) (left : List ℕ) (t : State) (slot : ℕ) : Type 0 where
   pub below : slot < SLOTS
   pub clear : IsClear (ledger s).slots slot (refs (with_left s left))
@@ -38,7 +39,8 @@ pub data CredsChange (s : State) (event : Event) (left : List ℕ) (t : State) :
   Seals : (c : Credential) (slot : ℕ) → t.creds ≡ s.creds ++ sealing c slot ∷ []
       → (IsOrderly (ledger s) → Fits s event left t slot) → CredsChange s event left t
 
--- why a task's new credential comes in the place of its old one: it is what a call makes of that, or what a label prepared
+-- Why a task's new credential comes in the place of its old one: it is what a call makes of that,
+-- or what a label prepared.
 pub data Cause (s : State) (event : Event) (old : Numbered) (c : Credential) (answer : Answer) : Type 0 where
   ByCall : (call : IdCall) → set_id old.cred call ≡ Ok c → gained answer ≡ empty → Cause s event old c answer
   ByCommit : (place slot : ℕ) (p : Prepared) (last : Changed) → slice_get s.prepared place ≡ Some p → p.changed ≡ Some last

@@ -13,8 +13,8 @@ use Rattle.cred_model.specs.State.{State, Sealing, Task, Prepared, opening}
 use Rattle.cred_model.specs.Slots.{standing, refs, kept}
 use Rattle.cred_model.specs.Like.{IsLike}
 use Rattle.cred_model.specs.Step.{renewed, changed, step}
-use Rattle.cred_model.proofs.Lists.{All-remove, All-unmap, AllPairs-map, AllPairs-unmap, map_same}
-use Rattle.cred_model.proofs.Numbers.{renewed_as}
+use Rattle.cred_model.proofs.Lists.{All-kept, All-remove, All-unmap, AllPairs-map, AllPairs-unmap, map_same}
+use Rattle.cred_model.proofs.Numbers.{renewed_as, changed_as}
 use Rattle.cred_sound.specs.Ledger.{Ledger, ledger, referred, IsOrderly}
 use Rattle.cred_sound.specs.Sound.{IsSound, StatesAreSound}
 use Rattle.cred_sound.proofs.Moves.{Apart, fewer, keeps, seals}
@@ -22,7 +22,7 @@ use Rattle.cred_model.proofs.Referred.{refs_each, each_deferred}
 use Rattle.cred_sound.proofs.References.{own_refs}
 use Rattle.cred_sound.proofs.Parts.{with_left, Changes, CredsChange, TasksChange, HoldsChange, PreparedChange, SameCreds, Seals, SameTasks, Creates, Renews, SameHolds, Takes, Releases, SamePrepared, Prepares, Alters, Ends}
 use Rattle.cred_sound.proofs.Events.{changes}
-use Rattle.cred_sound.proofs.Unique.{changed_as, tasks_differ, holds_differ, labels_differ, labels_unheld}
+use Rattle.cred_sound.proofs.Unique.{tasks_differ, holds_differ, labels_differ, labels_unheld}
 
 -- ---- what is referred to after an event: what was before it, and the number of what it sealed
 
@@ -55,9 +55,8 @@ tasks_refer s event left made (Creates task process user group ns slot is tasks 
 tasks_refer s event left made (Renews task slot before c tasks creds current cause) old =
     let P = Refers (OldOrNew s left made.1) in
     subst (All P) (sym tasks)
-    (All-map P (renewed task (length s.creds)) s.tasks
-    (All-weaker P (λ t. P (renewed task (length s.creds) t))
-    (λ t one. renewed_as P task (length s.creds) t (record { current = inr (grows s made.1 _ creds); overrides = one.overrides }) one) s.tasks old))
+    (All-kept P (renewed task (length s.creds)) s.tasks
+    (λ t one. renewed_as P task (length s.creds) t (record { current = inr (grows s made.1 _ creds); overrides = one.overrides }) one) old)
 
 holds_refer : (s : State) (event : Event) (left : List ℕ) (t : State) → HoldsChange s event left t
     → All (λ h. Old s left h.number) s.holds → All (λ h. Old s left h.number) t.holds
@@ -78,8 +77,7 @@ bases_refer script s event left t (Prepares p prepared fresh unheld new has free
 bases_refer script s event left t (Alters label to p base answer prepared is at so) old =
     let P = OfBase s left in
     subst (All P) (sym prepared)
-    (All-map P (changed label to) s.prepared
-    (All-weaker P (λ p. P (changed label to p)) (λ p one. changed_as P label to p (λ test. one) one) s.prepared old))
+    (All-kept P (changed label to) s.prepared (λ p one. changed_as P label to p (λ test. one) one) old)
 bases_refer script s event left t (Ends label place p ends prepared at is) old =
     subst (All (OfBase s left)) (sym prepared) (All-remove (OfBase s left) s.prepared place old)
 

@@ -1,8 +1,8 @@
 -- Tasks and labels have each a name of their own after an event, if they had before it.
-use Rattle.std.proofs.Common.{◌≡◌, ◌≢◌, ◌==◌, ℕ, List, [], ◌∷◌, ◌++◌, get_or, map, Some, None, true, false, cond, refl, sym, ap, ◌∙◌, subst, arith}
+use Rattle.std.proofs.Common.{◌≡◌, ◌≢◌, ◌==◌, ℕ, List, [], ◌∷◌, ◌++◌, get_or, map, Some, None, false, cond, sym, ap, ◌∙◌, subst, arith}
 use Rattle.std.specs.List.{All, AllPairs, find, remove}
 use Rattle.std.specs.Option.{option_or}
-use Rattle.std.proofs.lemmas.List.Elements.{All-map, All-push, All-weaker}
+use Rattle.std.proofs.lemmas.List.Elements.{All-push, All-weaker}
 use Rattle.std.proofs.lemmas.List.Folds.{find-append}
 use Rattle.std.proofs.lemmas.List.Quantifiers.{all_pairs_push, all_pairs_remove}
 use Rattle.std.proofs.lemmas.Bool.Decides.{nat_tests}
@@ -11,10 +11,10 @@ use Rattle.std.proofs.lemmas.Option.{slice_get_within}
 use Rattle.cred_event.specs.declared.event.Event.{Event}
 use Rattle.cred_event.specs.declared.answer.Answer.{Answer}
 use Rattle.cred_model.specs.Script.{Script}
-use Rattle.cred_model.specs.State.{State, Task, Hold, Prepared, Changed}
+use Rattle.cred_model.specs.State.{State, Task, Hold, Prepared}
 use Rattle.cred_model.specs.Step.{renewed, changed, first_task}
-use Rattle.cred_model.proofs.Lists.{All-remove, AllPairs-map, AllPairs-weaker, Differ, found_none, none_found}
-use Rattle.cred_model.proofs.Numbers.{renewed_number}
+use Rattle.cred_model.proofs.Lists.{All-kept, All-remove, AllPairs-map, AllPairs-weaker, Differ, found_none, none_found}
+use Rattle.cred_model.proofs.Numbers.{renewed_number, changed_as, changed_label}
 use Rattle.cred_sound.proofs.Parts.{TasksChange, HoldsChange, PreparedChange, SameTasks, Creates, Renews, SameHolds, Takes, Releases, SamePrepared, Prepares, Alters, Ends}
 
 -- where none is found of a number, each has another
@@ -56,17 +56,6 @@ holds_differ s event left t (Takes hold holds new unprepared stands) differ =
 holds_differ s event left t (Releases label place hold is holds at found) differ =
     subst (AllPairs (Differ held_as)) (sym holds)
     (all_pairs_remove (Differ held_as) s.holds place (slice_get_within s.holds place hold found) differ)
-
-pub changed_as : (Q : Prepared → Type 0) (label : ℕ) (to : Changed) (p : Prepared)
-    → ((p.label == label) ≡ true → Q (record p { changed = Some to })) → Q p → Q (changed label to p)
-changed_as Q label to p new old =
-    elim (p.label == label) as (λ b. (b ≡ true → Q (record p { changed = Some to })) → Q (cond b (record p { changed = Some to }) p)) [
-      | true ↦ λ new. new refl
-      | false ↦ λ new. old
-    ] new
-
-pub changed_label : (label : ℕ) (to : Changed) (p : Prepared) → (changed label to p).label ≡ p.label
-changed_label label to p = changed_as (λ q. q.label ≡ p.label) label to p (λ test. refl) refl
 
 pub labels_differ : (script : Script) (s : State) (event : Event) (left : List ℕ) (t : State)
     → PreparedChange script s event left t → AllPairs (Differ prepared_as) s.prepared → AllPairs (Differ prepared_as) t.prepared
@@ -119,9 +108,8 @@ unheld_all script s event left t (Prepares p prepared fresh free_label new stand
     subst (All (IsNotHeld t.holds)) (sym prepared) (All-push (IsNotHeld t.holds) s.prepared p unheld free_label)
 unheld_all script s event left t (Alters label to p base answer prepared is at so) unheld =
     subst (All (IsNotHeld t.holds)) (sym prepared)
-    (All-map (IsNotHeld t.holds) (changed label to) s.prepared
-    (All-weaker (IsNotHeld t.holds) (λ p. IsNotHeld t.holds (changed label to p))
-    (λ p none. changed_as (IsNotHeld t.holds) label to p (λ test. none) none) s.prepared unheld))
+    (All-kept (IsNotHeld t.holds) (changed label to) s.prepared
+    (λ p none. changed_as (IsNotHeld t.holds) label to p (λ test. none) none) unheld)
 unheld_all script s event left t (Ends label place p ends prepared at is) unheld =
     subst (All (IsNotHeld t.holds)) (sym prepared) (All-remove (IsNotHeld t.holds) s.prepared place unheld)
 

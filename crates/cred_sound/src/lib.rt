@@ -2,8 +2,8 @@
 //! sealed credentials, in slots of their own, and the names are unique.
 //!
 //! Below the laws and the book, so that both take it from here. The proof goes by parts: what an
-//! event may change of the tasks, the holds, the prepared labels and the sealed credentials, and the
-//! few moves of a ledger that these come to.
+//! event may change of the tasks, the holds, the prepared labels and the sealed credentials, and
+//! the few moves of a ledger that these come to.
 #![tactic(auto)]
 
 ghost use Rattle.cred_sound.specs.Sound.{StatesAreSound};
