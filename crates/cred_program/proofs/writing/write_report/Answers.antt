@@ -4,7 +4,7 @@ use Rattle.std.proofs.lemmas.Result.{err_from_is_err_and}
 use Rattle.cred_io.proofs.Known.{appends_more}
 use Rattle.cred_report.specs.Text.{entry_text, text}
 use Rattle.cred_report.proofs.Journals.{text_more}
-use Rattle.cred_program.proofs.Fronts.{prefix_at, prefix_before, flushed}
+use Rattle.cred_program.proofs.Prefixes.{prefix_at, prefix_before, flushed}
 use Rattle.cred_program.proofs.writing.write_report.Goals as goal
 
 pub returns-in_default-clause-err : goal.returns-in_default-clause-err
@@ -24,7 +24,7 @@ pub loop-entry-preserved : goal.loop-entry-preserved
 loop-entry-preserved g c =
     let piece = c.deref.ensures.value ∙ c.in-Ok.ensures ∙ ap (λ (bs : List ℕ). bs ++ entry_text c.args.script.now c.entry-item.result) c.clear.ensures.items in
     record {
-      later = omega (arith, c.in_ok-write_all.ensures.cause.later);
+      faults = c.in_ok-write_all.ensures.cause.stayed (λ failed. cc) ∙ c.loop-entry.invariant.faults;
       written = rw (text_more c.args.script.now c.args.journal.now c.loop-entry.entry-index c.entry-item.result c.loop-entry-test.true c.entry-item.is)
           (appends_more _ _ _ _ _ c.loop-entry.invariant.written (rw piece at c.in_ok-write_all.ensures.ok));
     }

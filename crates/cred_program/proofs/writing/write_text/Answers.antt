@@ -1,4 +1,4 @@
-use Rattle.cred_program.proofs.Fronts.{flushed}
+use Rattle.cred_program.proofs.Prefixes.{flushed}
 use Rattle.cred_program.proofs.writing.write_text.Goals as goal
 
 pub returns-clause-err : goal.returns-clause-err
