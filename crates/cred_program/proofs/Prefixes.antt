@@ -1,5 +1,5 @@
 -- Prefixes of a text that was to be written.
-use Rattle.std.proofs.Common.{◌≡◌, ℕ, ◌+◌, ◌<◌, List, ◌++◌, length, take, drop, get_or, Option, Result, Ok, Err, refl, arith}
+use Rattle.std.proofs.Common.{◌≡◌, ℕ, ◌+◌, ◌<◌, List, ◌++◌, length, take, drop, get_or, ◌≤◌, Option, Result, Ok, Err, refl, arith}
 use Rattle.std.proofs.lemmas.List.{take_all, take_at}
 use Rattle.std.specs.Io.KnownBytes.{Appends, Keeps}
 use Rattle.std.specs.Result.{OnOk, OnErr}
@@ -61,6 +61,13 @@ pub flushed : (a b c : Option (List ℕ)) (bytes : List ℕ) (r : Result (Unit {
     → OnErr r (AppendsPrefix a c bytes)
 flushed a b c bytes (Ok done) all kept = tt
 flushed a b c bytes (Err refusal) all kept = whole_kept a b c bytes all kept
+
+-- what a flush after all entries leaves
+pub flushed_entries : (a b c : Option (List ℕ)) (script : Script) (journal : List Entry) (i : ℕ) (r : Result (Unit {0}) SinkRefusal)
+    → length journal ≤ i → Appends a b (text script (take i journal)) → Keeps b c → OnErr r (AppendsPrefix a c (text script journal))
+flushed_entries a b c script journal i r ended all kept =
+    let same : take i journal ≡ journal = take_all i journal ended in
+    flushed a b c (text script journal) r (rw same at all) kept
 
 -- a whole report that was written, and the laws of its journal
 pub reported : (before after : Option (List ℕ)) (input : List ℕ) (script : Script) (journal : List Entry) (r : Result (Unit {0}) SinkRefusal)

@@ -4,8 +4,9 @@ ghost use Rattle.cred_io.specs.Causes.{CountsFaults};
 ghost use Rattle.cred_script.specs.Lines.{lines_of};
 ghost use Rattle.cred_program.specs.Ends.{Begins, IsWhole, IsWithin, Refuses, Reports, Suits};
 
+use crate::report::write_report;
 use crate::status::{Status, finish};
-use crate::writing::{write_bad, write_report};
+use crate::writing::write_bad;
 use cred_book::run;
 use cred_io::Sink;
 use cred_script::{ScriptRefusal, line_count, read};

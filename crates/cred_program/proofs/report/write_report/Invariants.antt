@@ -1,7 +1,7 @@
 use Rattle.std.proofs.Common.{◌≡◌, take}
 use Rattle.std.specs.Io.KnownBytes.{Appends}
 use Rattle.cred_report.specs.Text.{text}
-use Rattle.cred_program.proofs.writing.write_report.Given as goal
+use Rattle.cred_program.proofs.report.write_report.Given as goal
 
 abbrev pub invariant-loop-entry : goal.invariant-loop-entry
 invariant-loop-entry g l = record {
