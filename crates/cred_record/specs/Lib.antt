@@ -1,3 +1,5 @@
 pub mod Answer
 pub mod Credential
 pub mod File
+pub mod WordLaws
+pub mod Words
