@@ -1,5 +1,6 @@
 //! The supplementary groups of a task.
 ghost use Rattle.std.specs.Prelude.{◌≡◌, ◌<◌, ◌≤◌, ◌↔◌, ◌⊎◌, length, IsTrue, IfOk, IfErr, IsErrOf, Contains, slice_get, []};
+ghost use Rattle.cred_ids.specs.Groups.{IsGroupList};
 ghost use Rattle.cred_ids.specs.Ordered.{in_order};
 
 use crate::id::Id;
@@ -115,6 +116,13 @@ impl Groups {
         ensures { result.now ≡ self.now }
     {
         self.ids.as_slice()
+    }
+
+    /// That these are groups: sorted, each an id, and at most 32. There is nothing to run.
+    pub fn are_groups(&self)
+        ensures { IsGroupList self.now }
+    {
+        let _ = &self.ids;
     }
 
     /// Equal groups in memory of their own.

@@ -8,11 +8,16 @@ pub mod cred;
 pub mod file;
 pub mod gains;
 pub mod id_call;
+pub mod layout;
 pub mod list;
+mod reading;
 pub mod refusal;
 #[cfg(test)]
 mod tests;
+pub mod valid;
 pub mod want;
+pub mod word_laws;
+mod writing;
 
 pub use adj_call::AdjCall;
 pub use attr::Attr;
@@ -20,6 +25,10 @@ pub use cred::{Cred, copy, first};
 pub use file::{FileInfo, FileKind};
 pub use gains::Gains;
 pub use id_call::IdCall;
+pub use layout::WORDS;
 pub use list::IdList;
+pub use reading::{ids_in, of_words};
 pub use refusal::{Denial, Refusal};
+pub use valid::is_credential;
 pub use want::Want;
+pub use writing::to_words;

@@ -1,0 +1,178 @@
+//! A credential read from words.
+ghost use Rattle.std.specs.Prelude.{◌≡◌, ◌↔◌, IsTrue, ◌<◌, ◌-◌, ◌*◌, ◌/◌, ◌%◌, ◌^◌, drop, Some, true, IfOk, IfSome, IfNone, slice_index};
+ghost use Rattle.std.specs.Option.{SomeIff};
+ghost use Rattle.cred_record.specs.Credential.{Credential, AreValidSets};
+ghost use Rattle.cred_record.specs.Words.{are_ids, ids_of, unpaired, IsCredential, words_of, credential_of, are_words, AreSetsOf};
+
+use crate::cred::Cred;
+use crate::layout::{
+    AMBIENT, BOUNDING, EFFECTIVE, FLAGS, GROUP, GROUPS, INHERITABLE, NAMESPACE, PERMITTED,
+    SAVED_GROUP, SAVED_USER, USER, WORDS,
+};
+use crate::valid::is_credential;
+use crate::writing::to_words;
+use cred_caps::{CapSet, SecureBits};
+use cred_ids::{Groups, GroupsRefusal, Id, Ids4, NoMemory};
+use std::alloc::Global;
+
+/// The low half of a word.
+fn low(word: u64) -> u32
+    ensures { result ≡ word % 2 ^ 32 }
+{
+    (word & 0xffff_ffff) as u32
+}
+
+/// The high half of a word.
+fn high(word: u64) -> u32
+    ensures { result ≡ word / 2 ^ 32 }
+{
+    (word >> 32) as u32
+}
+
+/// The ids in two words, as `USER` and `SAVED_USER` or `GROUP` and `SAVED_GROUP` hold them. `None`
+/// exactly where one of the four is 4294967295.
+pub fn ids_in(first: u64, second: u64) -> Option<Ids4>
+    ensures { SomeIff result (are_ids (ids_of first second) ≡ true) (ids_of first second) }
+{
+    Some(Ids4 {
+        real: Id::new(low(first))?,
+        effective: Id::new(high(first))?,
+        saved: Id::new(low(second))?,
+        fs: Id::new(high(second))?,
+    })
+}
+
+/// The number at a place among the words of groups, two of which stand in each.
+fn group_number(words: &[u64; WORDS], place: usize) -> u32
+    requires { place < 2 * (WORDS - GROUPS) }
+    ensures { result ≡ slice_index (unpaired (drop GROUPS words.now)) place }
+{
+    let word = words[GROUPS + place / 2];
+    if place % 2 == 0 {
+        low(word)
+    } else {
+        high(word)
+    }
+}
+
+/// The groups, in order. `None` only where the words are no credential's.
+fn groups_in(alloc: Global, words: &[u64; WORDS]) -> Result<Option<Groups>, NoMemory>
+    ensures some { IfOk result (λ o. IfSome o
+        (λ g. are_words words.now ≡ true → g ≡ (credential_of words.now).groups)) }
+    ensures none { IfOk result (λ o. IfNone o (are_words words.now ≡ true → ⊥)) }
+{
+    let count = (words[FLAGS] >> 16) as usize;
+    if count > Groups::LIMIT {
+        return Ok(None);
+    }
+    let mut ids = Vec::with_capacity(alloc, count)?;
+    for place in 0..count {
+        let Some(id) = Id::new(group_number(words, place)) else {
+            return Ok(None);
+        };
+        ids.push(id)?;
+    }
+    match Groups::from_list(alloc, ids.as_slice()) {
+        Ok(groups) => Ok(Some(groups)),
+        Err(GroupsRefusal::TooMany(_)) => Ok(None),
+        Err(GroupsRefusal::Memory) => Err(NoMemory),
+    }
+}
+
+/// The five sets of a credential.
+#[derive(Clone, Copy)]
+struct Sets {
+    perm: CapSet,
+    inh: CapSet,
+    eff: CapSet,
+    bound: CapSet,
+    amb: CapSet,
+}
+
+/// Whether the sets are those of a credential (capabilities(7), "Thread capability sets").
+fn are_valid(sets: &Sets) -> bool
+    ensures { IsTrue result ↔ AreValidSets sets.now.perm sets.now.inh sets.now.eff sets.now.amb }
+{
+    sets.eff.within(&sets.perm) && sets.amb.within(&sets.perm) && sets.amb.within(&sets.inh)
+}
+
+/// The sets. `None` only where the words are no credential's.
+fn sets_in(words: &[u64; WORDS]) -> Option<Sets>
+    ensures some { IfSome result (λ s. AreSetsOf words.now s.perm s.inh s.eff s.bound s.amb) }
+    ensures none { IfNone result (are_words words.now ≡ true → ⊥) }
+{
+    let sets = Sets {
+        perm: CapSet::of_bits(words[PERMITTED])?,
+        inh: CapSet::of_bits(words[INHERITABLE])?,
+        eff: CapSet::of_bits(words[EFFECTIVE])?,
+        bound: CapSet::of_bits(words[BOUNDING])?,
+        amb: CapSet::of_bits(words[AMBIENT])?,
+    };
+    if are_valid(&sets) { Some(sets) } else { None }
+}
+
+/// The securebits.
+fn bits_in(word: u64) -> Option<SecureBits>
+    ensures { result ≡ Some (word % 2 ^ 8) }
+{
+    SecureBits::new((word & 0xff) as u32)
+}
+
+/// The number of the namespace.
+fn namespace_in(word: u64) -> Option<u32>
+    ensures { SomeIff result (word < 2 ^ 32) word }
+{
+    u32::try_from(word).ok()
+}
+
+/// The credential of the words but for its groups, which are given. `None` only where the words
+/// are no credential's. What the layout leaves out is not looked at.
+fn cred_in(words: &[u64; WORDS], groups: Groups) -> Option<Cred>
+    requires { are_words words.now ≡ true → groups ≡ (credential_of words.now).groups }
+    ensures some { IfSome result (λ c. are_words words.now ≡ true → c ≡ credential_of words.now) }
+    ensures none { IfNone result (are_words words.now ≡ true → ⊥) }
+{
+    let sets = sets_in(words)?;
+    Some(Cred {
+        uid: ids_in(words[USER], words[SAVED_USER])?,
+        gid: ids_in(words[GROUP], words[SAVED_GROUP])?,
+        groups,
+        perm: sets.perm,
+        inh: sets.inh,
+        eff: sets.eff,
+        bound: sets.bound,
+        amb: sets.amb,
+        bits: bits_in(words[FLAGS])?,
+        nnp: words[FLAGS] >> 8 & 1 == 1,
+        ns: namespace_in(words[NAMESPACE])?,
+    })
+}
+
+/// The credential of the words. `None` exactly where they are no credential's: where an id or a
+/// group is 4294967295, a set has a bit above 40, the sets are not those of a credential, the
+/// groups are not sorted or are more than 32, or a bit is set that the layout leaves out.
+///
+/// # Errors
+///
+/// Memory ran out.
+pub fn of_words(alloc: Global, words: &[u64; WORDS]) -> Result<Option<Cred>, NoMemory>
+    ensures value { IfOk result (λ o. IfSome o
+        (λ c. IsCredential c × (words_of c ≡ words.now))) }
+
+    // No words of a credential are refused, or read as another.
+    ensures each_value { (c : Credential) → IsCredential c → words.now ≡ words_of c →
+        IfOk result (λ o. o ≡ Some c) }
+{
+    let Some(groups) = groups_in(alloc, words)? else {
+        return Ok(None);
+    };
+    let Some(cred) = cred_in(words, groups) else {
+        return Ok(None);
+    };
+    is_credential(&cred);
+    if to_words(&cred) == *words {
+        Ok(Some(cred))
+    } else {
+        Ok(None)
+    }
+}

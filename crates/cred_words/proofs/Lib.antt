@@ -1,0 +1,5 @@
+pub mod Lists
+pub mod Opens
+pub mod Points
+pub mod Seats
+pub mod Steps

@@ -1,0 +1,20 @@
+-- How many words a slot has, and how many slots there are. No proof unfolds either but where the
+-- table is made.
+use Rattle.std.specs.Prelude.{ℕ, ◌+◌, ◌*◌}
+use Rattle.cred_record.specs.declared.layout.TheConstants.{WORDS}
+use Rattle.cred_words.specs.declared.size.TheConstants.{SLOTS}
+
+-- the words of a credential
+unfoldable pub width : ℕ
+width = WORDS
+
+unfoldable pub count : ℕ
+count = SLOTS
+
+-- a guide, and the words of each slot
+abbrev pub total : ℕ
+total = 1 + count * width
+
+-- where the word i of a slot stands
+abbrev pub place : ℕ → ℕ → ℕ
+place slot i = 1 + (slot * width + i)

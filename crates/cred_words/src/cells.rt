@@ -1,0 +1,294 @@
+//! The table of words, the tokens, and one call for each kind of step.
+ghost use Rattle.std.specs.Prelude.{◌≡◌, ◌<◌, None, Some, true, false, IfOk, IfSome, IsSome, replicate, slice_index, slice_set};
+ghost use Rattle.cred_words.specs.Lists.{IsTaken};
+ghost use Rattle.cred_words.specs.Size.{width, count, total, place};
+ghost use Rattle.cred_words.specs.Words.{ledger, ledger_of, opened, lent_token, after_lend, after_back, put_words, EntryFits, entry_of, without};
+ghost use Rattle.cred_words.specs.Seen.{IsSealed, IsAlone};
+
+use crate::rule::{Learns, LendsHold, LendsWriter, Order, Puts, Reads, Returns, Words};
+use crate::size::SLOTS;
+use crate::view::View;
+use atomic_table::{Seat, Table};
+use cred_record::WORDS;
+use std::alloc::{AllocError, Global};
+use std::marker::{Brand, Model};
+
+/// The shared words: a guide, which is 0, and `WORDS` words for each of `SLOTS` slots. Threads
+/// share a `&Cells`. Contracts see which table it is.
+#[derive(Drop)]
+pub struct Cells {
+    table: Table<(), View, (), Words, Global>,
+}
+
+impl Model for Cells {
+    ghost use Rattle.std.specs.Prelude.{◌≡◌};
+    ghost use Rattle.atomic_table.specs.Seated.{TableId, table_id_coded};
+    ghost use Rattle.cred_words.specs.Size.{total};
+
+    ghost Value = { TableId };
+
+    ghost coded = { table_id_coded };
+
+    ghost view = { λ c. c.table.shared.table_id };
+
+    ghost invariant = { λ c. c.table.shared.table_id.words ≡ total };
+}
+
+/// The master's token, of which a table has one. It has no bytes. Contracts see its table and its
+/// ledger.
+#[derive(Drop)]
+pub struct Master {
+    seat: Seat<(), View>,
+}
+
+impl Model for Master {
+    ghost use Rattle.std.specs.Prelude.{◌≡◌, [], length};
+    ghost use Rattle.cred_words.specs.Seen.{Mastered};
+
+    ghost Value = { Mastered };
+
+    ghost use Rattle.cred_words.specs.Size.{count};
+    ghost use Rattle.cred_words.specs.Words.{ledger_of};
+    ghost use Rattle.cred_words.specs.declared.view.View.TheVariants.{Master as IsMaster};
+
+    ghost view = { λ m. record { id = m.seat.table_id; ledger = ledger_of m.seat.me.0 } };
+
+    ghost invariant = { λ m. (m.seat.id ≡ 0)
+        × (m.seat.me ≡ (IsMaster (ledger_of m.seat.me.0), []))
+        × (length (ledger_of m.seat.me.0).slots ≡ count) };
+}
+
+/// A hold that is lent. It has no bytes. Contracts see its table and its token.
+#[derive(Drop)]
+pub struct Hold {
+    seat: Seat<(), View>,
+}
+
+impl Model for Hold {
+    ghost use Rattle.std.specs.Prelude.{◌≡◌, ◌<◌, [], false};
+    ghost use Rattle.cred_words.specs.Seen.{Lending};
+
+    ghost Value = { Lending };
+
+    ghost use Rattle.cred_words.specs.Size.{count};
+    ghost use Rattle.cred_words.specs.Words.{token_of};
+    ghost use Rattle.cred_words.specs.declared.view.View.TheVariants.{Lent};
+
+    ghost view = { λ h. record { id = h.seat.table_id; token = token_of h.seat.me.0 } };
+
+    ghost invariant = { λ h. (h.seat.me ≡ (Lent (token_of h.seat.me.0), []))
+        × ((token_of h.seat.me.0).writes ≡ false)
+        × ((token_of h.seat.me.0).slot < count) };
+}
+
+/// A writer that is lent. It has no bytes. Contracts see its table and its token.
+#[derive(Drop)]
+pub struct Writer {
+    seat: Seat<(), View>,
+}
+
+impl Model for Writer {
+    ghost use Rattle.std.specs.Prelude.{◌≡◌, ◌<◌, [], true};
+    ghost use Rattle.cred_words.specs.Seen.{Lending};
+
+    ghost Value = { Lending };
+
+    ghost use Rattle.cred_words.specs.Size.{count};
+    ghost use Rattle.cred_words.specs.Words.{token_of};
+    ghost use Rattle.cred_words.specs.declared.view.View.TheVariants.{Lent};
+
+    ghost view = { λ h. record { id = h.seat.table_id; token = token_of h.seat.me.0 } };
+
+    ghost invariant = { λ h. (h.seat.me ≡ (Lent (token_of h.seat.me.0), []))
+        × ((token_of h.seat.me.0).writes ≡ true)
+        × ((token_of h.seat.me.0).slot < count) };
+}
+
+/// Where the word `i` of a slot stands.
+fn place_of(slot: u32, i: usize) -> usize
+    requires { (slot < count) × (i < width) }
+    ensures value { result ≡ place slot i }
+    ensures within { result < total }
+{
+    1 + (slot as usize * WORDS + i)
+}
+
+/// The number of words of the table.
+fn word_count() -> usize
+    ensures { result ≡ total }
+{
+    1 + SLOTS * WORDS
+}
+
+/// So many zeros.
+fn zeros(alloc: Global, n: usize) -> Result<Vec<u64>, AllocError>
+    ensures { IfOk result (λ v. v.items ≡ replicate n 0) }
+{
+    vec![in alloc; 0; n]
+}
+
+impl Cells {
+    /// A table with no slot sealed and no token out, and its master.
+    ///
+    /// # Errors
+    ///
+    /// Memory ran out.
+    pub fn make(alloc: Global) -> Result<(Cells, Master), AllocError>
+        ensures { IfOk result (λ r. (r.1.id ≡ r.0) × (r.1.ledger ≡ ledger_of opened)) }
+    {
+        let words = zeros(alloc, word_count())?;
+        let (table, seat) = Table::of_words(alloc, words.as_slice(), &())?;
+        Ok((Cells { table }, Master { seat }))
+    }
+}
+
+impl Master {
+    /// Lends a hold on a sealed slot. The new token and its entry have the slot's words.
+    pub fn lend_hold(&mut self, cells: &Cells, label: u32, slot: u32) -> Hold
+        requires own { self.old.id ≡ cells.now }
+        requires sealed { IsSealed self.old.ledger slot }
+        ensures hold { (result.id ≡ self.old.id)
+            × (result.token ≡ lent_token self.old.ledger label slot false) }
+        ensures master { (self.new.id ≡ self.old.id)
+            × (self.new.ledger ≡ after_lend self.old.ledger label slot false) }
+    {
+        self.lend_hold_as::<Brand>(cells, label, slot)
+    }
+
+    /// The same at an order that has the label and the slot.
+    fn lend_hold_as<O: Order>(&mut self, cells: &Cells, label: u32, slot: u32) -> Hold
+        requires order { (label ≡ O.label) × (slot ≡ O.slot) }
+        requires own { self.old.id ≡ cells.now }
+        requires sealed { IsSealed self.old.ledger O.slot }
+        ensures hold { (result.id ≡ self.old.id)
+            × (result.token ≡ lent_token self.old.ledger O.label O.slot false) }
+        ensures master { (self.new.id ≡ self.old.id)
+            × (self.new.ledger ≡ after_lend self.old.ledger O.label O.slot false) }
+    {
+        let _ = (label, slot);
+        let shared = &cells.table.shared;
+        Hold {
+            seat: shared.split_seat::<LendsHold<O>>(&mut self.seat),
+        }
+    }
+
+    /// Lends a writer on a slot on which no token is out. The slot is sealed no more; the new token
+    /// has the words that stand there.
+    pub fn lend_writer(&mut self, cells: &Cells, label: u32, slot: u32) -> Writer
+        requires own { self.old.id ≡ cells.now }
+        requires within { slot < count }
+        requires alone { IsAlone self.old.ledger slot }
+        ensures writer { (result.id ≡ self.old.id)
+            × (result.token ≡ lent_token self.old.ledger label slot true) }
+        ensures master { (self.new.id ≡ self.old.id)
+            × (self.new.ledger ≡ after_lend self.old.ledger label slot true) }
+    {
+        self.lend_writer_as::<Brand>(cells, label, slot)
+    }
+
+    /// The same at an order that has the label and the slot.
+    fn lend_writer_as<O: Order>(&mut self, cells: &Cells, label: u32, slot: u32) -> Writer
+        requires order { (label ≡ O.label) × (slot ≡ O.slot) }
+        requires own { self.old.id ≡ cells.now }
+        requires within { O.slot < count }
+        requires alone { IsAlone self.old.ledger O.slot }
+        ensures writer { (result.id ≡ self.old.id)
+            × (result.token ≡ lent_token self.old.ledger O.label O.slot true) }
+        ensures master { (self.new.id ≡ self.old.id)
+            × (self.new.ledger ≡ after_lend self.old.ledger O.label O.slot true) }
+    {
+        let _ = (label, slot);
+        let shared = &cells.table.shared;
+        Writer {
+            seat: shared.split_seat::<LendsWriter<O>>(&mut self.seat),
+        }
+    }
+
+    /// Returns a hold, which the master keeps aside. `load_after_return` strikes out its entry.
+    pub fn return_hold(&mut self, cells: &Cells, hold: Hold)
+        requires own { (self.old.id ≡ cells.now) × (hold.id ≡ cells.now) }
+        requires empty { self.old.ledger.kept ≡ None }
+        ensures { (self.new.id ≡ self.old.id)
+            × (self.new.ledger ≡ ledger self.old.ledger.slots self.old.ledger.next
+            self.old.ledger.entries (Some hold.token)) }
+    {
+        let Hold { seat } = hold;
+        let shared = &cells.table.shared;
+        shared.join_seat::<Returns>(&mut self.seat, seat);
+    }
+
+    /// Returns a writer, which the master keeps aside. `load_after_return` strikes out its entry.
+    pub fn return_writer(&mut self, cells: &Cells, writer: Writer)
+        requires own { (self.old.id ≡ cells.now) × (writer.id ≡ cells.now) }
+        requires empty { self.old.ledger.kept ≡ None }
+        ensures { (self.new.id ≡ self.old.id)
+            × (self.new.ledger ≡ ledger self.old.ledger.slots self.old.ledger.next
+            self.old.ledger.entries (Some writer.token)) }
+    {
+        let Writer { seat } = writer;
+        let shared = &cells.table.shared;
+        shared.join_seat::<Returns>(&mut self.seat, seat);
+    }
+}
+
+impl Master {
+    /// The load after a return: takes away the token that is kept aside, and its entry. After a
+    /// writer the slot has the writer's words, and is sealed where `put` is true and they are a
+    /// credential's.
+    pub fn load_after_return(&mut self, cells: &Cells, put: bool)
+        requires own { self.old.id ≡ cells.now }
+        requires returned { IsSome self.old.ledger.kept }
+        ensures entry { IfSome self.old.ledger.kept (λ t.
+            IsTaken self.old.ledger.entries (entry_of t) (without t.ticket self.old.ledger.entries)
+            × EntryFits self.old.ledger.slots (entry_of t)) }
+        ensures master { (self.new.id ≡ self.old.id)
+            × IfSome self.old.ledger.kept
+            (λ t. self.new.ledger ≡ after_back self.old.ledger t put) }
+    {
+        self.load_as::<Brand>(cells, put);
+    }
+
+    /// The same at an order that has `put`.
+    fn load_as<O: Order>(&mut self, cells: &Cells, put: bool)
+        requires order { put ≡ O.put }
+        requires own { self.old.id ≡ cells.now }
+        requires returned { IsSome self.old.ledger.kept }
+        ensures entry { IfSome self.old.ledger.kept (λ t.
+            IsTaken self.old.ledger.entries (entry_of t) (without t.ticket self.old.ledger.entries)
+            × EntryFits self.old.ledger.slots (entry_of t)) }
+        ensures master { (self.new.id ≡ self.old.id)
+            × IfSome self.old.ledger.kept
+            (λ t. self.new.ledger ≡ after_back self.old.ledger t O.put) }
+    {
+        let _ = put;
+        let shared = &cells.table.shared;
+        shared.load::<Learns<O>>(&mut self.seat, 0);
+    }
+}
+
+/// Reads the word `i` of the slot that is held. It waits for nobody.
+pub fn read_word(cells: &Cells, hold: &mut Hold, slot: u32, i: usize) -> u64
+    requires own { hold.old.id ≡ cells.now }
+    requires slot { slot ≡ hold.old.token.slot }
+    requires within { i < width }
+    ensures value { result ≡ slice_index hold.old.token.words i }
+    ensures same { hold.new ≡ hold.old }
+{
+    let shared = &cells.table.shared;
+    let seat = &mut hold.seat;
+    shared.load::<Reads>(seat, place_of(slot, i))
+}
+
+/// Puts the word `i` of the slot that is written. It waits for nobody.
+pub fn put_word(cells: &Cells, writer: &mut Writer, slot: u32, i: usize, word: u64)
+    requires own { writer.old.id ≡ cells.now }
+    requires slot { slot ≡ writer.old.token.slot }
+    requires within { i < width }
+    ensures { (writer.new.id ≡ writer.old.id)
+        × (writer.new.token
+        ≡ put_words writer.old.token (slice_set writer.old.token.words i word)) }
+{
+    let shared = &cells.table.shared;
+    let seat = &mut writer.seat;
+    shared.store::<Puts>(seat, place_of(slot, i), word);
+}

@@ -1,0 +1,13 @@
+//! The words that credentials are shared in, and the rule that they keep. A master lends a slot as
+//! a hold, of which there may be many and which reads, or as a writer, which is alone on its slot
+//! and puts. The rule holds between any two atomic steps, whichever tokens step.
+#![tactic(auto)]
+
+pub mod cells;
+pub mod laws;
+mod rule;
+pub mod size;
+pub mod view;
+
+pub use cells::{Cells, Hold, Master, Writer, put_word, read_word};
+pub use size::SLOTS;

@@ -1,0 +1,103 @@
+//! The rule of the shared words, and what each kind of step reports.
+use crate::view::View;
+use atomic_table::{Join, Play, Split, TableRule};
+use std::marker::{Brand, PhantomData};
+
+/// The rule.
+pub struct Words;
+
+impl TableRule<(), View, ()> for Words {
+    ghost use Rattle.cred_words.specs.Words.{IsKept, opened};
+
+    ghost holds = { λ _ s. IsKept s.words s.views };
+
+    ghost first = { λ _. opened };
+}
+
+/// What one call lends, or whether the writer that came back has put. Each call picks it, since a
+/// step sees its word and no other argument.
+pub trait Order {
+    ghost use Rattle.std.specs.Prelude.{ℕ, Bool};
+
+    ghost label: { ℕ };
+
+    ghost slot: { ℕ };
+
+    ghost put: { Bool };
+}
+
+impl Order for Brand {
+    ghost use Rattle.std.specs.Prelude.{false};
+
+    ghost label = { 0 };
+
+    ghost slot = { 0 };
+
+    ghost put = { false };
+}
+
+/// Lends a hold.
+pub struct LendsHold<O>(PhantomData<O>);
+
+impl<O: Order> Split<View> for LendsHold<O> {
+    ghost use Rattle.std.specs.Prelude.{false};
+    ghost use Rattle.cred_words.specs.Words.{lending, lends};
+
+    ghost left = { lending O.label O.slot false };
+
+    ghost right = { lends O.label O.slot false };
+}
+
+/// Lends a writer.
+pub struct LendsWriter<O>(PhantomData<O>);
+
+impl<O: Order> Split<View> for LendsWriter<O> {
+    ghost use Rattle.std.specs.Prelude.{true};
+    ghost use Rattle.cred_words.specs.Words.{lending, lends};
+
+    ghost left = { lending O.label O.slot true };
+
+    ghost right = { lends O.label O.slot true };
+}
+
+/// Takes a seat back, and keeps its view aside.
+pub struct Returns;
+
+impl Join<View> for Returns {
+    ghost use Rattle.cred_words.specs.Words.{returned};
+    ghost use Rattle.cred_words.specs.declared.view.View.TheVariants.{Spent};
+
+    ghost both = { returned };
+
+    ghost spent = { Spent };
+}
+
+/// Strikes out the entry of the view kept aside.
+pub struct Learns<O>(PhantomData<O>);
+
+impl<O: Order> Play<(), View> for Learns<O> {
+    ghost use Rattle.std.specs.Prelude.{◌≡◌};
+    ghost use Rattle.cred_words.specs.Words.{Learned};
+
+    ghost then = { λ _ v _ w. Learned O.put v.0 w.0 × (w.1 ≡ v.1) };
+}
+
+/// Reads a word of a slot that is held.
+pub struct Reads;
+
+impl Play<(), View> for Reads {
+    ghost use Rattle.std.specs.Prelude.{◌≡◌};
+    ghost use Rattle.cred_words.specs.Words.{ReadAt};
+
+    ghost then = { λ step v n w. (w.0 ≡ v.0) × ReadAt step.word v.0 n × (w.1 ≡ v.1) };
+}
+
+/// Puts a word of a slot that is written.
+pub struct Puts;
+
+impl Play<(), View> for Puts {
+    ghost use Rattle.std.specs.Prelude.{◌≡◌};
+    ghost use Rattle.cred_words.specs.Words.{PutAt};
+
+    ghost then = { λ step v _ w. PutAt step.word step.first v.0 w.0 × (w.1 ≡ v.1) };
+}

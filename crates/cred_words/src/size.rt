@@ -1,0 +1,4 @@
+//! How many slots there are.
+
+/// The number of slots.
+pub const SLOTS: usize = 256;
