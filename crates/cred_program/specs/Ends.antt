@@ -10,7 +10,7 @@ use Rattle.cred_event.specs.declared.entry.Entry.{Entry}
 use Rattle.cred_model.specs.Script.{Script}
 use Rattle.cred_model.specs.Journal.{IsSequence}
 use Rattle.cred_laws.specs.Journals.{IsLawful}
-use Rattle.cred_script.specs.declared.refusal.Reason.{Reason}
+use Rattle.cred_spelling.specs.declared.reason.Reason.{Reason}
 use Rattle.cred_script.specs.Lines.{lines_of}
 use Rattle.cred_script.specs.Grammar.{script_of}
 use Rattle.cred_report.specs.Text.{text}

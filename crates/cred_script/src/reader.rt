@@ -36,8 +36,8 @@ fn read_lines(alloc: Global, bytes: &[u8]) -> Result<Script, ScriptRefusal>
     let mut words = Vec::new(alloc);
     let mut rest = bytes;
     while !rest.is_empty() {
-        let (text, after) = first_line(rest);
-        reading.add_numbered(alloc, &mut words, text)?;
+        let (text, after, printable) = first_line(rest);
+        reading.add_numbered(alloc, &mut words, text, printable)?;
         rest = after;
     }
     Ok(reading.into_script())

@@ -1,5 +1,6 @@
 //! What was read of a script, and one more line of it.
 ghost use Rattle.std.specs.Prelude.{◌≡◌, ◌<◌, ◌+◌, IfErr, OnOk, length};
+ghost use Rattle.cred_spelling.specs.Lines.{is_printable};
 ghost use Rattle.cred_spelling.specs.Read.{Says, nows};
 ghost use Rattle.cred_script.specs.Grammar as grammar;
 ghost use Rattle.cred_script.specs.Grammar.{at_line};
@@ -13,7 +14,7 @@ use crate::refusal::{LineRefusal, ScriptRefusal};
 use crate::script::{Script, ScriptLine};
 use crate::uses::{has_files, has_namespaces};
 use cred_event::Content;
-use cred_spelling::{Form, Reason, form_of, is_comment, is_printable, split_into};
+use cred_spelling::{Form, Reason, form_of, is_comment, split_into};
 use std::alloc::Global;
 use std::marker::Model;
 
@@ -66,20 +67,22 @@ impl Reading {
         Script { files, lines }
     }
 
-    /// One more line. A bad one is reported by its number. The list of words is one that an earlier
-    /// line left, to be used again.
+    /// One more line, of which it was tested whether each byte is printable. A bad one is reported by
+    /// its number. The list of words is one that an earlier line left, to be used again.
     pub(crate) fn add_numbered<'b>(
         &mut self,
         alloc: Global,
         words: &mut Vec<&'b [u8]>,
         text: &'b [u8],
+        printable: bool,
     ) -> Result<(), ScriptRefusal>
-        requires { length self.old.lines < 20000 }
+        requires few { length self.old.lines < 20000 }
+        requires test { printable ≡ is_printable text.now }
         ensures { Gives (λ _. self.new) result
             (at_line (length self.old.lines + 1) (grammar.add_line self.old text.now)) }
     {
         let number = self.lines.len() as u32 + 1;
-        match self.add_line(alloc, words, text) {
+        match self.add_line(alloc, words, text, printable) {
             Ok(()) => Ok(()),
             Err(LineRefusal::Bad(reason)) => Err(ScriptRefusal::Bad {
                 line: number,
@@ -96,11 +99,13 @@ impl Reading {
         alloc: Global,
         words: &mut Vec<&'b [u8]>,
         text: &'b [u8],
+        printable: bool,
     ) -> Result<(), LineRefusal>
-        requires { length self.old.lines < 20000 }
+        requires few { length self.old.lines < 20000 }
+        requires test { printable ≡ is_printable text.now }
         ensures { Tells (λ _. self.new) result (grammar.add_line self.old text.now) }
     {
-        let line = self.parse_line(alloc, words, text)?;
+        let line = self.parse_line(alloc, words, text, printable)?;
         self.keep(line)
     }
 
@@ -148,10 +153,12 @@ impl Reading {
         alloc: Global,
         words: &mut Vec<&'b [u8]>,
         text: &'b [u8],
+        printable: bool,
     ) -> Result<Parsed, LineRefusal>
+        requires { printable ≡ is_printable text.now }
         ensures { Tells (λ line. line) result (grammar.parse_line self.now text.now) }
     {
-        if !is_printable(text) {
+        if !printable {
             return Err(LineRefusal::Bad(Reason::Byte));
         }
         split_into(words, text)?;

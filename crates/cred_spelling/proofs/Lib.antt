@@ -1,4 +1,5 @@
 pub mod FirstLine
+pub mod LineCount
 pub mod Numerals
 pub mod CapNames
 pub mod Hexadecimals

@@ -36,16 +36,19 @@ pub fn id_of(word: &[u8]) -> Option<Id>
 }
 
 /// A number in decimal, without leading zeros.
+#[inline(always)]
 pub(crate) fn number_of(word: &[u8]) -> Option<u32>
     ensures { result ≡ spec.number_of word.now }
 {
     match word {
         [b'0'] => Some(0),
+        [digit @ b'1'..=b'9'] => Some(u32::from(*digit - b'0')),
         [b'1'..=b'9', ..] => parsed(word),
         _ => None,
     }
 }
 
+#[inline(never)]
 fn parsed(word: &[u8]) -> Option<u32>
     requires some { 1 ≤ length word.now }
     requires low { 49 ≤ slice_index word.now 0 }
