@@ -1,9 +1,9 @@
 -- What holds of each reference, by the kinds of things that refer.
-use Rattle.std.proofs.Common.{ℕ, ◌==◌, List, [], ◌++◌, Some, true, false, cond, map}
-use Rattle.std.specs.List.{All, flat_map}
+use Rattle.std.proofs.Common.{ℕ, ◌==◌, List, [], ◌++◌, Some, true, false, cond, ◌∷◌}
+use Rattle.std.specs.List.{All, AllByRecursion, concat}
 use Rattle.std.proofs.lemmas.List.Elements.{All-append, All-map, All-nil}
 use Rattle.cred_model.specs.State.{State, Task, Hold, Prepared, Changed}
-use Rattle.cred_model.specs.Slots.{refs}
+use Rattle.cred_model.specs.Slots.{places, standing, refs}
 use Rattle.cred_model.specs.Step.{renewed, with_current, changed, with_change}
 use Rattle.cred_model.proofs.Lists.{All-kept, All-left, All-right, All-unmap, All-flat_map, All-unflat_map}
 use Rattle.cred_model.proofs.Numbers.{renewed_as}
@@ -15,53 +15,34 @@ pub record EachRef (P : ℕ → Type 0) (s : State) : Type 0 where
   pub bases : All (λ p. P p.base) s.prepared
   pub deferred : All P s.deferred
 
-joined : (P : ℕ → Type 0) (a b c d e : List ℕ) → All P a → All P b → All P c → All P d → All P e
-    → All P ((a ++ (b ++ (c ++ (d ++ [])))) ++ e)
-joined P a b c d e in_a in_b in_c in_d in_e =
-    All-append P _ e
-    (All-append P a _ in_a (All-append P b _ in_b (All-append P c _ in_c (All-append P d [] in_d (All-nil P))))) in_e
+-- lists that are joined, by each of them
+concat_each : (P : ℕ → Type 0) (lists : List (List ℕ)) → AllByRecursion (All P) lists → All P (concat lists)
+concat_each P [] each = All-nil P
+concat_each P (xs ∷ lists) each = All-append P xs (concat lists) each.0 (concat_each P lists each.1)
+
+each_concat : (P : ℕ → Type 0) (lists : List (List ℕ)) → All P (concat lists) → AllByRecursion (All P) lists
+each_concat P [] each = tt
+each_concat P (xs ∷ lists) each =
+    (All-left P xs (concat lists) each, each_concat P lists (All-right P xs (concat lists) each))
 
 pub refs_each : (P : ℕ → Type 0) (s : State) → EachRef P s → All P (refs s)
 refs_each P s each =
-    joined P (map (λ (t : Task). t.current) s.tasks) (flat_map (λ (t : Task). t.overrides) s.tasks)
-    (map (λ (h : Hold). h.number) s.holds) (map (λ (p : Prepared). p.base) s.prepared) s.deferred
-    (All-map P (λ (t : Task). t.current) s.tasks each.currents)
-    (All-flat_map P (λ (t : Task). t.overrides) s.tasks each.overrides)
-    (All-map P (λ (h : Hold). h.number) s.holds each.holds)
-    (All-map P (λ (p : Prepared). p.base) s.prepared each.bases)
-    each.deferred
-
--- the parts of a list that is joined so
-record Parts (P : ℕ → Type 0) (a b c d e : List ℕ) : Type 0 where
-  in_a : All P a
-  in_b : All P b
-  in_c : All P c
-  in_d : All P d
-  in_e : All P e
-
-parts : (P : ℕ → Type 0) (a b c d e : List ℕ) → All P ((a ++ (b ++ (c ++ (d ++ [])))) ++ e) → Parts P a b c d e
-parts P a b c d e each =
-    let first = All-left P (a ++ (b ++ (c ++ (d ++ [])))) e each in
-    let second = All-right P a (b ++ (c ++ (d ++ []))) first in
-    let third = All-right P b (c ++ (d ++ [])) second in
-    record {
-      in_a = All-left P a _ first;
-      in_b = All-left P b _ second;
-      in_c = All-left P c _ third;
-      in_d = All-left P d [] (All-right P c (d ++ []) third);
-      in_e = All-right P (a ++ (b ++ (c ++ (d ++ [])))) e each;
-    }
+    let currents = All-map P (λ (t : Task). t.current) s.tasks each.currents in
+    let overrides = All-flat_map P (λ (t : Task). t.overrides) s.tasks each.overrides in
+    let holds = All-map P (λ (h : Hold). h.number) s.holds each.holds in
+    let bases = All-map P (λ (p : Prepared). p.base) s.prepared each.bases in
+    All-append P (standing s) s.deferred
+    (concat_each P (places s) (currents, (overrides, (holds, (bases, tt))))) each.deferred
 
 pub each_ref : (P : ℕ → Type 0) (s : State) → All P (refs s) → EachRef P s
 each_ref P s each =
-    let all = parts P (map (λ (t : Task). t.current) s.tasks) (flat_map (λ (t : Task). t.overrides) s.tasks)
-    (map (λ (h : Hold). h.number) s.holds) (map (λ (p : Prepared). p.base) s.prepared) s.deferred each in
+    let at = each_concat P (places s) (All-left P (standing s) s.deferred each) in
     record {
-      currents = All-unmap P (λ (t : Task). t.current) s.tasks all.in_a;
-      overrides = All-unflat_map P (λ (t : Task). t.overrides) s.tasks all.in_b;
-      holds = All-unmap P (λ (h : Hold). h.number) s.holds all.in_c;
-      bases = All-unmap P (λ (p : Prepared). p.base) s.prepared all.in_d;
-      deferred = all.in_e;
+      currents = All-unmap P (λ (t : Task). t.current) s.tasks at.0;
+      overrides = All-unflat_map P (λ (t : Task). t.overrides) s.tasks at.1.0;
+      holds = All-unmap P (λ (h : Hold). h.number) s.holds at.1.1.0;
+      bases = All-unmap P (λ (p : Prepared). p.base) s.prepared at.1.1.1.0;
+      deferred = All-right P (standing s) s.deferred each;
     }
 
 -- ---- a state that differs in one kind
