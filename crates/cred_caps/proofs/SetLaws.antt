@@ -1,9 +1,9 @@
 -- The laws of sets, at the numbers that stand for them.
-use Rattle.std.proofs.Common.{◌≡◌, ◌↔◌, ℕ, zero, suc, ◌-◌, ◌^◌, ◌<◌, ◌&&◌, ◌||◌, ◌==◌, not, Bool, true, false, refl, sym, ap, subst, ◌∙◌, arith, min, max}
+use Rattle.std.proofs.Common.{◌≡◌, ◌↔◌, ℕ, zero, suc, ◌-◌, ◌^◌, ◌<◌, ◌&&◌, ◌||◌, ◌==◌, not, Bool, true, false, refl, sym, ap, subst, ◌∙◌, arith, inl, inr, min, max}
 use Rattle.std.specs.Int.{bit_at, w64}
-use Rattle.std.proofs.lemmas.Bool.{eqb-true, eqb-false}
+use Rattle.std.proofs.lemmas.Bool.{cases_lt, eqb-true, eqb-false}
 use Rattle.std.proofs.lemmas.Nat.{pow_below}
-use Rattle.std.proofs.lemmas.Nat.Bits.{bit_at_and, bit_at_or, bit_at-lt, bit_at-zero, bit_at_ones, bit_at-pow_same, bit_at-pow_other, bit_at_not, same_from_bits}
+use Rattle.std.proofs.lemmas.Nat.Bits.{bit_at_and, bit_at_or, bit_at-lt, bit_at-zero, bit_at_ones, bit_at-pow_same, bit_at-pow_other, bit_at_above, bit_at_not, same_from_bits}
 use Rattle.cred_caps.specs.Caps.{Caps, IsCap, IsCaps, empty, full, has, union, meet, less, with, without, IsWithin}
 use Rattle.cred_caps.specs.Sets.{AreSets}
 
@@ -151,3 +151,28 @@ are_sets = record {
   in_without = has-without;
   in_other = within-members;
 }
+
+-- ---- what is within a set has nothing that isn't in the set
+
+not_bit : (b n : ℕ) → bit_at b n ≡ 1 → bit_at (2 ^ 64 - 1 - b) n ≡ 0
+not_bit b n member =
+    elim (cases_lt n 64) [
+      | inl low ↦ elim (cases_lt b (2 ^ 64)) [
+        | inl small ↦ bit_at_not w64 b n small low ∙ omega arith
+        | inr large ↦ let none : 2 ^ 64 - 1 - b ≡ 0 = omega arith in ap (λ s. bit_at s n) none ∙ bit_at-zero n
+      ]
+      | inr high ↦ bit_at_above (2 ^ 64 - 1 - b) 64 n (omega arith) high
+    ]
+
+none_left : (d e f : ℕ) → d < 2 → e < 2 → min d e ≡ d → (e ≡ 1 → f ≡ 0) → min d f ≡ 0
+none_left zero e f small small' within none = omega arith
+none_left (suc zero) zero f small small' within none = absurd (omega arith)
+none_left (suc zero) (suc zero) f small small' within none = let zero_f = none refl in omega arith
+none_left (suc (suc d)) e f small small' within none = absurd (omega arith)
+none_left d (suc (suc e)) f small small' within none = absurd (omega arith)
+
+pub less-within : (a b : Caps) → IsWithin a b → less a b ≡ empty
+less-within a b within = same_from_bits _ _ (λ n.
+    bit_at_and a (2 ^ 64 - 1 - b) n
+    ∙ none_left _ _ _ (bit_at-lt a n) (bit_at-lt b n) (sym (bit_at_and a b n) ∙ ap (λ s. bit_at s n) within) (not_bit b n)
+    ∙ sym (bit_at-zero n))

@@ -1,12 +1,16 @@
 //! The course of one line.
 ghost use Rattle.std.specs.Prelude.{◌≡◌, ◌≤◌, ◌<◌, true, IfOk, is_none, is_some};
 ghost use Rattle.cred_model.specs.Course as spec;
-ghost use Rattle.cred_model.specs.Course.{Leads, after, event_at, left};
+ghost use Rattle.cred_model.specs.Course.{Leads, after, event_at, is_bounded, left};
+ghost use Rattle.cred_model.specs.Named.{is_built_line};
 
 use crate::stages::{event_in, is_late, makes_events, next_stage};
 use cred_event::{Answer, Content, Event, Stage};
 use cred_ids::NoMemory;
 use std::marker::Model;
+
+/// The greatest number of a line.
+pub const LINE_LIMIT: u32 = 20_000;
 
 /// How often a line tries to change a credential, where another change comes before its commit.
 const TRIES: u8 = 8;
@@ -22,8 +26,8 @@ pub struct Course {
 }
 
 impl Model for Course {
-    ghost use Rattle.std.specs.Prelude.{◌≤◌};
     ghost use Rattle.cred_model.specs.Course as spec;
+    ghost use Rattle.cred_course.specs.Range.{IsInRange};
 
     ghost Value = { spec.Course };
 
@@ -31,14 +35,15 @@ impl Model for Course {
 
     ghost inverse = { λ c. record { line = c.line; stage = c.stage; tries = c.tries } };
 
-    ghost invariant = { λ c. (c.line ≤ 20000) × (c.tries ≤ 8) };
+    ghost invariant = { λ c. IsInRange c.line c.tries };
 }
 
 impl Course {
     /// The line of this number, with this content, before its first event. A line that makes none
     /// has ended.
     pub fn start(line: u32, content: &Content) -> Course
-        requires { line ≤ 20000 }
+        requires few { line ≤ LINE_LIMIT }
+        requires kind { is_built_line content.now ≡ true }
         ensures value { result ≡ spec.start line content.now }
         ensures leads { Leads content.now result }
     {
@@ -57,7 +62,7 @@ impl Course {
     /// The number of its line.
     pub fn line(&self) -> u32
         ensures value { result ≡ self.now.line }
-        ensures few { result ≤ 20000 }
+        ensures few { result ≤ LINE_LIMIT }
     {
         self.line
     }
@@ -91,13 +96,14 @@ impl Course {
         }
     }
 
-    /// Leads the line on by the answer to its event. The content is the line's.
+    /// Leads the line on by the answer to its event. The content is the line's. Then it has fewer
+    /// events left; nothing is said of an id call, which every thread of the process makes.
     pub fn took(&mut self, content: &Content, answer: &Answer)
         requires leads { Leads content.now self.old }
         requires goes_on { is_some self.old.stage ≡ true }
         ensures after { self.new ≡ after content.now self.old answer.now }
         ensures leads { Leads content.now self.new }
-        ensures falls { left self.new < left self.old }
+        ensures falls { is_bounded content.now ≡ true → left self.new < left self.old }
     {
         *self = self.after(content, answer);
     }

@@ -1,20 +1,20 @@
 //! The stages of a line: the event of each, and the stage that follows an answer.
-ghost use Rattle.std.specs.Prelude.{◌≡◌, ◌≤◌, IfOk};
+ghost use Rattle.std.specs.Prelude.{◌≡◌, ◌≤◌, true, IfOk};
 ghost use Rattle.cred_event.specs.declared.content.Content.TheVariants as content;
 ghost use Rattle.cred_model.specs.Answers.{is_ok};
 ghost use Rattle.cred_model.specs.Course as spec;
+ghost use Rattle.cred_model.specs.Named.{is_built_line};
 
+use crate::course::LINE_LIMIT;
 use cred_event::{Answer, Change, Content, Event, Query, Side, Stage, copy_event};
 use cred_ids::NoMemory;
 
 /// Does a line with this content make events?
 pub(crate) fn makes_events(content: &Content) -> bool
+    requires { is_built_line content.now ≡ true }
     ensures { result ≡ spec.makes_events content.now }
 {
-    matches!(
-        content,
-        Content::One(_) | Content::Id { .. } | Content::Question { .. } | Content::Change { .. }
-    )
+    !matches!(content, Content::Nothing)
 }
 
 /// The event of a stage, or none where a line with this content has no such stage.
@@ -23,7 +23,7 @@ pub(crate) fn event_in(
     content: &Content,
     stage: Stage,
 ) -> Result<Option<Event>, NoMemory>
-    requires { line ≤ 20000 }
+    requires { line ≤ LINE_LIMIT }
     ensures { IfOk result (λ event. event ≡ spec.event_in line content.now stage) }
 {
     Ok(match (content, stage) {
@@ -40,7 +40,7 @@ pub(crate) fn event_in(
 
 /// The label of what a line holds.
 fn hold_label(line: u32) -> u32
-    requires { line ≤ 20000 }
+    requires { line ≤ LINE_LIMIT }
     ensures { result ≡ spec.hold_label line }
 {
     100_000 + 10 * line
@@ -48,14 +48,14 @@ fn hold_label(line: u32) -> u32
 
 /// The label of the new credential that a line prepares.
 fn new_label(line: u32) -> u32
-    requires { line ≤ 20000 }
+    requires { line ≤ LINE_LIMIT }
     ensures { result ≡ spec.new_label line }
 {
     100_001 + 10 * line
 }
 
 fn question_event(line: u32, task: u32, query: Query, stage: Stage) -> Option<Event>
-    requires { line ≤ 20000 }
+    requires { line ≤ LINE_LIMIT }
     ensures { result ≡ spec.event_in line (content.Question task query) stage }
 {
     let label = hold_label(line);
@@ -72,7 +72,7 @@ fn question_event(line: u32, task: u32, query: Query, stage: Stage) -> Option<Ev
 }
 
 fn change_event(line: u32, task: u32, change: Change, stage: Stage) -> Option<Event>
-    requires { line ≤ 20000 }
+    requires { line ≤ LINE_LIMIT }
     ensures { result ≡ spec.event_in line (content.Change task change) stage }
 {
     let hold = hold_label(line);

@@ -1,4 +1,8 @@
 //! Whole courses: the events that a line makes by the answers that it gets.
+ghost use Rattle.std.specs.Prelude.{◌≡◌, true};
+ghost use Rattle.cred_model.specs.Course.{is_bounded};
+ghost use Rattle.cred_model.specs.Named.{is_built_line};
+
 use crate::Course;
 use cred_event::{Answer, Change, Content, Event, Query};
 use cred_ids::{Arg, Kind};
@@ -41,7 +45,9 @@ const COMMIT: (&str, u32) = ("commit", 100_031);
 const ABORT: (&str, u32) = ("abort", 100_031);
 
 /// Whether line 3 makes just these events, each before the answer that it gets, and then has ended.
-fn makes(content: &Content, steps: &[((&str, u32), Answer)]) -> Result<bool, Fail> {
+fn makes(content: &Content, steps: &[((&str, u32), Answer)]) -> Result<bool, Fail>
+    requires { is_built_line content.now ≡ true }
+{
     let mut course = Course::start(3, content);
     for (want, answer) in steps {
         match course.event(content)? {
@@ -132,7 +138,10 @@ fn late(event: &Event) -> Answer {
 }
 
 /// How many events a line makes whose commit always comes too late.
-fn events(content: &Content) -> Result<u32, Fail> {
+fn events(content: &Content) -> Result<u32, Fail>
+    requires built { is_built_line content.now ≡ true }
+    requires bounded { is_bounded content.now ≡ true }
+{
     let mut course = Course::start(3, content);
     let mut events = 0;
     'events: while let Some(event) = course.event(content)? {

@@ -1,45 +1,39 @@
 -- Every journal is lawful.
-use Rattle.std.proofs.Common.{◌≡◌, ◌≢◌, inl, inr, ℕ, ◌+◌, ◌<◌, ◌≤◌, List, [], ◌∷◌, ◌++◌, length, take, drop, slice_get, Option, Some, None, refl, sym, ap, ◌∙◌, subst, arith}
+use Rattle.std.proofs.Common.{◌≡◌, ◌≢◌, inl, inr, ℕ, ◌+◌, ◌<◌, ◌≤◌, List, [], ◌∷◌, ◌++◌, length, take, drop, slice_get, Option, Some, None, false, refl, sym, ap, ◌∙◌, subst, arith}
 use Rattle.std.specs.List.{All}
 use Rattle.std.specs.Option.{IfSome}
-use Rattle.std.proofs.lemmas.List.{take_all, take_more, take-take, take-append-drop, get_or-drop, get_or-take, length-drop, length-take}
-use Rattle.std.proofs.lemmas.Option.{get_or_from_slice_get, slice_get-get_or, slice_get_cases, slice_get_within}
-use Rattle.cred_caps.specs.Caps.{IsWithin}
+use Rattle.std.proofs.lemmas.List.{take_more, take-take, take-append-drop, get_or-drop, get_or-take, length-drop, length-take}
+use Rattle.std.proofs.lemmas.Option.{get_or_from_slice_get, slice_get-get_or, slice_get_past, slice_get_within}
+use Rattle.std.proofs.lemmas.Bool.{cases_lt}
 use Rattle.cred_event.specs.declared.event.Event.TheVariants.{Release}
 use Rattle.cred_event.specs.declared.entry.Entry.{Entry}
 use Rattle.cred_model.specs.Script.{Script}
 use Rattle.cred_model.specs.State.{State, Sealing, Numbered, numbered, task_of, current_of, held_by}
 use Rattle.cred_model.specs.Step.{step}
-use Rattle.cred_model.specs.Journal.{replay}
+use Rattle.cred_model.specs.Journal.{replay, IsAnswered}
 use Rattle.cred_model.proofs.Journals.{replay-push}
+use Rattle.cred_model.proofs.Numbers.{numbered_stays}
 use Rattle.cred_laws.specs.Slots.{IsUnused}
-use Rattle.cred_laws.specs.Held.{prepared_as, IsNotEndOf}
-use Rattle.cred_laws.specs.Permitted.{IsBornWith}
-use Rattle.cred_laws.specs.Journals.{state_at, IsAlwaysSound, WritesUnusedSlots, KeepsSealed, KeepsHeld, KeepsPrepared, AddsNoPermitted, BearsWithFirst, JournalsAreLawful}
-use Rattle.cred_laws.proofs.Sound.{sound_after}
+use Rattle.cred_sound.proofs.Sound.{sound_after}
+use Rattle.cred_laws.specs.Slots.{IsUnused}
+use Rattle.cred_laws.specs.Held.{prepared_as, ends}
+use Rattle.cred_laws.specs.Permitted.{Gains, IsCreatedWith}
+use Rattle.cred_laws.specs.Journals.{state_at, IsAlwaysSound, IsAlwaysMade, WritesUnusedSlots, KeepsSealed, KeepsHeld, KeepsPrepared, GainsAsAnswered, CreatesTasks, JournalsAreLawful}
 use Rattle.cred_laws.proofs.Unused.{no_held_slot_is_rewritten}
-use Rattle.cred_laws.proofs.HeldLaws.{held_stays, numbered_stays, on_extends, replay-append}
+use Rattle.cred_laws.proofs.HeldLaws.{held_stays, on_extends, replay-append}
 use Rattle.cred_laws.proofs.PreparedLaws.{prepared_goes_on}
-use Rattle.cred_laws.proofs.PermittedLaws.{permitted_never_grows, new_task_has_first, unchanged}
+use Rattle.cred_laws.proofs.MadeLaws.{made_after}
+use Rattle.cred_laws.proofs.PermittedLaws.{permitted_gains, new_tasks_are_created}
 
 -- ---- the states of a journal
 
-past_end : {X : Type 0} (xs : List X) (k : ℕ) → slice_get xs k ≡ None → length xs ≤ k
-past_end xs k is = elim (slice_get_cases xs k).1 [ inl w ↦ absurd (let there = w.2 in cc) | inr w ↦ w.0 ]
-
--- the state after one entry more is the step's, or the same past the end
+-- the state after one entry more is the step's
 step_at : (script : Script) (journal : List Entry) (k : ℕ) (entry : Entry) → slice_get journal k ≡ Some entry
     → state_at script journal (k + 1) ≡ (step script (state_at script journal k) entry.line entry.event).1
 step_at script journal k entry is =
     let lt = slice_get_within journal k entry is in
     ap (replay script) (take_more journal k entry lt ∙ ap (λ (e : Entry). take k journal ++ e ∷ []) (get_or_from_slice_get journal k entry entry is))
     ∙ replay-push script (take k journal) entry
-
-stop_at : (script : Script) (journal : List Entry) (k : ℕ) → slice_get journal k ≡ None
-    → state_at script journal (k + 1) ≡ state_at script journal k
-stop_at script journal k is =
-    let past = past_end journal k is in
-    ap (replay script) (take_all (k + 1) journal (omega arith) ∙ sym (take_all k journal past))
 
 -- the entries from one place to another
 between : List Entry → ℕ → ℕ → List Entry
@@ -67,6 +61,9 @@ each_between P journal k l each i d lt =
 
 pub always_sound : (script : Script) (journal : List Entry) → IsAlwaysSound script journal
 always_sound script journal k = sound_after script (take k journal)
+
+pub always_made : (script : Script) (journal : List Entry) → IsAlwaysMade script journal
+always_made script journal k = made_after script (take k journal)
 
 unused_by : (script : Script) (journal : List Entry) (k number : ℕ) (new : Numbered) (o : Option Entry)
     → slice_get journal k ≡ o → length (state_at script journal k).creds ≤ number
@@ -101,42 +98,55 @@ keeps_prepared script journal k l label p within is none =
     ap (λ (j : List Entry). prepared_as (replay script j) label) (take_between journal k l within)
     ∙ ap (λ (s : State). prepared_as s label) (replay-append script (take k journal) more)
     ∙ prepared_goes_on script (state_at script journal k) more label p is
-    (each_between (λ entry. IsNotEndOf label entry.event) journal k l none)
+    (each_between (λ entry. ends label entry.event ≡ false) journal k l none)
 
-permitted_by : (script : Script) (journal : List Entry) (k task : ℕ) (before after : Numbered) (o : Option Entry)
-    → slice_get journal k ≡ o → current_of (state_at script journal k) task ≡ Some before
-    → current_of (state_at script journal (k + 1)) task ≡ Some after → IsWithin after.cred.perm before.cred.perm
-permitted_by script journal k task before after (Some entry) is was now =
-    permitted_never_grows script (state_at script journal k) entry.line entry.event task before after (always_sound script journal k) was
-    (ap (λ (s : State). current_of s task) (sym (step_at script journal k entry is)) ∙ now)
-permitted_by script journal k task before after None is was now =
-    unchanged (state_at script journal k) (state_at script journal (k + 1)) task before after
-    (λ was. ap (λ (s : State). current_of s task) (stop_at script journal k is) ∙ was) was now
+gains_by : (script : Script) (journal : List Entry) (k task : ℕ) (before after : Numbered) (o : Option Entry)
+    → slice_get journal k ≡ o
+    → IfSome o (λ entry. entry.answer ≡ (step script (state_at script journal k) entry.line entry.event).0)
+    → current_of (state_at script journal k) task ≡ Some before
+    → current_of (state_at script journal (k + 1)) task ≡ Some after
+    → IfSome o (λ entry. Gains entry.answer before after)
+gains_by script journal k task before after (Some entry) is answered was now =
+    subst (λ answer. Gains answer before after) (sym answered)
+    (permitted_gains script (state_at script journal k) entry.line entry.event task before after (always_made script journal k) was
+    (ap (λ (s : State). current_of s task) (sym (step_at script journal k entry is)) ∙ now))
+gains_by script journal k task before after None is answered was now = tt
 
-pub adds_no_permitted : (script : Script) (journal : List Entry) → AddsNoPermitted script journal
-adds_no_permitted script journal k task before after =
-    permitted_by script journal k task before after (slice_get journal k) refl
+-- past its end a journal says nothing of its answers
+answered_at : (script : Script) (journal : List Entry) → IsAnswered script journal → (k : ℕ)
+    → IfSome (slice_get journal k) (λ entry. entry.answer ≡ (step script (state_at script journal k) entry.line entry.event).0)
+answered_at script journal answered k =
+    elim (cases_lt k (length journal)) [
+      | inl lt ↦ answered k lt
+      | inr past ↦ subst (λ (o : Option Entry). IfSome o (λ entry. entry.answer ≡ (step script (state_at script journal k) entry.line entry.event).0))
+          (sym (slice_get_past journal k past)) tt
+    ]
 
-born_by : (script : Script) (journal : List Entry) (k task : ℕ) (after : Numbered) (o : Option Entry)
+pub gains_as_answered : (script : Script) (journal : List Entry) → IsAnswered script journal → GainsAsAnswered script journal
+gains_as_answered script journal answered k task before after =
+    gains_by script journal k task before after (slice_get journal k) refl (answered_at script journal answered k)
+
+created_by : (script : Script) (journal : List Entry) (k task : ℕ) (after : Numbered) (o : Option Entry)
     → slice_get journal k ≡ o → task_of (state_at script journal k) task ≡ None
     → current_of (state_at script journal (k + 1)) task ≡ Some after
-    → IfSome o (λ entry. IsBornWith entry.event task after.cred)
-born_by script journal k task after (Some entry) is none now =
-    new_task_has_first script (state_at script journal k) entry.line entry.event task after none
+    → IfSome o (λ entry. IsCreatedWith (state_at script journal k) entry.event task after)
+created_by script journal k task after (Some entry) is none now =
+    new_tasks_are_created script (state_at script journal k) entry.line entry.event task after none
     (ap (λ (s : State). current_of s task) (sym (step_at script journal k entry is)) ∙ now)
-born_by script journal k task after None is none now = tt
+created_by script journal k task after None is none now = tt
 
-pub bears_with_first : (script : Script) (journal : List Entry) → BearsWithFirst script journal
-bears_with_first script journal k task after none now =
-    born_by script journal k task after (slice_get journal k) refl none now
+pub creates_tasks : (script : Script) (journal : List Entry) → CreatesTasks script journal
+creates_tasks script journal k task after none now =
+    created_by script journal k task after (slice_get journal k) refl none now
 
 pub lawful : JournalsAreLawful
-lawful script journal = record {
+lawful script journal answered = record {
   sound = always_sound script journal;
+  made = always_made script journal;
   unused = writes_unused_slots script journal;
   sealed = keeps_sealed script journal;
   held = keeps_held script journal;
   prepared = keeps_prepared script journal;
-  permitted = adds_no_permitted script journal;
-  born = bears_with_first script journal;
+  gains = gains_as_answered script journal answered;
+  created = creates_tasks script journal;
 }

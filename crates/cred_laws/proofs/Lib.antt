@@ -1,12 +1,9 @@
-pub mod Lists
-pub mod Changes
-pub mod References
-pub mod Prepared
-pub mod Sound
 pub mod Unused
 pub mod HeldLaws
 pub mod PreparedLaws
 pub mod ChangeLaws
+pub mod MadeLaws
 pub mod PermittedLaws
 pub mod OrderLaws
+pub mod AnsweredLaws
 pub mod Lawful

@@ -7,10 +7,10 @@ use Rattle.std.proofs.lemmas.Option.{slice_get-get_or}
 use Rattle.std.proofs.lemmas.Bool.Decides.{nat_tests}
 use Rattle.cred_event.specs.declared.event.Event.{Event}
 use Rattle.cred_event.specs.declared.entry.Entry.{Entry}
-use Rattle.cred_model.specs.Script.{Script, Line}
+use Rattle.cred_model.specs.Script.{Script, Line, SetupFirst}
 use Rattle.cred_model.specs.Journal.{Due, next_event, first_due, entry_of, due_in, next, lane_of, next_in_order}
 use Rattle.cred_model.proofs.Order as order
-use Rattle.cred_laws.specs.Order.{OneSequence, SetupFirst, SequenceIsLegal, SequenceHasLines}
+use Rattle.cred_laws.specs.Order.{OneSequence, SequenceIsLegal, SequenceHasLines}
 
 pub one_sequence : OneSequence
 one_sequence script a b h k = order.one_sequence script a b h k

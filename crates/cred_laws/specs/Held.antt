@@ -1,5 +1,5 @@
 -- What was sealed, what is held and what is prepared stays as it is.
-use Rattle.std.specs.Prelude.{◌≡◌, ◌≢◌, ℕ, List, ◌++◌, length, take, Some, None, All}
+use Rattle.std.specs.Prelude.{◌≡◌, ◌≢◌, ◌==◌, ℕ, Bool, false, List, ◌++◌, length, take, Some, None, All}
 use Rattle.std.specs.declared.option.Option.{Option}
 use Rattle.std.specs.Option.{option_map}
 use Rattle.cred_event.specs.declared.event.Event.{Event}
@@ -37,16 +37,19 @@ HeldStays =
 -- What a label prepares, as it was before the first change of its credential: the task, the base
 -- and the slot.
 abbrev pub prepared_as : State → ℕ → Option Prepared
-prepared_as s label = option_map (λ (p : Prepared). record p { changed = None }) (prepared_of s label)
+prepared_as s label =
+    option_map (λ (p : Prepared). record p { changed = None }) (prepared_of s label)
 
--- the event neither commits the label nor aborts it
-abbrev pub IsNotEndOf : ℕ → Event → Type 0
-IsNotEndOf label event = (event ≢ Commit label) × (event ≢ Abort label)
+-- the event ends what the label prepares
+abbrev pub ends : ℕ → Event → Bool
+ends label (Commit committed) = committed == label
+ends label (Abort aborted) = aborted == label
+ends label event = false
 
--- A prepared label stands, with its task, its base and its slot, after each event but its own commit
--- or abort.
+-- A prepared label stands, with its task, its base and its slot, after each event that doesn't end
+-- it.
 abbrev pub PreparedStays : Type 0
 PreparedStays =
     (script : Script) (s : State) (line : ℕ) (event : Event) (label : ℕ) (p : Prepared)
-    → prepared_as s label ≡ Some p → IsNotEndOf label event
+    → prepared_as s label ≡ Some p → ends label event ≡ false
     → prepared_as (step script s line event).1 label ≡ Some p

@@ -1,14 +1,15 @@
 -- The laws, of the states that one journal leads through.
-use Rattle.std.specs.Prelude.{◌≡◌, ◌≢◌, ℕ, ◌+◌, ◌<◌, ◌≤◌, List, length, take, slice_get, Some, None, IfSome}
-use Rattle.cred_caps.specs.Caps.{IsWithin}
+use Rattle.std.specs.Prelude.{◌≡◌, ◌≢◌, ℕ, false, ◌+◌, ◌<◌, ◌≤◌, List, length, take, slice_get, Some, None, IfSome}
 use Rattle.cred_event.specs.declared.event.Event.TheVariants.{Release}
 use Rattle.cred_event.specs.declared.entry.Entry.{Entry}
 use Rattle.cred_model.specs.Script.{Script}
 use Rattle.cred_model.specs.State.{State, Prepared, Numbered, numbered, task_of, current_of, held_by}
-use Rattle.cred_model.specs.Journal.{replay}
-use Rattle.cred_laws.specs.Slots.{IsSound, IsUnused}
-use Rattle.cred_laws.specs.Held.{prepared_as, IsNotEndOf}
-use Rattle.cred_laws.specs.Permitted.{IsBornWith}
+use Rattle.cred_model.specs.Journal.{replay, IsAnswered}
+use Rattle.cred_sound.specs.Sound.{IsSound}
+use Rattle.cred_laws.specs.Slots.{IsUnused}
+use Rattle.cred_laws.specs.Held.{prepared_as, ends}
+use Rattle.cred_laws.specs.Made.{AreMade}
+use Rattle.cred_laws.specs.Permitted.{Gains, IsCreatedWith}
 
 -- the state after the first k entries
 abbrev pub state_at : Script → List Entry → ℕ → State
@@ -18,8 +19,12 @@ state_at script journal k = replay script (take k journal)
 abbrev pub IsAlwaysSound : Script → List Entry → Type 0
 IsAlwaysSound script journal = (k : ℕ) → IsSound (state_at script journal k)
 
--- What an entry seals is put where no hold, no task's current credential and no base of a prepared
--- label stood, and where no prepared label kept the slot but the one that the entry commits.
+-- In each state a prepared credential that was changed is what its last change makes of its base.
+abbrev pub IsAlwaysMade : Script → List Entry → Type 0
+IsAlwaysMade script journal = (k : ℕ) → AreMade script (state_at script journal k)
+
+-- What an entry seals is put where nothing that was referred to stood, and where no prepared label
+-- kept the slot but the one that the entry commits.
 abbrev pub WritesUnusedSlots : Script → List Entry → Type 0
 WritesUnusedSlots script journal =
     (k number : ℕ) (new : Numbered) → length (state_at script journal k).creds ≤ number
@@ -43,40 +48,43 @@ KeepsHeld script journal =
     → IfSome (slice_get journal i) (λ entry. entry.event ≢ Release label))
     → held_by (state_at script journal l) label ≡ Some held
 
--- What a label prepares stays, but for its changes, as long as no entry commits or aborts it.
+-- What a label prepares stays, but for its changes, as long as no entry ends it.
 abbrev pub KeepsPrepared : Script → List Entry → Type 0
 KeepsPrepared script journal =
     (k l label : ℕ) (p : Prepared) → k ≤ l
     → prepared_as (state_at script journal k) label ≡ Some p
     → ((i : ℕ) → k ≤ i → i < l
-    → IfSome (slice_get journal i) (λ entry. IsNotEndOf label entry.event))
+    → IfSome (slice_get journal i) (λ entry. ends label entry.event ≡ false))
     → prepared_as (state_at script journal l) label ≡ Some p
 
--- No entry adds to what a living task is permitted.
-abbrev pub AddsNoPermitted : Script → List Entry → Type 0
-AddsNoPermitted script journal =
+-- What an entry adds to what a living task is permitted is what its answer says was gained.
+abbrev pub GainsAsAnswered : Script → List Entry → Type 0
+GainsAsAnswered script journal =
     (k task : ℕ) (before after : Numbered)
     → current_of (state_at script journal k) task ≡ Some before
     → current_of (state_at script journal (k + 1)) task ≡ Some after
-    → IsWithin after.cred.perm before.cred.perm
+    → IfSome (slice_get journal k) (λ entry. Gains entry.answer before after)
 
--- A task comes to live by the entry that gives birth to it, with its first credential.
-abbrev pub BearsWithFirst : Script → List Entry → Type 0
-BearsWithFirst script journal =
+-- A task comes to live by the entry that creates it, with the credential that this one gives it.
+abbrev pub CreatesTasks : Script → List Entry → Type 0
+CreatesTasks script journal =
     (k task : ℕ) (after : Numbered) → task_of (state_at script journal k) task ≡ None
     → current_of (state_at script journal (k + 1)) task ≡ Some after
-    → IfSome (slice_get journal k) (λ entry. IsBornWith entry.event task after.cred)
+    → IfSome (slice_get journal k) (λ entry.
+    IsCreatedWith (state_at script journal k) entry.event task after)
 
 -- all of these
 pub record IsLawful (script : Script) (journal : List Entry) : Type 0 where
   pub sound : IsAlwaysSound script journal
+  pub made : IsAlwaysMade script journal
   pub unused : WritesUnusedSlots script journal
   pub sealed : KeepsSealed script journal
   pub held : KeepsHeld script journal
   pub prepared : KeepsPrepared script journal
-  pub permitted : AddsNoPermitted script journal
-  pub born : BearsWithFirst script journal
+  pub gains : GainsAsAnswered script journal
+  pub created : CreatesTasks script journal
 
--- They hold of every journal.
+-- They hold of every journal whose entries have the answers that the kernel gives.
 abbrev pub JournalsAreLawful : Type 0
-JournalsAreLawful = (script : Script) (journal : List Entry) → IsLawful script journal
+JournalsAreLawful =
+    (script : Script) (journal : List Entry) → IsAnswered script journal → IsLawful script journal

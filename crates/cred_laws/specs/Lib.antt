@@ -1,5 +1,7 @@
 pub mod Order
 pub mod Slots
 pub mod Held
+pub mod Made
 pub mod Permitted
 pub mod Journals
+pub mod Answered

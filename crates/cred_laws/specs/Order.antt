@@ -1,18 +1,13 @@
 -- What the order of a script's lines decides.
 use Rattle.std.specs.Prelude.{◌≡◌, List, All, IsSome}
-use Rattle.std.specs.List.{AllPairs}
 use Rattle.cred_event.specs.declared.entry.Entry.{Entry}
-use Rattle.cred_model.specs.Script.{Script}
+use Rattle.cred_model.specs.Script.{Script, SetupFirst}
 use Rattle.cred_model.specs.Journal.{lane_of, IsSequence, IsLegal}
 
 -- a script has at most one journal in which its lines run whole and in order
 abbrev pub OneSequence : Type 0
 OneSequence =
     (script : Script) (a b : List Entry) → IsSequence script a → IsSequence script b → a ≡ b
-
--- The setup's lines come before all others.
-abbrev pub SetupFirst : Script → Type 0
-SetupFirst script = AllPairs (λ earlier later. later.lane ≡ 0 → earlier.lane ≡ 0) script.lines
 
 -- Where the setup comes first, its lines running whole and in order is one of the ways in which
 -- the lanes may take turns.

@@ -1,33 +1,43 @@
 -- How the permitted set of a task's credential may change.
-use Rattle.std.specs.Prelude.{◌≡◌, ℕ, Some, None}
-use Rattle.cred_caps.specs.Caps.{IsWithin}
-use Rattle.cred_record.specs.Credential.{Credential, first_credential}
+use Rattle.std.specs.Prelude.{◌≡◌, ◌≢◌, ℕ, length, Some, None}
+use Rattle.cred_caps.specs.Caps.{less}
+use Rattle.cred_record.specs.Credential.{first_credential}
+use Rattle.cred_event.specs.declared.answer.Answer.{Answer}
 use Rattle.cred_event.specs.declared.event.Event.{Event}
 use Rattle.cred_event.specs.declared.event.Event.TheVariants.{Init}
 use Rattle.cred_model.specs.Script.{Script}
 use Rattle.cred_model.specs.State.{State, Numbered, task_of, current_of}
+use Rattle.cred_model.specs.Change.{gained}
 use Rattle.cred_model.specs.Step.{step}
-use Rattle.cred_laws.specs.Slots.{IsSound}
+use Rattle.cred_laws.specs.Made.{AreMade}
 
--- A task that was alive in a sound state before an event has nothing permitted after it that was
--- not permitted before.
-abbrev pub PermittedNeverGrows : Type 0
-PermittedNeverGrows =
+-- From a task's current credential before an event that answers so to the one after it: where that
+-- is another one, it permits nothing more than the old one but what the answer says was gained.
+-- Where it has the number of the old one, it is the old one, in its slot.
+pub record Gains (answer : Answer) (before after : Numbered) : Type 0 where
+  pub same : after.number ≡ before.number → after ≡ before
+  pub other : after.number ≢ before.number
+      → less after.cred.perm before.cred.perm ≡ gained answer
+
+-- So it is with each task that is alive before and after an event, where each prepared credential
+-- is what its change makes of its base.
+abbrev pub PermittedGains : Type 0
+PermittedGains =
     (script : Script) (s : State) (line : ℕ) (event : Event) (task : ℕ) (before after : Numbered)
-    → IsSound s → current_of s task ≡ Some before
+    → AreMade script s → current_of s task ≡ Some before
     → current_of (step script s line event).1 task ≡ Some after
-    → IsWithin after.cred.perm before.cred.perm
+    → Gains (step script s line event).0 before after
 
--- the event gives birth to the task, with this credential
-abbrev pub IsBornWith : Event → ℕ → Credential → Type 0
-IsBornWith (Init number process user group ns) task c =
-    (number ≡ task) × (c ≡ first_credential user group ns)
-IsBornWith event task c = ⊥
+-- In this state the event creates the task, with this current credential: a first task has a new
+-- one, that of the ids and the namespace which the event names.
+abbrev pub IsCreatedWith : State → Event → ℕ → Numbered → Type 0
+IsCreatedWith s (Init number process user group ns) task c =
+    (number ≡ task) × (c.number ≡ length s.creds) × (c.cred ≡ first_credential user group ns)
+IsCreatedWith s event task c = ⊥
 
--- A task that was not alive before an event, and is after it, was born by it with its first
--- credential.
-abbrev pub NewTaskHasFirst : Type 0
-NewTaskHasFirst =
+-- A task that was not alive before an event, and is after it, was created by it.
+abbrev pub NewTasksAreCreated : Type 0
+NewTasksAreCreated =
     (script : Script) (s : State) (line : ℕ) (event : Event) (task : ℕ) (after : Numbered)
     → task_of s task ≡ None → current_of (step script s line event).1 task ≡ Some after
-    → IsBornWith event task after.cred
+    → IsCreatedWith s event task after

@@ -26,8 +26,8 @@ pub fn held_stays()
     ensures { HeldStays }
 {}
 
-/// A prepared label stands, and keeps its task, its base and its slot, after each event but its own
-/// commit or abort.
+/// A prepared label stands, and keeps its task, its base and its slot, after each event that does
+/// not end it: its own commit or abort.
 ///
 /// It does not say that the prepared credential stays: each change makes it anew of the base.
 pub fn prepared_stays()

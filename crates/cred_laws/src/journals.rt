@@ -1,12 +1,13 @@
 //! The laws, of the states that one journal leads through.
 ghost use Rattle.cred_laws.specs.Journals.{JournalsAreLawful};
 
-/// Every journal is lawful: each of its states is sound, its entries seal credentials only in slots
-/// that are not in use, what is sealed, what is held and what is prepared stays, no entry adds to
-/// what a living task is permitted, and a task is born with its first credential.
+/// Every journal whose entries have the answers that the kernel gives is lawful: each of its states
+/// is sound, and each prepared credential there is what its change makes of its base. Its entries
+/// seal credentials only in slots that are not in use; what is sealed, what is held and what is
+/// prepared stays. What an entry adds to what a living task is permitted is what its answer says
+/// was gained, and a task comes to live by the entry that creates it.
 ///
-/// No premise is made on its answers, which do not decide the states: that the answers are those of
-/// the states is another matter.
+/// A journal in order, and one whose lanes take turns, has those answers.
 pub fn journals_are_lawful()
     ensures { JournalsAreLawful }
 {}

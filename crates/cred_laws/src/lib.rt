@@ -5,6 +5,7 @@
 //! must fail stands with the code that keeps the law.
 #![tactic(auto)]
 
+pub mod answered;
 pub mod held;
 pub mod journals;
 pub mod order;

@@ -1,19 +1,26 @@
 //! How the permitted set of a task's credential may change.
-ghost use Rattle.cred_laws.specs.Permitted.{PermittedNeverGrows, NewTaskHasFirst};
+ghost use Rattle.cred_laws.specs.Made.{PreparedAreMade};
+ghost use Rattle.cred_laws.specs.Permitted.{PermittedGains, NewTasksAreCreated};
 
-/// In a sound state no event adds to what a living task is permitted: whatever its new current
-/// credential is, the permitted set is within that of the one before (capabilities(7)). The state
-/// after every journal is sound.
-///
-/// A prepared credential is committed only while its base is its task's current one, and no change
-/// adds to what the base permits. The law does not say that the effective set is within the
-/// permitted one.
-pub fn permitted_never_grows()
-    ensures { PermittedNeverGrows }
+/// In the state after any journal a prepared credential that was changed is what its last change
+/// makes of its base.
+pub fn prepared_are_made()
+    ensures { PreparedAreMade }
 {}
 
-/// A task that comes to live is born with its first credential: that of the ids and the namespace
-/// that its event names.
-pub fn new_task_has_first()
-    ensures { NewTaskHasFirst }
+/// Where a living task has another current credential after an event, what that one permits and the
+/// old one did not is just what the event's answer says was gained, which is nothing but for an
+/// execve (capabilities(7)). Where it has the same number, it has the same credential.
+///
+/// It asks that each prepared credential is what its change makes of its base, as it is after every
+/// journal: one is committed only while its base is its task's current one. The law does not say
+/// that the effective set is within the permitted one.
+pub fn permitted_gains()
+    ensures { PermittedGains }
+{}
+
+/// A task that comes to live is created by the event: a first task with a new credential, that of
+/// the ids and the namespace which the event names.
+pub fn new_tasks_are_created()
+    ensures { NewTasksAreCreated }
 {}

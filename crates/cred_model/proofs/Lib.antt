@@ -2,3 +2,11 @@ pub mod Journals
 pub mod Courses
 pub mod Lines
 pub mod Order
+pub mod Lists
+pub mod Numbers
+pub mod Names
+pub mod Referred
+pub mod Likes
+pub mod LikeReads
+pub mod LikeTests
+pub mod LikeEvents

@@ -19,7 +19,7 @@ abbrev pub refusal : Denial → Answer
 refusal Perm = answer.Eperm
 refusal Invalid = answer.Einval
 
--- what a question about one capability is told: a number that is none is refused
+-- what a question about one capability is told: a number that is no capability's is refused
 abbrev pub flag : Option Bool → Answer
 flag None = answer.Einval
 flag (Some is) = answer.Told (told.Flag is)
@@ -40,7 +40,7 @@ reply file c (Bset n) = flag (bset_read c n)
 reply file c (AmbIs n) = flag (amb_is_set c n)
 reply file c (Check place asked) = checked c file asked
 
--- the event did what it says
+-- the answer is no refusal
 abbrev pub is_ok : Answer → Bool
 is_ok answer.Done = true
 is_ok (answer.Sealed cred slot) = true

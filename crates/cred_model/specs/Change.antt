@@ -21,7 +21,7 @@ pub record Made : Type 0 where
   pub cred : Credential
   pub gains : Gains
 
--- only an execve gains anything
+-- Only an execve adds to the permitted set.
 abbrev pub no_gains : Gains
 no_gains = record { file = empty; inherit = empty; root = empty }
 
@@ -38,14 +38,14 @@ made_by_rule (Ok c) = Ok (made answer.Done c)
 made_by_rule (Err denial) = Err (refusal denial)
 
 -- What a change makes of a base credential, or its refusal. It sees the file that it names, if any,
--- and the root ids of the base's namespace and of that one's ancestors. No line makes the other
--- changes yet, and no call is handed one.
+-- and the root ids of the base's namespace and of that one's ancestors. The other changes are not
+-- built yet: no line makes one, and no function is called with one.
 abbrev pub by_change : Option File → List ℕ → Credential → Change → Result Made Answer
 by_change file chain c (SetFs kind id) = Ok (made (answer.Was (old_fs c kind)) (set_fs c kind id))
 by_change file chain c (Adjust call) = made_by_rule (adjust c call)
 by_change file chain c change = Err answer.Einval
 
--- what the answer says was gained
+-- what the permitted set gained, as the answer reports it
 abbrev pub gained : Answer → Caps
 gained (answer.Executed cred slot ended gains) = union gains.file (union gains.inherit gains.root)
 gained answer = empty

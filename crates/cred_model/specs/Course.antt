@@ -21,12 +21,12 @@ hold_label line = 100000 + 10 * line
 abbrev pub new_label : ℕ → ℕ
 new_label line = 100001 + 10 * line
 
--- how often a line tries to change a credential
+-- how often a line tries to change a credential, at most
 abbrev pub TRIES : ℕ
 TRIES = 8
 
 -- How far a line has come: the stage that comes next, or none where it has ended, and which try
--- this is.
+-- this is, from 1.
 pub record Course : Type 0 where
   pub line : ℕ
   pub stage : Option Stage
@@ -107,7 +107,8 @@ after content course answer =
       stage = option_and_then (λ stage. next_stage content stage answer) course.stage;
     }
 
--- how many events a try may still have from this stage on, at most
+-- How many events a try may still have from this stage on, at most. The release before another try
+-- counts with that try.
 abbrev pub most : Stage → ℕ
 most Retrying = 7
 most First = 6
@@ -118,7 +119,7 @@ most Asking = 2
 most Aborting = 2
 most Releasing = 1
 
--- how many events one try may have, at most
+-- more events than one try has, with the release before it
 abbrev pub TRY_EVENTS : ℕ
 TRY_EVENTS = 8
 
@@ -127,8 +128,8 @@ abbrev pub left : Course → ℕ
 left course =
     option_map_or (λ stage. TRY_EVENTS * (TRIES - course.tries) + most stage) course.stage 0
 
--- The line makes no more events than its course allows. An id call has no such bound: each thread of
--- the process makes it, however many there are by then.
+-- The line makes no more events than `left` says of its course. An id call has no such bound: each
+-- thread of the process follows it, however many there are by then.
 abbrev pub is_bounded : Content → Bool
 is_bounded (Id task call) = false
 is_bounded content = true

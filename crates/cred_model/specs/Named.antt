@@ -1,4 +1,4 @@
--- What events and lines name, and which of them the kernel makes.
+-- What events and lines name, and which of them are built.
 use Rattle.std.specs.Prelude.{◌≡◌, ℕ, ◌<◌, Bool, true, false, List, [], ◌∷◌, All}
 use Rattle.cred_event.specs.declared.event.Change.{Change}
 use Rattle.cred_event.specs.declared.event.Change.TheVariants.{SetFs, Adjust, Exec}
@@ -52,7 +52,7 @@ is_built_change (SetFs kind id) = true
 is_built_change (Adjust call) = true
 is_built_change other = false
 
--- the events that the kernel makes so far
+-- the events that are built so far
 abbrev pub is_built : Event → Bool
 is_built (Init task process user group namespace) = true
 is_built (Take label task side) = true

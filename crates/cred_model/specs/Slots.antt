@@ -59,10 +59,10 @@ least_free s = find (λ slot. not (is_live s slot)) slots
 abbrev pub swept : State → State
 swept s = record s { deferred = [] }
 
--- Where all slots are live, a sweep makes room, if there is any to be made.
+-- Where all slots are live there is a sweep, whether or not it frees one.
 abbrev pub room : State → State
 room s = if is_some (least_free s) then s else swept s
 
--- the slot that a new credential takes, in the state with room
+-- the slot that a new credential takes, after the sweep if there was one
 abbrev pub free : State → Option ℕ
 free s = least_free (room s)

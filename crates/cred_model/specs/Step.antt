@@ -37,17 +37,18 @@ abbrev pub ◌>>=◌ : {A B : Type 0} → Result A Answer → (A → Result B An
 (Ok x) >>= f = f x
 (Err answer) >>= f = Err answer
 
--- the answer comes where there is a value
+-- refused with this answer where there is a value
 abbrev pub none_or : {A : Type 0} → Option A → Answer → Result (Unit {0}) Answer
 none_or found answer = if is_some found then Err answer else Ok tt
 
--- the answer comes where there are as many as there may be
+-- refused with this answer where there are as many as there may be
 abbrev pub fewer_or : ℕ → ℕ → Answer → Result (Unit {0}) Answer
 fewer_or count limit answer = if nat_lt count limit then Ok tt else Err answer
 
 -- What happens where a slot is free, and where none is. The sweep that was made to find one stands
 -- either way.
-abbrev pub in_slot : State → (State → Answer × State) → (State → ℕ → Answer × State) → Answer × State
+abbrev pub in_slot : State → (State → Answer × State) → (State → ℕ → Answer × State)
+    → Answer × State
 in_slot s full does = option_map_or (does (room s)) (free s) (full (room s))
 
 -- where no slot is free
@@ -141,7 +142,8 @@ by_init s task process user group ns = do
       let first = first_task task process number in
       (Sealed number slot, created s first (first_credential user group ns) slot)))
 
--- a label takes hold of the credential that the task acts with, or is acted on by
+-- A label takes hold of the credential that the task acts with, or is acted on by. No event
+-- overrides a credential yet, so that is its current one either way.
 abbrev pub by_take : State → ℕ → ℕ → Side → Result (Answer × State) Answer
 by_take s label task side = do
   taken ← ok_or (current_of s task) (NoTask task)
@@ -192,7 +194,10 @@ by_alter script s label change = do
   base ← ok_or (numbered s.creds p.base) (NoPrepared label)
   made ← by_change (info_of script (change_files change)) (chain_of script base.cred.ns) base.cred
       change
-  Ok (made.answer, altered s label (record { change = change; cred = made.cred; gains = made.gains }))
+  Ok (
+    made.answer,
+    altered s label (record { change = change; cred = made.cred; gains = made.gains }),
+  )
 
 -- what a label prepared becomes the current credential of its task
 abbrev pub by_commit : State → ℕ → Result (Answer × State) Answer
@@ -210,7 +215,8 @@ by_abort s label = do
   p ← ok_or (slice_get s.prepared place) (NoPrepared label)
   Ok (Done, given_up s place p)
 
--- a task makes an id call
+-- A task makes an id call. No line makes a second thread of a process yet, so none is left that has
+-- to follow.
 abbrev pub by_begin : State → ℕ → IdCall → Result (Answer × State) Answer
 by_begin s task call = do
   old ← ok_or (current_of s task) (NoTask task)
@@ -218,8 +224,8 @@ by_begin s task call = do
   Ok (in_slot s table_full (λ s slot.
       (Began (length s.creds) slot 0, replaced s task old.number new slot)))
 
--- What an event of a line does if nothing refuses it, with its answer. No line makes the other
--- events yet, and no call is handed one.
+-- What an event of a line does if nothing refuses it, with its answer. The other events are not
+-- built yet: no line makes one, and no function is called with one.
 abbrev pub done : Script → State → ℕ → Event → Result (Answer × State) Answer
 done script s line (Init task process user group ns) = by_init s task process user group ns
 done script s line (Take label task side) = by_take s label task side

@@ -10,6 +10,7 @@ use Rattle.cred_event.specs.declared.entry.Entry.{Entry}
 use Rattle.cred_io.specs.declared.sink.SinkRefusal.TheVariants as sink
 use Rattle.cred_model.specs.Script.{Script}
 use Rattle.cred_model.specs.Journal.{IsSequence}
+use Rattle.cred_laws.proofs.AnsweredLaws.{in_order_is_answered}
 use Rattle.cred_laws.proofs.Lawful.{lawful}
 use Rattle.cred_script.specs.Grammar.{script_of}
 use Rattle.cred_program.specs.Ends.{Reports, BeginsText, finished}
@@ -71,7 +72,7 @@ pub reported : (before after : Option (List ℕ)) (input : List ℕ) (script : S
     → script_of input ≡ Ok script → IsSequence script journal → OnOk r (Appends before after (text script journal))
     → finished r status.Done ≡ status.Done → Reports before after input
 reported before after input script journal (Ok whole) read run all done =
-    record { script = script; read = read; journal = journal; run = run; lawful = lawful script journal; written = all }
+    record { script = script; read = read; journal = journal; run = run; lawful = lawful script journal (in_order_is_answered script journal run.in_order); written = all }
 reported before after input script journal (Err sink.Failed) read run all done = cc
 reported before after input script journal (Err sink.Memory) read run all done = cc
 

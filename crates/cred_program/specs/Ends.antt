@@ -58,7 +58,7 @@ ReadsTooMuch before after =
 
 -- The input is a script, and the text of the journal in which its lines run whole and in order
 -- was written. The laws hold of it: no slot is rewritten while something refers to it, a hold keeps
--- its credential, and no permitted set grows.
+-- its credential, and no permitted set grows but by what its entry says was gained.
 pub record Reports (before after : Option (List ℕ)) (input : List ℕ) : Type 0 where
   pub script : Script
   pub read : script_of input ≡ Ok script

@@ -2,17 +2,21 @@
 use Rattle.std.proofs.Common.{◌≡◌, ℕ, ◌<◌, ◌≤◌, List, [], ◌∷◌, ◌++◌, length, All, Option, length-append, arith}
 use Rattle.std.specs.List.{cons_option}
 use Rattle.std.proofs.lemmas.List.Elements.{All-weaker, All-push}
+use Rattle.cred_model.specs.Named.{files}
 use Rattle.cred_model.specs.Script.{Line, NamedFile}
 use Rattle.cred_script.specs.Forms.{ParsedLine}
-use Rattle.cred_script.specs.Sound.{IsSound, IsParsed, files}
+use Rattle.cred_script.specs.Sound.{IsSound, IsParsed}
 use Rattle.cred_script.specs.Grammar.{setup_line, with_file}
 
 sound_with : (few many : ℕ) (line : Line) → few ≤ many → IsSound few line → IsSound many line
 sound_with few many line grown sound = record {
   lane = sound.lane;
   labels = sound.labels;
-  namespaces = sound.namespaces;
-  files = All-weaker (λ file. file < few) (λ file. file < many) (λ file lt. omega (arith, grown, lt)) (files line.content) sound.files;
+  content = record {
+    built = sound.content.built;
+    files = All-weaker (λ file. file < few) (λ file. file < many) (λ file lt. omega (arith, grown, lt)) (files line.content) sound.content.files;
+    namespaces = sound.content.namespaces;
+  };
 }
 
 grows : {A : Type 0} (xs : List A) (x : Option A) → length xs ≤ length (xs ++ cons_option x [])

@@ -3,6 +3,7 @@ use Rattle.std.specs.Prelude.{ℕ, ◌==◌, Bool, true, false, not, ◌&&◌, �
 use Rattle.std.specs.declared.option.Option.{Option}
 use Rattle.std.specs.List.{list_all}
 use Rattle.cred_event.specs.declared.content.Content.{Content}
+use Rattle.cred_model.specs.Named.{files, namespaces}
 use Rattle.cred_model.specs.Script.{NamedFile}
 use Rattle.cred_script.specs.declared.names.Form.{Form}
 use Rattle.cred_script.specs.declared.names.Form.TheVariants as form
@@ -13,7 +14,6 @@ use Rattle.cred_script.specs.Words.{◌>>=◌}
 use Rattle.cred_script.specs.Names.{form_of}
 use Rattle.cred_script.specs.Files.{place_of}
 use Rattle.cred_script.specs.Forms.{ParsedLine}
-use Rattle.cred_script.specs.Sound.{files, namespaces}
 
 -- before the first line
 abbrev pub nothing : Earlier

@@ -1,15 +1,11 @@
 -- What is true of the lines of every script.
-use Rattle.std.specs.Prelude.{◌≡◌, ℕ, ◌≤◌, ◌<◌, List, [], ◌∷◌, length, All, None, IfSome}
+use Rattle.std.specs.Prelude.{◌≡◌, ℕ, ◌≤◌, ◌<◌, true, List, [], ◌∷◌, length, All, None, IfSome}
 use Rattle.std.specs.declared.option.Option.{Option}
 use Rattle.cred_event.specs.declared.event.Event.{Event}
-use Rattle.cred_event.specs.declared.event.Event.TheVariants.{Init, Take, TakeFile, Release, Ask, Signal, Prepare, Alter, Commit, Abort, Override, OpenFile}
-use Rattle.cred_event.specs.declared.event.Query.{Query}
-use Rattle.cred_event.specs.declared.event.Query.TheVariants.{Check}
-use Rattle.cred_event.specs.declared.event.Change.{Change}
-use Rattle.cred_event.specs.declared.event.Change.TheVariants.{Exec}
+use Rattle.cred_event.specs.declared.event.Event.TheVariants.{Take, TakeFile, Release, Ask, Signal, Prepare, Alter, Commit, Abort, Override, OpenFile}
 use Rattle.cred_event.specs.declared.content.Content.{Content}
-use Rattle.cred_event.specs.declared.content.Content.TheVariants.{One, Question, Open, Access}
-use Rattle.cred_event.specs.declared.content.Content.TheVariants as content
+use Rattle.cred_event.specs.declared.content.Content.TheVariants.{One}
+use Rattle.cred_model.specs.Named.{IsContentOf, is_built_line}
 use Rattle.cred_model.specs.Script.{Line, NamedFile}
 use Rattle.cred_script.specs.Files.{place_of}
 use Rattle.cred_script.specs.Forms.{ParsedLine}
@@ -34,55 +30,17 @@ abbrev pub labels : Content → List ℕ
 labels (One event) = event_labels event
 labels content = []
 
--- the namespaces that a line names
-abbrev pub namespaces : Content → List ℕ
-namespaces (One (Init task process user group namespace)) = namespace ∷ []
-namespaces content = []
-
--- the files that a question names, by their places
-abbrev pub query_files : Query → List ℕ
-query_files (Check file want) = file ∷ []
-query_files query = []
-
--- the files that a change names
-abbrev pub change_files : Change → List ℕ
-change_files (Exec file) = file ∷ []
-change_files change = []
-
--- the files that an event names
-abbrev pub event_files : Event → List ℕ
-event_files (Ask label query) = query_files query
-event_files (Alter label change) = change_files change
-event_files (OpenFile hold file want fd) = file ∷ []
-event_files event = []
-
--- the files that a line names
-abbrev pub files : Content → List ℕ
-files (One event) = event_files event
-files (Question task query) = query_files query
-files (Open task file want fd) = file ∷ []
-files (content.Change task change) = change_files change
-files (Access task file want) = file ∷ []
-files content = []
-
--- each of these files is one of the first so many
-abbrev pub AreAmong : ℕ → List ℕ → Type 0
-AreAmong count files = All (λ file. file < count) files
-
--- Greater labels than 99999 are those that a line takes for itself.
-abbrev pub NamesOwn : Content → Type 0
-NamesOwn content = All (λ label. label ≤ 99999) (labels content)
-
--- Namespace 0 is the only one that is declared.
-abbrev pub HasDeclaredNamespaces : Content → Type 0
-HasDeclaredNamespaces content = All (λ namespace. namespace ≡ 0) (namespaces content)
+-- What is true of what a form holds. Greater labels than 99999 are those that a line takes for
+-- itself.
+pub record IsFormed (content : Content) : Type 0 where
+  pub labels : All (λ label. label ≤ 99999) (labels content)
+  pub built : is_built_line content ≡ true
 
 -- what is true of each line of a script that declares so many files
 pub record IsSound (count : ℕ) (line : Line) : Type 0 where
   pub lane : line.lane ≤ 16
   pub labels : All (λ label. label ≤ 99999) (labels line.content)
-  pub namespaces : HasDeclaredNamespaces line.content
-  pub files : AreAmong count (files line.content)
+  pub content : IsContentOf count line.content
 
 -- none of these files has the name of the one that a line declares
 abbrev pub IsNew : List NamedFile → Option NamedFile → Type 0

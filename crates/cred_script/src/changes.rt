@@ -1,5 +1,7 @@
 //! The changes of a credential that a line names: their arguments. How many there are is asked
 //! before what they spell.
+ghost use Rattle.std.specs.Prelude.{◌≡◌, true, IfOk};
+ghost use Rattle.cred_model.specs.Named.{is_built_change};
 ghost use Rattle.cred_script.specs.Changes as spec;
 ghost use Rattle.cred_script.specs.Read.{Says, nows};
 
@@ -44,7 +46,8 @@ fn three_sets(words: &[&[u8]]) -> Result<(CapSet, CapSet, CapSet), Reason>
 /// A change, by its name.
 #[tactic(auto, unfolding(crate::specs::Changes::change_of))]
 pub(crate) fn change_of(name: ChangeName, words: &[&[u8]]) -> Result<Change, Reason>
-    ensures { Says (λ change. change) result (spec.change_of name (nows words.now)) }
+    ensures change { Says (λ change. change) result (spec.change_of name (nows words.now)) }
+    ensures built { IfOk result (λ change. is_built_change change ≡ true) }
 {
     match name {
         ChangeName::SetFs(kind) => Ok(Change::SetFs(kind, one_arg(words)?)),

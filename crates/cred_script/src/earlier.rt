@@ -2,10 +2,11 @@
 ghost use Rattle.std.specs.Prelude.{◌≡◌, ◌≤◌, [], IfOk, IsTrue, length};
 ghost use Rattle.std.specs.List.{cons_option};
 ghost use Rattle.std.specs.Option.{option_map};
+ghost use Rattle.cred_model.specs.Named as named;
+ghost use Rattle.cred_model.specs.Named.{AreAmong, AreDeclared};
 ghost use Rattle.cred_script.specs.Earlier as spec;
 ghost use Rattle.cred_script.specs.Read.{Says};
-ghost use Rattle.cred_script.specs.Sound as sound;
-ghost use Rattle.cred_script.specs.Sound.{AreAmong, HasDeclaredNamespaces, IsNew};
+ghost use Rattle.cred_script.specs.Sound.{IsNew};
 
 use crate::files::{Files, ScriptFile};
 use crate::forms::ParsedLine;
@@ -89,8 +90,8 @@ fn starts_task(form: Form) -> bool
 /// The names that the line uses are declared, and the one that it declares is not.
 pub(crate) fn names_declared(files: &Files, line: &ParsedLine) -> Result<(), Reason>
     ensures answer { Says (λ x. x) result (spec.names_declared files.now line.now) }
-    ensures namespaces { IfOk result (λ _. HasDeclaredNamespaces line.now.content) }
-    ensures files { IfOk result (λ _. AreAmong (length files.now) (sound.files line.now.content)) }
+    ensures namespaces { IfOk result (λ _. AreDeclared (named.namespaces line.now.content)) }
+    ensures files { IfOk result (λ _. AreAmong (length files.now) (named.files line.now.content)) }
     ensures new { IfOk result (λ _. IsNew files.now line.now.file) }
 {
     if has_namespaces(&line.content)
@@ -106,7 +107,7 @@ pub(crate) fn names_declared(files: &Files, line: &ParsedLine) -> Result<(), Rea
 /// Namespace 0 is the only one that is declared.
 fn has_namespaces(content: &Content) -> bool
     ensures answer { result ≡ spec.has_namespaces content.now }
-    ensures namespaces { IsTrue result → HasDeclaredNamespaces content.now }
+    ensures namespaces { IsTrue result → AreDeclared (named.namespaces content.now) }
 {
     match content {
         Content::One(Event::Init { ns, .. }) => *ns == 0,
@@ -117,7 +118,7 @@ fn has_namespaces(content: &Content) -> bool
 /// Each file that the line names is declared.
 fn has_files(declared: &Files, content: &Content) -> bool
     ensures answer { result ≡ spec.has_files declared.now content.now }
-    ensures files { IsTrue result → AreAmong (length declared.now) (sound.files content.now) }
+    ensures files { IsTrue result → AreAmong (length declared.now) (named.files content.now) }
 {
     match named_file(content) {
         Some(file) => (file as usize) < declared.len(),
@@ -127,7 +128,7 @@ fn has_files(declared: &Files, content: &Content) -> bool
 
 /// The file that a line names, by its place. No line names two.
 fn named_file(content: &Content) -> Option<u32>
-    ensures { sound.files content.now ≡ cons_option result [] }
+    ensures { named.files content.now ≡ cons_option result [] }
 {
     match content {
         Content::Question {

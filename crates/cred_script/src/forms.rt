@@ -3,7 +3,7 @@
 ghost use Rattle.std.specs.Prelude.{◌≡◌, ◌≤◌, ◌<◌, IfOk, IfSome, None, length};
 ghost use Rattle.cred_script.specs.Read.{Says, Tells, nows};
 ghost use Rattle.cred_script.specs.Forms as spec;
-ghost use Rattle.cred_script.specs.Sound.{NamesOwn};
+ghost use Rattle.cred_script.specs.Sound.{IsFormed};
 
 use crate::changes::{change_of, one_cap};
 use crate::file_line::{file_of, name_of};
@@ -52,7 +52,7 @@ pub(crate) fn parse_form(
     words: &[&[u8]],
 ) -> Result<ParsedLine, LineRefusal>
     ensures parsed { Tells (λ line. line) result (spec.parse_form files.now form (nows words.now)) }
-    ensures own { IfOk result (λ line. NamesOwn line.content) }
+    ensures formed { IfOk result (λ line. IsFormed line.content) }
     ensures room { IfOk result (λ line. IfSome line.file (λ _. length files.now < 256)) }
 {
     let content = match form {
@@ -115,7 +115,7 @@ fn query_of(files: &Files, name: QueryName, words: &[&[u8]]) -> Result<Query, Re
 #[tactic(auto, unfolding(crate::specs::Forms::init_content))]
 fn init_content(words: &[&[u8]]) -> Result<Content, Reason>
     ensures content { Says (λ content. content) result (spec.init_content (nows words.now)) }
-    ensures own { IfOk result NamesOwn }
+    ensures formed { IfOk result IsFormed }
 {
     let (task, process, user, group, ns) = five(words)?;
     Ok(Content::One(Event::Init {
@@ -131,7 +131,7 @@ fn init_content(words: &[&[u8]]) -> Result<Content, Reason>
 #[tactic(auto, unfolding(crate::specs::Forms::take_content))]
 fn take_content(side: Side, words: &[&[u8]]) -> Result<Content, Reason>
     ensures content { Says (λ content. content) result (spec.take_content side (nows words.now)) }
-    ensures own { IfOk result NamesOwn }
+    ensures formed { IfOk result IsFormed }
 {
     let (label, task) = two(words)?;
     Ok(Content::One(Event::Take {
@@ -145,7 +145,7 @@ fn take_content(side: Side, words: &[&[u8]]) -> Result<Content, Reason>
 #[tactic(auto, unfolding(crate::specs::Forms::release_content))]
 fn release_content(words: &[&[u8]]) -> Result<Content, Reason>
     ensures content { Says (λ content. content) result (spec.release_content (nows words.now)) }
-    ensures own { IfOk result NamesOwn }
+    ensures formed { IfOk result IsFormed }
 {
     let label = one(words)?;
     Ok(Content::One(Event::Release {
@@ -158,7 +158,7 @@ fn release_content(words: &[&[u8]]) -> Result<Content, Reason>
 fn ask_content(files: &Files, words: &[&[u8]]) -> Result<Content, Reason>
     ensures content { Says (λ content. content) result
         (spec.ask_content files.now (nows words.now)) }
-    ensures own { IfOk result NamesOwn }
+    ensures formed { IfOk result IsFormed }
 {
     let (label, name, rest) = two_or_more(words)?;
     let name = query_name(name).ok_or(Reason::Word)?;
@@ -171,7 +171,7 @@ fn ask_content(files: &Files, words: &[&[u8]]) -> Result<Content, Reason>
 #[tactic(auto, unfolding(crate::specs::Forms::prepare_content))]
 fn prepare_content(words: &[&[u8]]) -> Result<Content, Reason>
     ensures content { Says (λ content. content) result (spec.prepare_content (nows words.now)) }
-    ensures own { IfOk result NamesOwn }
+    ensures formed { IfOk result IsFormed }
 {
     let (label, task, hold) = three(words)?;
     Ok(Content::One(Event::Prepare {
@@ -185,7 +185,7 @@ fn prepare_content(words: &[&[u8]]) -> Result<Content, Reason>
 #[tactic(auto, unfolding(crate::specs::Forms::alter_content))]
 fn alter_content(words: &[&[u8]]) -> Result<Content, Reason>
     ensures content { Says (λ content. content) result (spec.alter_content (nows words.now)) }
-    ensures own { IfOk result NamesOwn }
+    ensures formed { IfOk result IsFormed }
 {
     let (label, name, rest) = two_or_more(words)?;
     let name = change_name(name).ok_or(Reason::Word)?;
@@ -198,7 +198,7 @@ fn alter_content(words: &[&[u8]]) -> Result<Content, Reason>
 #[tactic(auto, unfolding(crate::specs::Forms::commit_content))]
 fn commit_content(words: &[&[u8]]) -> Result<Content, Reason>
     ensures content { Says (λ content. content) result (spec.commit_content (nows words.now)) }
-    ensures own { IfOk result NamesOwn }
+    ensures formed { IfOk result IsFormed }
 {
     let label = one(words)?;
     Ok(Content::One(Event::Commit {
@@ -210,7 +210,7 @@ fn commit_content(words: &[&[u8]]) -> Result<Content, Reason>
 #[tactic(auto, unfolding(crate::specs::Forms::abort_content))]
 fn abort_content(words: &[&[u8]]) -> Result<Content, Reason>
     ensures content { Says (λ content. content) result (spec.abort_content (nows words.now)) }
-    ensures own { IfOk result NamesOwn }
+    ensures formed { IfOk result IsFormed }
 {
     let label = one(words)?;
     Ok(Content::One(Event::Abort {
@@ -222,7 +222,7 @@ fn abort_content(words: &[&[u8]]) -> Result<Content, Reason>
 #[tactic(auto, unfolding(crate::specs::Forms::begin_content))]
 fn begin_content(alloc: Global, words: &[&[u8]]) -> Result<Content, LineRefusal>
     ensures content { Tells (λ content. content) result (spec.begin_content (nows words.now)) }
-    ensures own { IfOk result NamesOwn }
+    ensures formed { IfOk result IsFormed }
 {
     let (task, name, rest) = two_or_more(words)?;
     let name = id_name(name).ok_or(Reason::Word)?;
@@ -235,7 +235,7 @@ fn begin_content(alloc: Global, words: &[&[u8]]) -> Result<Content, LineRefusal>
 #[tactic(auto, unfolding(crate::specs::Forms::sweep_content))]
 fn sweep_content(words: &[&[u8]]) -> Result<Content, Reason>
     ensures content { Says (λ content. content) result (spec.sweep_content (nows words.now)) }
-    ensures own { IfOk result NamesOwn }
+    ensures formed { IfOk result IsFormed }
 {
     none(words)?;
     Ok(Content::One(Event::Sweep))
@@ -252,7 +252,7 @@ fn call_content(
 ) -> Result<Content, LineRefusal>
     ensures content { Tells (λ made. made) result
         (spec.call_content files.now task name (nows words.now)) }
-    ensures own { IfOk result NamesOwn }
+    ensures formed { IfOk result IsFormed }
 {
     match name {
         CallName::Id(name) => Ok(Content::Id {
@@ -280,7 +280,7 @@ fn task_content(
 ) -> Result<Content, LineRefusal>
     ensures content { Tells (λ content. content) result
         (spec.task_content files.now task (nows words.now)) }
-    ensures own { IfOk result NamesOwn }
+    ensures formed { IfOk result IsFormed }
 {
     match words {
         [] => Err(LineRefusal::Bad(Reason::Word)),

@@ -1,6 +1,7 @@
 //! A script: the files that it declares, and its lines, each with its lane and what it holds.
 ghost use Rattle.std.specs.Prelude.{◌≡◌, ◌≤◌, ◌<◌, IfSome, Some, length, slice_get};
 ghost use Rattle.std.specs.Option.{option_map};
+ghost use Rattle.cred_model.specs.Named.{IsContentOf};
 ghost use Rattle.cred_script.specs.Files as spec;
 ghost use Rattle.cred_script.specs.Grammar.{line_at};
 ghost use Rattle.cred_script.specs.Read.{seen};
@@ -85,6 +86,8 @@ impl Script {
         ensures found { option_map seen result ≡ line_at self.now number }
         ensures few { IfSome result (λ _. number ≤ 20000) }
         ensures sound { IfSome result (λ found. IsSound (length self.now.files) (seen found)) }
+        ensures kind { IfSome result
+            (λ found. IsContentOf (length self.now.files) (seen found).content) }
     {
         let place = number.checked_sub(1)?;
         let line = self.lines.get(place as usize)?;

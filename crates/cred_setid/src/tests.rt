@@ -1,5 +1,6 @@
 //! Cases of the manual pages, run with ample memory.
 use crate::{apply, setfs};
+use cred_caps::SecureBits;
 use cred_ids::{Arg, Id, Kind};
 use cred_record::{Cred, IdCall, IdList, Refusal, first};
 use std::alloc::Global;
@@ -96,6 +97,23 @@ fn the_filesystem_id_moves_the_capabilities_on_files(rt: HostRuntime) -> Result<
     let mut cred = task(rt.alloc(), 0)?;
     for (n, old, after) in [
         (1000, 0, ([0, 0, 0, 1000], ALL, 0x1fe_f7ff_fde0)),
+        (0, 1000, ([0, 0, 0, 0], ALL, ALL)),
+    ] {
+        let (new, before) = setfs(&cred, Kind::User, Arg::of(n))?;
+        cred = new;
+        assert_eq!(rt; (before.number(), seen(&cred)), (old, after));
+    }
+    Ok(())
+}
+
+/// NO_SETUID_FIXUP (capabilities(7), "The securebits flags"): the kernel adjusts no capability sets
+/// when the filesystem user id moves between 0 and another.
+#[test]
+fn no_setuid_fixup_keeps_the_capabilities_on_files(rt: HostRuntime) -> Result<(), Fail> {
+    let mut cred = task(rt.alloc(), 0)?;
+    cred.bits = SecureBits::new(4).ok_or("no securebits")?;
+    for (n, old, after) in [
+        (1000, 0, ([0, 0, 0, 1000], ALL, ALL)),
         (0, 1000, ([0, 0, 0, 0], ALL, ALL)),
     ] {
         let (new, before) = setfs(&cred, Kind::User, Arg::of(n))?;

@@ -7,8 +7,8 @@ use Rattle.cred_model.specs.State.{State, hold_of}
 use Rattle.cred_model.specs.Journal.{replay}
 use Rattle.cred_sound.specs.Ledger.{ledger, IsOrderly}
 
--- No two tasks have one number, no two holds one label, and no two prepared labels one label; nor is
--- a prepared label a hold's. The references and the slots are in order.
+-- No two tasks have one number, no two holds one label, and no two prepared labels one label; nor
+-- is a prepared label a hold's. The references and the slots are in order.
 pub record IsSound (s : State) : Type 0 where
   pub tasks : AllPairs (λ a b. a.number ≢ b.number) s.tasks
   pub holds : AllPairs (λ a b. a.label ≢ b.label) s.holds

@@ -1,10 +1,10 @@
--- Elements of lists.
-use Rattle.std.proofs.Common.{◌≡◌, ◌≢◌, ◌==◌, ◌||◌, inl, inr, ℕ, zero, suc, ◌+◌, ◌<◌, List, [], ◌∷◌, ◌++◌, length, map, get_or, slice_get, Some, None, Bool, true, false, cond, refl, sym, ap, ◌∙◌, subst, arith}
-use Rattle.std.specs.List.{All, AllPairs, find, list_any, position, remove}
-use Rattle.std.specs.Option.{option_map}
+-- Elements of lists, and what a search or a look-up finds.
+use Rattle.std.proofs.Common.{◌≡◌, ◌≢◌, ◌==◌, ◌||◌, inl, inr, ℕ, zero, suc, ◌+◌, ◌<◌, List, [], ◌∷◌, ◌++◌, length, map, get_or, slice_get, Option, Some, None, Bool, true, false, cond, refl, sym, ap, ◌∙◌, subst, arith}
+use Rattle.std.specs.List.{All, AllPairs, find, flat_map, list_any, position, remove}
+use Rattle.std.specs.Option.{IfSome, option_and_then, option_map}
 use Rattle.std.proofs.lemmas.List.{get_or_append_left, get_or-append-add, get_or-map, length-append, length-map}
 use Rattle.std.proofs.lemmas.List.Edits.{get_or-remove_below, get_or-remove_above, length-remove}
-use Rattle.std.proofs.lemmas.List.Elements.{All-append, All-take, All-drop, All-head, All-tail, All-cons, All-nil}
+use Rattle.std.proofs.lemmas.List.Elements.{All-append, All-map, All-weaker, All-take, All-drop, All-head, All-tail, All-cons, All-nil}
 use Rattle.std.proofs.lemmas.List.Quantifiers.{position-Some}
 use Rattle.std.proofs.lemmas.Option.{get_or_from_slice_get, slice_get-get_or, slice_get_within}
 use Rattle.std.proofs.lemmas.Bool.{cases_lt}
@@ -22,6 +22,10 @@ All-unmap P f xs each k d lt = subst P (get_or-map f xs k d (f d) lt) (each k (f
 
 pub All-remove : {X : Type 0} (P : X → Type 0) (xs : List X) (n : ℕ) → All P xs → All P (remove xs n)
 All-remove P xs n each = All-append P _ _ (All-take P n xs each) (All-drop P (suc n) xs each)
+
+-- what a change of the elements keeps
+pub All-kept : {X : Type 0} (P : X → Type 0) (f : X → X) (xs : List X) → ((x : X) → P x → P (f x)) → All P xs → All P (map f xs)
+All-kept P f xs keeps each = All-map P f xs (All-weaker P (λ x. P (f x)) keeps xs each)
 
 pub All-at : {X : Type 0} (P : X → Type 0) (xs : List X) (n : ℕ) (x : X) → slice_get xs n ≡ Some x → All P xs → P x
 All-at P xs n x is each = subst P (get_or_from_slice_get xs n x x is) (each n x (slice_get_within xs n x is))
@@ -77,17 +81,32 @@ none_found p (y ∷ ys) each =
 
 -- ---- two elements of a list
 
-pub AllPairs-map : {X : Type 0} (R : X → X → Type 0) (f : X → X) (xs : List X) → AllPairs (λ x y. R (f x) (f y)) xs
+pub AllPairs-map : {X Y : Type 0} (R : Y → Y → Type 0) (f : X → Y) (xs : List X) → AllPairs (λ x y. R (f x) (f y)) xs
     → AllPairs R (map f xs)
-AllPairs-map R f xs each i j d lt within =
-    let long : j < length xs = omega (arith, length-map xs f) in
+AllPairs-map R f [] each i j d lt within = absurd (omega arith)
+AllPairs-map R f (x ∷ xs) each i j d lt within =
+    let all = x ∷ xs in
+    let long : j < length all = omega (arith, length-map all f) in
+    let earlier : i < length all = omega arith in
+    subst (λ y. R y (get_or (map f all) j d)) (sym (get_or-map f all i x d earlier))
+    (subst (R (f (get_or all i x))) (sym (get_or-map f all j x d long)) (each i j x lt long))
+
+pub AllPairs-unmap : {X Y : Type 0} (R : Y → Y → Type 0) (f : X → Y) (xs : List X) → AllPairs R (map f xs)
+    → AllPairs (λ x y. R (f x) (f y)) xs
+AllPairs-unmap R f xs each i j d lt within =
+    let long : j < length (map f xs) = omega (arith, length-map xs f) in
     let earlier : i < length xs = omega arith in
-    subst (λ x. R x (get_or (map f xs) j d)) (sym (get_or-map f xs i d d earlier))
-    (subst (R (f (get_or xs i d))) (sym (get_or-map f xs j d d long)) (each i j d lt long))
+    subst (λ x. R x (f (get_or xs j d))) (get_or-map f xs i d (f d) earlier)
+    (subst (R (get_or (map f xs) i (f d))) (get_or-map f xs j d (f d) within) (each i j (f d) lt long))
 
 pub AllPairs-weaker : {X : Type 0} (R Q : X → X → Type 0) (xs : List X) → ((x y : X) → R x y → Q x y) → AllPairs R xs
     → AllPairs Q xs
 AllPairs-weaker R Q xs weaker each i j d lt within = weaker (get_or xs i d) (get_or xs j d) (each i j d lt within)
+
+-- a change of the elements that leaves what is seen of them
+pub map_same : {X Y : Type 0} (f : X → Y) (g : X → X) (xs : List X) → ((x : X) → f (g x) ≡ f x) → map f (map g xs) ≡ map f xs
+map_same f g [] same = refl
+map_same f g (x ∷ xs) same = ap (λ y. y ∷ map f (map g xs)) (same x) ∙ ap (λ ys. f x ∷ ys) (map_same f g xs same)
 
 -- ---- elements that have each a number of its own
 
@@ -147,3 +166,53 @@ pub find-remove_other : {X : Type 0} (f : X → ℕ) (xs : List X) (wanted other
 find-remove_other f xs wanted other place x at is differ =
     let there = position-Some (λ x. f x == other) xs place x at in
     find-remove (λ x. f x == wanted) xs place x there.0 (let test = there.1 in grind (arith, nat_tests))
+
+-- ---- a list that grows at its end
+
+pub slice_get-left : {X : Type 0} (xs ys : List X) (n : ℕ) → n < length xs → slice_get (xs ++ ys) n ≡ slice_get xs n
+slice_get-left [] ys n lt = absurd (omega arith)
+slice_get-left (x ∷ xs) ys zero lt = refl
+slice_get-left (x ∷ xs) ys (suc n) lt = slice_get-left xs ys n (omega arith)
+
+pub slice_get-last : {X : Type 0} (xs : List X) (x : X) → slice_get (xs ++ x ∷ []) (length xs) ≡ Some x
+slice_get-last [] x = refl
+slice_get-last (y ∷ ys) x = slice_get-last ys x
+
+-- ---- lists joined end to end, and what is found
+
+pub All-flat_map : {X Y : Type 0} (P : Y → Type 0) (f : X → List Y) (xs : List X) → All (λ x. All P (f x)) xs
+    → All P (flat_map f xs)
+All-flat_map P f [] each = All-nil P
+All-flat_map P f (x ∷ xs) each =
+    All-append P (f x) (flat_map f xs) (All-head (λ x. All P (f x)) x xs each)
+    (All-flat_map P f xs (All-tail (λ x. All P (f x)) x xs each))
+
+pub All-unflat_map : {X Y : Type 0} (P : Y → Type 0) (f : X → List Y) (xs : List X) → All P (flat_map f xs)
+    → All (λ x. All P (f x)) xs
+All-unflat_map P f [] each = All-nil (λ x. All P (f x))
+All-unflat_map P f (x ∷ xs) each =
+    All-cons (λ x. All P (f x)) x xs (All-left P (f x) (flat_map f xs) each)
+    (All-unflat_map P f xs (All-right P (f x) (flat_map f xs) each))
+
+pub find_each : {X : Type 0} (P : X → Type 0) (p : X → Bool) (xs : List X) → All P xs → IfSome (find p xs) P
+find_each P p [] each = tt
+find_each P p (x ∷ xs) each =
+    elim (p x) as (λ b. IfSome (cond b (Some x) (find p xs)) P) [
+      | true ↦ All-head P x xs each
+      | false ↦ find_each P p xs (All-tail P x xs each)
+    ]
+
+pub get_each : {X : Type 0} (P : X → Type 0) (xs : List X) (n : ℕ) → All P xs → IfSome (slice_get xs n) P
+get_each P [] n each = tt
+get_each P (x ∷ xs) zero each = All-head P x xs each
+get_each P (x ∷ xs) (suc n) each = get_each P xs n (All-tail P x xs each)
+
+pub then_same : {X Y : Type 0} (f g : X → Option Y) (o : Option X) → IfSome o (λ x. f x ≡ g x)
+    → option_and_then f o ≡ option_and_then g o
+then_same f g None same = refl
+then_same f g (Some x) same = same
+
+pub then_each : {X Y : Type 0} (P : Y → Type 0) (f : X → Option Y) (o : Option X) → IfSome o (λ x. IfSome (f x) P)
+    → IfSome (option_and_then f o) P
+then_each P f None each = tt
+then_each P f (Some x) each = each

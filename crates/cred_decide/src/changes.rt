@@ -1,0 +1,81 @@
+//! What a change makes of a credential.
+ghost use Rattle.std.specs.Prelude.{◌≡◌, true, IfOk};
+ghost use Rattle.std.specs.Option.{option_map};
+ghost use Rattle.cred_model.specs.Change as spec;
+ghost use Rattle.cred_model.specs.Named.{is_built_change};
+
+use cred_adjust::apply;
+use cred_caps::CapSet;
+use cred_event::{Answer, Change};
+use cred_ids::{Id, NoMemory};
+use cred_record::{Cred, FileInfo, Gains, Refusal};
+use cred_setid::setfs;
+use std::marker::Model;
+
+/// What a change has made: its answer, the new credential, and what that one's permitted set gained
+/// over the old one's by execve(2). Contracts see the record `Made` of `specs/Change.antt` of
+/// `cred_model`, with the same fields.
+#[derive(Drop, Debug)]
+pub struct Made {
+    pub answer: Answer,
+    pub cred: Cred,
+    pub gains: Gains,
+}
+
+impl Model for Made {
+    ghost use Rattle.cred_model.specs.Change.{Made};
+
+    ghost Value = { Made };
+
+    ghost view = { λ m. record { answer = m.answer; cred = m.cred; gains = m.gains } };
+}
+
+/// What a change has made that gains nothing, as all but execve(2) do.
+fn without_gains(answer: Answer, cred: Cred) -> Made
+    ensures { result ≡ spec.made answer cred }
+{
+    Made {
+        answer,
+        cred,
+        gains: Gains {
+            file: CapSet::empty(),
+            inherit: CapSet::empty(),
+            root: CapSet::empty(),
+        },
+    }
+}
+
+/// What a change makes of a credential, which stays as it is, or the answer of its refusal: `Eperm`
+/// and `Einval` where `cred_adjust::apply` refuses by `Perm` and `Invalid`. setfsuid(2) and
+/// setfsgid(2) are never refused, and answer the filesystem id before.
+///
+/// `file` is the file that the change names, if it names one, and `chain` has the root ids of the
+/// credential's user namespace and of that one's ancestors, the nearest first (user_namespaces(7)).
+///
+/// # Errors
+///
+/// `NoMemory` where the credential could not be copied.
+pub fn change(
+    cred: &Cred,
+    file: Option<&FileInfo>,
+    chain: &[Id],
+    change: &Change,
+) -> Result<Result<Made, Answer>, NoMemory>
+    requires { is_built_change change.now ≡ true }
+    ensures { IfOk result (λ made. made
+        ≡ spec.by_change (option_map (λ file. file.now) file.entry) chain.now cred.now change.now) }
+{
+    match change {
+        Change::SetFs(kind, arg) => {
+            let (new, previous) = setfs(cred, *kind, *arg)?;
+            Ok(Ok(without_gains(Answer::Was { previous }, new)))
+        }
+        Change::Adjust(call) => match apply(cred, call) {
+            Ok(new) => Ok(Ok(without_gains(Answer::Done, new))),
+            Err(Refusal::Perm) => Ok(Err(Answer::Eperm)),
+            Err(Refusal::Invalid) => Ok(Err(Answer::Einval)),
+            Err(Refusal::Memory) => Err(NoMemory),
+        },
+        Change::Exec { .. } | Change::Access => unreachable!(),
+    }
+}

@@ -1,0 +1,31 @@
+-- What a prepared credential is.
+use Rattle.std.specs.Prelude.{◌≡◌, List, All, Ok, IfSome}
+use Rattle.std.specs.declared.option.Option.{Option}
+use Rattle.cred_event.specs.declared.answer.Answer.{Answer}
+use Rattle.cred_event.specs.declared.entry.Entry.{Entry}
+use Rattle.cred_model.specs.Script.{Script, info_of, chain_of}
+use Rattle.cred_model.specs.State.{State, Sealing, Prepared, Changed, Numbered, numbered}
+use Rattle.cred_model.specs.Named.{change_files}
+use Rattle.cred_model.specs.Change.{by_change}
+use Rattle.cred_model.specs.Journal.{replay}
+
+-- The credential, and what it gains, are what the change makes of the base.
+abbrev pub IsMadeOf : Script → Option Numbered → Changed → Type 0
+IsMadeOf script found last =
+    IfSome found (λ base.
+    (answer : Answer)
+    × (by_change (info_of script (change_files last.change)) (chain_of script base.cred.ns)
+    base.cred last.change
+    ≡ Ok (record { answer = answer; cred = last.cred; gains = last.gains })))
+
+-- so it is with a prepared credential, once it was changed
+abbrev pub IsMade : Script → List Sealing → Prepared → Type 0
+IsMade script creds p = IfSome p.changed (IsMadeOf script (numbered creds p.base))
+
+-- so it is with all that are prepared
+abbrev pub AreMade : Script → State → Type 0
+AreMade script s = All (IsMade script s.creds) s.prepared
+
+-- so it is after every journal
+abbrev pub PreparedAreMade : Type 0
+PreparedAreMade = (script : Script) (journal : List Entry) → AreMade script (replay script journal)

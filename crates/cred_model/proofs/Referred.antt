@@ -1,0 +1,103 @@
+-- What holds of each reference, by the kinds of things that refer.
+use Rattle.std.proofs.Common.{ℕ, ◌==◌, List, [], ◌++◌, Some, true, false, cond, map}
+use Rattle.std.specs.List.{All, flat_map}
+use Rattle.std.proofs.lemmas.List.Elements.{All-append, All-map, All-nil}
+use Rattle.cred_model.specs.State.{State, Task, Hold, Prepared, Changed}
+use Rattle.cred_model.specs.Slots.{refs}
+use Rattle.cred_model.specs.Step.{renewed, with_current, changed, with_change}
+use Rattle.cred_model.proofs.Lists.{All-kept, All-left, All-right, All-unmap, All-flat_map, All-unflat_map}
+use Rattle.cred_model.proofs.Numbers.{renewed_as}
+
+pub record EachRef (P : ℕ → Type 0) (s : State) : Type 0 where
+  pub currents : All (λ t. P t.current) s.tasks
+  pub overrides : All (λ t. All P t.overrides) s.tasks
+  pub holds : All (λ h. P h.number) s.holds
+  pub bases : All (λ p. P p.base) s.prepared
+  pub deferred : All P s.deferred
+
+joined : (P : ℕ → Type 0) (a b c d e : List ℕ) → All P a → All P b → All P c → All P d → All P e
+    → All P ((a ++ (b ++ (c ++ (d ++ [])))) ++ e)
+joined P a b c d e in_a in_b in_c in_d in_e =
+    All-append P _ e
+    (All-append P a _ in_a (All-append P b _ in_b (All-append P c _ in_c (All-append P d [] in_d (All-nil P))))) in_e
+
+pub refs_each : (P : ℕ → Type 0) (s : State) → EachRef P s → All P (refs s)
+refs_each P s each =
+    joined P (map (λ (t : Task). t.current) s.tasks) (flat_map (λ (t : Task). t.overrides) s.tasks)
+    (map (λ (h : Hold). h.number) s.holds) (map (λ (p : Prepared). p.base) s.prepared) s.deferred
+    (All-map P (λ (t : Task). t.current) s.tasks each.currents)
+    (All-flat_map P (λ (t : Task). t.overrides) s.tasks each.overrides)
+    (All-map P (λ (h : Hold). h.number) s.holds each.holds)
+    (All-map P (λ (p : Prepared). p.base) s.prepared each.bases)
+    each.deferred
+
+-- the parts of a list that is joined so
+record Parts (P : ℕ → Type 0) (a b c d e : List ℕ) : Type 0 where
+  in_a : All P a
+  in_b : All P b
+  in_c : All P c
+  in_d : All P d
+  in_e : All P e
+
+parts : (P : ℕ → Type 0) (a b c d e : List ℕ) → All P ((a ++ (b ++ (c ++ (d ++ [])))) ++ e) → Parts P a b c d e
+parts P a b c d e each =
+    let first = All-left P (a ++ (b ++ (c ++ (d ++ [])))) e each in
+    let second = All-right P a (b ++ (c ++ (d ++ []))) first in
+    let third = All-right P b (c ++ (d ++ [])) second in
+    record {
+      in_a = All-left P a _ first;
+      in_b = All-left P b _ second;
+      in_c = All-left P c _ third;
+      in_d = All-left P d [] (All-right P c (d ++ []) third);
+      in_e = All-right P (a ++ (b ++ (c ++ (d ++ [])))) e each;
+    }
+
+pub each_ref : (P : ℕ → Type 0) (s : State) → All P (refs s) → EachRef P s
+each_ref P s each =
+    let all = parts P (map (λ (t : Task). t.current) s.tasks) (flat_map (λ (t : Task). t.overrides) s.tasks)
+    (map (λ (h : Hold). h.number) s.holds) (map (λ (p : Prepared). p.base) s.prepared) s.deferred each in
+    record {
+      currents = All-unmap P (λ (t : Task). t.current) s.tasks all.in_a;
+      overrides = All-unflat_map P (λ (t : Task). t.overrides) s.tasks all.in_b;
+      holds = All-unmap P (λ (h : Hold). h.number) s.holds all.in_c;
+      bases = All-unmap P (λ (p : Prepared). p.base) s.prepared all.in_d;
+      deferred = all.in_e;
+    }
+
+-- ---- a state that differs in one kind
+
+pub each_tasks : {P : ℕ → Type 0} {s : State} → EachRef P s → (ts : List Task) → All (λ t. P t.current) ts
+    → All (λ t. All P t.overrides) ts → EachRef P (record s { tasks = ts })
+each_tasks each ts currents overrides =
+    record { currents = currents; overrides = overrides; holds = each.holds; bases = each.bases; deferred = each.deferred }
+
+-- the task has another current credential
+pub each_renewed : {P : ℕ → Type 0} {s : State} → EachRef P s → (task n : ℕ) → P n
+    → EachRef P (record s { tasks = with_current s.tasks task n })
+each_renewed {P} {s} each task n new =
+    each_tasks each (with_current s.tasks task n)
+    (All-kept (λ (t : Task). P t.current) (renewed task n) s.tasks (λ t. renewed_as (λ r. P r.current) task n t new) each.currents)
+    (All-kept (λ (t : Task). All P t.overrides) (renewed task n) s.tasks (λ t old. renewed_as (λ r. All P r.overrides) task n t old old) each.overrides)
+
+pub each_holds : {P : ℕ → Type 0} {s : State} → EachRef P s → (hs : List Hold) → All (λ h. P h.number) hs
+    → EachRef P (record s { holds = hs })
+each_holds each hs holds =
+    record { currents = each.currents; overrides = each.overrides; holds = holds; bases = each.bases; deferred = each.deferred }
+
+pub each_prepared : {P : ℕ → Type 0} {s : State} → EachRef P s → (ps : List Prepared) → All (λ p. P p.base) ps
+    → EachRef P (record s { prepared = ps })
+each_prepared each ps bases =
+    record { currents = each.currents; overrides = each.overrides; holds = each.holds; bases = bases; deferred = each.deferred }
+
+-- the label has another change
+pub each_changed : {P : ℕ → Type 0} {s : State} → EachRef P s → (label : ℕ) (to : Changed)
+    → EachRef P (record s { prepared = with_change s.prepared label to })
+each_changed {P} {s} each label to =
+    each_prepared each (with_change s.prepared label to)
+    (All-kept (λ (p : Prepared). P p.base) (changed label to) s.prepared
+    (λ p old. elim (p.label == label) as (λ b. P (cond b (record p { changed = Some to }) p).base) [ true ↦ old | false ↦ old ]) each.bases)
+
+pub each_deferred : {P : ℕ → Type 0} {s : State} → EachRef P s → (numbers : List ℕ) → All P numbers
+    → EachRef P (record s { deferred = numbers })
+each_deferred each numbers deferred =
+    record { currents = each.currents; overrides = each.overrides; holds = each.holds; bases = each.bases; deferred = deferred }

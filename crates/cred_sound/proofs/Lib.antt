@@ -1,0 +1,7 @@
+pub mod Moves
+pub mod References
+pub mod Parts
+pub mod Tests
+pub mod Events
+pub mod Unique
+pub mod Sound

@@ -1,0 +1,74 @@
+-- The references of a state, and the slots that are free.
+use Rattle.std.proofs.Common.{◌≡◌, ◌≢◌, ◌==◌, not, ℕ, ◌<◌, slice_get, Option, Some, None, Bool, true, false, refl, sym, ◌∙◌, subst, arith}
+use Rattle.std.specs.List.{All, Contains}
+use Rattle.std.specs.Option.{IfSome, option_map, option_map_or}
+use Rattle.std.proofs.lemmas.List.Elements.{All-contains_itself, All-weaker}
+use Rattle.std.proofs.lemmas.List.FromFn.{get_or-range_with_len, length-range_with_len}
+use Rattle.std.proofs.lemmas.Bool.{eqb-false}
+use Rattle.std.proofs.lemmas.Option.{slice_get-map}
+use Rattle.cred_model.specs.State.{State, Sealing, Hold, Prepared, Numbered, current_of, hold_of}
+use Rattle.cred_model.specs.Slots.{SLOTS, refs, kept, stands_in, is_live, is_kept, slots, least_free}
+use Rattle.cred_model.proofs.Referred.{EachRef, each_ref}
+use Rattle.cred_model.proofs.LikeReads.{current_by}
+use Rattle.cred_model.proofs.Lists.{All-at, find_each, or_left, or_right, none_passes, found}
+use Rattle.cred_sound.specs.Ledger.{IsClear, ledger}
+
+-- ---- what refers
+
+-- each thing that refers refers to one of the references
+pub own_refs : (s : State) → EachRef (Contains (refs s)) s
+own_refs s = each_ref (Contains (refs s)) s (All-contains_itself (refs s))
+
+pub current_stands : (s : State) (task : ℕ) (c : Numbered) → current_of s task ≡ Some c → Contains (refs s) c.number
+current_stands s task c is =
+    subst (λ o. IfSome o (λ (c : Numbered). Contains (refs s) c.number)) is (current_by s (Contains (refs s)) task (own_refs s))
+
+pub found_stands : (s : State) (label : ℕ) (hold : Hold) → hold_of s label ≡ Some hold → Contains (refs s) hold.number
+found_stands s label hold is =
+    subst (λ o. IfSome o (λ (h : Hold). Contains (refs s) h.number)) is
+    (find_each (λ h. Contains (refs s) h.number) (λ (h : Hold). h.label == label) s.holds (own_refs s).holds)
+
+pub held_stands : (s : State) (place : ℕ) (hold : Hold) → slice_get s.holds place ≡ Some hold → Contains (refs s) hold.number
+held_stands s place hold is = All-at (λ h. Contains (refs s) h.number) s.holds place hold is (own_refs s).holds
+
+pub base_stands : (s : State) (place : ℕ) (p : Prepared) → slice_get s.prepared place ≡ Some p → Contains (refs s) p.base
+base_stands s place p is = All-at (λ p. Contains (refs s) p.base) s.prepared place p is (own_refs s).bases
+
+-- ---- a free slot
+
+slots_below : All (λ slot. slot < SLOTS) slots
+unfolding slots
+slots_below k d lt =
+    let within : k < SLOTS = omega (arith, length-range_with_len 0 SLOTS) in
+    omega (arith, get_or-range_with_len 0 SLOTS k d within)
+
+not_true : (b : Bool) → not b ≡ true → b ≡ false
+not_true true is = cc
+not_true false is = refl
+
+other_slot : (o : Option Sealing) (slot : ℕ) → option_map_or (λ (x : Sealing). x.slot == slot) o false ≡ false
+    → option_map (λ (x : Sealing). x.slot) o ≢ Some slot
+other_slot None slot fails is = cc
+other_slot (Some x) slot fails is = eqb-false x.slot slot fails (let same : x.slot ≡ slot = cc in same)
+
+pub clear_of : (s : State) (slot n : ℕ) → stands_in s.creds slot n ≡ false → slice_get (ledger s).slots n ≢ Some slot
+clear_of s slot n fails is =
+    other_slot (slice_get s.creds n) slot fails (sym (slice_get-map (λ (x : Sealing). x.slot) s.creds n) ∙ is)
+
+-- nothing that is referred to stands in the slot, and it isn't kept
+pub record IsFree (s : State) (slot : ℕ) : Type 0 where
+  pub below : slot < SLOTS
+  pub clear : IsClear (ledger s).slots slot (refs s)
+  pub unkept : All (λ k. k ≢ slot) (kept s)
+
+pub free_slot : (s : State) (slot : ℕ) → least_free s ≡ Some slot → IsFree s slot
+free_slot s slot is =
+    let at = found (λ slot. slot < SLOTS) (λ slot. not (is_live s slot)) slots slot is slots_below in
+    let dead = not_true (is_live s slot) at.1 in
+    record {
+      below = at.0;
+      clear = All-weaker (λ n. stands_in s.creds slot n ≡ false) (λ n. slice_get (ledger s).slots n ≢ Some slot) (clear_of s slot) (refs s)
+          (none_passes (λ n. stands_in s.creds slot n) (refs s) (or_left _ (is_kept s slot) dead));
+      unkept = All-weaker (λ k. (k == slot) ≡ false) (λ k. k ≢ slot) (λ k. eqb-false k slot) (kept s)
+          (none_passes (λ k. k == slot) (kept s) (or_right _ (is_kept s slot) dead));
+    }
