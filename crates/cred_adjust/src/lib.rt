@@ -7,7 +7,6 @@ mod bits;
 mod bounding;
 mod calls;
 mod capset;
-pub mod laws;
 #[cfg(test)]
 mod tests;
 

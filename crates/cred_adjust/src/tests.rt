@@ -2,8 +2,8 @@
 //! with ample memory.
 use crate::{amb_is_set, apply, bset_read};
 use cred_caps::CapSet;
-use cred_ids::{Arg, Id, NoMemory};
-use cred_record::{AdjCall, Cred, IdCall, Refusal, copy, first};
+use cred_ids::{Id, NoMemory};
+use cred_record::{AdjCall, Cred, Refusal, copy, first};
 use std::alloc::Global;
 use std::test::Fail;
 
@@ -266,24 +266,6 @@ fn ambient_raises_can_be_forbidden(rt: HostRuntime) -> Result<(), Fail> {
     }
     // what was raised before stays
     assert_eq!(rt; seen(&cred), ([ALL, RAW, ALL, ALL, RAW], 0xc0, false));
-    Ok(())
-}
-
-/// A service keeps its permitted set over the change to its user, and loses what is ambient.
-#[test]
-fn a_service_keeps_its_capabilities(rt: HostRuntime) -> Result<(), Fail> {
-    let mut cred = task(rt.alloc(), 0)?;
-    for call in &[
-        capset(ALL, 0x400, ALL),
-        AdjCall::AmbRaise(10),
-        AdjCall::KeepCaps(1),
-    ] {
-        cred = apply(&cred, call).map_err(|_| "refused")?;
-    }
-    assert_eq!(rt; seen(&cred), ([ALL, 0x400, ALL, ALL, 0x400], 0x10, false));
-    let call = IdCall::SetResuid(Arg::of(1000), Arg::of(1000), Arg::of(1000));
-    let service = cred_setid::apply(rt.alloc(), &cred, &call).map_err(|_| "refused")?;
-    assert_eq!(rt; seen(&service), ([ALL, 0x400, 0, ALL, 0], 0x10, false));
     Ok(())
 }
 

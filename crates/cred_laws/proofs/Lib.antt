@@ -1,6 +1,7 @@
 pub mod Unused
 pub mod HeldLaws
 pub mod PreparedLaws
+pub mod CallLaws
 pub mod ChangeLaws
 pub mod MadeLaws
 pub mod PermittedLaws

@@ -5,3 +5,4 @@ pub mod Made
 pub mod Permitted
 pub mod Journals
 pub mod Answered
+pub mod Calls

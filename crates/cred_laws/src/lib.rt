@@ -6,6 +6,7 @@
 #![tactic(auto)]
 
 pub mod answered;
+pub mod calls;
 pub mod held;
 pub mod journals;
 pub mod order;

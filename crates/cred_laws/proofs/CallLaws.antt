@@ -10,11 +10,11 @@ use Rattle.cred_ids.specs.Groups.{LIMIT}
 use Rattle.cred_ids.specs.Ordered.{in_order}
 use Rattle.cred_caps.specs.declared.secure.Flag.{Flag}
 use Rattle.cred_caps.specs.declared.secure.Flag.TheVariants.{NoRoot, NoSetuidFixup, KeepCaps, NoAmbientRaise}
-use Rattle.cred_caps.specs.Caps.{Caps, empty, meet, IsWithin}
+use Rattle.cred_caps.specs.Caps.{Caps, empty, meet, less, IsWithin}
 use Rattle.cred_caps.specs.Numbers.{SETGID, SETPCAP}
 use Rattle.cred_caps.specs.Secure.{is_set, is_locked, with_flag}
 use Rattle.cred_caps.proofs.FlagLaws.{sets_flag}
-use Rattle.cred_caps.proofs.SetLaws.{within_itself, meet-left}
+use Rattle.cred_caps.proofs.SetLaws.{within_itself, meet-left, less-within}
 use Rattle.cred_record.specs.declared.adj_call.AdjCall.{AdjCall}
 use Rattle.cred_record.specs.declared.adj_call.AdjCall.TheVariants as adj
 use Rattle.cred_record.specs.declared.id_call.IdCall.{IdCall}
@@ -24,10 +24,13 @@ use Rattle.cred_record.specs.declared.refusal.Denial.TheVariants.{Perm, Invalid}
 use Rattle.cred_record.specs.Credential.{Credential, has_cap}
 use Rattle.cred_rules.specs.Adjust.{is_no_cap, may_capset, may_raise, may_set_bits, after_capset, after_bound_drop, after_amb_raise, after_amb_lower, FLAGS, keeps_lock, after_bits, after_keep_caps, after_no_new_privs, adjust}
 use Rattle.cred_rules.specs.Fix.{fixed, with_user_ids}
-use Rattle.cred_rules.specs.SetFs.{set_fs}
+use Rattle.cred_rules.specs.SetFs.{set_fs, old_fs}
 use Rattle.cred_rules.specs.SetId.{after_setgroups, for_users, for_groups, set_id}
 use Rattle.cred_setid.proofs.SetIdLaws as setid
-use Rattle.cred_adjust.specs.Laws.{Call, SetIds, SetFsId, Adjust, after, IsNext, KeepsLocked, LocksStaySet, BoundingNeverGrows, PermittedNeverGrows, NoNewPrivsStays}
+use Rattle.cred_event.specs.declared.answer.Answer.TheVariants as answer
+use Rattle.cred_event.specs.declared.event.Change.TheVariants.{SetFs, Adjust}
+use Rattle.cred_model.specs.Change.{Made, made, made_by_rule}
+use Rattle.cred_laws.specs.Calls.{Call, SetIds, Changes, after, added, KeepsLocked, LocksStaySet, BoundingNeverGrows, PermittedGrowsByExecve, NoNewPrivsStays}
 
 -- ---- the calls that set ids leave all that the laws speak of but the permitted set
 
@@ -231,25 +234,55 @@ adjust-follows c d (adj.Bits n) same = bits-follows c d n same
 adjust-follows c d (adj.KeepCaps n) same = keep_caps-follows c d n same
 adjust-follows c d (adj.NoNewPrivs n) same = no_new_privs-follows c d n same
 
-after-follows : (c d : Credential) (call : Call) → after c call ≡ Ok d → Follows c d
-after-follows c d (SetIds call) same = Leaves-follows c d (set_id-leaves c d call same) (setid.permitted_never_grows c d call same)
-after-follows c d (SetFsId kind a) same =
-    let is : set_fs c kind a ≡ d = cc in subst (Follows c) is (Leaves-follows c _ (set_fs-leaves c kind a) (set_fs-perm c kind a))
-after-follows c d (Adjust call) same = adjust-follows c d call same
+-- ---- what any call gives
 
-follows : (c d : Credential) → IsNext c d → Follows c d
-follows c d next = after-follows c d next.call next.made
+-- all that the laws speak of, over one call
+record Keeps (c : Credential) (call : Call) (next : Made) : Type 0 where
+  locked : KeepsLocked c.bits next.cred.bits
+  bound : IsWithin next.cred.bound c.bound
+  perm : less next.cred.perm c.perm ≡ added call next
+  nnp : c.nnp ≡ true → next.cred.nnp ≡ true
+
+adds_nothing : (c : Credential) (call : Call) (next : Made) → added call next ≡ empty → Follows c next.cred → Keeps c call next
+adds_nothing c call next none follows = record {
+  locked = follows.locked;
+  bound = follows.bound;
+  perm = less-within next.cred.perm c.perm follows.perm ∙ sym none;
+  nnp = follows.nnp;
+}
+
+-- a fact of what a rule gives holds of what is made by the rule
+by_rule : (P : Credential → Type 0) (next : Made) (r : Result Credential Denial) → ((d : Credential) → r ≡ Ok d → P d) → made_by_rule r ≡ Ok next
+    → P next.cred
+by_rule P next (Ok d) holds is = let same : made answer.Done d ≡ next = cc in subst (λ (m : Made). P m.cred) same (holds d refl)
+by_rule P next (Err e) holds is = cc
+
+set_id-follows : (c d : Credential) (call : IdCall) → set_id c call ≡ Ok d → Follows c d
+set_id-follows c d call same = Leaves-follows c d (set_id-leaves c d call same) (setid.permitted_never_grows c d call same)
+
+set_fs-follows : (c : Credential) (kind : Kind) (a : Arg) → Follows c (set_fs c kind a)
+set_fs-follows c kind a = Leaves-follows c _ (set_fs-leaves c kind a) (set_fs-perm c kind a)
+
+keeps : (c : Credential) (next : Made) (call : Call) → after c call ≡ Ok next → Keeps c call next
+keeps c next (SetIds call) is =
+    adds_nothing c (SetIds call) next refl (by_rule (Follows c) next (set_id c call) (λ d. set_id-follows c d call) is)
+keeps c next (Changes file chain (SetFs kind a)) is =
+    let same : made (answer.Was (old_fs c kind)) (set_fs c kind a) ≡ next = cc in
+    adds_nothing c (Changes file chain (SetFs kind a)) next refl (subst (λ (m : Made). Follows c m.cred) same (set_fs-follows c kind a))
+keeps c next (Changes file chain (Adjust call)) is =
+    adds_nothing c (Changes file chain (Adjust call)) next refl (by_rule (Follows c) next (adjust c call) (λ d. adjust-follows c d call) is)
+keeps c next call is = cc
 
 -- ---- the laws
 
 pub locks_stay_set : LocksStaySet
-locks_stay_set c d next = (follows c d next).locked
+locks_stay_set c next is = (keeps c next is.call is.made).locked
 
 pub bounding_never_grows : BoundingNeverGrows
-bounding_never_grows c d next = (follows c d next).bound
+bounding_never_grows c next is = (keeps c next is.call is.made).bound
 
-pub permitted_never_grows : PermittedNeverGrows
-permitted_never_grows c d next = (follows c d next).perm
+pub permitted_grows_by_execve : PermittedGrowsByExecve
+permitted_grows_by_execve c next call is = (keeps c next call is).perm
 
 pub no_new_privs_stays : NoNewPrivsStays
-no_new_privs_stays c d next = (follows c d next).nnp
+no_new_privs_stays c next is = (keeps c next is.call is.made).nnp
