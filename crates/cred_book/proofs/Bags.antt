@@ -1,5 +1,5 @@
 -- Lists of numbers that have the same numbers, each as often.
-use Rattle.std.proofs.Common.{◌≡◌, ℕ, ◌+◌, ◌<◌, ◌==◌, Bool, true, cond, ◌||◌, List, [], ◌∷◌, find, Some, nat_lt, length, get_or, zero, suc, refl, sym, ap, ◌∙◌, arith}
+use Rattle.std.proofs.Common.{◌≡◌, ℕ, ◌+◌, ◌<◌, ◌==◌, Bool, cond, ◌||◌, List, [], ◌∷◌, find, Some, nat_lt, length, get_or, zero, suc, refl, sym, ap, ◌∙◌, arith}
 use Rattle.std.specs.List.{list_any, count_by}
 use Rattle.std.proofs.lemmas.Bool.{eq-eqb}
 use Rattle.cred_slots.specs.Table.{IsSameBag}

@@ -1,5 +1,5 @@
 -- A task makes an id call.
-use Rattle.std.proofs.Common.{◌≡◌, ℕ, ◌<◌, ◌==◌, List, [], ◌∷◌, ◌++◌, find, length, slice_set, count_by, Option, None, Some, Ok, refl, sym, ap, ◌∙◌, subst}
+use Rattle.std.proofs.Common.{◌≡◌, ℕ, List, [], ◌∷◌, ◌++◌, length, slice_set, Option, None, Some, Ok, refl, sym, ap, ◌∙◌, subst}
 use Rattle.cred_record.specs.Credential.{Credential}
 use Rattle.cred_record.specs.declared.id_call.IdCall.{IdCall}
 use Rattle.cred_rules.specs.SetId.{set_id}
@@ -9,14 +9,14 @@ use Rattle.cred_model.specs.State.{State, Task, Hold, Prepared, Numbered, curren
 use Rattle.cred_model.specs.Like.{Does}
 use Rattle.cred_model.specs.Step.{by_begin, settled, in_slot, table_full, with_current, replaced}
 use Rattle.cred_model.proofs.Numbers.{current_is}
+use Rattle.cred_model.proofs.Likes.{does_same}
 use Rattle.cred_slots.specs.Table.{Table, SLOTS, IsSameBag, IsAlone}
 use Rattle.cred_slots.specs.Table as table
-use Rattle.cred_slots.proofs.Counting.{count-append}
 use Rattle.cred_book.specs.Kept.{AreFilled, shown, IsKept, Seals}
-use Rattle.cred_book.proofs.Bags.{bag-other, bag-keeps}
-use Rattle.cred_book.proofs.Sealing.{roomy, in_free, in_none, keeps_same, current-held, Drops, alone_later}
+use Rattle.cred_book.proofs.Bags.{bag-other}
+use Rattle.cred_book.proofs.Sealing.{roomy, in_free, in_none, keeps_same, Drops, alone_later}
 use Rattle.cred_book.proofs.Standing.{Differ, standing-renewed}
-use Rattle.cred_book.proofs.Stored.{does_same, does_like, length-creds_in, filled-put, stored_like}
+use Rattle.cred_book.proofs.Stored.{does_made, length-creds_in, filled-put, stored_like}
 
 begin_does : (task old : ℕ) (new : Credential) → State → ℕ → Answer × State
 begin_does task old new s slot = (Began (length s.creds) slot 0, replaced s task old new slot)
@@ -26,7 +26,7 @@ begin_tests : (s : State) (task : ℕ) (call : IdCall) (old : Numbered) (new : C
 unfolding begin_does
 begin_tests s task call old new has rule = rw (has, rule) refl
 
-module _ {tasks : List Task} {holds : List Hold} {prepared : List Prepared} {store : List (Option Credential)} {t : Table} (is : IsKept tasks holds prepared store t)
+module _ {tasks : List Task} {holds : List Hold} {prepared : List Prepared} {store : List (Option Credential)} {t : Table} (is : IsKept (shown tasks holds prepared store t) store t)
     (after : Table) (task : ℕ) (old : Numbered) (new : Credential) (has : current_of (shown tasks holds prepared store t) task ≡ Some old) where
   abbrev s : State
   s = shown tasks holds prepared store t
@@ -35,7 +35,7 @@ module _ {tasks : List Task} {holds : List Hold} {prepared : List Prepared} {sto
       → shown tasks holds prepared store (table.room t) ≡ shown tasks holds prepared store after
       → Does (settled s (by_begin s task call)) TableFull (shown tasks holds prepared store after)
   begin_full call rule none makes =
-      does_same (begin_tests s task call old new has rule ∙ in_none is (begin_does task old.number new) after none makes)
+      does_same _ _ _ (begin_tests s task call old new has rule ∙ in_none is (begin_does task old.number new) after none makes)
 
   -- the new credential is sealed in the table `between`, and the old one is given up after it
   module _ {between : Table} {number slot : ℕ} (long : length store ≡ SLOTS) (seals : Seals t between number slot) (distinct : Differ tasks)
@@ -49,7 +49,7 @@ module _ {tasks : List Task} {holds : List Hold} {prepared : List Prepared} {sto
     sealed_is : after.sealed ≡ t.sealed ++ slot ∷ []
     sealed_is = late.sealed ∙ seals.sealed
 
-    pub begin_kept : IsKept renewed holds prepared put after
+    pub begin_kept : IsKept (shown renewed holds prepared put after) put after
     begin_kept =
         let u = current_is s task old has in
         record {
@@ -67,7 +67,7 @@ module _ {tasks : List Task} {holds : List Hold} {prepared : List Prepared} {sto
     begin_sealed call rule =
         let count = length-creds_in store t.sealed ∙ sym seals.counted in
         let made : ℕ → State = λ n. record (replaced (roomy is) task old.number new slot) { tasks = with_current tasks task n } in
-        does_like
+        does_made
         (begin_tests s task call old new has rule ∙ in_free is (begin_does task old.number new) slot seals.takes
         ∙ ap (λ (n : ℕ). (Began n slot 0, made n)) count)
         (stored_like store after t.sealed new slot (made number) begin_kept sealed_is long seals.in_table

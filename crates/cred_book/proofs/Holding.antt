@@ -6,12 +6,12 @@ use Rattle.cred_model.specs.State.{State, Task, Hold, Prepared}
 use Rattle.cred_model.specs.Step.{by_release, settled}
 use Rattle.cred_slots.specs.Table.{Table}
 use Rattle.cred_book.specs.Kept.{AreFilled, shown, IsKept, creds_in}
-use Rattle.cred_book.proofs.Bags.{bag-more, bag-less, bag-has, bag-at}
+use Rattle.cred_book.proofs.Bags.{bag-less, bag-has, bag-at}
 use Rattle.cred_book.proofs.Labels.{place-of_found}
-use Rattle.cred_book.proofs.Sealing.{Adds, Drops, keeps_same}
-use Rattle.cred_book.proofs.Standing.{standing-hold, standing-unhold}
+use Rattle.cred_book.proofs.Sealing.{Drops, keeps_same}
+use Rattle.cred_book.proofs.Standing.{standing-unhold}
 
-module _ {tasks : List Task} {holds : List Hold} {prepared : List Prepared} {store : List (Option Credential)} {t : Table} (is : IsKept tasks holds prepared store t) where
+module _ {tasks : List Task} {holds : List Hold} {prepared : List Prepared} {store : List (Option Credential)} {t : Table} (is : IsKept (shown tasks holds prepared store t) store t) where
   abbrev s : State
   s = shown tasks holds prepared store t
 
@@ -24,17 +24,8 @@ module _ {tasks : List Task} {holds : List Hold} {prepared : List Prepared} {sto
       let at = place-of_found (λ g. g.label == label) holds h found in
       hold-held at.0 h at.2
 
-  pub take_kept : (after : Table) (h : Hold) → Adds t after h.number → IsKept tasks (holds ++ h ∷ []) prepared store after
-  take_kept after h more = record {
-    counted = record {
-      counts = bag-more is.counted.counts more.held (standing-hold s h);
-      keeps = keeps_same t after _ is.counted.keeps more.kept;
-    };
-    filled = subst (λ (ss : List ℕ). AreFilled store ss) (sym more.sealed) is.filled;
-  }
-
   module _ (after : Table) (place : ℕ) (h : Hold) (there : slice_get holds place ≡ Some h) (less : Drops t after h.number) where
-    pub release_kept : IsKept tasks (remove holds place) prepared store after
+    pub release_kept : IsKept (shown tasks (remove holds place) prepared store after) store after
     release_kept = record {
       counted = record {
         counts = bag-less is.counted.counts less.held (standing-unhold s place h there);

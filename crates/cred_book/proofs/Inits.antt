@@ -7,13 +7,14 @@ use Rattle.cred_event.specs.declared.answer.Answer.TheVariants.{Sealed, TableFul
 use Rattle.cred_model.specs.State.{State, Task, Hold, Prepared}
 use Rattle.cred_model.specs.Like.{Does}
 use Rattle.cred_model.specs.Step.{by_init, settled, in_slot, table_full, first_task, created}
+use Rattle.cred_model.proofs.Likes.{does_same}
 use Rattle.cred_slots.specs.Table.{Table, SLOTS, IsAlone}
 use Rattle.cred_slots.specs.Table as table
 use Rattle.cred_book.specs.Kept.{AreFilled, shown, IsKept, Seals}
 use Rattle.cred_book.proofs.Bags.{bag-more}
 use Rattle.cred_book.proofs.Sealing.{roomy, in_free, in_none, keeps_same}
 use Rattle.cred_book.proofs.Standing.{standing-task}
-use Rattle.cred_book.proofs.Stored.{does_same, does_like, length-creds_in, filled-put, stored_like}
+use Rattle.cred_book.proofs.Stored.{does_made, length-creds_in, filled-put, stored_like}
 
 init_does : (task process user group ns : ℕ) → State → ℕ → Answer × State
 init_does task process user group ns s slot =
@@ -28,7 +29,7 @@ init_tests : (s : State) (task process user group ns : ℕ) → find (λ t. t.nu
 unfolding init_does
 init_tests s task process user group ns new few = rw (new, few_tasks (length s.tasks) few) refl
 
-module _ {tasks : List Task} {holds : List Hold} {prepared : List Prepared} {store : List (Option Credential)} {t : Table} (is : IsKept tasks holds prepared store t)
+module _ {tasks : List Task} {holds : List Hold} {prepared : List Prepared} {store : List (Option Credential)} {t : Table} (is : IsKept (shown tasks holds prepared store t) store t)
     (after : Table) (task process user group ns : ℕ) where
   abbrev s : State
   s = shown tasks holds prepared store t
@@ -37,7 +38,7 @@ module _ {tasks : List Task} {holds : List Hold} {prepared : List Prepared} {sto
       → shown tasks holds prepared store (table.room t) ≡ shown tasks holds prepared store after
       → Does (settled s (by_init s task process user group ns)) TableFull (shown tasks holds prepared store after)
   init_full new few none makes =
-      does_same (init_tests s task process user group ns new few ∙ in_none is (init_does task process user group ns) after none makes)
+      does_same _ _ _ (init_tests s task process user group ns new few ∙ in_none is (init_does task process user group ns) after none makes)
 
   module _ {number slot : ℕ} (long : length store ≡ SLOTS) (seals : Seals t after number slot) where
     abbrev pub first : List Task
@@ -46,7 +47,7 @@ module _ {tasks : List Task} {holds : List Hold} {prepared : List Prepared} {sto
     abbrev pub put : List (Option Credential)
     put = slice_set store slot (Some (first_credential user group ns))
 
-    pub init_kept : IsKept first holds prepared put after
+    pub init_kept : IsKept (shown first holds prepared put after) put after
     init_kept = record {
       counted = record {
         counts = bag-more is.counted.counts seals.held (standing-task s (first_task task process number) refl);
@@ -62,7 +63,7 @@ module _ {tasks : List Task} {holds : List Hold} {prepared : List Prepared} {sto
     init_sealed new few =
         let c = first_credential user group ns in
         let count = length-creds_in store t.sealed ∙ sym seals.counted in
-        does_like
+        does_made
         (init_tests s task process user group ns new few ∙ in_free is (init_does task process user group ns) slot seals.takes
         ∙ ap (λ (n : ℕ). (Sealed n slot, created (roomy is) (first_task task process n) c slot)) count)
         (stored_like store after t.sealed c slot (created (roomy is) (first_task task process number) c slot) init_kept seals.sealed long seals.in_table

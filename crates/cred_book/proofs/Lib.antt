@@ -11,4 +11,7 @@ pub mod Sealing
 pub mod Inits
 pub mod Begins
 pub mod Holding
+pub mod Labelling
+pub mod Commits
 pub mod ListAnswers
+pub mod Entered

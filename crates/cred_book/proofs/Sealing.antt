@@ -1,5 +1,5 @@
 -- A slot is taken, or none is free; and the table that counts is reserved room.
-use Rattle.std.proofs.Common.{◌≡◌, ℕ, ◌+◌, ◌<◌, ◌==◌, Bool, false, List, [], ◌∷◌, ◌++◌, count_by, length, slice_index_or, Option, None, Some, sym, ap, ◌∙◌, subst, arith}
+use Rattle.std.proofs.Common.{◌≡◌, ℕ, ◌<◌, ◌==◌, Bool, false, List, [], ◌∷◌, ◌++◌, count_by, slice_index_or, Option, None, Some, sym, ap, ◌∙◌, subst, arith}
 use Rattle.std.specs.Option.{option_map_or}
 use Rattle.cred_record.specs.Credential.{Credential}
 use Rattle.cred_event.specs.declared.answer.Answer.{Answer}
@@ -12,9 +12,9 @@ use Rattle.cred_slots.specs.Table.{Table, IsSameBag, IsAlone, is_kept, stands_in
 use Rattle.cred_slots.proofs.Counting.{count-cons, count-append}
 use Rattle.cred_slots.specs.Table as table
 use Rattle.cred_slots.proofs.Tables.{held_is_referred}
-use Rattle.cred_book.specs.Kept.{AreFilled, shown, IsCounted, IsKept, Seals}
+use Rattle.cred_book.specs.Kept.{shown, IsKept, Seals}
 use Rattle.cred_book.proofs.Bags.{bag-at}
-use Rattle.cred_book.proofs.Free.{IsTable, room-same, free-same}
+use Rattle.cred_book.proofs.Free.{room-same, free-same}
 use Rattle.cred_book.proofs.Keeps.{is_among}
 use Rattle.cred_book.proofs.Standing.{current-stands}
 use Rattle.cred_book.proofs.Stored.{is_table}
@@ -53,7 +53,7 @@ finds_full : (s r : State) (does : State → ℕ → Answer × State) → model.
 finds_full s r does full makes =
     ap (λ o. option_map_or (does (model.room s)) o (table_full (model.room s))) full ∙ ap (λ (x : State). (TableFull, x)) makes
 
-module _ {tasks : List Task} {holds : List Hold} {prepared : List Prepared} {store : List (Option Credential)} {t : Table} (is : IsKept tasks holds prepared store t) where
+module _ {tasks : List Task} {holds : List Hold} {prepared : List Prepared} {store : List (Option Credential)} {t : Table} (is : IsKept (shown tasks holds prepared store t) store t) where
   -- the state with the room that the table makes
   abbrev pub roomy : State
   roomy = shown tasks holds prepared store (table.room t)
@@ -93,23 +93,7 @@ pub keeps_same : (t after : Table) (slots : List ℕ) → ((slot : ℕ) → is_k
     → (slot : ℕ) → is_kept after slot ≡ is_among slots slot
 keeps_same t after slots keeps same slot = ap (λ ks. slice_index_or ks slot false) same ∙ keeps slot
 
--- ---- one reference more, and one that is given up
-
--- The number has one reference more.
-pub record Adds (before after : Table) (number : ℕ) : Type 0 where
-  pub held : IsSameBag after.held (number ∷ before.held)
-  pub sealed : after.sealed ≡ before.sealed
-  pub deferred : after.deferred ≡ before.deferred
-  pub kept : after.kept ≡ before.kept
-
-pub adds : (t r after : Table) {m k number : ℕ} → r ≡ record t { spare = m } → IsSameBag after.held (number ∷ r.held)
-    → after ≡ record r { held = after.held; spare = k } → Adds t after number
-adds t r after {number = number} is held made = record {
-  held = subst (λ (x : Table). IsSameBag after.held (number ∷ x.held)) is held;
-  sealed = ap (λ (x : Table). x.sealed) made ∙ ap (λ (x : Table). x.sealed) is;
-  deferred = ap (λ (x : Table). x.deferred) made ∙ ap (λ (x : Table). x.deferred) is;
-  kept = ap (λ (x : Table). x.kept) made ∙ ap (λ (x : Table). x.kept) is;
-}
+-- ---- a reference that is given up
 
 -- A reference to the number is given up, and counts until the next sweep.
 pub record Drops (before after : Table) (number : ℕ) : Type 0 where

@@ -1,5 +1,5 @@
 -- How the references that stand are counted while tasks, holds and prepared labels change.
-use Rattle.std.proofs.Common.{◌≡◌, ◌≢◌, ℕ, zero, suc, ◌+◌, ◌<◌, Bool, true, false, cond, ◌==◌, List, [], ◌∷◌, ◌++◌, map, find, remove, slice_get, length, Option, None, Some, refl, sym, ap, ◌∙◌, subst, arith}
+use Rattle.std.proofs.Common.{◌≡◌, ◌≢◌, ℕ, zero, suc, ◌+◌, ◌<◌, Bool, true, false, cond, ◌==◌, List, [], ◌∷◌, ◌++◌, map, find, remove, slice_get, Some, refl, ap, ◌∙◌, subst, arith}
 use Rattle.std.specs.List.{All, AllPairs, count_by, flat_map}
 use Rattle.std.proofs.lemmas.Bool.{eqb-true}
 use Rattle.std.proofs.lemmas.Bool.Decides.{nat_tests}
@@ -73,16 +73,6 @@ standing-task s t none = record {
       ∙ ap (λ (ns : List ℕ). count_by test (overrides s.tasks) + count_by test (ns ++ [])) none ∙ omega arith in
       let one = count-cons test t.current (standing s) in
       omega (arith, after, before, more, same, one);
-}
-
-pub standing-hold : (s : State) (h : Hold) → IsSameBag (standing (record s { holds = s.holds ++ h ∷ [] })) (h.number ∷ standing s)
-standing-hold s h = record {
-  counts = λ test.
-      let after = count-standing test (record s { holds = s.holds ++ h ∷ [] }) in
-      let before = count-standing test s in
-      let more = count-push (λ (g : Hold). g.number) test s.holds h in
-      let one = count-cons test h.number (standing s) in
-      omega (arith, after, before, more, one);
 }
 
 pub standing-unhold : (s : State) (place : ℕ) (h : Hold) → slice_get s.holds place ≡ Some h

@@ -1,17 +1,17 @@
 -- A state whose credentials stand in their slots' places, when one more is put there.
-use Rattle.std.proofs.Common.{◌≡◌, ◌≢◌, ℕ, zero, suc, ◌+◌, ◌<◌, ◌≤◌, ◌==◌, Bool, true, false, List, [], ◌∷◌, ◌++◌, map, length, Option, None, Some, slice_get, slice_set, get_or, get_or-set_same, get_or-set_other, refl, sym, ap, ◌∙◌, subst, inl, inr, arith}
-use Rattle.std.specs.List.{All, count_by}
+use Rattle.std.proofs.Common.{◌≡◌, ◌≢◌, ℕ, zero, suc, ◌<◌, ◌==◌, Bool, true, false, List, [], ◌∷◌, ◌++◌, map, length, Option, None, Some, slice_get, slice_set, get_or, get_or-set_same, get_or-set_other, refl, sym, ap, ◌∙◌, subst, inl, inr, arith}
+use Rattle.std.specs.List.{count_by}
 use Rattle.std.specs.Option.{IsSome, is_some, option_map, option_map_or}
 use Rattle.std.proofs.lemmas.Bool.{cases_eq, eq-eqb}
 use Rattle.std.proofs.lemmas.List.Elements.{All-append, All-nil, All-cons}
-use Rattle.std.proofs.lemmas.Option.{slice_get_within, slice_get_past, slice_get-map}
+use Rattle.std.proofs.lemmas.Option.{slice_get_within, slice_get-map}
 use Rattle.cred_record.specs.Credential.{Credential}
 use Rattle.cred_event.specs.declared.answer.Answer.{Answer}
 use Rattle.cred_model.specs.State.{State, Task, Hold, Prepared, Sealing, numbered}
 use Rattle.cred_model.specs.Slots.{standing, refs}
 use Rattle.cred_model.specs.Like.{IsLike, Does}
 use Rattle.cred_model.proofs.Lists.{slice_get-left}
-use Rattle.cred_slots.specs.Table.{Table, SLOTS, IsSameBag, IsAlone, stands_in, references_to}
+use Rattle.cred_slots.specs.Table.{Table, SLOTS, IsAlone, stands_in, references_to}
 use Rattle.cred_slots.proofs.Counting.{count-append}
 use Rattle.cred_book.specs.Kept.{placed, creds_in, AreFilled, shown, IsKept}
 use Rattle.cred_book.proofs.Bags.{count-at}
@@ -19,15 +19,9 @@ use Rattle.cred_book.proofs.Free.{IsTable}
 
 -- ---- what an event does
 
-pub like_same : (s : State) → IsLike s s
-like_same s = record { tasks = refl; holds = refl; prepared = refl; deferred = refl; slots = refl; creds = λ k d lt. refl }
-
--- where the event gives just this state
-pub does_same : {gives : Answer × State} {answer : Answer} {after : State} → gives ≡ (answer, after) → Does gives answer after
-does_same {answer = answer} {after = after} is = subst (λ (made : Answer × State). Does made answer after) (sym is) (record { answers = refl; leads = like_same after })
-
-pub does_like : {gives : Answer × State} {answer : Answer} {made after : State} → gives ≡ (answer, made) → IsLike after made → Does gives answer after
-does_like {answer = answer} {after = after} is like = subst (λ (g : Answer × State). Does g answer after) (sym is) (record { answers = refl; leads = like })
+-- where the event gives a state that this one is like
+pub does_made : {gives : Answer × State} {answer : Answer} {made after : State} → gives ≡ (answer, made) → IsLike after made → Does gives answer after
+does_made {answer = answer} {after = after} is like = subst (λ (g : Answer × State). Does g answer after) (sym is) (record { answers = refl; leads = like })
 
 -- ---- the state that is kept
 
@@ -47,13 +41,8 @@ numbered-creds_in store slots n slot c stands there =
     ∙ ap (option_map (λ (k : ℕ). record { cred = placed store k; slot = k })) stands
     ∙ ap (λ (o : Option Credential). Some (record { cred = option_map_or (λ (x : Credential). x) o (placed [] 0); slot = slot })) there)
 
-pub numbered-past : (store : List (Option Credential)) (slots : List ℕ) (n : ℕ) → length slots ≤ n → numbered (creds_in store slots) n ≡ None
-numbered-past store slots n past =
-    ap (option_map (λ (x : Sealing). record { number = n; cred = x.cred; slot = x.slot }))
-    (slice_get_past (creds_in store slots) n (omega (arith, length-creds_in store slots, past)))
-
 pub is_table : {tasks : List Task} {holds : List Hold} {prepared : List Prepared} {store : List (Option Credential)} {t : Table}
-    → IsKept tasks holds prepared store t → IsTable (shown tasks holds prepared store t) t
+    → IsKept (shown tasks holds prepared store t) store t → IsTable (shown tasks holds prepared store t) t
 is_table {store = store} {t = t} is = record { counted = is.counted; slots = slots-creds_in store t.sealed; deferred = refl }
 
 -- ---- a credential is put in its place
@@ -107,7 +96,7 @@ refs-counted {a = a} {t = t} is k d lt =
 -- The state in which the credential is put in the slot's place is like the one in which it is sealed, since nothing else
 -- that stood there is referred to any more.
 pub stored_like : {tasks : List Task} {holds : List Hold} {prepared : List Prepared} (store : List (Option Credential)) (t : Table) (before : List ℕ) (c : Credential) (slot : ℕ) (made : State)
-    → IsKept tasks holds prepared (slice_set store slot (Some c)) t → t.sealed ≡ before ++ slot ∷ [] → length store ≡ SLOTS → slot < SLOTS
+    → IsKept (shown tasks holds prepared (slice_set store slot (Some c)) t) (slice_set store slot (Some c)) t → t.sealed ≡ before ++ slot ∷ [] → length store ≡ SLOTS → slot < SLOTS
     → IsAlone t (length before) slot
     → tasks ≡ made.tasks → holds ≡ made.holds → prepared ≡ made.prepared → t.deferred ≡ made.deferred
     → creds_in store before ++ record { cred = c; slot = slot } ∷ [] ≡ made.creds

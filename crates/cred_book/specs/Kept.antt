@@ -1,5 +1,5 @@
--- How a book keeps the kernel's state: the tasks, the holds and the prepared labels as they are, the
--- credentials in their slots' places, and a table of slots that counts the references.
+-- How a book keeps the kernel's state: the tasks, the holds and the prepared labels as they are,
+-- the credentials in their slots' places, and a table of slots that counts the references.
 use Rattle.std.specs.Prelude.{◌≡◌, ℕ, ◌<◌, ◌==◌, List, ◌∷◌, [], ◌++◌, length, map, slice_index_or, Some, None}
 use Rattle.std.specs.declared.option.Option.{Option}
 use Rattle.std.specs.List.{All, list_any}
@@ -42,13 +42,13 @@ pub record IsCounted (standing kept : List ℕ) (table : Table) : Type 0 where
 
 -- The table counts what the state refers to and keeps, and each sealed credential is in its slot's
 -- place, until another one is put there.
-pub record IsKept (tasks : List Task) (holds : List Hold) (prepared : List Prepared) (store : List (Option Credential)) (table : Table) : Type 0 where
-  pub counted :
-      IsCounted (standing (shown tasks holds prepared store table)) (kept (shown tasks holds prepared store table)) table
+pub record IsKept (s : State) (store : List (Option Credential)) (table : Table) : Type 0 where
+  pub counted : IsCounted (standing s) (kept s) table
   pub filled : AreFilled store table.sealed
 
 -- The next number was sealed in the free slot, with one reference, after a sweep where one was
--- needed, and the same slots are kept as before. Nothing else that stands in the slot is referred to.
+-- needed, and the same slots are kept as before. Nothing else that stands in the slot is referred
+-- to.
 pub record Seals (before after : Table) (number slot : ℕ) : Type 0 where
   pub takes : free before ≡ Some slot
   pub in_table : slot < SLOTS

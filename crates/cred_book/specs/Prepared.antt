@@ -7,7 +7,13 @@ use Rattle.cred_book.specs.declared.prepared.Preparation.{Preparation}
 
 -- what is prepared under the label
 abbrev pub prepared_as : ℕ → Preparation → Prepared
-prepared_as label p = record { label = label; task = p.task; base = p.base; slot = p.slot; changed = p.changed }
+prepared_as label p = record {
+  label = label;
+  task = p.task;
+  base = p.base;
+  slot = p.slot;
+  changed = p.changed;
+}
 
 abbrev pub all_prepared : List (ℕ × Preparation) → List Prepared
 all_prepared entries = map (λ entry. prepared_as entry.0 entry.1) entries

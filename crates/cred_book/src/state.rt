@@ -53,7 +53,8 @@ impl Model for State {
 
     ghost view = { λ s. shown s.tasks.items s.holds s.prepared s.store s.slots };
 
-    ghost invariant = { λ s. IsKept s.tasks.items s.holds s.prepared s.store s.slots };
+    ghost invariant = { λ s.
+        IsKept (shown s.tasks.items s.holds s.prepared s.store s.slots) s.store s.slots };
 }
 
 impl State {
@@ -72,12 +73,7 @@ impl State {
     }
 
     /// Makes one event of a line of the script, and answers it. Without memory nothing changes.
-    pub fn step(
-        &mut self,
-        script: &Script,
-        line: u32,
-        event: &Event,
-    ) -> Result<Answer, NoMemory>
+    pub fn step(&mut self, script: &Script, line: u32, event: &Event) -> Result<Answer, NoMemory>
         requires kind { IsEventOf (length script.now.files) event.now }
         requires sound { IsSound self.old }
         ensures ok { IfOk result (λ answer.

@@ -66,12 +66,7 @@ impl State {
 
     /// What the label prepares is its base, changed so. `NoPrepared`, `Eperm` and `Einval` leave
     /// the state, and with it what an earlier change made of the base.
-    pub fn alter(
-        &mut self,
-        script: &Script,
-        label: u32,
-        change: Change,
-    ) -> Result<Answer, NoMemory>
+    pub fn alter(&mut self, script: &Script, label: u32, change: Change) -> Result<Answer, NoMemory>
         requires { is_built_change change ≡ true }
         ensures ok { IfOk result (λ answer.
             settled self.old (by_alter script.now self.old label change) ≡ (answer, self.new)) }
@@ -147,7 +142,8 @@ impl State {
     /// The base of a label. `None` where the label isn't prepared.
     fn base(&self, label: u32) -> Option<Numbered<'_>>
         ensures { option_map (λ n. record { number = n.number; cred = n.cred.now; slot = n.slot })
-            result ≡ option_and_then (λ p. numbered self.now.creds p.base) (prepared_of self.now label) }
+            result ≡ option_and_then (λ p. numbered self.now.creds p.base)
+            (prepared_of self.now label) }
     {
         let preparation = self.prepared.get(label)?;
         sealed_at(&self.store, &self.slots, preparation.base)

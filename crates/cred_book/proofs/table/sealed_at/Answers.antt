@@ -2,7 +2,7 @@ use Rattle.std.proofs.Common.{◌≡◌, ◌∙◌, sym, ap, refl, is_some, slic
 use Rattle.std.specs.Option.{IsSome, option_map}
 use Rattle.cred_record.specs.Credential.{Credential}
 use Rattle.cred_model.proofs.Lists.{All-at}
-use Rattle.cred_book.proofs.Stored.{numbered-creds_in, numbered-past}
+use Rattle.cred_book.proofs.Stored.{numbered-creds_in}
 use Rattle.cred_book.proofs.table.sealed_at.Goals as goal
 
 read : (found : Option (Bor Credential)) → is_some (option_map (λ cred. cred.now) found) ≡ is_some found

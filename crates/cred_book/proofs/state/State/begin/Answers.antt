@@ -1,4 +1,4 @@
-use Rattle.std.proofs.Common.{◌≡◌, slice_set, Ok, Some, sym, arith}
+use Rattle.std.proofs.Common.{◌≡◌, Ok, sym, arith}
 use Rattle.std.proofs.lemmas.Grind.{common_steps}
 use Rattle.std.specs.Vec.{with_items}
 use Rattle.cred_rules.specs.SetId.{set_id}

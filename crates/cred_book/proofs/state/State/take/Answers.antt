@@ -1,6 +1,5 @@
 use Rattle.std.proofs.Common.{sym}
-use Rattle.cred_book.proofs.Holding.{take_kept}
-use Rattle.cred_book.proofs.Sealing.{adds, current-held, referred_to}
+use Rattle.cred_book.proofs.Sealing.{current-held, referred_to}
 use Rattle.cred_book.proofs.state.State.take.Goals as goal
 
 pub add-requires-clause-referred : goal.add-requires-clause-referred
