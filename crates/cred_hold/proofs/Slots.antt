@@ -1,0 +1,115 @@
+-- The slots and entries of a master, as contracts see them.
+use Rattle.std.proofs.Common.{◌≡◌, ◌≢◌, zero, suc, add-one, ◌+◌, ◌<◌, ◌≤◌, ℕ, List, ◌++◌, ◌∷◌, [], map, replicate, take, drop, length, set, Some, None, Bool, true, false, true≢false, refl, sym, ap, ◌∙◌, subst, ⊎_elim, arith}
+use Rattle.std.specs.Prelude.{slice_get, slice_index, not, ◌&&◌, if◌then◌else◌}
+use Rattle.std.specs.List.{AllByRecursion}
+use Rattle.std.proofs.lemmas.List.{drop_all, get_or-drop, get_or-take, append-nil, take_all, map-append}
+use Rattle.std.proofs.lemmas.Option.{same_Some}
+use Rattle.cred_record.specs.Credential.{Credential}
+use Rattle.cred_record.specs.Words.{are_words, credential_of}
+use Rattle.cred_record.specs.declared.layout.TheConstants.{WORDS}
+use Rattle.cred_words.specs.Size.{width}
+use Rattle.cred_words.specs.Lists.{IsTaken}
+use Rattle.cred_words.specs.declared.view.Slot.{Slot}
+use Rattle.cred_words.specs.declared.view.Token.{Token}
+use Rattle.cred_words.specs.declared.view.Ledger.{Ledger}
+use Rattle.cred_words.specs.Words.{slot_of, words_at, entry_of, FitsAs, EntryFits}
+use Rattle.cred_words.specs.Seen as words
+use Rattle.cred_words.proofs.Lists.{words_at-get, get_set}
+use Rattle.cred_words.proofs.Opens.{width_is}
+use Rattle.cred_words.proofs.Seats.{slot_there}
+use Rattle.cred_hold.specs.Tokens.{entry, seen_if, entry_seen, slot_seen, AreSlots, IsAlone}
+
+pub sealed_words : (d : Ledger) (slot : ℕ) → AreSlots d.slots → words.IsSealed d slot → (length (words_at d.slots slot) ≡ width) × (are_words (words_at d.slots slot) ≡ true)
+sealed_words d slot all h =
+    let P : List ℕ → Type 0 = λ ws. (length ws ≡ width) × (are_words ws ≡ true) in
+    let a = all slot h.0 h.1 in
+    subst P (sym (words_at-get d.slots slot h.0 h.1)) (a.0, a.1 h.2)
+
+pub after_writer : (slots : List Slot) (slot : ℕ) → slot < length slots → AreSlots slots → AreSlots (set slots slot (slot_of (words_at slots slot) false)) × (length (words_at slots slot) ≡ width)
+after_writer slots slot small all =
+    let there = slot_there slots slot small in
+    let wide : length (words_at slots slot) ≡ width = ap length (words_at-get slots slot there.0 there.1) ∙ (all slot there.0 there.1).0 in
+    let y : Slot = slot_of (words_at slots slot) false in (
+      (λ s x g.
+          ⊎_elim
+          (λ (r : (s ≡ slot) × (y ≡ x)). subst (λ (z : Slot). (length z.words ≡ width) × (z.sealed ≡ true → are_words z.words ≡ true)) r.1 (wide, λ b. absurd (true≢false (sym b))))
+          (λ (r : (s ≢ slot) × (slice_get slots s ≡ Some x)). all s x r.1)
+          (get_set slots slot s y x g)),
+      wide,
+    )
+
+-- ---- as they are seen
+
+-- a slot that is seen to be sealed, sealed with words of that credential
+pub sealed-seen : (slots : List Slot) (slot : ℕ) (c : Credential) → slice_get (map slot_seen slots) slot ≡ Some (Some c) → (x : Slot) × (slice_get slots slot ≡ Some x) × (x.sealed ≡ true) × (credential_of x.words ≡ c)
+sealed-seen [] slot c at = absurd (cc)
+sealed-seen (x ∷ slots) zero c at = let h = by x.sealed (same_Some _ _ at) in (x, refl, h.0, h.1)
+  where
+    by : (b : Bool) → seen_if b x.words ≡ Some c → (b ≡ true) × (credential_of x.words ≡ c)
+    by true is = (refl, same_Some _ _ is)
+    by false is = absurd (cc)
+sealed-seen (x ∷ slots) (suc slot) c at = sealed-seen slots slot c at
+
+pub map-set : {A B : Type 0} (f : A → B) (xs : List A) (i : ℕ) (y : A) → map f (set xs i y) ≡ set (map f xs) i (f y)
+map-set f [] i y = refl
+map-set f (x ∷ xs) zero y = refl
+map-set f (x ∷ xs) (suc i) y = ap (λ l. f x ∷ l) (map-set f xs i y)
+
+pub map-replicate : {A B : Type 0} (f : A → B) (n : ℕ) (x : A) → map f (replicate n x) ≡ replicate n (f x)
+map-replicate f zero x = refl
+map-replicate f (suc n) x = ap (λ l. f x ∷ l) (map-replicate f n x)
+
+pub map-taken : {A B : Type 0} (f : A → B) (old : List A) (x : A) (new : List A) → IsTaken old x new → IsTaken (map f old) (f x) (map f new)
+map-taken f old x new h = (
+  map f h.0,
+  map f h.1,
+  ap (map f) h.2 ∙ map-append f h.0 (x ∷ h.1),
+  ap (map f) h.3 ∙ map-append f h.0 h.1,
+)
+
+pub alone-seen : (es : List Token) (slot : ℕ) → IsAlone (map entry_seen es) slot → AllByRecursion (λ e. e.slot ≢ slot) es
+alone-seen [] slot h = tt
+alone-seen (e ∷ es) slot h = (h.0, alone-seen es slot h.1)
+
+pub hold-seen : (t : Token) → t.writes ≡ false → entry_seen (entry_of t) ≡ entry t.label t.slot (Some (credential_of t.words))
+hold-seen t is = ap (λ (b : Bool). entry t.label t.slot (seen_if (not b) (if b then [] else t.words))) is
+
+pub writer-seen : (t : Token) → t.writes ≡ true → entry_seen (entry_of t) ≡ entry t.label t.slot None
+writer-seen t is = ap (λ (b : Bool). entry t.label t.slot (seen_if (not b) (if b then [] else t.words))) is
+
+-- the slot of a hold's entry
+pub hold-slot : (slots : List Slot) (t : Token) → t.writes ≡ false → EntryFits slots (entry_of t) → slice_get slots t.slot ≡ Some (slot_of t.words true)
+hold-slot slots t is h =
+    let f : FitsAs false slots (entry_of t) = subst (λ b. FitsAs b slots (entry_of t)) is h in
+    f ∙ ap (λ (b : Bool). Some (slot_of (if b then [] else t.words) true)) is
+
+-- a writer's slot, which is sealed where a credential was put
+pub put-seen : (put : Bool) (ws : List ℕ) → (put ≡ true → are_words ws ≡ true) → seen_if (put && are_words ws) ws ≡ seen_if put ws
+put-seen true ws h = ap (λ b. seen_if b ws) (h refl)
+put-seen false ws h = refl
+
+pub slot-there : (slots : List Slot) (t : Token) → t.writes ≡ true → EntryFits slots (entry_of t) → (x : Slot) × (slice_get slots t.slot ≡ Some x)
+slot-there slots t is h =
+    let f : FitsAs true slots (entry_of t) = subst (λ b. FitsAs b slots (entry_of t)) is h in
+    (slot_of f.0 false, f.1)
+
+-- ---- a loop over the words of a slot
+
+next : (words ws : List ℕ) (i x : ℕ) → i < length words → i < length ws → x ≡ slice_index words i → set (take i words ++ drop i ws) i x ≡ take (suc i) words ++ drop (suc i) ws
+next [] ws i x a b is = absurd (omega arith)
+next (w ∷ words) [] i x a b is = absurd (omega arith)
+next (w ∷ words) (y ∷ ws) zero x a b is = ap (λ v. v ∷ ws) is
+next (w ∷ words) (y ∷ ws) (suc i) x a b is = ap (λ l. w ∷ l) (next words ws i x (omega arith) (omega arith) is)
+
+pub scattered : (words ws : List ℕ) (i x : ℕ) → i < length words → i < length ws → x ≡ slice_index words i → set (take i words ++ drop i ws) i x ≡ take (i + 1) words ++ drop (i + 1) ws
+scattered words ws i x a b is = rw add-one (next words ws i x a b is)
+
+pub all_scattered : (words ws : List ℕ) (i : ℕ) → length words ≤ i → length ws ≤ i → take i words ++ drop i ws ≡ words
+all_scattered words ws i a b = ap (λ l. take i words ++ l) (drop_all i ws b) ∙ ap (λ l. l ++ []) (take_all i words a) ∙ append-nil words
+
+pub whole-words : (ws : List ℕ) → length ws ≡ width → take WORDS (drop 0 ws) ≡ ws
+whole-words ws wide = let w = width_is in take_all WORDS ws (omega arith)
+
+-- a word among those that were read
+pub part-at : (ws part : List ℕ) (n first i : ℕ) → part ≡ take n (drop first ws) → i < n → slice_index part i ≡ slice_index ws (first + i)
+part-at ws part n first i is small = ap (λ (xs : List ℕ). slice_index xs i) is ∙ get_or-take n (drop first ws) i 0 small ∙ get_or-drop first ws i 0

@@ -1,0 +1,66 @@
+-- What contracts see of the tokens: labels, slots, credentials, and the identity of the cells.
+use Rattle.std.specs.Prelude.{◌≡◌, ◌≢◌, ℕ, List, length, Option, Some, None, Bool, true, false, not, slice_get}
+use Rattle.std.specs.List.{AllByRecursion}
+use Rattle.atomic_table.specs.Seated.{TableId}
+use Rattle.cred_record.specs.Credential.{Credential}
+use Rattle.cred_record.specs.Words.{credential_of, are_words}
+use Rattle.cred_words.specs.Size.{width}
+use Rattle.cred_words.specs.declared.view.Slot.{Slot}
+use Rattle.cred_words.specs.declared.view.Token.{Token}
+
+-- what is lent: a hold of a credential, or a writer, for which none stands here
+pub record Entry : Type 0 where
+  pub label : ℕ
+  pub slot : ℕ
+  pub held : Option Credential
+
+abbrev pub entry : ℕ → ℕ → Option Credential → Entry
+entry label slot held = record { label = label; slot = slot; held = held }
+
+-- the master: the identity of its cells, what is lent, the newest first, and for each slot the
+-- credential if it is sealed
+pub record Mastered : Type 0 where
+  pub id : TableId
+  pub entries : List Entry
+  pub slots : List (Option Credential)
+
+-- a hold: its cells, its label and its slot, and the credential that is held
+pub record Held : Type 0 where
+  pub id : TableId
+  pub label : ℕ
+  pub slot : ℕ
+  pub cred : Credential
+
+-- a writer: its cells, its label and its slot, and what was put last, if anything was
+pub record Written : Type 0 where
+  pub id : TableId
+  pub label : ℕ
+  pub slot : ℕ
+  pub put : Option Credential
+
+-- the slot is sealed. No writer is then out on it, since a loan to a writer unseals it
+abbrev pub IsSealed : List (Option Credential) → ℕ → Type 0
+IsSealed slots slot = (c : Credential) × (slice_get slots slot ≡ Some (Some c))
+
+-- no token is out on the slot
+abbrev pub IsAlone : List Entry → ℕ → Type 0
+IsAlone entries slot = AllByRecursion (λ e. e.slot ≢ slot) entries
+
+-- ---- how they are seen in words
+
+-- the credential of words that are said to have one
+abbrev pub seen_if : Bool → List ℕ → Option Credential
+seen_if true ws = Some (credential_of ws)
+seen_if false ws = None
+
+abbrev pub entry_seen : Token → Entry
+entry_seen t = entry t.label t.slot (seen_if (not t.writes) t.words)
+
+abbrev pub slot_seen : Slot → Option Credential
+slot_seen x = seen_if x.sealed x.words
+
+-- each slot has all its words, and they are a credential's where it is sealed
+abbrev pub AreSlots : List Slot → Type 0
+AreSlots slots =
+    (s : ℕ) (x : Slot) → slice_get slots s ≡ Some x →
+    (length x.words ≡ width) × (x.sealed ≡ true → are_words x.words ≡ true)

@@ -1,0 +1,12 @@
+//! Credentials in shared words, lent as holds, which read, and as writers, which put.
+#![tactic(auto)]
+
+pub mod master;
+#[cfg(test)]
+mod tests;
+pub mod tokens;
+mod words;
+
+pub use cred_words::Cells;
+pub use master::{Master, make};
+pub use tokens::{Hold, Writer, put, read, read_caps, read_ids};

@@ -1,0 +1,118 @@
+//! The master of the shared words: what it lends, and what it takes back.
+ghost use Rattle.std.specs.Prelude.{◌≡◌, ◌<◌, [], ◌∷◌, Some, None, IfOk, replicate, slice_get, slice_set};
+ghost use Rattle.cred_words.specs.Lists.{IsTaken};
+ghost use Rattle.cred_hold.specs.Tokens.{entry, IsSealed, IsAlone};
+
+use crate::tokens::{Hold, Writer};
+use cred_ids::NoMemory;
+use cred_words::{Cells, SLOTS, cells};
+use std::alloc::Global;
+use std::marker::Model;
+
+/// The master's token, of which cells have one. Contracts see the identity of its cells, what is
+/// lent, the newest first, and for each slot the credential that is sealed there, if one is.
+#[derive(Drop)]
+pub struct Master {
+    inner: cells::Master,
+}
+
+impl Model for Master {
+    ghost use Rattle.std.specs.Prelude.{◌≡◌, None, length, map};
+    ghost use Rattle.cred_hold.specs.Tokens.{Mastered, AreSlots, entry_seen, slot_seen};
+
+    ghost Value = { Mastered };
+
+    ghost use Rattle.cred_words.specs.Size.{count};
+
+    ghost view = { λ m. record {
+      id = m.inner.id;
+      entries = map entry_seen m.inner.ledger.entries;
+      slots = map slot_seen m.inner.ledger.slots;
+    } };
+
+    ghost invariant = { λ m. (m.inner.ledger.kept ≡ None)
+        × AreSlots m.inner.ledger.slots
+        × (length m.inner.ledger.slots ≡ count) };
+}
+
+/// Cells with no slot sealed and nothing lent, and their master.
+///
+/// # Errors
+///
+/// Memory ran out.
+pub fn make(alloc: Global) -> Result<(Cells, Master), NoMemory>
+    ensures { IfOk result (λ r. (r.1.id ≡ r.0) × (r.1.entries ≡ [])
+        × (r.1.slots ≡ replicate SLOTS None)) }
+{
+    let (cells, inner) = Cells::make(alloc)?;
+    Ok((cells, Master { inner }))
+}
+
+impl Master {
+    /// Lends a hold on a sealed slot. It takes no memory.
+    pub fn lend(&mut self, cells: &Cells, label: u32, slot: u32) -> Hold
+        requires own { self.old.id ≡ cells.now }
+        requires sealed { IsSealed self.old.slots slot }
+        ensures hold { (result.id ≡ self.old.id) × (result.label ≡ label) × (result.slot ≡ slot) }
+        ensures cred { slice_get self.old.slots slot ≡ Some (Some result.cred) }
+        ensures entries { self.new.entries
+            ≡ entry label slot (Some result.cred) ∷ self.old.entries }
+        ensures rest { (self.new.id ≡ self.old.id) × (self.new.slots ≡ self.old.slots) }
+    {
+        Hold {
+            inner: self.inner.lend_hold(cells, label, slot),
+            slot,
+        }
+    }
+
+    /// Takes a hold back, and its entry from what is lent. It takes no memory.
+    pub fn give_back(&mut self, cells: &Cells, hold: Hold)
+        requires own { (self.old.id ≡ cells.now) × (hold.id ≡ cells.now) }
+        ensures entry { IsTaken self.old.entries (entry hold.label hold.slot (Some hold.cred))
+            self.new.entries }
+        ensures cred { slice_get self.old.slots hold.slot ≡ Some (Some hold.cred) }
+        ensures rest { (self.new.id ≡ self.old.id) × (self.new.slots ≡ self.old.slots) }
+    {
+        let Hold { inner, slot: _ } = hold;
+        self.inner.return_hold(cells, inner);
+        self.inner.load_after_return(cells, false);
+    }
+
+    /// Lends a writer on a slot on which nothing is lent. The slot is sealed no more. It takes no
+    /// memory.
+    pub fn lend_writer(&mut self, cells: &Cells, label: u32, slot: u32) -> Writer
+        requires own { self.old.id ≡ cells.now }
+        requires within { slot < SLOTS }
+        requires alone { IsAlone self.old.entries slot }
+        ensures writer { (result.id ≡ self.old.id) × (result.label ≡ label)
+            × (result.slot ≡ slot) × (result.put ≡ None) }
+        ensures entries { self.new.entries ≡ entry label slot None ∷ self.old.entries }
+        ensures slots { self.new.slots ≡ slice_set self.old.slots slot None }
+        ensures same { self.new.id ≡ self.old.id }
+    {
+        Writer {
+            inner: self.inner.lend_writer(cells, label, slot),
+            slot,
+            put: false,
+        }
+    }
+
+    /// Takes a writer back, and its entry from what is lent. The slot has the credential that was
+    /// put last, or is not sealed where nothing was put. It takes no memory.
+    pub fn take_back(&mut self, cells: &Cells, writer: Writer)
+        requires own { (self.old.id ≡ cells.now) × (writer.id ≡ cells.now) }
+        ensures entry { IsTaken self.old.entries (entry writer.label writer.slot None)
+            self.new.entries }
+        ensures slot { slice_get self.new.slots writer.slot ≡ Some writer.put }
+        ensures slots { self.new.slots ≡ slice_set self.old.slots writer.slot writer.put }
+        ensures same { self.new.id ≡ self.old.id }
+    {
+        let Writer {
+            inner,
+            slot: _,
+            put,
+        } = writer;
+        self.inner.return_writer(cells, inner);
+        self.inner.load_after_return(cells, put);
+    }
+}

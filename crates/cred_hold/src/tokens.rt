@@ -1,0 +1,146 @@
+//! What is lent: holds and writers.
+ghost use Rattle.std.specs.Prelude.{◌≡◌, Some, IfOk, [], ◌∷◌};
+ghost use Rattle.cred_caps.specs.Caps.{IsCaps};
+
+use crate::words::{gather, scatter};
+use cred_caps::CapSet;
+use cred_ids::{Ids4, NoMemory};
+use cred_record::layout::{PERMITTED, USER};
+use cred_record::{Cred, WORDS, ids_in, is_credential, of_words, to_words};
+use cred_words::{Cells, cells};
+use std::alloc::Global;
+use std::marker::Model;
+
+/// A sealed slot that is lent to be read. The credential stands in the shared words alone.
+/// Contracts see the identity of its cells, its label, its slot and the credential.
+#[derive(Drop)]
+pub struct Hold {
+    pub(crate) inner: cells::Hold,
+    pub(crate) slot: u32,
+}
+
+impl Model for Hold {
+    ghost use Rattle.std.specs.Prelude.{◌≡◌, true, false, length};
+    ghost use Rattle.cred_hold.specs.Tokens.{Held};
+
+    ghost Value = { Held };
+
+    ghost use Rattle.cred_words.specs.Size.{width};
+    ghost use Rattle.cred_record.specs.Words.{are_words, credential_of};
+
+    ghost view = { λ h. record {
+      id = h.inner.id;
+      label = h.inner.token.label;
+      slot = h.inner.token.slot;
+      cred = credential_of h.inner.token.words;
+    } };
+
+    ghost invariant = { λ h. (h.slot ≡ h.inner.token.slot)
+        × (h.inner.token.writes ≡ false)
+        × (length h.inner.token.words ≡ width)
+        × (are_words h.inner.token.words ≡ true) };
+}
+
+/// A slot that is lent to be written. Contracts see the identity of its cells, its label, its slot,
+/// and the credential that was put last, or that none was.
+#[derive(Drop)]
+pub struct Writer {
+    pub(crate) inner: cells::Writer,
+    pub(crate) slot: u32,
+    pub(crate) put: bool,
+}
+
+impl Model for Writer {
+    ghost use Rattle.std.specs.Prelude.{◌≡◌, true, length};
+    ghost use Rattle.cred_hold.specs.Tokens.{Written, seen_if};
+
+    ghost Value = { Written };
+
+    ghost use Rattle.cred_words.specs.Size.{width};
+    ghost use Rattle.cred_record.specs.Words.{are_words};
+
+    ghost view = { λ w. record {
+      id = w.inner.id;
+      label = w.inner.token.label;
+      slot = w.inner.token.slot;
+      put = seen_if w.put w.inner.token.words;
+    } };
+
+    ghost invariant = { λ w. (w.slot ≡ w.inner.token.slot)
+        × (w.inner.token.writes ≡ true)
+        × (length w.inner.token.words ≡ width)
+        × (w.put ≡ true → are_words w.inner.token.words ≡ true) };
+}
+
+/// The credential that is held, whatever other tokens read and put meanwhile. It waits for nobody.
+///
+/// # Errors
+///
+/// Memory ran out. The hold stays as it was, as on success.
+pub fn read(alloc: Global, cells: &Cells, hold: &mut Hold) -> Result<Cred, NoMemory>
+    requires { hold.old.id ≡ cells.now }
+    ensures value { IfOk result (λ c. c ≡ hold.old.cred) }
+    ensures same { hold.new ≡ hold.old }
+{
+    let words = gather::<WORDS>(cells, &mut hold.inner, hold.slot, 0);
+    let Some(cred) = of_words(alloc, &words)? else {
+        unreachable!()
+    };
+    Ok(cred)
+}
+
+/// The user ids and the group ids of the credential that is held. It takes no memory and waits for
+/// nobody.
+pub fn read_ids(cells: &Cells, hold: &mut Hold) -> (Ids4, Ids4)
+    requires { hold.old.id ≡ cells.now }
+    ensures value { (result.0 ≡ hold.old.cred.uid) × (result.1 ≡ hold.old.cred.gid) }
+    ensures same { hold.new ≡ hold.old }
+{
+    let [user, saved_user, group, saved_group] = gather::<4>(
+        cells,
+        &mut hold.inner,
+        hold.slot,
+        USER,
+    );
+    let Some(uid) = ids_in(user, saved_user) else {
+        unreachable!()
+    };
+    let Some(gid) = ids_in(group, saved_group) else {
+        unreachable!()
+    };
+    (uid, gid)
+}
+
+/// The permitted, inheritable, effective, bounding and ambient set of the credential that is held,
+/// in this order. It takes no memory and waits for nobody.
+pub fn read_caps(cells: &Cells, hold: &mut Hold) -> [CapSet; 5]
+    requires { hold.old.id ≡ cells.now }
+    ensures value { result ≡ hold.old.cred.perm ∷ hold.old.cred.inh ∷ hold.old.cred.eff
+        ∷ hold.old.cred.bound ∷ hold.old.cred.amb ∷ [] }
+    ensures same { hold.new ≡ hold.old }
+{
+    let [perm, inh, eff, bound, amb] = gather::<5>(cells, &mut hold.inner, hold.slot, PERMITTED);
+    [set(perm), set(inh), set(eff), set(bound), set(amb)]
+}
+
+/// The set of bits that are known to be one.
+fn set(bits: u64) -> CapSet
+    requires { IsCaps bits }
+    ensures { result ≡ bits }
+{
+    let Some(set) = CapSet::of_bits(bits) else {
+        unreachable!()
+    };
+    set
+}
+
+/// Puts a credential on the writer's slot. It takes no memory and waits for nobody.
+pub fn put(cells: &Cells, writer: &mut Writer, cred: &Cred)
+    requires { writer.old.id ≡ cells.now }
+    ensures { writer.new ≡ record writer.old { put = Some cred.now } }
+{
+    is_credential(cred);
+    let words = to_words(cred);
+    scatter(cells, &mut writer.inner, writer.slot, &words);
+    writer.put = true;
+}
