@@ -8,7 +8,7 @@ ghost use Rattle.cred_program.specs.Texts.{bad_text, reason_text};
 
 use cred_event::Entry;
 use cred_io::{Sink, SinkRefusal, write_all};
-use cred_report::append;
+use cred_report::{Pen, prepend};
 use cred_script::{Reason, Script};
 use std::alloc::Global;
 
@@ -36,13 +36,13 @@ pub fn write_report<K: Sink>(
         (AppendsPrefix (K.written sink.old) (K.written sink.new) (text script.now journal.now)) }
     ensures cause { HasSinkCause (K.faults sink.old) (K.faults sink.new) result }
 {
-    let mut line = Vec::new(alloc);
+    let mut line = Pen::new(alloc);
     for entry in journal {
         line.clear();
-        let Ok(()) = append(&mut line, script, entry) else {
+        let Ok(()) = prepend(&mut line, script, entry) else {
             return Err(SinkRefusal::Memory);
         };
-        write_all(sink, &line)?;
+        write_all(sink, line.items())?;
     }
     sink.flush()
 }

@@ -2,18 +2,19 @@
 ghost use Rattle.std.specs.Prelude.{◌≡◌, ◌++◌, OnOk};
 ghost use Rattle.cred_report.specs.Questions.{file_text, want_text, query_text};
 
-use crate::words::{append_number, append_word};
+use crate::pen::Pen;
+use crate::words::{prepend_number, prepend_word};
 use cred_event::Query;
 use cred_ids::NoMemory;
 use cred_record::Want;
 use cred_script::Script;
 
-/// Appends the name of the file at this place among the script's files.
-pub(crate) fn append_file(out: &mut Vec<u8>, script: &Script, place: u32) -> Result<(), NoMemory>
-    ensures { OnOk result (out.new.items ≡ out.old.items ++ file_text script.now place) }
+/// Writes the name of the file at this place among the script's files.
+pub(crate) fn prepend_file(out: &mut Pen, script: &Script, place: u32) -> Result<(), NoMemory>
+    ensures { OnOk result (out.new ≡ file_text script.now place ++ out.old) }
 {
     match script.name(place) {
-        Some(name) => append_word(out, name),
+        Some(name) => prepend_word(out, name),
         None => Ok(()),
     }
 }
@@ -34,23 +35,23 @@ pub(crate) fn letters_of(want: Want) -> &'static str
     }
 }
 
-/// Appends the question.
-pub(crate) fn append_query(out: &mut Vec<u8>, script: &Script, query: Query) -> Result<(), NoMemory>
-    ensures { OnOk result (out.new.items ≡ out.old.items ++ query_text script.now query) }
+/// Writes the question.
+pub(crate) fn prepend_query(out: &mut Pen, script: &Script, query: Query) -> Result<(), NoMemory>
+    ensures { OnOk result (out.new ≡ query_text script.now query ++ out.old) }
 {
     match query {
-        Query::Ids => append_word(out, "ids"),
-        Query::Caps => append_word(out, "caps"),
-        Query::Groups => append_word(out, "groups"),
-        Query::Bits => append_word(out, "bits"),
-        Query::Capable(cap) => append_number(out, "capable ", cap),
-        Query::Bset(cap) => append_number(out, "bset ", cap),
-        Query::AmbIs(cap) => append_number(out, "ambis ", cap),
+        Query::Ids => prepend_word(out, "ids"),
+        Query::Caps => prepend_word(out, "caps"),
+        Query::Groups => prepend_word(out, "groups"),
+        Query::Bits => prepend_word(out, "bits"),
+        Query::Capable(cap) => prepend_number(out, "capable ", cap),
+        Query::Bset(cap) => prepend_number(out, "bset ", cap),
+        Query::AmbIs(cap) => prepend_number(out, "ambis ", cap),
         Query::Check { file, want } => {
-            append_word(out, "check ")?;
-            append_file(out, script, file)?;
-            append_word(out, " ")?;
-            append_word(out, letters_of(want))
+            prepend_word(out, letters_of(want))?;
+            prepend_word(out, " ")?;
+            prepend_file(out, script, file)?;
+            prepend_word(out, "check ")
         }
     }
 }
