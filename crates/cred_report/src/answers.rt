@@ -1,5 +1,5 @@
 //! Answers.
-ghost use Rattle.std.specs.Prelude.{◌≡◌, ◌++◌, OnOk, codes, decimal};
+ghost use Rattle.std.specs.Prelude.{◌≡◌, ◌≤◌, ◌+◌, ◌++◌, OnOk, codes, decimal, length};
 ghost use Rattle.cred_report.specs.Answers.{exists_text, too_many_text, cause_text};
 ghost use Rattle.cred_report.specs.Numbers.{set_text};
 ghost use Rattle.cred_report.specs.Answers.{sealed_text, answer_text};
@@ -14,7 +14,8 @@ use cred_record::Gains;
 
 /// The words before the number of a thing that stands already.
 fn exists_word(what: Named) -> &'static str
-    ensures { result.now ≡ exists_text what }
+    ensures text { result.now ≡ exists_text what }
+    ensures short { length result.now ≤ 16 }
 {
     match what {
         Named::Task => "exists t",
@@ -27,7 +28,8 @@ fn exists_word(what: Named) -> &'static str
 
 /// What there are too many of, in words.
 fn too_many_words(counted: Counted) -> &'static str
-    ensures { result.now ≡ too_many_text counted }
+    ensures text { result.now ≡ too_many_text counted }
+    ensures short { length result.now ≤ 20 }
 {
     match counted {
         Counted::Tasks => "too many tasks",
@@ -39,7 +41,8 @@ fn too_many_words(counted: Counted) -> &'static str
 
 /// Why a thread could not follow, in a word.
 fn cause_word(cause: AbortCause) -> &'static str
-    ensures { result.now ≡ cause_text cause }
+    ensures text { result.now ≡ cause_text cause }
+    ensures short { length result.now ≤ 16 }
 {
     match cause {
         AbortCause::Perm => " eperm",
@@ -49,76 +52,87 @@ fn cause_word(cause: AbortCause) -> &'static str
 
 /// Writes the word, the number of a sealed credential and its slot.
 #[inline(always)]
-fn prepend_sealed(out: &mut Pen, word: &str, cred: u64, slot: u32) -> Result<(), NoMemory>
-    ensures { OnOk result (out.new ≡ (word.now ++ sealed_text cred slot) ++ out.old) }
+fn prepend_sealed(out: &mut Pen, word: &str, cred: u64, slot: u32)
+    requires { length word.now + 44 ≤ out.old.room }
+    ensures text { out.new.text ≡ (word.now ++ sealed_text cred slot) ++ out.old.text }
+    ensures room { out.old.room ≤ out.new.room + (length word.now + 44) }
 {
-    prepend_number(out, " s", slot)?;
-    prepend_long(out, " c", cred)?;
+    prepend_number(out, " s", slot);
+    prepend_long(out, " c", cred);
     prepend_word(out, word)
 }
 
 /// Writes how many threads ended, and what the file's attribute, inheritance and root gained.
-fn prepend_gains(out: &mut Pen, ended: u32, gains: Gains) -> Result<(), NoMemory>
-    ensures { OnOk result (out.new
-        ≡ (codes " ended " ++ decimal ended
-        ++ (codes " gain" ++ set_text gains.file ++ set_text gains.inherit ++ set_text gains.root))
-        ++ out.old) }
+fn prepend_gains(out: &mut Pen, ended: u32, gains: Gains)
+    requires { 92 ≤ out.old.room }
+    ensures text { out.new.text
+        ≡ (codes " ended " ++ decimal ended ++ codes " gain"
+        ++ set_text gains.file ++ set_text gains.inherit ++ set_text gains.root)
+        ++ out.old.text }
+    ensures room { out.old.room ≤ out.new.room + 92 }
 {
-    prepend_sets(out, gains.file, gains.inherit, gains.root)?;
-    prepend_word(out, " gain")?;
+    prepend_sets(out, gains.file, gains.inherit, gains.root);
+    prepend_word(out, " gain");
     prepend_number(out, " ended ", ended)
 }
 
 /// Writes the answer to the commit of an exec.
-fn prepend_executed(
-    out: &mut Pen,
-    cred: u64,
-    slot: u32,
-    ended: u32,
-    gains: Gains,
-) -> Result<(), NoMemory>
-    ensures { OnOk result (out.new ≡ answer_text (Answer.Executed cred slot ended gains) ++ out.old) }
+fn prepend_executed(out: &mut Pen, cred: u64, slot: u32, ended: u32, gains: Gains)
+    requires { 192 ≤ out.old.room }
+    ensures text { out.new.text
+        ≡ answer_text (Answer.Executed cred slot ended gains) ++ out.old.text }
+    ensures room { out.old.room ≤ out.new.room + 192 }
 {
-    prepend_gains(out, ended, gains)?;
+    prepend_gains(out, ended, gains);
     prepend_sealed(out, "ok", cred, slot)
 }
 
 /// Writes the answer to an id call.
-fn prepend_began(out: &mut Pen, cred: u64, slot: u32, left: u32) -> Result<(), NoMemory>
-    ensures { OnOk result (out.new ≡ answer_text (Answer.Began cred slot left) ++ out.old) }
+fn prepend_began(out: &mut Pen, cred: u64, slot: u32, left: u32)
+    requires { 192 ≤ out.old.room }
+    ensures text { out.new.text ≡ answer_text (Answer.Began cred slot left) ++ out.old.text }
+    ensures room { out.old.room ≤ out.new.room + 192 }
 {
-    prepend_number(out, " left ", left)?;
+    prepend_number(out, " left ", left);
     prepend_sealed(out, "ok", cred, slot)
 }
 
 /// Writes the answer of a thread that followed a broadcast.
-fn prepend_acted(out: &mut Pen, task: u32, cred: u64, slot: u32, left: u32) -> Result<(), NoMemory>
-    ensures { OnOk result (out.new ≡ answer_text (Answer.Acted task cred slot left) ++ out.old) }
+fn prepend_acted(out: &mut Pen, task: u32, cred: u64, slot: u32, left: u32)
+    requires { 192 ≤ out.old.room }
+    ensures text { out.new.text ≡ answer_text (Answer.Acted task cred slot left) ++ out.old.text }
+    ensures room { out.old.room ≤ out.new.room + 192 }
 {
-    prepend_number(out, " left ", left)?;
-    prepend_sealed(out, "", cred, slot)?;
+    prepend_number(out, " left ", left);
+    prepend_sealed(out, "", cred, slot);
     prepend_number(out, "ok t", task)
 }
 
 /// Writes the answer to a commit on another base than the task's current credential.
-fn prepend_stale(out: &mut Pen, base: u64, now: u64) -> Result<(), NoMemory>
-    ensures { OnOk result (out.new ≡ answer_text (Answer.Stale base now) ++ out.old) }
+fn prepend_stale(out: &mut Pen, base: u64, now: u64)
+    requires { 192 ≤ out.old.room }
+    ensures text { out.new.text ≡ answer_text (Answer.Stale base now) ++ out.old.text }
+    ensures room { out.old.room ≤ out.new.room + 192 }
 {
-    prepend_long(out, " c", now)?;
+    prepend_long(out, " c", now);
     prepend_long(out, "stale c", base)
 }
 
 /// Writes the answer of a thread that could not follow a broadcast.
-fn prepend_aborted(out: &mut Pen, task: u32, cause: AbortCause) -> Result<(), NoMemory>
-    ensures { OnOk result (out.new ≡ answer_text (Answer.Aborted task cause) ++ out.old) }
+fn prepend_aborted(out: &mut Pen, task: u32, cause: AbortCause)
+    requires { 192 ≤ out.old.room }
+    ensures text { out.new.text ≡ answer_text (Answer.Aborted task cause) ++ out.old.text }
+    ensures room { out.old.room ≤ out.new.room + 192 }
 {
-    prepend_word(out, cause_word(cause))?;
+    prepend_word(out, cause_word(cause));
     prepend_number(out, "aborted t", task)
 }
 
 /// Writes the answer.
 pub(crate) fn prepend_answer(out: &mut Pen, answer: &Answer) -> Result<(), NoMemory>
-    ensures { OnOk result (out.new ≡ answer_text answer.now ++ out.old) }
+    requires { 400 ≤ out.old.room }
+    ensures text { OnOk result (out.new.text ≡ answer_text answer.now ++ out.old.text) }
+    ensures room { OnOk result (200 ≤ out.new.room) }
 {
     match answer {
         Answer::Done => prepend_word(out, "ok"),
@@ -130,15 +144,15 @@ pub(crate) fn prepend_answer(out: &mut Pen, answer: &Answer) -> Result<(), NoMem
             slot,
             ended,
             gains,
-        } => { prepend_executed(out, *cred, *slot, *ended, *gains) }
+        } => prepend_executed(out, *cred, *slot, *ended, *gains),
         Answer::Began { cred, slot, left } => prepend_began(out, *cred, *slot, *left),
         Answer::Acted {
             task,
             cred,
             slot,
             left,
-        } => { prepend_acted(out, *task, *cred, *slot, *left) }
-        Answer::Told(told) => prepend_told(out, told),
+        } => prepend_acted(out, *task, *cred, *slot, *left),
+        Answer::Told(told) => prepend_told(out, told)?,
         Answer::Eperm => prepend_word(out, "eperm"),
         Answer::Einval => prepend_word(out, "einval"),
         Answer::Eacces => prepend_word(out, "eacces"),
@@ -157,4 +171,5 @@ pub(crate) fn prepend_answer(out: &mut Pen, answer: &Answer) -> Result<(), NoMem
         Answer::TableFull => prepend_word(out, "table full"),
         Answer::Aborted { task, cause } => prepend_aborted(out, *task, *cause),
     }
+    Ok(())
 }

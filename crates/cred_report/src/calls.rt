@@ -1,5 +1,5 @@
 //! The calls that set ids, and the changes of a prepared credential.
-ghost use Rattle.std.specs.Prelude.{◌≡◌, ◌++◌, OnOk};
+ghost use Rattle.std.specs.Prelude.{◌≡◌, ◌≤◌, ◌+◌, ◌++◌, OnOk, length};
 ghost use Rattle.cred_report.specs.Numbers.{arg_text};
 ghost use Rattle.cred_report.specs.Calls.{call_text, adjust_text, change_text};
 
@@ -14,40 +14,44 @@ use cred_script::Script;
 
 /// Writes a call of one argument.
 #[inline(always)]
-fn prepend_one(out: &mut Pen, word: &str, id: Arg) -> Result<(), NoMemory>
-    ensures { OnOk result (out.new ≡ (word.now ++ arg_text id) ++ out.old) }
+fn prepend_one(out: &mut Pen, word: &str, id: Arg)
+    requires { length word.now + 21 ≤ out.old.room }
+    ensures text { out.new.text ≡ (word.now ++ arg_text id) ++ out.old.text }
+    ensures room { out.old.room ≤ out.new.room + (length word.now + 21) }
 {
-    prepend_arg(out, id)?;
+    prepend_arg(out, id);
     prepend_word(out, word)
 }
 
 /// Writes a call of two arguments.
 #[inline(always)]
-fn prepend_two(out: &mut Pen, word: &str, real: Arg, effective: Arg) -> Result<(), NoMemory>
-    ensures { OnOk result (out.new ≡ (word.now ++ arg_text real ++ arg_text effective) ++ out.old) }
+fn prepend_two(out: &mut Pen, word: &str, real: Arg, effective: Arg)
+    requires { length word.now + 42 ≤ out.old.room }
+    ensures text { out.new.text
+        ≡ (word.now ++ arg_text real ++ arg_text effective) ++ out.old.text }
+    ensures room { out.old.room ≤ out.new.room + (length word.now + 42) }
 {
-    prepend_arg(out, effective)?;
+    prepend_arg(out, effective);
     prepend_one(out, word, real)
 }
 
 /// Writes a call of three arguments.
 #[inline(always)]
-fn prepend_three(
-    out: &mut Pen,
-    word: &str,
-    real: Arg,
-    effective: Arg,
-    saved: Arg,
-) -> Result<(), NoMemory>
-    ensures { OnOk result (out.new ≡ (word.now ++ arg_text real ++ arg_text effective ++ arg_text saved) ++ out.old) }
+fn prepend_three(out: &mut Pen, word: &str, real: Arg, effective: Arg, saved: Arg)
+    requires { length word.now + 63 ≤ out.old.room }
+    ensures text { out.new.text
+        ≡ (word.now ++ arg_text real ++ arg_text effective ++ arg_text saved) ++ out.old.text }
+    ensures room { out.old.room ≤ out.new.room + (length word.now + 63) }
 {
-    prepend_arg(out, saved)?;
+    prepend_arg(out, saved);
     prepend_two(out, word, real, effective)
 }
 
 /// Writes the id call.
 pub(crate) fn prepend_call(out: &mut Pen, call: &IdCall) -> Result<(), NoMemory>
-    ensures { OnOk result (out.new ≡ call_text call.now ++ out.old) }
+    requires { 160 ≤ out.old.room }
+    ensures text { OnOk result (out.new.text ≡ call_text call.now ++ out.old.text) }
+    ensures room { OnOk result (80 ≤ out.new.room) }
 {
     match call {
         IdCall::SetUid(id) => prepend_one(out, "setuid", *id),
@@ -67,15 +71,18 @@ pub(crate) fn prepend_call(out: &mut Pen, call: &IdCall) -> Result<(), NoMemory>
             prepend_word(out, "setgroups")
         }
     }
+    Ok(())
 }
 
 /// Writes the change of sets or securebits.
-fn prepend_adjust(out: &mut Pen, call: AdjCall) -> Result<(), NoMemory>
-    ensures { OnOk result (out.new ≡ adjust_text call ++ out.old) }
+fn prepend_adjust(out: &mut Pen, call: AdjCall)
+    requires { 72 ≤ out.old.room }
+    ensures text { out.new.text ≡ adjust_text call ++ out.old.text }
+    ensures room { out.old.room ≤ out.new.room + 72 }
 {
     match call {
         AdjCall::Capset { perm, inh, eff } => {
-            prepend_sets(out, perm, inh, eff)?;
+            prepend_sets(out, perm, inh, eff);
             prepend_word(out, "capset")
         }
         AdjCall::BoundDrop(cap) => prepend_number(out, "capdrop ", cap),
@@ -90,7 +97,9 @@ fn prepend_adjust(out: &mut Pen, call: AdjCall) -> Result<(), NoMemory>
 
 /// Writes the change.
 pub(crate) fn prepend_change(out: &mut Pen, script: &Script, change: Change) -> Result<(), NoMemory>
-    ensures { OnOk result (out.new ≡ change_text script.now change ++ out.old) }
+    requires { 160 ≤ out.old.room }
+    ensures text { OnOk result (out.new.text ≡ change_text script.now change ++ out.old.text) }
+    ensures room { OnOk result (80 ≤ out.new.room) }
 {
     match change {
         Change::SetFs(Kind::User, id) => prepend_one(out, "setfsuid", id),
@@ -102,4 +111,5 @@ pub(crate) fn prepend_change(out: &mut Pen, script: &Script, change: Change) -> 
         }
         Change::Access => prepend_word(out, "access"),
     }
+    Ok(())
 }

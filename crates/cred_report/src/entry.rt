@@ -4,7 +4,7 @@ ghost use Rattle.cred_report.specs.Text.{entry_text};
 
 use crate::answers::prepend_answer;
 use crate::events::prepend_event;
-use crate::pen::Pen;
+use crate::pen::{PARTS, Pen};
 use crate::text::Text;
 use crate::words::{prepend_number, prepend_word};
 use cred_event::Entry;
@@ -18,14 +18,16 @@ use std::alloc::Global;
 ///
 /// `NoMemory` where the buffer cannot grow. Nothing is said of what it holds then.
 pub fn prepend(out: &mut Pen, script: &Script, entry: &Entry) -> Result<(), NoMemory>
-    ensures { OnOk result (out.new ≡ entry_text script.now entry.now ++ out.old) }
+    ensures { OnOk result (out.new.text ≡ entry_text script.now entry.now ++ out.old.text) }
 {
-    prepend_word(out, "\n")?;
+    out.reserve(PARTS)?;
+    prepend_word(out, "\n");
     prepend_answer(out, &entry.answer)?;
-    prepend_word(out, " -> ")?;
+    prepend_word(out, " -> ");
     prepend_event(out, script, &entry.event)?;
-    prepend_word(out, " ")?;
-    prepend_number(out, "", entry.line)
+    prepend_word(out, " ");
+    prepend_number(out, "", entry.line);
+    Ok(())
 }
 
 /// The text of the entry, a line of the report, in memory of its own. To print many entries, use

@@ -1,5 +1,5 @@
 //! Events.
-ghost use Rattle.std.specs.Prelude.{◌≡◌, ◌++◌, OnOk, codes, decimal};
+ghost use Rattle.std.specs.Prelude.{◌≡◌, ◌≤◌, ◌+◌, ◌++◌, OnOk, codes, decimal, length};
 ghost use Rattle.cred_report.specs.Calls.{call_text};
 ghost use Rattle.cred_report.specs.Events.{take_text, event_text};
 
@@ -13,23 +13,21 @@ use cred_record::{IdCall, Want};
 use cred_script::Script;
 
 /// Writes the birth of a first task.
-fn prepend_init(
-    out: &mut Pen,
-    task: u32,
-    process: u32,
-    user: Id,
-    group: Id,
-    ns: u32,
-) -> Result<(), NoMemory>
-    ensures { OnOk result (out.new ≡ (codes "init t" ++ decimal task ++ codes " p" ++ decimal process ++ codes " " ++ decimal user ++ codes " " ++ decimal group ++ codes " n" ++ decimal ns) ++ out.old) }
+fn prepend_init(out: &mut Pen, task: u32, process: u32, user: Id, group: Id, ns: u32)
+    requires { 120 ≤ out.old.room }
+    ensures text { out.new.text
+        ≡ (codes "init t" ++ decimal task ++ codes " p" ++ decimal process ++ codes " " ++ decimal user
+        ++ codes " " ++ decimal group ++ codes " n" ++ decimal ns) ++ out.old.text }
+    ensures room { out.old.room ≤ out.new.room + 120 }
 {
-    prepend_three(out, (" ", user.number()), (" ", group.number()), (" n", ns))?;
+    prepend_three(out, (" ", user.number()), (" ", group.number()), (" n", ns));
     prepend_two(out, ("init t", task), (" p", process))
 }
 
 /// The words before a label that takes a credential of a task.
 fn take_word(side: Side) -> &'static str
-    ensures { result.now ≡ take_text side }
+    ensures text { result.now ≡ take_text side }
+    ensures short { length result.now ≤ 16 }
 {
     match side {
         Side::Subjective => "take h",
@@ -38,45 +36,64 @@ fn take_word(side: Side) -> &'static str
 }
 
 /// Writes the taking of a credential of a task.
-fn prepend_take(out: &mut Pen, label: u32, task: u32, side: Side) -> Result<(), NoMemory>
-    ensures { OnOk result (out.new ≡ (take_text side ++ decimal label ++ codes " t" ++ decimal task) ++ out.old) }
+fn prepend_take(out: &mut Pen, label: u32, task: u32, side: Side)
+    requires { 120 ≤ out.old.room }
+    ensures text { out.new.text
+        ≡ (take_text side ++ decimal label ++ codes " t" ++ decimal task) ++ out.old.text }
+    ensures room { out.old.room ≤ out.new.room + 120 }
 {
     prepend_two(out, (take_word(side), label), (" t", task))
 }
 
 /// Writes the question on a label's credential.
 fn prepend_ask(out: &mut Pen, script: &Script, label: u32, query: Query) -> Result<(), NoMemory>
-    ensures { OnOk result (out.new ≡ event_text script.now (Event.Ask label query) ++ out.old) }
+    requires { 160 ≤ out.old.room }
+    ensures text { OnOk result (out.new.text
+        ≡ event_text script.now (Event.Ask label query) ++ out.old.text) }
+    ensures room { OnOk result (40 ≤ out.new.room) }
 {
     prepend_query(out, script, query)?;
-    prepend_word(out, " ")?;
-    prepend_number(out, "ask h", label)
+    prepend_word(out, " ");
+    prepend_number(out, "ask h", label);
+    Ok(())
 }
 
 /// Writes the signal, each task followed by the label that holds its credential.
-fn prepend_signal(out: &mut Pen, from: u32, hold: u32, to: u32, target: u32) -> Result<(), NoMemory>
-    ensures { OnOk result (out.new ≡ (codes "signal t" ++ decimal from ++ codes " h" ++ decimal hold ++ codes " t" ++ decimal to ++ codes " h" ++ decimal target) ++ out.old) }
+fn prepend_signal(out: &mut Pen, from: u32, hold: u32, to: u32, target: u32)
+    requires { 120 ≤ out.old.room }
+    ensures text { out.new.text
+        ≡ (codes "signal t" ++ decimal from ++ codes " h" ++ decimal hold
+        ++ codes " t" ++ decimal to ++ codes " h" ++ decimal target) ++ out.old.text }
+    ensures room { out.old.room ≤ out.new.room + 120 }
 {
-    prepend_two(out, (" t", to), (" h", target))?;
+    prepend_two(out, (" t", to), (" h", target));
     prepend_two(out, ("signal t", from), (" h", hold))
 }
 
 /// Writes the change of a prepared credential.
 fn prepend_alter(out: &mut Pen, script: &Script, label: u32, change: Change) -> Result<(), NoMemory>
-    ensures { OnOk result (out.new ≡ event_text script.now (Event.Alter label change) ++ out.old) }
+    requires { 160 ≤ out.old.room }
+    ensures text { OnOk result (out.new.text
+        ≡ event_text script.now (Event.Alter label change) ++ out.old.text) }
+    ensures room { OnOk result (40 ≤ out.new.room) }
 {
     prepend_change(out, script, change)?;
-    prepend_word(out, " ")?;
-    prepend_number(out, "change h", label)
+    prepend_word(out, " ");
+    prepend_number(out, "change h", label);
+    Ok(())
 }
 
 /// Writes the id call of a task.
 fn prepend_begin(out: &mut Pen, task: u32, call: &IdCall) -> Result<(), NoMemory>
-    ensures { OnOk result (out.new ≡ (codes "begin t" ++ decimal task ++ codes " " ++ call_text call.now) ++ out.old) }
+    requires { 160 ≤ out.old.room }
+    ensures text { OnOk result (out.new.text
+        ≡ (codes "begin t" ++ decimal task ++ codes " " ++ call_text call.now) ++ out.old.text) }
+    ensures room { OnOk result (40 ≤ out.new.room) }
 {
     prepend_call(out, call)?;
-    prepend_word(out, " ")?;
-    prepend_number(out, "begin t", task)
+    prepend_word(out, " ");
+    prepend_number(out, "begin t", task);
+    Ok(())
 }
 
 /// Writes the opening of a file.
@@ -88,19 +105,25 @@ fn prepend_open(
     want: Want,
     fd: u32,
 ) -> Result<(), NoMemory>
-    ensures { OnOk result (out.new ≡ event_text script.now (Event.OpenFile hold file want fd) ++ out.old) }
+    requires { 160 ≤ out.old.room }
+    ensures text { OnOk result (out.new.text
+        ≡ event_text script.now (Event.OpenFile hold file want fd) ++ out.old.text) }
+    ensures room { OnOk result (40 ≤ out.new.room) }
 {
-    prepend_number(out, " f", fd)?;
-    prepend_word(out, letters_of(want))?;
-    prepend_word(out, " ")?;
+    prepend_number(out, " f", fd);
+    prepend_word(out, letters_of(want));
+    prepend_word(out, " ");
     prepend_file(out, script, file)?;
-    prepend_word(out, " ")?;
-    prepend_number(out, "open h", hold)
+    prepend_word(out, " ");
+    prepend_number(out, "open h", hold);
+    Ok(())
 }
 
 /// Writes the event.
 pub(crate) fn prepend_event(out: &mut Pen, script: &Script, event: &Event) -> Result<(), NoMemory>
-    ensures { OnOk result (out.new ≡ event_text script.now event.now ++ out.old) }
+    requires { 160 ≤ out.old.room }
+    ensures text { OnOk result (out.new.text ≡ event_text script.now event.now ++ out.old.text) }
+    ensures room { OnOk result (40 ≤ out.new.room) }
 {
     match event {
         Event::Init {
@@ -109,33 +132,33 @@ pub(crate) fn prepend_event(out: &mut Pen, script: &Script, event: &Event) -> Re
             user,
             group,
             ns,
-        } => { prepend_init(out, *task, *process, *user, *group, *ns) }
+        } => prepend_init(out, *task, *process, *user, *group, *ns),
         Event::Take { label, task, side } => prepend_take(out, *label, *task, *side),
         Event::TakeFile { label, fd } => prepend_two(out, ("takefile h", *label), (" f", *fd)),
         Event::Release { label } => prepend_number(out, "drop h", *label),
-        Event::Ask { label, query } => prepend_ask(out, script, *label, *query),
+        Event::Ask { label, query } => prepend_ask(out, script, *label, *query)?,
         Event::Signal {
             from,
             hold,
             to,
             target,
-        } => { prepend_signal(out, *from, *hold, *to, *target) }
+        } => prepend_signal(out, *from, *hold, *to, *target),
         Event::Prepare { label, task, hold } => {
             prepend_three(out, ("prepare h", *label), (" t", *task), (" h", *hold))
         }
-        Event::Alter { label, change } => prepend_alter(out, script, *label, *change),
+        Event::Alter { label, change } => prepend_alter(out, script, *label, *change)?,
         Event::Commit { label } => prepend_number(out, "commit h", *label),
         Event::Abort { label } => prepend_number(out, "abort h", *label),
         Event::Override { task, label } => prepend_two(out, ("override t", *task), (" h", *label)),
         Event::Revert { task } => prepend_number(out, "revert t", *task),
-        Event::Begin { task, call } => prepend_begin(out, *task, call),
+        Event::Begin { task, call } => prepend_begin(out, *task, call)?,
         Event::Act { cast } => prepend_number(out, "act ", *cast),
         Event::OpenFile {
             hold,
             file,
             want,
             fd,
-        } => { prepend_open(out, script, *hold, *file, *want, *fd) }
+        } => prepend_open(out, script, *hold, *file, *want, *fd)?,
         Event::CloseFile { fd } => prepend_number(out, "close f", *fd),
         Event::Spawn { task, child } => prepend_two(out, ("spawn t", *task), (" t", *child)),
         Event::Fork {
@@ -146,4 +169,5 @@ pub(crate) fn prepend_event(out: &mut Pen, script: &Script, event: &Event) -> Re
         Event::Exit { task } => prepend_number(out, "exit t", *task),
         Event::Sweep => prepend_word(out, "sweep"),
     }
+    Ok(())
 }

@@ -1,9 +1,9 @@
 //! Sets, ids, arguments and flags, each after a space.
-ghost use Rattle.std.specs.Prelude.{◌≡◌, ◌<◌, ◌++◌, drop, false, OnOk};
+ghost use Rattle.std.specs.Prelude.{◌≡◌, ◌<◌, ◌≤◌, ◌+◌, ◌++◌, drop, false, OnOk};
 ghost use Rattle.std.specs.Fmt.{digit_glyph};
 ghost use Rattle.cred_report.specs.Numbers.{hexadecimal, set_text, ids_text, arg_text, flag_text};
 
-use crate::pen::Pen;
+use crate::pen::{PARTS, Pen};
 use crate::words::{prepend_number, prepend_word};
 use cred_caps::CapSet;
 use cred_ids::{Arg, Id, NoMemory};
@@ -39,10 +39,12 @@ pub(crate) fn write_digits(digits: &mut [u8; MAX_DIGITS], number: u64) -> usize
     first
 }
 
-/// Writes a space, and the set in lower-case hexadecimal. After `NoMemory` nothing is said of what
-/// stands in the buffer.
-pub fn prepend_set(out: &mut Pen, set: CapSet) -> Result<(), NoMemory>
-    ensures { OnOk result (out.new ≡ set_text set ++ out.old) }
+/// Writes a space, and the set in lower-case hexadecimal. Most sets of a report are empty or full:
+/// those are words, which take no division.
+pub(crate) fn prepend_set(out: &mut Pen, set: CapSet)
+    requires { 20 ≤ out.old.room }
+    ensures text { out.new.text ≡ set_text set ++ out.old.text }
+    ensures room { out.old.room ≤ out.new.room + 20 }
 {
     match set.bits() {
         0 => prepend_word(out, " 0"),
@@ -52,44 +54,49 @@ pub fn prepend_set(out: &mut Pen, set: CapSet) -> Result<(), NoMemory>
 }
 
 /// Writes a space, and the number in lower-case hexadecimal.
-fn prepend_bits(out: &mut Pen, bits: u64) -> Result<(), NoMemory>
-    ensures { OnOk result (out.new ≡ set_text bits ++ out.old) }
+fn prepend_bits(out: &mut Pen, bits: u64)
+    requires { 20 ≤ out.old.room }
+    ensures text { out.new.text ≡ set_text bits ++ out.old.text }
+    ensures room { out.old.room ≤ out.new.room + 20 }
 {
     let mut digits = [0; MAX_DIGITS];
     let first = write_digits(&mut digits, bits);
-    out.bytes(&digits[first..])?;
+    out.piece(&digits[first..]);
     prepend_word(out, " ")
 }
 
 /// Writes three sets.
-pub(crate) fn prepend_sets(
-    out: &mut Pen,
-    first: CapSet,
-    second: CapSet,
-    third: CapSet,
-) -> Result<(), NoMemory>
-    ensures { OnOk result (out.new ≡ (set_text first ++ set_text second ++ set_text third) ++ out.old) }
+pub(crate) fn prepend_sets(out: &mut Pen, first: CapSet, second: CapSet, third: CapSet)
+    requires { 60 ≤ out.old.room }
+    ensures text { out.new.text
+        ≡ (set_text first ++ set_text second ++ set_text third) ++ out.old.text }
+    ensures room { out.old.room ≤ out.new.room + 60 }
 {
-    prepend_set(out, third)?;
-    prepend_set(out, second)?;
+    prepend_set(out, third);
+    prepend_set(out, second);
     prepend_set(out, first)
 }
 
-/// Writes the ids in their order.
+/// Writes the ids in their order, and makes room for the entry's other parts.
 pub(crate) fn prepend_ids(out: &mut Pen, ids: &[Id]) -> Result<(), NoMemory>
-    ensures { OnOk result (out.new ≡ ids_text ids.now ++ out.old) }
+    ensures text { OnOk result (out.new.text ≡ ids_text ids.now ++ out.old.text) }
+    ensures room { OnOk result (512 ≤ out.new.room) }
 {
+    out.reserve(PARTS)?;
     let mut at = ids.len();
     while at > 0 {
         at -= 1;
-        prepend_number(out, " ", ids[at].number())?;
+        prepend_number(out, " ", ids[at].number());
+        out.reserve(PARTS)?;
     }
     Ok(())
 }
 
 /// Writes the argument of an id call.
-pub(crate) fn prepend_arg(out: &mut Pen, arg: Arg) -> Result<(), NoMemory>
-    ensures { OnOk result (out.new ≡ arg_text arg ++ out.old) }
+pub(crate) fn prepend_arg(out: &mut Pen, arg: Arg)
+    requires { 21 ≤ out.old.room }
+    ensures text { out.new.text ≡ arg_text arg ++ out.old.text }
+    ensures room { out.old.room ≤ out.new.room + 21 }
 {
     match arg {
         Arg::Keep => prepend_word(out, " -1"),
@@ -97,10 +104,11 @@ pub(crate) fn prepend_arg(out: &mut Pen, arg: Arg) -> Result<(), NoMemory>
     }
 }
 
-/// Writes a space, and the flag as 0 or 1. After `NoMemory` nothing is said of what stands in the
-/// buffer.
-pub fn prepend_flag(out: &mut Pen, flag: bool) -> Result<(), NoMemory>
-    ensures { OnOk result (out.new ≡ flag_text flag ++ out.old) }
+/// Writes a space, and the flag as 0 or 1.
+pub(crate) fn prepend_flag(out: &mut Pen, flag: bool)
+    requires { 2 ≤ out.old.room }
+    ensures text { out.new.text ≡ flag_text flag ++ out.old.text }
+    ensures room { out.old.room ≤ out.new.room + 2 }
 {
     if flag {
         prepend_word(out, " 1")

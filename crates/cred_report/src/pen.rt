@@ -1,15 +1,17 @@
-//! A pen that writes a text from its end to its front.
-ghost use Rattle.std.specs.Prelude.{◌≡◌, ◌≤◌, ◌++◌, [], IfOk, OnErr, OnOk, decimal, drop, vec_len};
+//! A text that is written from its end to its start.
+ghost use Rattle.std.specs.Prelude.{◌≡◌, ◌≤◌, ◌+◌, ◌++◌, [], OnOk, decimal, length};
 
 use cred_ids::NoMemory;
 use itoa::write_digits;
 use std::alloc::Global;
 use std::marker::Model;
 
-/// How many digits a number of 64 bits has at most.
-const DIGITS: usize = 20;
+/// How many bytes the parts of one entry take at most, but for names and lists of ids.
+pub(crate) const PARTS: usize = 512;
 
-/// A text that grows at its front. Contracts see the list of its bytes.
+/// A text in a buffer that is filled from its end, so that the digits of a number come out in the
+/// order in which division gives them, and none is moved. Who writes makes room first, once for
+/// many pieces. Contracts see the text, and how many bytes have room before it.
 #[derive(Drop, Debug)]
 pub struct Pen {
     alloc: Global,
@@ -18,38 +20,20 @@ pub struct Pen {
 }
 
 impl Model for Pen {
-    ghost use Rattle.std.specs.Prelude.{◌≤◌, ℕ, List, drop, vec_len};
+    ghost use Rattle.std.specs.Prelude.{◌≤◌, drop, vec_len};
+    ghost use Rattle.cred_report.specs.Page.{Page};
 
-    ghost Value = { List ℕ };
+    ghost Value = { Page };
 
-    ghost view = { λ p. drop p.at p.bytes.items };
+    ghost view = { λ p. record { text = drop p.at p.bytes.items; room = p.at } };
 
     ghost invariant = { λ p. p.at ≤ vec_len p.bytes };
-}
-
-/// Moves the text behind `at` to the end of a longer buffer, with this much room before it.
-#[cold]
-#[inline(never)]
-fn more_room(alloc: Global, bytes: &mut Vec<u8>, at: usize, room: usize) -> Result<usize, NoMemory>
-    requires { at ≤ vec_len bytes.old }
-    ensures kept { IfOk result (λ start. drop start bytes.new.items ≡ drop at bytes.old.items) }
-    ensures room { IfOk result (λ start. room ≤ start) }
-    ensures within { IfOk result (λ start. start ≤ vec_len bytes.new) }
-    ensures err { OnErr result (bytes.new ≡ bytes.old) }
-{
-    let kept = bytes.len() - at;
-    let front = bytes.len().checked_add(room).ok_or(NoMemory)?;
-    let size = front.checked_add(kept).ok_or(NoMemory)?;
-    let mut more = vec![in alloc; 0; size]?;
-    more[front..].copy_from_slice(&bytes[at..]);
-    *bytes = more;
-    Ok(front)
 }
 
 impl Pen {
     /// No text.
     pub fn new(alloc: Global) -> Pen
-        ensures { result ≡ [] }
+        ensures { result.text ≡ [] }
     {
         Pen {
             alloc,
@@ -60,72 +44,81 @@ impl Pen {
 
     /// The text.
     pub fn items(&self) -> &[u8]
-        ensures { result.now ≡ self.now }
+        ensures { result.now ≡ self.now.text }
     {
         &self.bytes[self.at..]
     }
 
-    /// Drops the text, and keeps the room.
+    /// Drops the text, and keeps the memory.
     pub fn clear(&mut self)
-        ensures { self.new ≡ [] }
+        ensures { self.new.text ≡ [] }
     {
         self.at = self.bytes.len();
     }
 
-    /// Writes the word before the text.
+    /// Makes room for this many bytes before the text.
     #[inline(always)]
-    pub fn word(&mut self, word: &str) -> Result<(), NoMemory>
-        ensures { OnOk result (self.new ≡ word.now ++ self.old) }
+    pub(crate) fn reserve(&mut self, room: usize) -> Result<(), NoMemory>
+        ensures text { OnOk result (self.new.text ≡ self.old.text) }
+        ensures room { OnOk result (room ≤ self.new.room) }
     {
-        self.bytes(word.as_bytes())
+        if self.at < room {
+            self.grow(room)?;
+        }
+        Ok(())
     }
 
-    /// Writes the bytes before the text.
-    #[inline(always)]
-    pub fn bytes(&mut self, piece: &[u8]) -> Result<(), NoMemory>
-        ensures { OnOk result (self.new ≡ piece.now ++ self.old) }
+    /// Moves the text to the end of a longer buffer, with this much room before it.
+    #[cold]
+    #[inline(never)]
+    fn grow(&mut self, room: usize) -> Result<(), NoMemory>
+        ensures text { OnOk result (self.new.text ≡ self.old.text) }
+        ensures room { OnOk result (room ≤ self.new.room) }
     {
-        if self.at < piece.len() {
-            self.at = more_room(self.alloc, &mut self.bytes, self.at, piece.len())?;
-        }
-        let start = self.at - piece.len();
-        self.bytes[start..self.at].copy_from_slice(piece);
+        let kept = self.bytes.len() - self.at;
+        let start = self.bytes.len().checked_add(room).ok_or(NoMemory)?;
+        let size = start.checked_add(kept).ok_or(NoMemory)?;
+        let mut longer = vec![in self.alloc; 0; size]?;
+        longer[start..].copy_from_slice(&self.bytes[self.at..]);
+        self.bytes = longer;
         self.at = start;
         Ok(())
     }
 
-    /// Writes the number before the text, in decimal.
-    #[inline(never)]
-    pub fn number(&mut self, number: u64) -> Result<(), NoMemory>
-        ensures { OnOk result (self.new ≡ decimal number ++ self.old) }
+    /// Writes the bytes before the text.
+    #[inline(always)]
+    pub(crate) fn piece(&mut self, piece: &[u8])
+        requires { length piece.now ≤ self.old.room }
+        ensures text { self.new.text ≡ piece.now ++ self.old.text }
+        ensures room { self.new.room + length piece.now ≡ self.old.room }
     {
-        if self.at < DIGITS {
-            return self.number_with_more_room(number);
-        }
-        self.at = write_digits(number, &mut self.bytes, self.at);
-        Ok(())
+        let start = self.at - piece.len();
+        self.bytes[start..self.at].copy_from_slice(piece);
+        self.at = start;
     }
 
-    #[cold]
-    #[inline(never)]
-    fn number_with_more_room(&mut self, number: u64) -> Result<(), NoMemory>
-        ensures { OnOk result (self.new ≡ decimal number ++ self.old) }
-    {
-        self.at = more_room(self.alloc, &mut self.bytes, self.at, DIGITS)?;
-        self.at = write_digits(number, &mut self.bytes, self.at);
-        Ok(())
-    }
-
-    /// Writes a number of one digit before the text, and any other by `number`.
+    /// Writes the number before the text, in decimal. Most numbers of a report have one digit, which
+    /// needs no division and no call.
     #[inline(always)]
     #[tactic(auto, using(std::proofs::lemmas::Fmt::decimal_digit))]
-    pub fn short(&mut self, number: u64) -> Result<(), NoMemory>
-        ensures { OnOk result (self.new ≡ decimal number ++ self.old) }
+    pub(crate) fn number(&mut self, number: u64)
+        requires { 20 ≤ self.old.room }
+        ensures text { self.new.text ≡ decimal number ++ self.old.text }
+        ensures room { self.old.room ≤ self.new.room + 20 }
     {
         if number < 10 {
-            self.bytes(&[b'0' + number as u8])
+            self.piece(&[b'0' + number as u8])
         } else {
-            self.number(number)
+            self.digits(number)
         }
+    }
+
+    #[inline(never)]
+    fn digits(&mut self, number: u64)
+        requires { 20 ≤ self.old.room }
+        ensures text { self.new.text ≡ decimal number ++ self.old.text }
+        ensures room { self.old.room ≤ self.new.room + 20 }
+    {
+        self.at = write_digits(number, &mut self.bytes, self.at);
     }
 }

@@ -1,5 +1,5 @@
 //! What a question is told.
-ghost use Rattle.std.specs.Prelude.{◌≡◌, ◌++◌, OnOk, codes};
+ghost use Rattle.std.specs.Prelude.{◌≡◌, ◌≤◌, ◌+◌, ◌++◌, OnOk, codes};
 ghost use Rattle.cred_report.specs.Told.{ids4_text, told_text};
 
 use crate::numbers::{prepend_flag, prepend_ids, prepend_set, prepend_sets};
@@ -9,28 +9,36 @@ use cred_event::Told;
 use cred_ids::{Ids4, NoMemory};
 
 /// Writes the four ids of a kind.
-fn prepend_ids4(out: &mut Pen, ids: Ids4) -> Result<(), NoMemory>
-    ensures { OnOk result (out.new ≡ ids4_text ids ++ out.old) }
+fn prepend_ids4(out: &mut Pen, ids: Ids4)
+    requires { 84 ≤ out.old.room }
+    ensures text { out.new.text ≡ ids4_text ids ++ out.old.text }
+    ensures room { out.old.room ≤ out.new.room + 84 }
 {
-    prepend_two(out, (" ", ids.saved.number()), (" ", ids.fs.number()))?;
+    prepend_two(out, (" ", ids.saved.number()), (" ", ids.fs.number()));
     prepend_two(out, (" ", ids.real.number()), (" ", ids.effective.number()))
 }
 
 /// Writes what is told, after `ok`.
 pub(crate) fn prepend_told(out: &mut Pen, told: &Told) -> Result<(), NoMemory>
-    ensures { OnOk result (out.new ≡ (codes "ok" ++ told_text told.now) ++ out.old) }
+    requires { 400 ≤ out.old.room }
+    ensures text { OnOk result (out.new.text
+        ≡ (codes "ok" ++ told_text told.now) ++ out.old.text) }
+    ensures room { OnOk result (200 ≤ out.new.room) }
 {
     prepend_values(out, told)?;
-    prepend_word(out, "ok")
+    prepend_word(out, "ok");
+    Ok(())
 }
 
 /// Writes what is told.
 fn prepend_values(out: &mut Pen, told: &Told) -> Result<(), NoMemory>
-    ensures { OnOk result (out.new ≡ told_text told.now ++ out.old) }
+    requires { 400 ≤ out.old.room }
+    ensures text { OnOk result (out.new.text ≡ told_text told.now ++ out.old.text) }
+    ensures room { OnOk result (202 ≤ out.new.room) }
 {
     match told {
         Told::Ids { uid, gid } => {
-            prepend_ids4(out, *gid)?;
+            prepend_ids4(out, *gid);
             prepend_ids4(out, *uid)
         }
         Told::Caps {
@@ -40,15 +48,16 @@ fn prepend_values(out: &mut Pen, told: &Told) -> Result<(), NoMemory>
             bound,
             amb,
         } => {
-            prepend_set(out, *amb)?;
-            prepend_set(out, *bound)?;
+            prepend_set(out, *amb);
+            prepend_set(out, *bound);
             prepend_sets(out, *perm, *inh, *eff)
         }
-        Told::Groups(groups) => prepend_ids(out, groups.items()),
+        Told::Groups(groups) => prepend_ids(out, groups.items())?,
         Told::Bits { bits, nnp } => {
-            prepend_flag(out, *nnp)?;
+            prepend_flag(out, *nnp);
             prepend_number(out, " ", bits.number())
         }
         Told::Flag(flag) => prepend_flag(out, *flag),
     }
+    Ok(())
 }

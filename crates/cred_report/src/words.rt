@@ -1,45 +1,49 @@
 //! Words, and words with a number behind each.
-ghost use Rattle.std.specs.Prelude.{◌≡◌, ◌++◌, OnOk, decimal};
+ghost use Rattle.std.specs.Prelude.{◌≡◌, ◌≤◌, ◌+◌, ◌++◌, decimal, length};
 
 use crate::pen::Pen;
-use cred_ids::NoMemory;
 
-/// Writes the word. After `NoMemory` nothing is said of what stands in the buffer.
+/// Writes the word.
 #[inline(always)]
-pub fn prepend_word(out: &mut Pen, word: &str) -> Result<(), NoMemory>
-    ensures { OnOk result (out.new ≡ word.now ++ out.old) }
+pub(crate) fn prepend_word(out: &mut Pen, word: &str)
+    requires { length word.now ≤ out.old.room }
+    ensures text { out.new.text ≡ word.now ++ out.old.text }
+    ensures room { out.new.room + length word.now ≡ out.old.room }
 {
-    out.word(word)
+    out.piece(word.as_bytes())
 }
 
 /// Writes the word and the number, which may be one of a credential.
 #[inline(always)]
-pub(crate) fn prepend_long(out: &mut Pen, word: &str, number: u64) -> Result<(), NoMemory>
-    ensures { OnOk result (out.new ≡ (word.now ++ decimal number) ++ out.old) }
+pub(crate) fn prepend_long(out: &mut Pen, word: &str, number: u64)
+    requires { length word.now + 20 ≤ out.old.room }
+    ensures text { out.new.text ≡ (word.now ++ decimal number) ++ out.old.text }
+    ensures room { out.old.room ≤ out.new.room + (length word.now + 20) }
 {
-    out.short(number)?;
-    out.word(word)
+    out.number(number);
+    prepend_word(out, word)
 }
 
-/// Writes the word and the number, in decimal. After `NoMemory` nothing is said of what stands in
-/// the buffer.
+/// Writes the word and the number, in decimal.
 #[inline(always)]
-pub fn prepend_number(out: &mut Pen, word: &str, number: u32) -> Result<(), NoMemory>
-    ensures { OnOk result (out.new ≡ (word.now ++ decimal number) ++ out.old) }
+pub(crate) fn prepend_number(out: &mut Pen, word: &str, number: u32)
+    requires { length word.now + 20 ≤ out.old.room }
+    ensures text { out.new.text ≡ (word.now ++ decimal number) ++ out.old.text }
+    ensures room { out.old.room ≤ out.new.room + (length word.now + 20) }
 {
     prepend_long(out, word, u64::from(number))
 }
 
 /// Writes two words, each with its number.
 #[inline(always)]
-pub(crate) fn prepend_two(
-    out: &mut Pen,
-    first: (&str, u32),
-    second: (&str, u32),
-) -> Result<(), NoMemory>
-    ensures { OnOk result (out.new ≡ (first.entry.0.now ++ decimal first.entry.1 ++ second.entry.0.now ++ decimal second.entry.1) ++ out.old) }
+pub(crate) fn prepend_two(out: &mut Pen, first: (&str, u32), second: (&str, u32))
+    requires { length first.0.now + length second.0.now + 40 ≤ out.old.room }
+    ensures text { out.new.text ≡ (first.entry.0.now ++ decimal first.entry.1
+        ++ second.entry.0.now ++ decimal second.entry.1) ++ out.old.text }
+    ensures room { out.old.room
+        ≤ out.new.room + (length first.entry.0.now + length second.entry.0.now + 40) }
 {
-    prepend_number(out, second.0, second.1)?;
+    prepend_number(out, second.0, second.1);
     prepend_number(out, first.0, first.1)
 }
 
@@ -50,9 +54,15 @@ pub(crate) fn prepend_three(
     first: (&str, u32),
     second: (&str, u32),
     third: (&str, u32),
-) -> Result<(), NoMemory>
-    ensures { OnOk result (out.new ≡ (first.entry.0.now ++ decimal first.entry.1 ++ second.entry.0.now ++ decimal second.entry.1 ++ third.entry.0.now ++ decimal third.entry.1) ++ out.old) }
+)
+    requires { length first.0.now + length second.0.now + length third.0.now + 60
+        ≤ out.old.room }
+    ensures text { out.new.text ≡ (first.entry.0.now ++ decimal first.entry.1
+        ++ second.entry.0.now ++ decimal second.entry.1
+        ++ third.entry.0.now ++ decimal third.entry.1) ++ out.old.text }
+    ensures room { out.old.room ≤ out.new.room
+        + (length first.entry.0.now + length second.entry.0.now + length third.entry.0.now + 60) }
 {
-    prepend_number(out, third.0, third.1)?;
+    prepend_number(out, third.0, third.1);
     prepend_two(out, first, second)
 }

@@ -5,7 +5,8 @@ use Rattle.cred_report.proofs.numbers.prepend_ids.Given as goal
 abbrev pub invariant-loop-at : goal.invariant-loop-at
 invariant-loop-at l = record {
   within : l.at ≤ length l.ids;
-  written : l.out ≡ ids_text (drop l.at l.ids) ++ l.initial.out;
+  room : 512 ≤ l.out.room;
+  written : l.out.text ≡ ids_text (drop l.at l.ids) ++ l.initial.out.text;
 }
 
 abbrev pub decreases-loop-at : goal.decreases-loop-at

@@ -9,12 +9,12 @@ zero = sym (digits_onto-nil 16 false 0)
 full : digits 16 false 2199023255551 ≡ codes "1ffffffffff"
 full = sym (digits_onto-nil 16 false 2199023255551)
 
-pub returns-in-0 : goal.returns-in-0
-returns-in-0 c =
+pub returns-in-0-clause-text : goal.returns-in-0-clause-text
+returns-in-0-clause-text c =
     let e : c.args.set ≡ 0 = sym c.bits.ensures.value ∙ c.in-0.is in
-    rw (e, zero) c.prepend_word.ensures
+    rw (e, zero) c.prepend_word.ensures.text
 
-pub returns-in-2199023255551 : goal.returns-in-2199023255551
-returns-in-2199023255551 c =
+pub returns-in-2199023255551-clause-text : goal.returns-in-2199023255551-clause-text
+returns-in-2199023255551-clause-text c =
     let e : c.args.set ≡ 2199023255551 = sym c.bits.ensures.value ∙ c.in-2199023255551.is in
-    rw (e, full) c.prepend_word-in-2199023255551.ensures
+    rw (e, full) c.prepend_word-in-2199023255551.ensures.text
