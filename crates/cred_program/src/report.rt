@@ -7,7 +7,7 @@ ghost use Rattle.cred_report.specs.Text.{text};
 
 use cred_event::Entry;
 use cred_io::{Sink, SinkRefusal, write_all};
-use cred_report::append;
+use cred_report::{Pen, prepend};
 use cred_script::Script;
 use std::alloc::Global;
 
@@ -27,13 +27,13 @@ pub fn write_report<K: Sink>(
     ensures cause { CountsFaults (result ≡ Err SinkRefusal.Failed)
         (K.faults sink.old) (K.faults sink.new) }
 {
-    let mut line = Vec::new(alloc);
+    let mut line = Pen::new(alloc);
     for entry in journal {
         line.clear();
-        let Ok(()) = append(&mut line, script, entry) else {
+        let Ok(()) = prepend(&mut line, script, entry) else {
             return Err(SinkRefusal::Memory);
         };
-        write_all(sink, &line)?;
+        write_all(sink, line.items())?;
     }
     sink.flush()
 }

@@ -1,4 +1,5 @@
 pub mod Numbers
+pub mod Page
 pub mod Questions
 pub mod Calls
 pub mod Events

@@ -1,18 +1,21 @@
 //! Answers.
-ghost use Rattle.std.specs.Prelude.{◌≡◌, ◌++◌, OnOk};
+ghost use Rattle.std.specs.Prelude.{◌≡◌, ◌≤◌, ◌+◌, ◌++◌, OnOk, codes, decimal, length};
 ghost use Rattle.cred_report.specs.Answers.{exists_text, too_many_text, cause_text};
+ghost use Rattle.cred_report.specs.Numbers.{set_text};
 ghost use Rattle.cred_report.specs.Answers.{sealed_text, answer_text};
 
-use crate::numbers::append_sets;
-use crate::told::append_told;
-use crate::words::{append_long, append_number, append_word};
+use crate::numbers::prepend_sets;
+use crate::pen::Pen;
+use crate::told::prepend_told;
+use crate::words::{prepend_long, prepend_number, prepend_word};
 use cred_event::{AbortCause, Answer, Counted, Named};
 use cred_ids::NoMemory;
 use cred_record::Gains;
 
 /// The words before the number of a thing that stands already.
 fn exists_word(what: Named) -> &'static str
-    ensures { result.now ≡ exists_text what }
+    ensures text { result.now ≡ exists_text what }
+    ensures short { length result.now ≤ 16 }
 {
     match what {
         Named::Task => "exists t",
@@ -25,7 +28,8 @@ fn exists_word(what: Named) -> &'static str
 
 /// What there are too many of, in words.
 fn too_many_words(counted: Counted) -> &'static str
-    ensures { result.now ≡ too_many_text counted }
+    ensures text { result.now ≡ too_many_text counted }
+    ensures short { length result.now ≤ 20 }
 {
     match counted {
         Counted::Tasks => "too many tasks",
@@ -37,7 +41,8 @@ fn too_many_words(counted: Counted) -> &'static str
 
 /// Why a thread could not follow, in a word.
 fn cause_word(cause: AbortCause) -> &'static str
-    ensures { result.now ≡ cause_text cause }
+    ensures text { result.now ≡ cause_text cause }
+    ensures short { length result.now ≤ 16 }
 {
     match cause {
         AbortCause::Perm => " eperm",
@@ -45,114 +50,126 @@ fn cause_word(cause: AbortCause) -> &'static str
     }
 }
 
-/// Appends the word, the number of a sealed credential and its slot.
-fn append_sealed(out: &mut Vec<u8>, word: &str, cred: u64, slot: u32) -> Result<(), NoMemory>
-    ensures { OnOk result (out.new.items ≡ out.old.items ++ (word.now ++ sealed_text cred slot)) }
+/// Writes the word, the number of a sealed credential and its slot.
+#[inline(always)]
+fn prepend_sealed(out: &mut Pen, word: &str, cred: u64, slot: u32)
+    requires { length word.now + 44 ≤ out.old.room }
+    ensures text { out.new.text ≡ (word.now ++ sealed_text cred slot) ++ out.old.text }
+    ensures room { out.old.room ≤ out.new.room + (length word.now + 44) }
 {
-    append_word(out, word)?;
-    append_long(out, " c", cred)?;
-    append_number(out, " s", slot)
+    prepend_number(out, " s", slot);
+    prepend_long(out, " c", cred);
+    prepend_word(out, word)
 }
 
-/// Appends the answer to the commit of an exec.
-fn append_executed(
-    out: &mut Vec<u8>,
-    cred: u64,
-    slot: u32,
-    ended: u32,
-    gains: Gains,
-) -> Result<(), NoMemory>
-    ensures { OnOk result (out.new.items
-        ≡ out.old.items ++ answer_text (Answer.Executed cred slot ended gains)) }
+/// Writes how many threads ended, and what the file's attribute, inheritance and root gained.
+fn prepend_gains(out: &mut Pen, ended: u32, gains: Gains)
+    requires { 92 ≤ out.old.room }
+    ensures text { out.new.text
+        ≡ (codes " ended " ++ decimal ended ++ codes " gain"
+        ++ set_text gains.file ++ set_text gains.inherit ++ set_text gains.root)
+        ++ out.old.text }
+    ensures room { out.old.room ≤ out.new.room + 92 }
 {
-    append_sealed(out, "ok", cred, slot)?;
-    append_number(out, " ended ", ended)?;
-    append_word(out, " gain")?;
-    append_sets(out, gains.file, gains.inherit, gains.root)
+    prepend_sets(out, gains.file, gains.inherit, gains.root);
+    prepend_word(out, " gain");
+    prepend_number(out, " ended ", ended)
 }
 
-/// Appends the answer to an id call.
-fn append_began(out: &mut Vec<u8>, cred: u64, slot: u32, left: u32) -> Result<(), NoMemory>
-    ensures { OnOk result (out.new.items
-        ≡ out.old.items ++ answer_text (Answer.Began cred slot left)) }
+/// Writes the answer to the commit of an exec.
+fn prepend_executed(out: &mut Pen, cred: u64, slot: u32, ended: u32, gains: Gains)
+    requires { 192 ≤ out.old.room }
+    ensures text { out.new.text
+        ≡ answer_text (Answer.Executed cred slot ended gains) ++ out.old.text }
+    ensures room { out.old.room ≤ out.new.room + 192 }
 {
-    append_sealed(out, "ok", cred, slot)?;
-    append_number(out, " left ", left)
+    prepend_gains(out, ended, gains);
+    prepend_sealed(out, "ok", cred, slot)
 }
 
-/// Appends the answer of a thread that followed a broadcast.
-fn append_acted(
-    out: &mut Vec<u8>,
-    task: u32,
-    cred: u64,
-    slot: u32,
-    left: u32,
-) -> Result<(), NoMemory>
-    ensures { OnOk result (out.new.items
-        ≡ out.old.items ++ answer_text (Answer.Acted task cred slot left)) }
+/// Writes the answer to an id call.
+fn prepend_began(out: &mut Pen, cred: u64, slot: u32, left: u32)
+    requires { 192 ≤ out.old.room }
+    ensures text { out.new.text ≡ answer_text (Answer.Began cred slot left) ++ out.old.text }
+    ensures room { out.old.room ≤ out.new.room + 192 }
 {
-    append_number(out, "ok t", task)?;
-    append_sealed(out, "", cred, slot)?;
-    append_number(out, " left ", left)
+    prepend_number(out, " left ", left);
+    prepend_sealed(out, "ok", cred, slot)
 }
 
-/// Appends the answer to a commit on another base than the task's current credential.
-fn append_stale(out: &mut Vec<u8>, base: u64, now: u64) -> Result<(), NoMemory>
-    ensures { OnOk result (out.new.items
-        ≡ out.old.items ++ answer_text (Answer.Stale base now)) }
+/// Writes the answer of a thread that followed a broadcast.
+fn prepend_acted(out: &mut Pen, task: u32, cred: u64, slot: u32, left: u32)
+    requires { 192 ≤ out.old.room }
+    ensures text { out.new.text ≡ answer_text (Answer.Acted task cred slot left) ++ out.old.text }
+    ensures room { out.old.room ≤ out.new.room + 192 }
 {
-    append_long(out, "stale c", base)?;
-    append_long(out, " c", now)
+    prepend_number(out, " left ", left);
+    prepend_sealed(out, "", cred, slot);
+    prepend_number(out, "ok t", task)
 }
 
-/// Appends the answer of a thread that could not follow a broadcast.
-fn append_aborted(out: &mut Vec<u8>, task: u32, cause: AbortCause) -> Result<(), NoMemory>
-    ensures { OnOk result (out.new.items
-        ≡ out.old.items ++ answer_text (Answer.Aborted task cause)) }
+/// Writes the answer to a commit on another base than the task's current credential.
+fn prepend_stale(out: &mut Pen, base: u64, now: u64)
+    requires { 192 ≤ out.old.room }
+    ensures text { out.new.text ≡ answer_text (Answer.Stale base now) ++ out.old.text }
+    ensures room { out.old.room ≤ out.new.room + 192 }
 {
-    append_number(out, "aborted t", task)?;
-    append_word(out, cause_word(cause))
+    prepend_long(out, " c", now);
+    prepend_long(out, "stale c", base)
 }
 
-/// Appends the answer.
-pub(crate) fn append_answer(out: &mut Vec<u8>, answer: &Answer) -> Result<(), NoMemory>
-    ensures { OnOk result (out.new.items ≡ out.old.items ++ answer_text answer.now) }
+/// Writes the answer of a thread that could not follow a broadcast.
+fn prepend_aborted(out: &mut Pen, task: u32, cause: AbortCause)
+    requires { 192 ≤ out.old.room }
+    ensures text { out.new.text ≡ answer_text (Answer.Aborted task cause) ++ out.old.text }
+    ensures room { out.old.room ≤ out.new.room + 192 }
+{
+    prepend_word(out, cause_word(cause));
+    prepend_number(out, "aborted t", task)
+}
+
+/// Writes the answer.
+pub(crate) fn prepend_answer(out: &mut Pen, answer: &Answer) -> Result<(), NoMemory>
+    requires { 400 ≤ out.old.room }
+    ensures text { OnOk result (out.new.text ≡ answer_text answer.now ++ out.old.text) }
+    ensures room { OnOk result (200 ≤ out.new.room) }
 {
     match answer {
-        Answer::Done => append_word(out, "ok"),
-        Answer::Sealed { cred, slot } => append_sealed(out, "ok", *cred, *slot),
-        Answer::Kept { slot } => append_number(out, "ok s", *slot),
-        Answer::Was { previous } => append_number(out, "ok was ", previous.number()),
+        Answer::Done => prepend_word(out, "ok"),
+        Answer::Sealed { cred, slot } => prepend_sealed(out, "ok", *cred, *slot),
+        Answer::Kept { slot } => prepend_number(out, "ok s", *slot),
+        Answer::Was { previous } => prepend_number(out, "ok was ", previous.number()),
         Answer::Executed {
             cred,
             slot,
             ended,
             gains,
-        } => { append_executed(out, *cred, *slot, *ended, *gains) }
-        Answer::Began { cred, slot, left } => append_began(out, *cred, *slot, *left),
+        } => prepend_executed(out, *cred, *slot, *ended, *gains),
+        Answer::Began { cred, slot, left } => prepend_began(out, *cred, *slot, *left),
         Answer::Acted {
             task,
             cred,
             slot,
             left,
-        } => { append_acted(out, *task, *cred, *slot, *left) }
-        Answer::Told(told) => append_told(out, told),
-        Answer::Eperm => append_word(out, "eperm"),
-        Answer::Einval => append_word(out, "einval"),
-        Answer::Eacces => append_word(out, "eacces"),
-        Answer::Ebadf => append_word(out, "ebadf"),
-        Answer::NoTask(task) => append_number(out, "no task t", *task),
-        Answer::NoHold(label) => append_number(out, "no hold h", *label),
-        Answer::NoPrepared(label) => append_number(out, "no prepared h", *label),
-        Answer::NoBroadcast(cast) => append_number(out, "no broadcast ", *cast),
-        Answer::Busy(cast) => append_number(out, "busy ", *cast),
-        Answer::Exists { what, number } => append_number(out, exists_word(*what), *number),
-        Answer::Overridden(depth) => append_number(out, "overridden ", *depth),
-        Answer::NotOverridden => append_word(out, "not overridden"),
-        Answer::TooDeep => append_word(out, "too deep"),
-        Answer::Stale { base, now } => append_stale(out, *base, *now),
-        Answer::TooMany(counted) => append_word(out, too_many_words(*counted)),
-        Answer::TableFull => append_word(out, "table full"),
-        Answer::Aborted { task, cause } => append_aborted(out, *task, *cause),
+        } => prepend_acted(out, *task, *cred, *slot, *left),
+        Answer::Told(told) => prepend_told(out, told)?,
+        Answer::Eperm => prepend_word(out, "eperm"),
+        Answer::Einval => prepend_word(out, "einval"),
+        Answer::Eacces => prepend_word(out, "eacces"),
+        Answer::Ebadf => prepend_word(out, "ebadf"),
+        Answer::NoTask(task) => prepend_number(out, "no task t", *task),
+        Answer::NoHold(label) => prepend_number(out, "no hold h", *label),
+        Answer::NoPrepared(label) => prepend_number(out, "no prepared h", *label),
+        Answer::NoBroadcast(cast) => prepend_number(out, "no broadcast ", *cast),
+        Answer::Busy(cast) => prepend_number(out, "busy ", *cast),
+        Answer::Exists { what, number } => prepend_number(out, exists_word(*what), *number),
+        Answer::Overridden(depth) => prepend_number(out, "overridden ", *depth),
+        Answer::NotOverridden => prepend_word(out, "not overridden"),
+        Answer::TooDeep => prepend_word(out, "too deep"),
+        Answer::Stale { base, now } => prepend_stale(out, *base, *now),
+        Answer::TooMany(counted) => prepend_word(out, too_many_words(*counted)),
+        Answer::TableFull => prepend_word(out, "table full"),
+        Answer::Aborted { task, cause } => prepend_aborted(out, *task, *cause),
     }
+    Ok(())
 }

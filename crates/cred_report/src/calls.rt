@@ -1,107 +1,115 @@
 //! The calls that set ids, and the changes of a prepared credential.
-ghost use Rattle.std.specs.Prelude.{◌≡◌, ◌++◌, OnOk};
+ghost use Rattle.std.specs.Prelude.{◌≡◌, ◌≤◌, ◌+◌, ◌++◌, OnOk, length};
 ghost use Rattle.cred_report.specs.Numbers.{arg_text};
 ghost use Rattle.cred_report.specs.Calls.{call_text, adjust_text, change_text};
 
-use crate::numbers::{append_arg, append_ids, append_sets};
-use crate::questions::append_file;
-use crate::words::{append_number, append_word};
+use crate::numbers::{prepend_arg, prepend_ids, prepend_sets};
+use crate::pen::Pen;
+use crate::questions::prepend_file;
+use crate::words::{prepend_number, prepend_word};
 use cred_event::Change;
 use cred_ids::{Arg, Kind, NoMemory};
 use cred_record::{AdjCall, IdCall};
 use cred_script::Script;
 
-/// Appends a call of one argument.
-fn append_one(out: &mut Vec<u8>, word: &str, id: Arg) -> Result<(), NoMemory>
-    ensures { OnOk result (out.new.items ≡ out.old.items ++ (word.now ++ arg_text id)) }
+/// Writes a call of one argument.
+#[inline(always)]
+fn prepend_one(out: &mut Pen, word: &str, id: Arg)
+    requires { length word.now + 21 ≤ out.old.room }
+    ensures text { out.new.text ≡ (word.now ++ arg_text id) ++ out.old.text }
+    ensures room { out.old.room ≤ out.new.room + (length word.now + 21) }
 {
-    append_word(out, word)?;
-    append_arg(out, id)
+    prepend_arg(out, id);
+    prepend_word(out, word)
 }
 
-/// Appends a call of two arguments.
-fn append_two(out: &mut Vec<u8>, word: &str, real: Arg, effective: Arg) -> Result<(), NoMemory>
-    ensures { OnOk result (out.new.items
-        ≡ out.old.items ++ (word.now ++ arg_text real ++ arg_text effective)) }
+/// Writes a call of two arguments.
+#[inline(always)]
+fn prepend_two(out: &mut Pen, word: &str, real: Arg, effective: Arg)
+    requires { length word.now + 42 ≤ out.old.room }
+    ensures text { out.new.text
+        ≡ (word.now ++ arg_text real ++ arg_text effective) ++ out.old.text }
+    ensures room { out.old.room ≤ out.new.room + (length word.now + 42) }
 {
-    append_one(out, word, real)?;
-    append_arg(out, effective)
+    prepend_arg(out, effective);
+    prepend_one(out, word, real)
 }
 
-/// Appends a call of three arguments.
-fn append_three(
-    out: &mut Vec<u8>,
-    word: &str,
-    real: Arg,
-    effective: Arg,
-    saved: Arg,
-) -> Result<(), NoMemory>
-    ensures { OnOk result (out.new.items
-        ≡ out.old.items ++ (word.now ++ arg_text real ++ arg_text effective ++ arg_text saved)) }
+/// Writes a call of three arguments.
+#[inline(always)]
+fn prepend_three(out: &mut Pen, word: &str, real: Arg, effective: Arg, saved: Arg)
+    requires { length word.now + 63 ≤ out.old.room }
+    ensures text { out.new.text
+        ≡ (word.now ++ arg_text real ++ arg_text effective ++ arg_text saved) ++ out.old.text }
+    ensures room { out.old.room ≤ out.new.room + (length word.now + 63) }
 {
-    append_two(out, word, real, effective)?;
-    append_arg(out, saved)
+    prepend_arg(out, saved);
+    prepend_two(out, word, real, effective)
 }
 
-/// Appends the id call.
-pub(crate) fn append_call(out: &mut Vec<u8>, call: &IdCall) -> Result<(), NoMemory>
-    ensures { OnOk result (out.new.items ≡ out.old.items ++ call_text call.now) }
+/// Writes the id call.
+pub(crate) fn prepend_call(out: &mut Pen, call: &IdCall) -> Result<(), NoMemory>
+    requires { 160 ≤ out.old.room }
+    ensures text { OnOk result (out.new.text ≡ call_text call.now ++ out.old.text) }
+    ensures room { OnOk result (80 ≤ out.new.room) }
 {
     match call {
-        IdCall::SetUid(id) => append_one(out, "setuid", *id),
-        IdCall::SetEuid(id) => append_one(out, "seteuid", *id),
-        IdCall::SetReuid(real, effective) => append_two(out, "setreuid", *real, *effective),
+        IdCall::SetUid(id) => prepend_one(out, "setuid", *id),
+        IdCall::SetEuid(id) => prepend_one(out, "seteuid", *id),
+        IdCall::SetReuid(real, effective) => prepend_two(out, "setreuid", *real, *effective),
         IdCall::SetResuid(real, effective, saved) => {
-            append_three(out, "setresuid", *real, *effective, *saved)
+            prepend_three(out, "setresuid", *real, *effective, *saved)
         }
-        IdCall::SetGid(id) => append_one(out, "setgid", *id),
-        IdCall::SetEgid(id) => append_one(out, "setegid", *id),
-        IdCall::SetRegid(real, effective) => append_two(out, "setregid", *real, *effective),
+        IdCall::SetGid(id) => prepend_one(out, "setgid", *id),
+        IdCall::SetEgid(id) => prepend_one(out, "setegid", *id),
+        IdCall::SetRegid(real, effective) => prepend_two(out, "setregid", *real, *effective),
         IdCall::SetResgid(real, effective, saved) => {
-            append_three(out, "setresgid", *real, *effective, *saved)
+            prepend_three(out, "setresgid", *real, *effective, *saved)
         }
         IdCall::SetGroups(groups) => {
-            append_word(out, "setgroups")?;
-            append_ids(out, groups.items())
+            prepend_ids(out, groups.items())?;
+            prepend_word(out, "setgroups")
         }
     }
+    Ok(())
 }
 
-/// Appends the change of sets or securebits.
-fn append_adjust(out: &mut Vec<u8>, call: AdjCall) -> Result<(), NoMemory>
-    ensures { OnOk result (out.new.items ≡ out.old.items ++ adjust_text call) }
+/// Writes the change of sets or securebits.
+fn prepend_adjust(out: &mut Pen, call: AdjCall)
+    requires { 72 ≤ out.old.room }
+    ensures text { out.new.text ≡ adjust_text call ++ out.old.text }
+    ensures room { out.old.room ≤ out.new.room + 72 }
 {
     match call {
         AdjCall::Capset { perm, inh, eff } => {
-            append_word(out, "capset")?;
-            append_sets(out, perm, inh, eff)
+            prepend_sets(out, perm, inh, eff);
+            prepend_word(out, "capset")
         }
-        AdjCall::BoundDrop(cap) => append_number(out, "capdrop ", cap),
-        AdjCall::AmbRaise(cap) => append_number(out, "ambraise ", cap),
-        AdjCall::AmbLower(cap) => append_number(out, "amblower ", cap),
-        AdjCall::AmbClear => append_word(out, "ambclear"),
-        AdjCall::Bits(bits) => append_number(out, "securebits ", bits),
-        AdjCall::KeepCaps(value) => append_number(out, "keepcaps ", value),
-        AdjCall::NoNewPrivs(value) => append_number(out, "nonewprivs ", value),
+        AdjCall::BoundDrop(cap) => prepend_number(out, "capdrop ", cap),
+        AdjCall::AmbRaise(cap) => prepend_number(out, "ambraise ", cap),
+        AdjCall::AmbLower(cap) => prepend_number(out, "amblower ", cap),
+        AdjCall::AmbClear => prepend_word(out, "ambclear"),
+        AdjCall::Bits(bits) => prepend_number(out, "securebits ", bits),
+        AdjCall::KeepCaps(value) => prepend_number(out, "keepcaps ", value),
+        AdjCall::NoNewPrivs(value) => prepend_number(out, "nonewprivs ", value),
     }
 }
 
-/// Appends the change.
-pub(crate) fn append_change(
-    out: &mut Vec<u8>,
-    script: &Script,
-    change: Change,
-) -> Result<(), NoMemory>
-    ensures { OnOk result (out.new.items ≡ out.old.items ++ change_text script.now change) }
+/// Writes the change.
+pub(crate) fn prepend_change(out: &mut Pen, script: &Script, change: Change) -> Result<(), NoMemory>
+    requires { 160 ≤ out.old.room }
+    ensures text { OnOk result (out.new.text ≡ change_text script.now change ++ out.old.text) }
+    ensures room { OnOk result (80 ≤ out.new.room) }
 {
     match change {
-        Change::SetFs(Kind::User, id) => append_one(out, "setfsuid", id),
-        Change::SetFs(Kind::Group, id) => append_one(out, "setfsgid", id),
-        Change::Adjust(call) => append_adjust(out, call),
+        Change::SetFs(Kind::User, id) => prepend_one(out, "setfsuid", id),
+        Change::SetFs(Kind::Group, id) => prepend_one(out, "setfsgid", id),
+        Change::Adjust(call) => prepend_adjust(out, call),
         Change::Exec { file } => {
-            append_word(out, "exec ")?;
-            append_file(out, script, file)
+            prepend_file(out, script, file)?;
+            prepend_word(out, "exec ")
         }
-        Change::Access => append_word(out, "access"),
+        Change::Access => prepend_word(out, "access"),
     }
+    Ok(())
 }

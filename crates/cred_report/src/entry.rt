@@ -2,33 +2,36 @@
 ghost use Rattle.std.specs.Prelude.{◌≡◌, ◌++◌, OnOk, IfOk};
 ghost use Rattle.cred_report.specs.Text.{entry_text};
 
-use crate::answers::append_answer;
-use crate::events::append_event;
+use crate::answers::prepend_answer;
+use crate::events::prepend_event;
+use crate::pen::{PARTS, Pen};
 use crate::text::Text;
-use crate::words::{append_number, append_word};
+use crate::words::{prepend_number, prepend_word};
 use cred_event::Entry;
 use cred_ids::NoMemory;
 use cred_script::Script;
 use std::alloc::Global;
 
-/// Appends the text of the entry, a line of the report.
+/// Writes the text of the entry, a line of the report.
 ///
 /// # Errors
 ///
 /// `NoMemory` where the buffer cannot grow. Nothing is said of what it holds then.
-pub fn append(out: &mut Vec<u8>, script: &Script, entry: &Entry) -> Result<(), NoMemory>
-    ensures { OnOk result (out.new.items ≡ out.old.items ++ entry_text script.now entry.now) }
+pub fn prepend(out: &mut Pen, script: &Script, entry: &Entry) -> Result<(), NoMemory>
+    ensures { OnOk result (out.new.text ≡ entry_text script.now entry.now ++ out.old.text) }
 {
-    append_number(out, "", entry.line)?;
-    append_word(out, " ")?;
-    append_event(out, script, &entry.event)?;
-    append_word(out, " -> ")?;
-    append_answer(out, &entry.answer)?;
-    append_word(out, "\n")
+    out.reserve(PARTS)?;
+    prepend_word(out, "\n");
+    prepend_answer(out, &entry.answer)?;
+    prepend_word(out, " -> ");
+    prepend_event(out, script, &entry.event)?;
+    prepend_word(out, " ");
+    prepend_number(out, "", entry.line);
+    Ok(())
 }
 
 /// The text of the entry, a line of the report, in memory of its own. To print many entries, use
-/// `append`, whose buffer is there already.
+/// `prepend`, whose buffer is there already.
 ///
 /// # Errors
 ///
@@ -36,7 +39,7 @@ pub fn append(out: &mut Vec<u8>, script: &Script, entry: &Entry) -> Result<(), N
 pub fn print(alloc: Global, script: &Script, entry: &Entry) -> Result<Text, NoMemory>
     ensures { IfOk result (λ text. text ≡ entry_text script.now entry.now) }
 {
-    let mut bytes = Vec::new(alloc);
-    append(&mut bytes, script, entry)?;
-    Ok(Text::from_vec(bytes))
+    let mut pen = Pen::new(alloc);
+    prepend(&mut pen, script, entry)?;
+    Text::of(alloc, pen.items())
 }

@@ -1,14 +1,15 @@
 //! Sets, ids, arguments and flags, each after a space.
-ghost use Rattle.std.specs.Prelude.{◌≡◌, ◌<◌, ◌++◌, drop, false, OnOk};
+ghost use Rattle.std.specs.Prelude.{◌≡◌, ◌<◌, ◌≤◌, ◌+◌, ◌++◌, drop, false, OnOk};
 ghost use Rattle.std.specs.Fmt.{digit_glyph};
 ghost use Rattle.cred_report.specs.Numbers.{hexadecimal, set_text, ids_text, arg_text, flag_text};
 
-use crate::words::{append_number, append_word};
+use crate::pen::{PARTS, Pen};
+use crate::words::{prepend_number, prepend_word};
 use cred_caps::CapSet;
 use cred_ids::{Arg, Id, NoMemory};
 
 /// How many hexadecimal digits a number of 64 bits has at most.
-const MAX_DIGITS: usize = 16;
+pub(crate) const MAX_DIGITS: usize = 16;
 
 /// The digit of a number below 16.
 fn digit_of(number: u64) -> u8
@@ -23,7 +24,7 @@ fn digit_of(number: u64) -> u8
 }
 
 /// Writes the number's hexadecimal digits to the end of the buffer, and tells where they begin.
-fn write_digits(digits: &mut [u8; MAX_DIGITS], number: u64) -> usize
+pub(crate) fn write_digits(digits: &mut [u8; MAX_DIGITS], number: u64) -> usize
     ensures within { result < MAX_DIGITS }
     ensures digits { drop result digits.new ≡ hexadecimal number }
 {
@@ -38,60 +39,80 @@ fn write_digits(digits: &mut [u8; MAX_DIGITS], number: u64) -> usize
     first
 }
 
-/// Appends a space, and the set in lower-case hexadecimal. After `NoMemory` nothing is said of what
-/// stands in the buffer.
-pub fn append_set(out: &mut Vec<u8>, set: CapSet) -> Result<(), NoMemory>
-    ensures { OnOk result (out.new.items ≡ out.old.items ++ set_text set) }
+/// Writes a space, and the set in lower-case hexadecimal. Most sets of a report are empty or full:
+/// those are words, which take no division.
+pub(crate) fn prepend_set(out: &mut Pen, set: CapSet)
+    requires { 20 ≤ out.old.room }
+    ensures text { out.new.text ≡ set_text set ++ out.old.text }
+    ensures room { out.old.room ≤ out.new.room + 20 }
 {
-    append_word(out, " ")?;
+    match set.bits() {
+        0 => prepend_word(out, " 0"),
+        0x1ff_ffff_ffff => prepend_word(out, " 1ffffffffff"),
+        bits => prepend_bits(out, bits),
+    }
+}
+
+/// Writes a space, and the number in lower-case hexadecimal.
+fn prepend_bits(out: &mut Pen, bits: u64)
+    requires { 20 ≤ out.old.room }
+    ensures text { out.new.text ≡ set_text bits ++ out.old.text }
+    ensures room { out.old.room ≤ out.new.room + 20 }
+{
     let mut digits = [0; MAX_DIGITS];
-    let first = write_digits(&mut digits, set.bits());
-    Ok(out.extend_from_slice(&digits[first..])?)
+    let first = write_digits(&mut digits, bits);
+    out.piece(&digits[first..]);
+    prepend_word(out, " ")
 }
 
-/// Appends three sets.
-pub(crate) fn append_sets(
-    out: &mut Vec<u8>,
-    first: CapSet,
-    second: CapSet,
-    third: CapSet,
-) -> Result<(), NoMemory>
-    ensures { OnOk result (out.new.items
-        ≡ out.old.items ++ (set_text first ++ set_text second ++ set_text third)) }
+/// Writes three sets.
+pub(crate) fn prepend_sets(out: &mut Pen, first: CapSet, second: CapSet, third: CapSet)
+    requires { 60 ≤ out.old.room }
+    ensures text { out.new.text
+        ≡ (set_text first ++ set_text second ++ set_text third) ++ out.old.text }
+    ensures room { out.old.room ≤ out.new.room + 60 }
 {
-    append_set(out, first)?;
-    append_set(out, second)?;
-    append_set(out, third)
+    prepend_set(out, third);
+    prepend_set(out, second);
+    prepend_set(out, first)
 }
 
-/// Appends the ids in their order.
-pub(crate) fn append_ids(out: &mut Vec<u8>, ids: &[Id]) -> Result<(), NoMemory>
-    ensures { OnOk result (out.new.items ≡ out.old.items ++ ids_text ids.now) }
+/// Writes the ids in their order, and makes room for the entry's other parts.
+pub(crate) fn prepend_ids(out: &mut Pen, ids: &[Id]) -> Result<(), NoMemory>
+    ensures text { OnOk result (out.new.text ≡ ids_text ids.now ++ out.old.text) }
+    ensures room { OnOk result (512 ≤ out.new.room) }
 {
-    for id in ids {
-        append_number(out, " ", id.number())?;
+    out.reserve(PARTS)?;
+    let mut at = ids.len();
+    while at > 0 {
+        at -= 1;
+        prepend_number(out, " ", ids[at].number());
+        out.reserve(PARTS)?;
     }
     Ok(())
 }
 
-/// Appends the argument of an id call.
-pub(crate) fn append_arg(out: &mut Vec<u8>, arg: Arg) -> Result<(), NoMemory>
-    ensures { OnOk result (out.new.items ≡ out.old.items ++ arg_text arg) }
+/// Writes the argument of an id call.
+pub(crate) fn prepend_arg(out: &mut Pen, arg: Arg)
+    requires { 21 ≤ out.old.room }
+    ensures text { out.new.text ≡ arg_text arg ++ out.old.text }
+    ensures room { out.old.room ≤ out.new.room + 21 }
 {
     match arg {
-        Arg::Keep => append_word(out, " -1"),
-        Arg::Set(id) => append_number(out, " ", id.number()),
+        Arg::Keep => prepend_word(out, " -1"),
+        Arg::Set(id) => prepend_number(out, " ", id.number()),
     }
 }
 
-/// Appends a space, and the flag as 0 or 1. After `NoMemory` nothing is said of what stands in the
-/// buffer.
-pub fn append_flag(out: &mut Vec<u8>, flag: bool) -> Result<(), NoMemory>
-    ensures { OnOk result (out.new.items ≡ out.old.items ++ flag_text flag) }
+/// Writes a space, and the flag as 0 or 1.
+pub(crate) fn prepend_flag(out: &mut Pen, flag: bool)
+    requires { 2 ≤ out.old.room }
+    ensures text { out.new.text ≡ flag_text flag ++ out.old.text }
+    ensures room { out.old.room ≤ out.new.room + 2 }
 {
     if flag {
-        append_word(out, " 1")
+        prepend_word(out, " 1")
     } else {
-        append_word(out, " 0")
+        prepend_word(out, " 0")
     }
 }

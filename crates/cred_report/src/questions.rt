@@ -1,26 +1,42 @@
 //! Questions about a credential, and the files and permissions that they name.
-ghost use Rattle.std.specs.Prelude.{◌≡◌, ◌++◌, OnOk};
+ghost use Rattle.std.specs.Prelude.{◌≡◌, ◌≤◌, ◌++◌, OnOk, length};
 ghost use Rattle.cred_report.specs.Questions.{file_text, want_text, query_text};
 
-use crate::words::{append_number, append_word};
+use crate::pen::{PARTS, Pen};
+use crate::words::{prepend_number, prepend_word};
 use cred_event::Query;
 use cred_ids::NoMemory;
 use cred_record::Want;
 use cred_script::Script;
 
-/// Appends the name of the file at this place among the script's files.
-pub(crate) fn append_file(out: &mut Vec<u8>, script: &Script, place: u32) -> Result<(), NoMemory>
-    ensures { OnOk result (out.new.items ≡ out.old.items ++ file_text script.now place) }
+/// Writes the name of the file at this place among the script's files, and makes room for the
+/// entry's other parts.
+pub(crate) fn prepend_file(out: &mut Pen, script: &Script, place: u32) -> Result<(), NoMemory>
+    requires { 100 ≤ out.old.room }
+    ensures text { OnOk result (out.new.text ≡ file_text script.now place ++ out.old.text) }
+    ensures room { OnOk result (100 ≤ out.new.room) }
 {
     match script.name(place) {
-        Some(name) => append_word(out, name),
+        Some(name) => prepend_name(out, name),
         None => Ok(()),
     }
 }
 
+/// Writes the name, which may be of any length.
+fn prepend_name(out: &mut Pen, name: &str) -> Result<(), NoMemory>
+    ensures text { OnOk result (out.new.text ≡ name.now ++ out.old.text) }
+    ensures room { OnOk result (100 ≤ out.new.room) }
+{
+    let room = name.len().checked_add(PARTS).ok_or(NoMemory)?;
+    out.reserve(room)?;
+    prepend_word(out, name);
+    Ok(())
+}
+
 /// The letters of what is wanted.
 pub(crate) fn letters_of(want: Want) -> &'static str
-    ensures { result.now ≡ want_text want }
+    ensures text { result.now ≡ want_text want }
+    ensures short { length result.now ≤ 3 }
 {
     match (want.r, want.w, want.x) {
         (false, false, false) => "",
@@ -34,23 +50,26 @@ pub(crate) fn letters_of(want: Want) -> &'static str
     }
 }
 
-/// Appends the question.
-pub(crate) fn append_query(out: &mut Vec<u8>, script: &Script, query: Query) -> Result<(), NoMemory>
-    ensures { OnOk result (out.new.items ≡ out.old.items ++ query_text script.now query) }
+/// Writes the question.
+pub(crate) fn prepend_query(out: &mut Pen, script: &Script, query: Query) -> Result<(), NoMemory>
+    requires { 160 ≤ out.old.room }
+    ensures text { OnOk result (out.new.text ≡ query_text script.now query ++ out.old.text) }
+    ensures room { OnOk result (80 ≤ out.new.room) }
 {
     match query {
-        Query::Ids => append_word(out, "ids"),
-        Query::Caps => append_word(out, "caps"),
-        Query::Groups => append_word(out, "groups"),
-        Query::Bits => append_word(out, "bits"),
-        Query::Capable(cap) => append_number(out, "capable ", cap),
-        Query::Bset(cap) => append_number(out, "bset ", cap),
-        Query::AmbIs(cap) => append_number(out, "ambis ", cap),
+        Query::Ids => prepend_word(out, "ids"),
+        Query::Caps => prepend_word(out, "caps"),
+        Query::Groups => prepend_word(out, "groups"),
+        Query::Bits => prepend_word(out, "bits"),
+        Query::Capable(cap) => prepend_number(out, "capable ", cap),
+        Query::Bset(cap) => prepend_number(out, "bset ", cap),
+        Query::AmbIs(cap) => prepend_number(out, "ambis ", cap),
         Query::Check { file, want } => {
-            append_word(out, "check ")?;
-            append_file(out, script, file)?;
-            append_word(out, " ")?;
-            append_word(out, letters_of(want))
+            prepend_word(out, letters_of(want));
+            prepend_word(out, " ");
+            prepend_file(out, script, file)?;
+            prepend_word(out, "check ")
         }
     }
+    Ok(())
 }

@@ -1,29 +1,45 @@
 //! What a question is told.
-ghost use Rattle.std.specs.Prelude.{◌≡◌, ◌++◌, OnOk, codes};
+ghost use Rattle.std.specs.Prelude.{◌≡◌, ◌≤◌, ◌+◌, ◌++◌, OnOk, codes};
 ghost use Rattle.cred_report.specs.Told.{ids4_text, told_text};
 
-use crate::numbers::{append_flag, append_ids, append_set, append_sets};
-use crate::words::{append_number, append_two, append_word};
+use crate::numbers::{prepend_flag, prepend_ids, prepend_set, prepend_sets};
+use crate::pen::Pen;
+use crate::words::{prepend_number, prepend_two, prepend_word};
 use cred_event::Told;
 use cred_ids::{Ids4, NoMemory};
 
-/// Appends the four ids of a kind.
-fn append_ids4(out: &mut Vec<u8>, ids: Ids4) -> Result<(), NoMemory>
-    ensures { OnOk result (out.new.items ≡ out.old.items ++ ids4_text ids) }
+/// Writes the four ids of a kind.
+fn prepend_ids4(out: &mut Pen, ids: Ids4)
+    requires { 84 ≤ out.old.room }
+    ensures text { out.new.text ≡ ids4_text ids ++ out.old.text }
+    ensures room { out.old.room ≤ out.new.room + 84 }
 {
-    append_two(out, (" ", ids.real.number()), (" ", ids.effective.number()))?;
-    append_two(out, (" ", ids.saved.number()), (" ", ids.fs.number()))
+    prepend_two(out, (" ", ids.saved.number()), (" ", ids.fs.number()));
+    prepend_two(out, (" ", ids.real.number()), (" ", ids.effective.number()))
 }
 
-/// Appends what is told, after `ok`.
-pub(crate) fn append_told(out: &mut Vec<u8>, told: &Told) -> Result<(), NoMemory>
-    ensures { OnOk result (out.new.items ≡ out.old.items ++ (codes "ok" ++ told_text told.now)) }
+/// Writes what is told, after `ok`.
+pub(crate) fn prepend_told(out: &mut Pen, told: &Told) -> Result<(), NoMemory>
+    requires { 400 ≤ out.old.room }
+    ensures text { OnOk result (out.new.text
+        ≡ (codes "ok" ++ told_text told.now) ++ out.old.text) }
+    ensures room { OnOk result (200 ≤ out.new.room) }
 {
-    append_word(out, "ok")?;
+    prepend_values(out, told)?;
+    prepend_word(out, "ok");
+    Ok(())
+}
+
+/// Writes what is told.
+fn prepend_values(out: &mut Pen, told: &Told) -> Result<(), NoMemory>
+    requires { 400 ≤ out.old.room }
+    ensures text { OnOk result (out.new.text ≡ told_text told.now ++ out.old.text) }
+    ensures room { OnOk result (202 ≤ out.new.room) }
+{
     match told {
         Told::Ids { uid, gid } => {
-            append_ids4(out, *uid)?;
-            append_ids4(out, *gid)
+            prepend_ids4(out, *gid);
+            prepend_ids4(out, *uid)
         }
         Told::Caps {
             perm,
@@ -32,15 +48,16 @@ pub(crate) fn append_told(out: &mut Vec<u8>, told: &Told) -> Result<(), NoMemory
             bound,
             amb,
         } => {
-            append_sets(out, *perm, *inh, *eff)?;
-            append_set(out, *bound)?;
-            append_set(out, *amb)
+            prepend_set(out, *amb);
+            prepend_set(out, *bound);
+            prepend_sets(out, *perm, *inh, *eff)
         }
-        Told::Groups(groups) => append_ids(out, groups.items()),
+        Told::Groups(groups) => prepend_ids(out, groups.items())?,
         Told::Bits { bits, nnp } => {
-            append_number(out, " ", bits.number())?;
-            append_flag(out, *nnp)
+            prepend_flag(out, *nnp);
+            prepend_number(out, " ", bits.number())
         }
-        Told::Flag(flag) => append_flag(out, *flag),
+        Told::Flag(flag) => prepend_flag(out, *flag),
     }
+    Ok(())
 }

@@ -1,58 +1,68 @@
 //! Words, and words with a number behind each.
-ghost use Rattle.std.specs.Prelude.{◌≡◌, ◌++◌, OnOk, decimal};
+ghost use Rattle.std.specs.Prelude.{◌≡◌, ◌≤◌, ◌+◌, ◌++◌, decimal, length};
 
-use cred_ids::NoMemory;
-use itoa::Buffer;
+use crate::pen::Pen;
 
-/// Appends the word. After `NoMemory` nothing is said of what stands in the buffer.
-pub fn append_word(out: &mut Vec<u8>, word: &str) -> Result<(), NoMemory>
-    ensures { OnOk result (out.new.items ≡ out.old.items ++ word.now) }
+/// Writes the word.
+#[inline(always)]
+pub(crate) fn prepend_word(out: &mut Pen, word: &str)
+    requires { length word.now ≤ out.old.room }
+    ensures text { out.new.text ≡ word.now ++ out.old.text }
+    ensures room { out.new.room + length word.now ≡ out.old.room }
 {
-    Ok(out.extend_from_slice(word.as_bytes())?)
+    out.piece(word.as_bytes())
 }
 
-/// Appends the word and the number, which may be one of a credential.
-pub(crate) fn append_long(out: &mut Vec<u8>, word: &str, number: u64) -> Result<(), NoMemory>
-    ensures { OnOk result (out.new.items ≡ out.old.items ++ (word.now ++ decimal number)) }
+/// Writes the word and the number, which may be one of a credential.
+#[inline(always)]
+pub(crate) fn prepend_long(out: &mut Pen, word: &str, number: u64)
+    requires { length word.now + 20 ≤ out.old.room }
+    ensures text { out.new.text ≡ (word.now ++ decimal number) ++ out.old.text }
+    ensures room { out.old.room ≤ out.new.room + (length word.now + 20) }
 {
-    out.extend_from_slice(word.as_bytes())?;
-    Ok(out.extend_from_slice(Buffer::new().format(number).as_bytes())?)
+    out.number(number);
+    prepend_word(out, word)
 }
 
-/// Appends the word and the number, in decimal. After `NoMemory` nothing is said of what stands in
-/// the buffer.
-pub fn append_number(out: &mut Vec<u8>, word: &str, number: u32) -> Result<(), NoMemory>
-    ensures { OnOk result (out.new.items ≡ out.old.items ++ (word.now ++ decimal number)) }
+/// Writes the word and the number, in decimal.
+#[inline(always)]
+pub(crate) fn prepend_number(out: &mut Pen, word: &str, number: u32)
+    requires { length word.now + 20 ≤ out.old.room }
+    ensures text { out.new.text ≡ (word.now ++ decimal number) ++ out.old.text }
+    ensures room { out.old.room ≤ out.new.room + (length word.now + 20) }
 {
-    append_long(out, word, u64::from(number))
+    prepend_long(out, word, u64::from(number))
 }
 
-/// Appends two words, each with its number.
-pub(crate) fn append_two(
-    out: &mut Vec<u8>,
-    first: (&str, u32),
-    second: (&str, u32),
-) -> Result<(), NoMemory>
-    ensures { OnOk result (out.new.items ≡ out.old.items
-        ++ (first.entry.0.now ++ decimal first.entry.1
-        ++ second.entry.0.now ++ decimal second.entry.1)) }
+/// Writes two words, each with its number.
+#[inline(always)]
+pub(crate) fn prepend_two(out: &mut Pen, first: (&str, u32), second: (&str, u32))
+    requires { length first.0.now + length second.0.now + 40 ≤ out.old.room }
+    ensures text { out.new.text ≡ (first.entry.0.now ++ decimal first.entry.1
+        ++ second.entry.0.now ++ decimal second.entry.1) ++ out.old.text }
+    ensures room { out.old.room
+        ≤ out.new.room + (length first.entry.0.now + length second.entry.0.now + 40) }
 {
-    append_number(out, first.0, first.1)?;
-    append_number(out, second.0, second.1)
+    prepend_number(out, second.0, second.1);
+    prepend_number(out, first.0, first.1)
 }
 
-/// Appends three words, each with its number.
-pub(crate) fn append_three(
-    out: &mut Vec<u8>,
+/// Writes three words, each with its number.
+#[inline(always)]
+pub(crate) fn prepend_three(
+    out: &mut Pen,
     first: (&str, u32),
     second: (&str, u32),
     third: (&str, u32),
-) -> Result<(), NoMemory>
-    ensures { OnOk result (out.new.items ≡ out.old.items
-        ++ (first.entry.0.now ++ decimal first.entry.1
+)
+    requires { length first.0.now + length second.0.now + length third.0.now + 60
+        ≤ out.old.room }
+    ensures text { out.new.text ≡ (first.entry.0.now ++ decimal first.entry.1
         ++ second.entry.0.now ++ decimal second.entry.1
-        ++ third.entry.0.now ++ decimal third.entry.1)) }
+        ++ third.entry.0.now ++ decimal third.entry.1) ++ out.old.text }
+    ensures room { out.old.room ≤ out.new.room
+        + (length first.entry.0.now + length second.entry.0.now + length third.entry.0.now + 60) }
 {
-    append_two(out, first, second)?;
-    append_number(out, third.0, third.1)
+    prepend_number(out, third.0, third.1);
+    prepend_two(out, first, second)
 }

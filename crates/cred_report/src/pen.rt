@@ -1,0 +1,124 @@
+//! A text that is written from its end to its start.
+ghost use Rattle.std.specs.Prelude.{◌≡◌, ◌≤◌, ◌+◌, ◌++◌, [], OnOk, decimal, length};
+
+use cred_ids::NoMemory;
+use itoa::write_digits;
+use std::alloc::Global;
+use std::marker::Model;
+
+/// How many bytes the parts of one entry take at most, but for names and lists of ids.
+pub(crate) const PARTS: usize = 512;
+
+/// A text in a buffer that is filled from its end, so that the digits of a number come out in the
+/// order in which division gives them, and none is moved. Who writes makes room first, once for
+/// many pieces. Contracts see the text, and how many bytes have room before it.
+#[derive(Drop, Debug)]
+pub struct Pen {
+    alloc: Global,
+    bytes: Vec<u8>,
+    at: usize,
+}
+
+impl Model for Pen {
+    ghost use Rattle.std.specs.Prelude.{◌≤◌, drop, vec_len};
+    ghost use Rattle.cred_report.specs.Page.{Page};
+
+    ghost Value = { Page };
+
+    ghost view = { λ p. record { text = drop p.at p.bytes.items; room = p.at } };
+
+    ghost invariant = { λ p. p.at ≤ vec_len p.bytes };
+}
+
+impl Pen {
+    /// No text.
+    pub fn new(alloc: Global) -> Pen
+        ensures { result.text ≡ [] }
+    {
+        Pen {
+            alloc,
+            bytes: Vec::new(alloc),
+            at: 0,
+        }
+    }
+
+    /// The text.
+    pub fn items(&self) -> &[u8]
+        ensures { result.now ≡ self.now.text }
+    {
+        &self.bytes[self.at..]
+    }
+
+    /// Drops the text, and keeps the memory.
+    pub fn clear(&mut self)
+        ensures { self.new.text ≡ [] }
+    {
+        self.at = self.bytes.len();
+    }
+
+    /// Makes room for this many bytes before the text.
+    #[inline(always)]
+    pub(crate) fn reserve(&mut self, room: usize) -> Result<(), NoMemory>
+        ensures text { OnOk result (self.new.text ≡ self.old.text) }
+        ensures room { OnOk result (room ≤ self.new.room) }
+    {
+        if self.at < room {
+            self.grow(room)?;
+        }
+        Ok(())
+    }
+
+    /// Moves the text to the end of a longer buffer, with this much room before it.
+    #[cold]
+    #[inline(never)]
+    fn grow(&mut self, room: usize) -> Result<(), NoMemory>
+        ensures text { OnOk result (self.new.text ≡ self.old.text) }
+        ensures room { OnOk result (room ≤ self.new.room) }
+    {
+        let kept = self.bytes.len() - self.at;
+        let start = self.bytes.len().checked_add(room).ok_or(NoMemory)?;
+        let size = start.checked_add(kept).ok_or(NoMemory)?;
+        let mut longer = vec![in self.alloc; 0; size]?;
+        longer[start..].copy_from_slice(&self.bytes[self.at..]);
+        self.bytes = longer;
+        self.at = start;
+        Ok(())
+    }
+
+    /// Writes the bytes before the text.
+    #[inline(always)]
+    pub(crate) fn piece(&mut self, piece: &[u8])
+        requires { length piece.now ≤ self.old.room }
+        ensures text { self.new.text ≡ piece.now ++ self.old.text }
+        ensures room { self.new.room + length piece.now ≡ self.old.room }
+    {
+        let start = self.at - piece.len();
+        self.bytes[start..self.at].copy_from_slice(piece);
+        self.at = start;
+    }
+
+    /// Writes the number before the text, in decimal. Most numbers of a report have one digit, which
+    /// needs no division and no call.
+    #[inline(always)]
+    #[tactic(auto, using(std::proofs::lemmas::Fmt::decimal_digit))]
+    pub(crate) fn number(&mut self, number: u64)
+        requires { 20 ≤ self.old.room }
+        ensures text { self.new.text ≡ decimal number ++ self.old.text }
+        ensures room { self.old.room ≤ self.new.room + 20 }
+    {
+        if number < 10 {
+            self.piece(&[b'0' + number as u8])
+        } else {
+            self.digits(number)
+        }
+    }
+
+    #[inline(never)]
+    fn digits(&mut self, number: u64)
+        requires { 20 ≤ self.old.room }
+        ensures text { self.new.text ≡ decimal number ++ self.old.text }
+        ensures room { self.old.room ≤ self.new.room + 20 }
+    {
+        self.at = write_digits(number, &mut self.bytes, self.at);
+    }
+}
