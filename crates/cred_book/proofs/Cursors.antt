@@ -15,7 +15,7 @@ use Rattle.cred_model.proofs.Courses.{makes_event, after_line, leads_on}
 use Rattle.cred_model.proofs.Lines.{first_due_none}
 use Rattle.cred_script.specs.Grammar.{line_at}
 use Rattle.cred_book.specs.Book.{Recorded, with_event, answer_of, next_of}
-use Rattle.cred_book.specs.Cursor.{StandsOn, IsCursor, left_at, left, Stands, IsOfLine, Passes, Makes, IsSetup}
+use Rattle.cred_book.specs.Cursor.{StandsOn, IsCursor, left_at, left, Stands, Passes, Makes, IsSetup}
 use Rattle.cred_book.specs.declared.cursor.Step.TheVariants as step
 use Rattle.cred_book.specs.declared.cursor.Step.TheVariants.{More}
 use Rattle.cred_book.proofs.Courses.{line_is, of_line, next_due, goes_on}
@@ -56,8 +56,8 @@ moves book after course event line here stands line_here due script_is journal_i
     let fewer = (leads_on line.content course entry.answer course.stage refl both.1 own).falls in
     let fell = left_falls book.script (model.after line.content course entry.answer) course (after_line line.content course entry.answer) fewer in
     let most : left_at book.script after.cursor ≤ left_at book.script (Some (model.after line.content course entry.answer)) = passes.falls in
-    let before : left book ≡ left_at book.script (Some course) = ap (left_at book.script) here in
-    let now : left after ≡ left_at book.script after.cursor = ap (λ (s : Script). left_at s after.cursor) script_is in
+    let before : left book ≡ left_at book.script (Some course) + 0 = ap (λ (c : Option Course). left_at book.script c + 0) here in
+    let now : left after ≡ left_at book.script after.cursor + 0 = ap (λ (s : Script). left_at s after.cursor + 0) script_is in
     record {
       script = script_is;
       stands = subst (λ (s : Script). IsCursor s after.journal after.cursor) (sym script_is)

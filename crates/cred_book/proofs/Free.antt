@@ -1,84 +1,92 @@
--- A counted table and the state that it counts take the same slot.
-use Rattle.std.proofs.Common.{◌≡◌, ℕ, zero, suc, Bool, true, false, not, cond, ◌||◌, ◌==◌, List, [], ◌∷◌, ◌++◌, find, length, slice_get, Option, None, Some, is_some, refl, sym, ap, ◌∙◌, subst, arith}
-use Rattle.std.specs.List.{list_any}
+-- A table and a state that it counts take the same slot.
+use Rattle.std.proofs.Common.{◌≡◌, ℕ, ◌+◌, Bool, true, false, not, cond, ◌||◌, ◌==◌, List, [], ◌++◌, find, map, slice_get, Option, None, Some, is_some, refl, sym, ap, ◌∙◌, subst}
+use Rattle.std.specs.List.{list_any, count_by}
 use Rattle.std.specs.Option.{option_map, option_map_or}
 use Rattle.std.proofs.lemmas.List.Folds.{list_any-append}
-use Rattle.cred_record.specs.Credential.{Credential}
-use Rattle.cred_model.specs.State.{Task, Hold, Prepared, Sealing}
+use Rattle.std.proofs.lemmas.Option.{slice_get-map}
+use Rattle.cred_model.specs.State.{State, Sealing}
 use Rattle.cred_model.specs.Slots as model
-use Rattle.cred_slots.specs.Table.{Table, IsSameBag, is_kept, swept}
+use Rattle.cred_model.specs.Slots.{standing, kept}
+use Rattle.cred_slots.specs.Table.{Table, is_kept, swept}
 use Rattle.cred_slots.specs.Table as table
-use Rattle.cred_book.specs.Kept.{sealings, kept_state, referred, IsCounted}
-use Rattle.cred_book.proofs.Bags.{any-bag, any-same, find-same}
+use Rattle.cred_slots.proofs.Counting.{count-append}
+use Rattle.cred_slots.proofs.Tables.{room-free, room-full}
+use Rattle.cred_book.specs.Kept.{IsCounted}
+use Rattle.cred_book.proofs.Bags.{any-bag, any-same, find-same, count-same}
 
--- the slots of the sealed credentials
-pub slots-sealings : (cs : List Credential) (ss : List ℕ) (n : ℕ) → length cs ≡ length ss
-    → option_map (λ s. s.slot) (slice_get (sealings cs ss) n) ≡ slice_get ss n
-slots-sealings [] [] n same = refl
-slots-sealings [] (s ∷ ss) n same = absurd (omega arith)
-slots-sealings (c ∷ cs) [] n same = absurd (omega arith)
-slots-sealings (c ∷ cs) (s ∷ ss) zero same = refl
-slots-sealings (c ∷ cs) (s ∷ ss) (suc n) same = slots-sealings cs ss n (omega arith)
+-- The table counts what the state refers to and keeps, and has its slots and its deferred numbers.
+pub record IsTable (s : State) (t : Table) : Type 0 where
+  pub counted : IsCounted (standing s) (kept s) t
+  pub slots : map (λ sealing. sealing.slot) s.creds ≡ t.sealed
+  pub deferred : s.deferred ≡ t.deferred
 
 stands-or : (slot : ℕ) (found : Option Sealing)
     → option_map_or (λ s. s.slot == slot) found false ≡ option_map_or (λ place. place == slot) (option_map (λ s. s.slot) found) false
 stands-or slot None = refl
 stands-or slot (Some s) = refl
 
-pub stands-sealings : (cs : List Credential) (ss : List ℕ) (slot n : ℕ) → length cs ≡ length ss
-    → model.stands_in (sealings cs ss) slot n ≡ table.stands_in ss slot n
-stands-sealings cs ss slot n same =
-    stands-or slot (slice_get (sealings cs ss) n)
-    ∙ ap (λ o. option_map_or (λ place. place == slot) o false) (slots-sealings cs ss n same)
+stands-same : (s : State) (t : Table) → IsTable s t → (slot n : ℕ) → table.stands_in t.sealed slot n ≡ model.stands_in s.creds slot n
+stands-same s t is slot n =
+    sym (stands-or slot (slice_get s.creds n)
+    ∙ ap (λ o. option_map_or (λ place. place == slot) o false)
+    (sym (slice_get-map (λ (x : Sealing). x.slot) s.creds n) ∙ ap (λ (ss : List ℕ). slice_get ss n) is.slots))
 
-pub live-kept : (tasks : List Task) (holds : List Hold) (ps : List Prepared) (cs : List Credential) (t : Table) → IsCounted tasks holds ps cs t → (slot : ℕ)
-    → table.is_live t slot ≡ model.is_live (kept_state tasks holds ps cs t) slot
-live-kept tasks holds ps cs t is slot =
+live-same : (s : State) (t : Table) → IsTable s t → (slot : ℕ) → table.is_live t slot ≡ model.is_live s slot
+live-same s t is slot =
     let stands = table.stands_in t.sealed slot in
-    let each = model.stands_in (sealings cs t.sealed) slot in
-    let same : list_any stands (t.held ++ t.deferred) ≡ list_any each (referred tasks holds ps ++ t.deferred)
+    let each = model.stands_in s.creds slot in
+    let same : list_any stands (t.held ++ t.deferred) ≡ list_any each (standing s ++ s.deferred)
     = list_any-append stands t.held t.deferred
-    ∙ ap (λ b. b || list_any stands t.deferred) (any-bag stands t.held (referred tasks holds ps) is.counts)
-    ∙ sym (list_any-append stands (referred tasks holds ps) t.deferred)
-    ∙ any-same stands each (referred tasks holds ps ++ t.deferred)
-    (λ n. sym (stands-sealings cs t.sealed slot n is.sealed)) in
-    ap (λ b. b || is_kept t slot) same ∙ ap (λ b. list_any each (referred tasks holds ps ++ t.deferred) || b) (is.keeps slot)
+    ∙ ap (λ b. b || list_any stands t.deferred) (any-bag stands t.held (standing s) is.counted.counts)
+    ∙ ap (λ ds. list_any stands (standing s) || list_any stands ds) (sym is.deferred)
+    ∙ sym (list_any-append stands (standing s) s.deferred)
+    ∙ any-same stands each (standing s ++ s.deferred) (λ n. stands-same s t is slot n) in
+    ap (λ b. b || is_kept t slot) same ∙ ap (λ b. list_any each (standing s ++ s.deferred) || b) (is.counted.keeps slot)
 
 same_slots : table.slots ≡ model.slots
 unfolding table.slots model.slots
 same_slots = refl
 
-pub least_free-kept : (tasks : List Task) (holds : List Hold) (ps : List Prepared) (cs : List Credential) (t : Table) → IsCounted tasks holds ps cs t
-    → table.least_free t ≡ model.least_free (kept_state tasks holds ps cs t)
-least_free-kept tasks holds ps cs t is =
-    find-same (λ slot. not (table.is_live t slot)) (λ slot. not (model.is_live (kept_state tasks holds ps cs t) slot)) table.slots
-    (λ slot. ap not (live-kept tasks holds ps cs t is slot))
-    ∙ ap (λ ss. find (λ slot. not (model.is_live (kept_state tasks holds ps cs t) slot)) ss) same_slots
+least_free-same : (s : State) (t : Table) → IsTable s t → table.least_free t ≡ model.least_free s
+least_free-same s t is =
+    find-same (λ slot. not (table.is_live t slot)) (λ slot. not (model.is_live s slot)) table.slots (λ slot. ap not (live-same s t is slot))
+    ∙ ap (λ ss. find (λ slot. not (model.is_live s slot)) ss) same_slots
 
-abbrev room_if : Bool → Table → Table
-room_if test t = record t { deferred = cond test t.deferred [] }
+room_by : (s : State) (test : Bool) → cond test s (model.swept s) ≡ record s { deferred = cond test s.deferred [] }
+room_by s true = refl
+room_by s false = refl
 
--- the table with room, by the same choice
-room_by : (tasks : List Task) (holds : List Hold) (ps : List Prepared) (cs : List Credential) (t : Table) (test test' : Bool) → test ≡ test'
-    → kept_state tasks holds ps cs (room_if test t) ≡ cond test' (kept_state tasks holds ps cs t) (model.swept (kept_state tasks holds ps cs t))
-room_by tasks holds ps cs t true test' same =
-    subst (λ b. kept_state tasks holds ps cs t ≡ cond b (kept_state tasks holds ps cs t) (model.swept (kept_state tasks holds ps cs t))) same refl
-room_by tasks holds ps cs t false test' same =
-    subst (λ b. kept_state tasks holds ps cs (swept t) ≡ cond b (kept_state tasks holds ps cs t) (model.swept (kept_state tasks holds ps cs t))) same refl
+-- the state with room has the deferred numbers of the table with room
+pub room-same : (s : State) (t : Table) → IsTable s t → model.room s ≡ record s { deferred = (table.room t).deferred }
+room-same s t is =
+    room_by s (is_some (model.least_free s))
+    ∙ ap (λ (o : Option ℕ). record s { deferred = cond (is_some o) s.deferred [] }) (sym (least_free-same s t is))
+    ∙ ap (λ (ds : List ℕ). record s { deferred = cond (is_some (table.least_free t)) ds [] }) is.deferred
 
-pub room-kept : (tasks : List Task) (holds : List Hold) (ps : List Prepared) (cs : List Credential) (t : Table) → IsCounted tasks holds ps cs t
-    → kept_state tasks holds ps cs (table.room t) ≡ model.room (kept_state tasks holds ps cs t)
-room-kept tasks holds ps cs t is =
-    room_by tasks holds ps cs t (is_some (table.least_free t)) (is_some (model.least_free (kept_state tasks holds ps cs t)))
-    (ap (λ o. is_some o) (least_free-kept tasks holds ps cs t is))
+pub room-table : (s : State) (t : Table) → IsTable s t → IsTable (model.room s) (table.room t)
+room-table s t is =
+    subst (λ (r : State). IsTable r (table.room t)) (sym (room-same s t is))
+    (record { counted = record { counts = is.counted.counts; keeps = is.counted.keeps }; slots = is.slots; deferred = refl })
 
-pub room-counted : (tasks : List Task) (holds : List Hold) (ps : List Prepared) (cs : List Credential) (t : Table) → IsCounted tasks holds ps cs t
-    → IsCounted tasks holds ps cs (table.room t)
-room-counted tasks holds ps cs t is =
-    record { distinct = is.distinct; counts = is.counts; sealed = is.sealed; keeps = is.keeps; apart = is.apart }
+pub free-same : (s : State) (t : Table) → IsTable s t → table.free t ≡ model.free s
+free-same s t is = least_free-same (model.room s) (table.room t) (room-table s t is)
 
-pub free-kept : (tasks : List Task) (holds : List Hold) (ps : List Prepared) (cs : List Credential) (t : Table) → IsCounted tasks holds ps cs t
-    → table.free t ≡ model.free (kept_state tasks holds ps cs t)
-free-kept tasks holds ps cs t is =
-    least_free-kept tasks holds ps cs (table.room t) (room-counted tasks holds ps cs t is)
-    ∙ ap model.least_free (room-kept tasks holds ps cs t is)
+-- where no slot is free, the room that is made is a sweep's
+pub full_swept : (t : Table) → table.free t ≡ None → table.room t ≡ swept t
+full_swept t none = by (is_some (table.least_free t)) refl
+  where
+    by : (test : Bool) → is_some (table.least_free t) ≡ test → table.room t ≡ swept t
+    by false is = room-full t is
+    by true is =
+        let full : table.least_free t ≡ None = sym (ap table.least_free (room-free t is)) ∙ none in
+        let test : is_some (table.least_free t) ≡ false = ap is_some full in
+        cc
+
+pub uses-same : (s : State) (t : Table) → IsTable s t → (slot : ℕ) → table.uses t slot ≡ model.uses s slot
+uses-same s t is slot =
+    let stands = table.stands_in t.sealed slot in
+    count-append stands t.held t.deferred
+    ∙ ap (λ n. n + count_by stands t.deferred) (is.counted.counts.counts stands)
+    ∙ ap (λ ds. count_by stands (standing s) + count_by stands ds) (sym is.deferred)
+    ∙ sym (count-append stands (standing s) s.deferred)
+    ∙ count-same stands (model.stands_in s.creds slot) (standing s ++ s.deferred) (λ n. stands-same s t is slot n)

@@ -1,14 +1,11 @@
 -- Which slots are kept while labels begin and give up.
-use Rattle.std.proofs.Common.{◌≡◌, ℕ, zero, suc, Bool, true, false, not, cond, ◌||◌, ◌==◌, List, [], ◌∷◌, ◌++◌, find, remove, slice_get, slice_set, get_or, get_or-set_other, Option, Some, refl, sym, ap, ◌∙◌, inl, inr, arith}
-use Rattle.std.specs.List.{list_any}
+use Rattle.std.proofs.Common.{◌≡◌, ◌≢◌, ℕ, zero, suc, Bool, true, false, not, cond, ◌||◌, ◌==◌, List, [], ◌∷◌, ◌++◌, find, remove, slice_get, slice_set, get_or, get_or-set_other, Option, Some, refl, sym, ap, ◌∙◌, inl, inr, arith}
+use Rattle.std.specs.List.{AllPairs, list_any}
 use Rattle.std.proofs.lemmas.Bool.{cases_eq, eq-eqb}
 use Rattle.std.proofs.lemmas.Bool.Decides.{nat_tests}
-use Rattle.std.proofs.lemmas.List.Folds.{list_any-append}
-use Rattle.cred_model.specs.State.{Prepared, Changed}
-use Rattle.cred_model.specs.Step.{changed, with_change}
+use Rattle.std.proofs.lemmas.List.Folds.{list_any-append, list_any_none}
 use Rattle.cred_slots.specs.Table.{Table, is_kept, is_live, room, free}
-use Rattle.cred_book.specs.Kept.{is_kept_by, AreApart}
-use Rattle.cred_book.proofs.LabelMap.{test_sym}
+use Rattle.cred_model.proofs.Lists.{others_differ}
 
 -- ---- a free slot
 
@@ -31,15 +28,11 @@ pub free-not_kept : (t : Table) (slot : ℕ) → free t ≡ Some slot → is_kep
 free-not_kept t slot takes =
     neither _ (is_kept t slot) (passes (λ place. not (is_live (room t) place)) _ slot takes)
 
--- ---- one label more
+-- ---- one slot more
 
-or_both : (a b : Bool) → (a || b) ≡ false → (a ≡ false) × (b ≡ false)
-or_both true b none = cc
-or_both false b none = (refl, none)
-
-or_false : (a b : Bool) → a ≡ false → b ≡ false → (a || b) ≡ false
-or_false true b first second = cc
-or_false false b first second = second
+-- the slot is one of those that are kept
+abbrev pub is_among : List ℕ → ℕ → Bool
+is_among slots slot = list_any (λ kept. kept == slot) slots
 
 or_last : (a b : Bool) → b ≡ true → (a || (b || false)) ≡ true
 or_last true b last = refl
@@ -51,117 +44,66 @@ or_none true b none = refl
 or_none false true none = cc
 or_none false false none = refl
 
-kept-push : (ps : List Prepared) (p : Prepared) (slot : ℕ) → is_kept_by (ps ++ p ∷ []) slot ≡ (is_kept_by ps slot || (p.slot == slot || false))
-kept-push ps p slot = list_any-append (λ (q : Prepared). q.slot == slot) ps (p ∷ [])
+among-push : (slots : List ℕ) (new slot : ℕ) → is_among (slots ++ new ∷ []) slot ≡ (is_among slots slot || (new == slot || false))
+among-push slots new slot = list_any-append (λ (k : ℕ). k == slot) slots (new ∷ [])
 
-pub keeps-push : (kept : List Bool) (ps : List Prepared) (p : Prepared) → ((slot : ℕ) → get_or kept slot false ≡ is_kept_by ps slot)
-    → get_or (slice_set kept p.slot true) p.slot false ≡ true
-    → (slot : ℕ) → get_or (slice_set kept p.slot true) slot false ≡ is_kept_by (ps ++ p ∷ []) slot
-keeps-push kept ps p keeps here slot = elim (cases_eq slot p.slot) [
+pub keeps-push : (flags : List Bool) (slots : List ℕ) (new : ℕ) → ((slot : ℕ) → get_or flags slot false ≡ is_among slots slot)
+    → get_or (slice_set flags new true) new false ≡ true
+    → (slot : ℕ) → get_or (slice_set flags new true) slot false ≡ is_among (slots ++ new ∷ []) slot
+keeps-push flags slots new keeps here slot = elim (cases_eq slot new) [
   | inl same ↦
-      let last : (p.slot == slot) ≡ true = eq-eqb p.slot slot (sym same) in
-      ap (λ (s : ℕ). get_or (slice_set kept p.slot true) s false) same ∙ here ∙ sym (kept-push ps p slot ∙ or_last (is_kept_by ps slot) _ last)
+      let last : (new == slot) ≡ true = eq-eqb new slot (sym same) in
+      ap (λ (s : ℕ). get_or (slice_set flags new true) s false) same ∙ here ∙ sym (among-push slots new slot ∙ or_last (is_among slots slot) _ last)
   | inr ne ↦
-      let other : (p.slot == slot) ≡ false = grind (arith, nat_tests) in
-      get_or-set_other kept p.slot slot true false ne ∙ keeps slot ∙ sym (kept-push ps p slot ∙ or_none (is_kept_by ps slot) _ other)
+      let other : (new == slot) ≡ false = grind (arith, nat_tests) in
+      get_or-set_other flags new slot true false ne ∙ keeps slot ∙ sym (among-push slots new slot ∙ or_none (is_among slots slot) _ other)
 ]
 
-pub apart-push : (ps : List Prepared) (p : Prepared) → AreApart ps → is_kept_by ps p.slot ≡ false → AreApart (ps ++ p ∷ [])
-apart-push [] p apart new = (refl, tt)
-apart-push (q ∷ qs) p apart new =
-    let first = or_both (q.slot == p.slot) (is_kept_by qs p.slot) new in (
-      kept-push qs p q.slot ∙ or_none (is_kept_by qs q.slot) _ (test_sym p.slot q.slot ∙ first.0) ∙ apart.0,
-      apart-push qs p apart.1 first.1,
-    )
+-- ---- one slot less
 
--- ---- one label less
+-- no other label keeps this slot
+gone : (slots : List ℕ) (place slot : ℕ) → AllPairs (λ a b. a ≢ b) slots → slice_get slots place ≡ Some slot
+    → is_among (remove slots place) slot ≡ false
+gone slots place slot own there =
+    list_any_none (λ k. k == slot) (remove slots place)
+    (λ k d lt. let ne = others_differ (λ (n : ℕ). n) slots place slot there own k d lt in grind (arith, nat_tests))
 
-module _ (test : Prepared → Bool) where
-  passes_none : (ps : List Prepared) (place : ℕ) (p : Prepared) → slice_get ps place ≡ Some p → list_any test ps ≡ false → test p ≡ false
-  passes_none [] place p there none = cc
-  passes_none (q ∷ qs) zero p there none = let same : q ≡ p = cc in sym (ap test same) ∙ (or_both (test q) (list_any test qs) none).0
-  passes_none (q ∷ qs) (suc place) p there none = passes_none qs place p there (or_both (test q) (list_any test qs) none).1
+among-others : (slots : List ℕ) (place old slot : ℕ) → slice_get slots place ≡ Some old → (old == slot) ≡ false
+    → is_among slots slot ≡ is_among (remove slots place) slot
+among-others [] place old slot there other = cc
+among-others (k ∷ ks) zero old slot there other =
+    let same : k ≡ old = cc in
+    ap (λ (b : Bool). b || is_among ks slot) (ap (λ (n : ℕ). n == slot) same ∙ other)
+among-others (k ∷ ks) (suc place) old slot there other =
+    ap (λ (b : Bool). k == slot || b) (among-others ks place old slot there other)
 
-  any-fewer : (ps : List Prepared) (place : ℕ) → list_any test ps ≡ false → list_any test (remove ps place) ≡ false
-  any-fewer [] zero none = refl
-  any-fewer [] (suc place) none = refl
-  any-fewer (q ∷ qs) zero none = (or_both (test q) (list_any test qs) none).1
-  any-fewer (q ∷ qs) (suc place) none =
-      let both = or_both (test q) (list_any test qs) none in
-      or_false (test q) (list_any test (remove qs place)) both.0 (any-fewer qs place both.1)
-
-  any-others : (ps : List Prepared) (place : ℕ) (p : Prepared) → slice_get ps place ≡ Some p → test p ≡ false
-      → list_any test ps ≡ list_any test (remove ps place)
-  any-others [] place p there other = cc
-  any-others (q ∷ qs) zero p there other =
-      let same : q ≡ p = cc in
-      ap (λ (b : Bool). b || list_any test qs) (ap test same ∙ other)
-  any-others (q ∷ qs) (suc place) p there other = ap (λ (b : Bool). test q || b) (any-others qs place p there other)
-
--- no other label keeps the slot of this one
-pub apart-remove : (ps : List Prepared) (place : ℕ) (p : Prepared) → AreApart ps → slice_get ps place ≡ Some p
-    → AreApart (remove ps place) × (is_kept_by (remove ps place) p.slot ≡ false)
-apart-remove [] place p apart there = cc
-apart-remove (q ∷ qs) zero p apart there =
-    let same : q ≡ p = cc in (apart.1, sym (ap (λ (r : Prepared). is_kept_by qs r.slot) same) ∙ apart.0)
-apart-remove (q ∷ qs) (suc place) p apart there =
-    let rest = apart-remove qs place p apart.1 there in
-    let other : (q.slot == p.slot) ≡ false = test_sym q.slot p.slot ∙ passes_none (λ r. r.slot == q.slot) qs place p there apart.0 in (
-      (any-fewer (λ r. r.slot == q.slot) qs place apart.0, rest.0),
-      or_false (q.slot == p.slot) (is_kept_by (remove qs place) p.slot) other rest.1,
-    )
-
-unset : (kept : List Bool) (slot : ℕ) → get_or (slice_set kept slot false) slot false ≡ false
+unset : (flags : List Bool) (slot : ℕ) → get_or (slice_set flags slot false) slot false ≡ false
 unset [] zero = refl
 unset [] (suc slot) = refl
-unset (k ∷ kept) zero = refl
-unset (k ∷ kept) (suc slot) = unset kept slot
+unset (k ∷ flags) zero = refl
+unset (k ∷ flags) (suc slot) = unset flags slot
 
-pub keeps-remove : (kept : List Bool) (ps : List Prepared) (place : ℕ) (p : Prepared) → AreApart ps → slice_get ps place ≡ Some p
-    → ((slot : ℕ) → get_or kept slot false ≡ is_kept_by ps slot)
-    → (slot : ℕ) → get_or (slice_set kept p.slot false) slot false ≡ is_kept_by (remove ps place) slot
-keeps-remove kept ps place p apart there keeps slot = elim (cases_eq slot p.slot) [
+pub keeps-remove : (flags : List Bool) (slots : List ℕ) (place old : ℕ) → AllPairs (λ a b. a ≢ b) slots → slice_get slots place ≡ Some old
+    → ((slot : ℕ) → get_or flags slot false ≡ is_among slots slot)
+    → (slot : ℕ) → get_or (slice_set flags old false) slot false ≡ is_among (remove slots place) slot
+keeps-remove flags slots place old own there keeps slot = elim (cases_eq slot old) [
   | inl same ↦
-      let gone = (apart-remove ps place p apart there).1 in
-      ap (λ (s : ℕ). get_or (slice_set kept p.slot false) s false) same ∙ unset kept p.slot
-      ∙ sym (ap (λ (s : ℕ). is_kept_by (remove ps place) s) same ∙ gone)
+      ap (λ (s : ℕ). get_or (slice_set flags old false) s false) same ∙ unset flags old
+      ∙ sym (ap (λ (s : ℕ). is_among (remove slots place) s) same ∙ gone slots place old own there)
   | inr ne ↦
-      let other : (p.slot == slot) ≡ false = grind (arith, nat_tests) in
-      get_or-set_other kept p.slot slot false false ne ∙ keeps slot ∙ any-others (λ q. q.slot == slot) ps place p there other
+      let other : (old == slot) ≡ false = grind (arith, nat_tests) in
+      get_or-set_other flags old slot false false ne ∙ keeps slot ∙ among-others slots place old slot there other
 ]
 
-any-here : (test : Prepared → Bool) (ps : List Prepared) (place : ℕ) (p : Prepared) → slice_get ps place ≡ Some p → test p ≡ true → list_any test ps ≡ true
-any-here test [] place p there here = cc
-any-here test (q ∷ qs) zero p there here = let same : q ≡ p = cc in ap (λ (b : Bool). b || list_any test qs) (ap test same ∙ here)
-any-here test (q ∷ qs) (suc place) p there here =
-    ap (λ (b : Bool). test q || b) (any-here test qs place p there here) ∙ or_true (test q)
+-- a slot at a place is kept
+pub among-at : (slots : List ℕ) (place slot : ℕ) → slice_get slots place ≡ Some slot → is_among slots slot ≡ true
+among-at [] place slot there = cc
+among-at (k ∷ ks) zero slot there =
+    let same : k ≡ slot = cc in
+    ap (λ (b : Bool). b || is_among ks slot) (eq-eqb k slot same)
+among-at (k ∷ ks) (suc place) slot there =
+    ap (λ (b : Bool). k == slot || b) (among-at ks place slot there) ∙ or_true (k == slot)
   where
     or_true : (b : Bool) → (b || true) ≡ true
     or_true true = refl
     or_true false = refl
-
--- the slot of a prepared label is kept
-pub keeps-here : (ps : List Prepared) (place : ℕ) (p : Prepared) → slice_get ps place ≡ Some p → is_kept_by ps p.slot ≡ true
-keeps-here ps place p there = any-here (λ q. q.slot == p.slot) ps place p there (eq-eqb p.slot p.slot refl)
-
--- ---- a change
-
-slot-changed : (label : ℕ) (to : Changed) (p : Prepared) → (changed label to p).slot ≡ p.slot
-slot-changed label to p = by (p.label == label)
-  where
-    by : (test : Bool) → (cond test (record p { changed = Some to }) p).slot ≡ p.slot
-    by true = refl
-    by false = refl
-
-pub kept-with_change : (ps : List Prepared) (label : ℕ) (to : Changed) (slot : ℕ) → is_kept_by (with_change ps label to) slot ≡ is_kept_by ps slot
-kept-with_change [] label to slot = refl
-kept-with_change (p ∷ ps) label to slot =
-    ap (λ (s : ℕ). s == slot || is_kept_by (with_change ps label to) slot) (slot-changed label to p)
-    ∙ ap (λ (b : Bool). p.slot == slot || b) (kept-with_change ps label to slot)
-
-pub apart-with_change : (ps : List Prepared) (label : ℕ) (to : Changed) → AreApart ps → AreApart (with_change ps label to)
-apart-with_change [] label to apart = tt
-apart-with_change (p ∷ ps) label to apart = (
-  ap (λ (s : ℕ). is_kept_by (with_change ps label to) s) (slot-changed label to p) ∙ kept-with_change ps label to p.slot ∙ apart.0,
-  apart-with_change ps label to apart.1,
-)

@@ -9,7 +9,6 @@ use Rattle.std.proofs.lemmas.List.Quantifiers.{position-Some}
 use Rattle.std.proofs.lemmas.Map.{lookup-none}
 use Rattle.std.proofs.lemmas.Map.Entries.{none_past_head}
 use Rattle.std.proofs.lemmas.Option.{get_or_from_slice_get}
-use Rattle.cred_record.specs.Credential.{Credential}
 use Rattle.cred_model.specs.State.{Prepared, Changed}
 use Rattle.cred_model.specs.Step.{changed, with_change}
 use Rattle.cred_book.specs.declared.prepared.Preparation.{Preparation}
@@ -90,12 +89,12 @@ is_changed before after label p gives some =
     subst (λ (r : Prepared). IsSome r.changed) same q.2
 
 -- What a changed label gave up is what it was found with.
-pub same_label : (before after : List Prepared) (label task base slot : ℕ) (cred : Credential) → IsReady before label task base
-    → (gives : Commits before after label slot cred) → (gives.task ≡ task) × (gives.base ≡ base)
-same_label before after label task base slot cred ready gives =
+pub same_label : (before after : List Prepared) (label task base slot : ℕ) (last : Changed) → IsReady before label task base
+    → (gives : Commits before after label slot last) → (gives.task ≡ task) × (gives.base ≡ base)
+same_label before after label task base slot last ready gives =
     let here = find-at (λ r. r.label == label) before gives.gives.place _ gives.gives.found gives.gives.there in
     let there = ready.found in
-    let same : record { label = label; task = gives.task; base = gives.base; slot = slot; changed = Some (record { change = gives.change; cred = cred }) }
+    let same : record { label = label; task = gives.task; base = gives.base; slot = slot; changed = Some last }
     ≡ record { label = label; task = task; base = base; slot = ready.slot; changed = Some ready.last }
     = cc in
     (ap (λ (p : Prepared). p.task) same, ap (λ (p : Prepared). p.base) same)

@@ -5,8 +5,13 @@ pub mod Labels
 pub mod Bags
 pub mod Keeps
 pub mod Free
-pub mod Counts
-pub mod Changes
-pub mod Results
-pub mod Prepares
+pub mod Standing
+pub mod Stored
+pub mod Sealing
+pub mod Inits
+pub mod Begins
+pub mod Holding
+pub mod Labelling
+pub mod Commits
 pub mod ListAnswers
+pub mod Entered

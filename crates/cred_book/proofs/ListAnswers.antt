@@ -1,5 +1,5 @@
 -- An answer that holds a list is a question's, and leaves the state.
-use Rattle.std.proofs.Common.{◌≡◌, ℕ, Bool, true, false, if◌then◌else◌, Result, Ok, Err, Option, Some, None, refl, sym, ap, ◌∙◌, subst, length, ok_or, position, slice_get, ◌==◌}
+use Rattle.std.proofs.Common.{◌≡◌, ℕ, Bool, true, false, if◌then◌else◌, List, Result, Ok, Err, Option, Some, None, refl, sym, subst, length, ok_or, position, slice_get, ◌==◌}
 use Rattle.std.specs.Option.{option_map_or}
 use Rattle.cred_event.specs.Lists.{HoldsList}
 use Rattle.cred_event.specs.declared.event.Event.{Event}
@@ -7,17 +7,21 @@ use Rattle.cred_event.specs.declared.event.Event.TheVariants.{Init, Take, Releas
 use Rattle.cred_event.specs.declared.event.Change.{Change}
 use Rattle.cred_event.specs.declared.event.Change.TheVariants.{SetFs, Adjust}
 use Rattle.cred_event.specs.declared.answer.Answer.{Answer}
-use Rattle.cred_event.specs.declared.answer.Answer.TheVariants.{Done, Sealed, Kept, Began, NoTask, NoHold, NoPrepared, Exists, Stale, TooMany, TableFull}
+use Rattle.cred_event.specs.declared.answer.Answer.TheVariants.{Sealed, Kept, Began, NoTask, NoHold, NoPrepared, Exists, Stale, TooMany}
 use Rattle.cred_event.specs.declared.answer.Named.TheVariants as named
 use Rattle.cred_event.specs.declared.answer.Counted.TheVariants as counted
+use Rattle.cred_record.specs.File.{File}
 use Rattle.cred_record.specs.Credential.{Credential, first_credential}
 use Rattle.cred_record.specs.declared.refusal.Denial.{Denial}
 use Rattle.cred_rules.specs.SetId.{set_id}
 use Rattle.cred_rules.specs.Adjust.{adjust}
-use Rattle.cred_model.specs.Script.{Script}
-use Rattle.cred_model.specs.State.{State, Prepared, task_of, hold_of, prepared_of, numbered, current_of, held_by}
+use Rattle.cred_model.specs.Script.{Script, info_of, chain_of}
+use Rattle.cred_model.specs.Named.{change_files}
+use Rattle.cred_model.specs.State.{State, Prepared, Changed, task_of, hold_of, prepared_of, numbered, current_of, held_by}
 use Rattle.cred_model.specs.Slots.{room, free}
-use Rattle.cred_model.specs.Step.{TASKS, HOLDS, PREPARED, ◌>>=◌, none_or, fewer_or, by_rule, by_change, with_change, born, replaced, preparing, given_up, committed, done, settled}
+use Rattle.cred_model.specs.Change.{Made, made_by_rule, by_change, by_rule}
+use Rattle.cred_model.specs.Like.{IsLike, Does}
+use Rattle.cred_model.specs.Step.{TASKS, HOLDS, PREPARED, ◌>>=◌, none_or, fewer_or, table_full, first_task, created, replaced, preparing, altered, given_up, commit_answer, committed, done, settled, step}
 
 -- the state is left where the answer holds a list
 record Leaves (s : State) (made : Result (Answer × State) Answer) : Type 0 where
@@ -31,53 +35,53 @@ tested s (Err answer) goes_on each = record { leaves = λ list. refl }
 
 -- What happens in a slot is answered without a list.
 in_slot : (s r : State) (does : State → ℕ → Answer × State) (found : Option ℕ)
-    → ((slot : ℕ) → HoldsList (does r slot).0 → ⊥) → Leaves s (Ok (option_map_or (does r) found (TableFull, r)))
+    → ((slot : ℕ) → HoldsList (does r slot).0 → ⊥) → Leaves s (Ok (option_map_or (does r) found (table_full r)))
 in_slot s r does None plain = record { leaves = λ list. absurd list }
 in_slot s r does (Some slot) plain = record { leaves = λ list. absurd (plain slot list) }
 
-altered_to : State → ℕ → Change → Answer × Credential → Result (Answer × State) Answer
-altered_to s label change made = Ok (made.0, record s { prepared = with_change s.prepared label (record { change = change; cred = made.1 }) })
+altered_to : State → ℕ → Change → Made → Result (Answer × State) Answer
+altered_to s label change made = Ok (made.answer, altered s label (record { change = change; cred = made.cred; gains = made.gains }))
 
 adjusts : (s : State) (label : ℕ) (change : Change) (rule : Result Credential Denial)
-    → Leaves s (◌>>=◌ {B = Answer × State} (◌>>=◌ {B = Answer × Credential} (by_rule rule) (λ new. Ok (Done, new))) (altered_to s label change))
+    → Leaves s (◌>>=◌ {B = Answer × State} (made_by_rule rule) (altered_to s label change))
 unfolding altered_to
 adjusts s label change (Ok new) = record { leaves = λ list. absurd list }
 adjusts s label change (Err denial) = record { leaves = λ list. refl }
 
 -- A change is answered without a list.
-altered : (s : State) (label : ℕ) (change : Change) (base : Credential)
-    → Leaves s (by_change base change >>= altered_to s label change)
+alters : (file : Option File) (chain : List ℕ) (s : State) (label : ℕ) (change : Change) (base : Credential)
+    → Leaves s (◌>>=◌ {B = Answer × State} (by_change file chain base change) (altered_to s label change))
 unfolding altered_to
-altered s label (SetFs kind id) base = record { leaves = λ list. absurd list }
-altered s label (Adjust call) base = adjusts s label (Adjust call) (adjust base call)
-altered s label change base = record { leaves = λ list. refl }
+alters file chain s label (SetFs kind id) base = record { leaves = λ list. absurd list }
+alters file chain s label (Adjust call) base = adjusts s label (Adjust call) (adjust base call)
+alters file chain s label change base = record { leaves = λ list. refl }
 
 -- A commit is answered without a list.
-settles : (s : State) (place : ℕ) (p : Prepared) (current : ℕ) (c : Credential) (test : Bool)
-    → Leaves s (Ok (if test then (Sealed (length s.creds) p.slot, committed s place p current c) else (Stale p.base current, given_up s place p)))
-settles s place p current c true = record { leaves = λ list. absurd list }
-settles s place p current c false = record { leaves = λ list. absurd list }
+settles : (s : State) (place : ℕ) (p : Prepared) (current : ℕ) (last : Changed) (test : Bool)
+    → Leaves s (Ok (if test then (commit_answer last (length s.creds) p.slot, committed s place p current last.cred) else (Stale p.base current, given_up s place p)))
+settles s place p current last true = record { leaves = λ list. absurd list }
+settles s place p current last false = record { leaves = λ list. absurd list }
 
-by_event : (script : Script) (s : State) (event : Event) → Leaves s (done script s event)
+by_event : (script : Script) (s : State) (line : ℕ) (event : Event) → Leaves s (done script s line event)
 unfolding altered_to
-by_event script s (Init task process user group ns) =
+by_event script s line (Init task process user group ns) =
     tested s (none_or (task_of s task) (Exists named.Task task)) _
     (λ new. tested s (fewer_or (length s.tasks) TASKS (TooMany counted.Tasks)) _
     (λ few. in_slot s (room s) (λ r slot.
     let number = length r.creds in
-    (Sealed number slot, born r (record { number = task; process = process; current = number }) (first_credential user group ns) slot))
+    (Sealed number slot, created r (first_task task process number) (first_credential user group ns) slot))
     (free s) (λ slot list. list)))
-by_event script s (Take label task side) =
+by_event script s line (Take label task side) =
     tested s (ok_or (current_of s task) (NoTask task)) _
     (λ taken. tested s (none_or (hold_of s label) (Exists named.Label label)) _
     (λ new. tested s (none_or (prepared_of s label) (Exists named.Label label)) _
     (λ unprepared. tested s (fewer_or (length s.holds) HOLDS (TooMany counted.Holds)) _ (λ few. record { leaves = λ list. absurd list }))))
-by_event script s (Release label) =
+by_event script s line (Release label) =
     tested s (ok_or (position (λ h. h.label == label) s.holds) (NoHold label)) _
     (λ place. tested s (ok_or (slice_get s.holds place) (NoHold label)) _ (λ hold. record { leaves = λ list. absurd list }))
-by_event script s (Ask label query) =
+by_event script s line (Ask label query) =
     tested s (ok_or (held_by s label) (NoHold label)) _ (λ held. record { leaves = λ list. refl })
-by_event script s (Prepare label task hold) =
+by_event script s line (Prepare label task hold) =
     tested s (ok_or (task_of s task) (NoTask task)) _
     (λ owner. tested s (ok_or (hold_of s hold) (NoHold hold)) _
     (λ base. tested s (none_or (hold_of s label) (Exists named.Label label)) _
@@ -86,33 +90,32 @@ by_event script s (Prepare label task hold) =
     (λ few. in_slot s (room s) (λ r slot.
     (Kept slot, preparing r (record { label = label; task = task; base = base.number; slot = slot; changed = None })))
     (free s) (λ slot list. list))))))
-by_event script s (Alter label change) =
+by_event script s line (Alter label change) =
     tested s (ok_or (prepared_of s label) (NoPrepared label)) _
     (λ p. tested s (ok_or (numbered s.creds p.base) (NoPrepared label)) _
-    (λ base. altered s label change base.cred))
-by_event script s (Commit label) =
+    (λ base. alters (info_of script (change_files change)) (chain_of script base.cred.ns) s label change base.cred))
+by_event script s line (Commit label) =
     tested s (ok_or (position (λ p. p.label == label) s.prepared) (NoPrepared label)) _
     (λ place. tested s (ok_or (slice_get s.prepared place) (NoPrepared label)) _
     (λ p. tested s (ok_or p.changed (NoPrepared label)) _
     (λ last. tested s (ok_or (current_of s p.task) (NoTask p.task)) _
-    (λ now. settles s place p now.number last.cred (now.number == p.base)))))
-by_event script s (Abort label) =
+    (λ now. settles s place p now.number last (now.number == p.base)))))
+by_event script s line (Abort label) =
     tested s (ok_or (position (λ p. p.label == label) s.prepared) (NoPrepared label)) _
     (λ place. tested s (ok_or (slice_get s.prepared place) (NoPrepared label)) _ (λ p. record { leaves = λ list. absurd list }))
-by_event script s (Begin task call) =
+by_event script s line (Begin task call) =
     tested s (ok_or (current_of s task) (NoTask task)) _
     (λ old. tested s (by_rule (set_id old.cred call)) _
     (λ new. in_slot s (room s) (λ r slot. (Began (length r.creds) slot 0, replaced r task old.number new slot)) (free s) (λ slot list. list)))
-by_event script s Sweep = record { leaves = λ list. absurd list }
-by_event script s event = record { leaves = λ list. refl }
+by_event script s line Sweep = record { leaves = λ list. absurd list }
+by_event script s line event = record { leaves = λ list. refl }
 
 -- an event that is answered with a list leaves the state
-pub list_leaves : (script : Script) (s : State) (event : Event) → HoldsList (settled s (done script s event)).0 → (settled s (done script s event)).1 ≡ s
-list_leaves script s event = (by_event script s event).leaves
+pub list_leaves : (script : Script) (s : State) (line : ℕ) (event : Event) → HoldsList (step script s line event).0 → (step script s line event).1 ≡ s
+list_leaves script s line event = (by_event script s line event).leaves
 
--- what is so where the event was made
-pub made_leaves : (script : Script) (s after : State) (event : Event) (answer : Answer) → settled s (done script s event) ≡ (answer, after) → HoldsList answer
-    → after ≡ s
-made_leaves script s after event answer made list =
-    let own : HoldsList (settled s (done script s event)).0 = subst HoldsList (sym (ap (λ (p : Answer × State). p.0) made)) list in
-    sym (ap (λ (p : Answer × State). p.1) made) ∙ list_leaves script s event own
+-- What is so where the event was made: the state after it is like the one before.
+pub list_stays : (script : Script) (s after : State) (line : ℕ) (event : Event) (answer : Answer) → Does (step script s line event) answer after
+    → HoldsList answer → IsLike after s
+list_stays script s after line event answer does list =
+    subst (IsLike after) (list_leaves script s line event (subst HoldsList (sym does.answers) list)) does.leads

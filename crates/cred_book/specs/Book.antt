@@ -18,7 +18,8 @@ pub record Recorded : Type 0 where
 -- the book in which an event of a line is entered, with its answer
 abbrev pub with_event : Recorded → ℕ → Event → Recorded
 with_event book line event =
-    record book { journal = book.journal ++ entry_of book.script book.journal (record { line = line; event = event }) ∷ [] }
+    let entry = entry_of book.script book.journal (record { line = line; event = event }) in
+    record book { journal = book.journal ++ entry ∷ [] }
 
 -- what an event of a line is answered
 abbrev pub answer_of : Recorded → ℕ → Event → Answer

@@ -5,8 +5,10 @@ use Rattle.std.specs.Option.{option_map, option_map_or}
 use Rattle.cred_event.specs.declared.entry.Entry.{Entry}
 use Rattle.cred_model.specs.Script.{Script, Line}
 use Rattle.cred_model.specs.Course as model
-use Rattle.cred_model.specs.Course.{Course, Leads, leads}
-use Rattle.cred_model.specs.Journal.{answers_of, next_event, IsInOrder}
+use Rattle.cred_model.specs.State.{State}
+use Rattle.cred_model.specs.Step.{TASKS}
+use Rattle.cred_model.specs.Course.{Course, Leads, TRIES, TRY_EVENTS, leads}
+use Rattle.cred_model.specs.Journal.{answers_of, next_event, replay, IsInOrder}
 use Rattle.cred_script.specs.Grammar.{line_at}
 use Rattle.cred_book.specs.Book.{Recorded}
 use Rattle.cred_book.specs.declared.cursor.Step.{Step}
@@ -15,14 +17,16 @@ use Rattle.cred_book.specs.declared.cursor.Step.TheVariants.{More, Ended}
 -- the line at this place has ended
 abbrev pub HasEnded : Script → List Entry → ℕ → Type 0
 HasEnded script journal place =
-    IfSome (slice_get script.lines place) (λ line. next_event journal (place + 1) line.content ≡ None)
+    IfSome (slice_get script.lines place)
+    (λ line. next_event journal (place + 1) line.content ≡ None)
 
 -- All lines have ended.
 pub record IsOver (script : Script) (journal : List Entry) : Type 0 where
   pub in_order : IsInOrder script journal
   pub ended : (k : ℕ) → k < length script.lines → HasEnded script journal k
 
--- The lines before that of the course have ended, no later line has begun, and its own has come as far as the course.
+-- The lines before that of the course have ended, no later line has begun, and its own has come as
+-- far as the course.
 pub record StandsOn (script : Script) (journal : List Entry) (course : Course) : Type 0 where
   pub in_order : IsInOrder script journal
   pub place : ℕ
@@ -36,18 +40,28 @@ pub record StandsOn (script : Script) (journal : List Entry) (course : Course) :
 -- The cursor is the journal's: the course of the first line that has not ended, or none.
 abbrev pub IsCursor : Script → List Entry → Option Course → Type 0
 IsCursor script journal None = IsOver script journal
-IsCursor script journal (Some course) = StandsOn script journal course × (is_some course.stage ≡ true)
+IsCursor script journal (Some course) =
+    StandsOn script journal course × (is_some course.stage ≡ true)
 
 abbrev pub Stands : Recorded → Type 0
 Stands book = IsCursor book.script book.journal book.cursor
 
+-- how many events a line may have, at most: those of its tries, and one for each task that lives
+abbrev pub LINE_EVENTS : ℕ
+LINE_EVENTS = TRY_EVENTS * TRIES + TASKS
+
 -- how many steps may be left where the cursor stands here, at most
 abbrev pub left_at : Script → Option Course → ℕ
 left_at script cursor =
-    option_map_or (λ course. 64 * (length script.lines - course.line) + model.left course) cursor 0
+    option_map_or (λ course. LINE_EVENTS * (length script.lines - course.line) + model.left course)
+    cursor 0
+
+-- how many tasks wait to make a call that one of their process has begun: none so far
+abbrev pub waiting : State → ℕ
+waiting s = 0
 
 abbrev pub left : Recorded → ℕ
-left book = left_at book.script book.cursor
+left book = left_at book.script book.cursor + waiting (replay book.script book.journal)
 
 -- the course is one of its line
 abbrev pub IsOfLine : Script → Course → Type 0
@@ -56,7 +70,8 @@ IsOfLine script course = IfSome (line_at script course.line) (λ line. Leads lin
 -- the line after a course's own, before its first event
 abbrev pub next_start : Script → Course → Option Course
 next_start script course =
-    option_map (λ line. model.start (course.line + 1) line.content) (line_at script (course.line + 1))
+    option_map (λ line. model.start (course.line + 1) line.content)
+    (line_at script (course.line + 1))
 
 -- From a course on, this is the cursor.
 pub record Passes (script : Script) (course : Course) (to : Option Course) : Type 0 where

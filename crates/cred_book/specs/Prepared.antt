@@ -2,14 +2,18 @@
 use Rattle.std.specs.Prelude.{◌≡◌, ℕ, ◌==◌, List, find, map, position, remove, slice_get, Some}
 use Rattle.std.specs.declared.option.Option.{Option}
 use Rattle.std.specs.Option.{option_and_then}
-use Rattle.cred_record.specs.Credential.{Credential}
-use Rattle.cred_event.specs.declared.event.Change.{Change}
 use Rattle.cred_model.specs.State.{Prepared, Changed}
 use Rattle.cred_book.specs.declared.prepared.Preparation.{Preparation}
 
 -- what is prepared under the label
 abbrev pub prepared_as : ℕ → Preparation → Prepared
-prepared_as label p = record { label = label; task = p.task; base = p.base; slot = p.slot; changed = p.changed }
+prepared_as label p = record {
+  label = label;
+  task = p.task;
+  base = p.base;
+  slot = p.slot;
+  changed = p.changed;
+}
 
 abbrev pub all_prepared : List (ℕ × Preparation) → List Prepared
 all_prepared entries = map (λ entry. prepared_as entry.0 entry.1) entries
@@ -37,11 +41,10 @@ pub record GivesUp (before after : List Prepared) (p : Prepared) : Type 0 where
   pub there : slice_get before place ≡ Some p
   pub left : after ≡ remove before place
 
--- This label gave up what it prepared, which was changed: the slot, and what the base had become.
-pub record Commits (before after : List Prepared) (label slot : ℕ) (cred : Credential) : Type 0 where
+-- This label gave up what it prepared, which was changed last so, and the slot that it kept.
+pub record Commits (before after : List Prepared) (label slot : ℕ) (last : Changed) : Type 0 where
   pub task : ℕ
   pub base : ℕ
-  pub change : Change
   pub gives :
       GivesUp before after
-      (record { label = label; task = task; base = base; slot = slot; changed = Some (record { change = change; cred = cred }) })
+      (record { label = label; task = task; base = base; slot = slot; changed = Some last })

@@ -1,7 +1,8 @@
 //! The journal of a run.
-ghost use Rattle.std.specs.Prelude.{◌≡◌, ◌<◌, [], IfOk, OnOk, OnErr};
+ghost use Rattle.std.specs.Prelude.{◌≡◌, ◌<◌, [], length, IfOk, OnOk, OnErr};
 ghost use Rattle.cred_model.specs.Journal as model;
 ghost use Rattle.cred_model.specs.Journal.{replay};
+ghost use Rattle.cred_model.specs.Named.{IsEventOf};
 ghost use Rattle.cred_model.specs.Slots.{uses};
 ghost use Rattle.cred_book.specs.Book.{with_event, answer_of, next_of};
 ghost use Rattle.cred_book.specs.Cursor.{IsSetup, Makes, Stands, left};
@@ -16,8 +17,8 @@ use cred_script::Script;
 use std::alloc::Global;
 use std::marker::Model;
 
-/// A script, the journal of its run so far, and the state that the journal leads to; and a cursor,
-/// the course of a line, or none.
+/// A script, the journal of its run so far, and a state like the one that the journal leads to: no
+/// event can tell the two apart. And a cursor, the course of a line, or none.
 ///
 /// Every entry has the answer that its event gets in the state after the entries before it.
 #[derive(Drop, Debug)]
@@ -29,8 +30,8 @@ pub struct Book {
 }
 
 impl Model for Book {
-    ghost use Rattle.std.specs.Prelude.{◌≡◌};
     ghost use Rattle.cred_model.specs.Journal.{replay, IsAnswered};
+    ghost use Rattle.cred_model.specs.Like.{IsLike};
     ghost use Rattle.cred_book.specs.Book.{Recorded};
 
     ghost Value = { Recorded };
@@ -42,7 +43,8 @@ impl Model for Book {
     } };
 
     ghost invariant = { λ b.
-        (b.state ≡ replay b.script b.journal.items) × IsAnswered b.script b.journal.items };
+        IsLike b.state (replay b.script b.journal.items)
+        × IsAnswered b.script b.journal.items };
 }
 
 impl Book {
@@ -88,18 +90,19 @@ impl Book {
     }
 
     /// Enters one event of a line, and answers it with a copy of the entry's answer. The cursor
-    /// stays.
+    /// stays. The event is of a kind that is built, and names only declared files and namespaces.
     ///
     /// # Errors
     ///
     /// `NoMemory` where the state, the entry or the copy found none: the book is as it was.
     pub fn event(&mut self, line: u32, event: Event) -> Result<Answer, NoMemory>
+        requires kind { IsEventOf (length self.old.script.files) event }
         ensures entered { OnOk result (self.new ≡ with_event self.old line event) }
         ensures answer { IfOk result (λ answer. answer ≡ answer_of self.old line event) }
         ensures err { OnErr result (self.new ≡ self.old) }
     {
         self.journal.reserve(1)?;
-        let answer = self.state.step(&self.script, &event)?;
+        let answer = self.state.step(&self.script, line, &event)?;
         let copied = copy_answer(&answer)?;
         self.journal.push(Entry {
             line,

@@ -1,7 +1,8 @@
 //! The cursor: the course of the first line that has not ended.
-ghost use Rattle.std.specs.Prelude.{◌≡◌, true, [], IfOk, IfSome, is_some};
+ghost use Rattle.std.specs.Prelude.{◌≡◌, true, [], length, IfOk, IfSome, is_some};
 ghost use Rattle.std.specs.Option.{option_and_then};
 ghost use Rattle.cred_model.specs.Course as model;
+ghost use Rattle.cred_model.specs.Named.{IsEventOf};
 ghost use Rattle.cred_script.specs.Grammar.{line_at};
 ghost use Rattle.cred_book.specs.Cursor.{IsCursor, IsOfLine, Passes, next_start};
 
@@ -27,11 +28,14 @@ pub fn first_cursor(script: &Script) -> Option<Course>
     first_left(script, Course::start(1, content))
 }
 
-/// The next event of the course's line.
+/// The next event of the course's line. It is of a kind that is built, and names only declared
+/// files and namespaces, as its line does.
 pub fn next_event(script: &Script, course: Course) -> Result<Option<Event>, NoMemory>
     requires line { IsOfLine script.now course }
     ensures event { IfOk result (λ event. event
-        ≡ option_and_then (λ line. model.event_at line.content course) (line_at script.now course.line)) }
+        ≡ option_and_then (λ line. model.event_at line.content course)
+        (line_at script.now course.line)) }
+    ensures named { IfOk result (λ event. IfSome event (IsEventOf (length script.now.files))) }
 {
     match script.line(course.line()) {
         Some((_, content)) => course.event(content),

@@ -2,14 +2,14 @@
 #![tactic(auto)]
 
 mod book;
-mod change;
 mod cursor;
+mod files;
 mod holds;
 mod prepared;
-mod reply;
 mod seal;
 mod sequence;
 mod state;
+mod store;
 mod table;
 
 pub use book::Book;

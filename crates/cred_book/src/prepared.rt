@@ -6,16 +6,17 @@ ghost use Rattle.cred_book.specs.Prepared.{prepared_as, place_of, changed_of, Is
 
 use cred_event::Change;
 use cred_ids::NoMemory;
-use cred_record::Cred;
+use cred_record::{Cred, Gains};
 use indexmap::IndexMap;
 use std::alloc::Global;
 use std::marker::Model;
 
-/// The last change of a prepared credential, and what it made of the base.
+/// The last change of a prepared credential, what it made of the base, and what that one gains.
 #[derive(Drop, Debug)]
 pub struct Changed {
     pub change: Change,
     pub cred: Cred,
+    pub gains: Gains,
 }
 
 impl Model for Changed {
@@ -23,7 +24,7 @@ impl Model for Changed {
 
     ghost Value = { model.Changed };
 
-    ghost view = { λ c. record { change = c.change; cred = c.cred } };
+    ghost view = { λ c. record { change = c.change; cred = c.cred; gains = c.gains } };
 }
 
 /// What is prepared under a label: the task that it is for, the number of the credential that it is
@@ -130,14 +131,14 @@ impl Preparing {
         Some(preparation)
     }
 
-    /// A label that was changed gives up what it prepared: its slot, and what the base has become.
-    pub fn commit(&mut self, label: u32) -> (u32, Cred)
+    /// A label that was changed gives up what it prepared: its slot, and the last change.
+    pub fn commit(&mut self, label: u32) -> (u32, Changed)
         requires { IsSome (changed_of self.old label) }
         ensures { Commits self.old self.new label result.0 result.1 }
     {
         // Both are there: the label was changed.
         let preparation = self.give_up(label).unwrap();
-        let changed = preparation.changed.unwrap();
-        (preparation.slot, changed.cred)
+        let last = preparation.changed.unwrap();
+        (preparation.slot, last)
     }
 }

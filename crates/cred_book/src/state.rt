@@ -1,21 +1,26 @@
-//! The state of the kernel: the tasks, the holds, the prepared labels, and the credentials with a
-//! table of slots that counts the references to them.
-ghost use Rattle.std.specs.Prelude.{◌≡◌, ◌||◌, is_some, IfOk, OnErr};
+//! The state of the kernel: the tasks, the holds, the prepared labels, and the credentials in their
+//! slots' places, with a table of slots that counts the references to them.
+ghost use Rattle.std.specs.Prelude.{◌≡◌, ◌||◌, is_some, length, IfOk, OnErr};
 ghost use Rattle.std.specs.Option.{option_map};
 ghost use Rattle.cred_model.specs.State.{opening, hold_of, prepared_of, current_of, held_by};
 ghost use Rattle.cred_model.specs.Slots as model;
 ghost use Rattle.cred_model.specs.Step.{by_ask, by_begin, by_init, by_release, by_take, done, settled};
+ghost use Rattle.cred_model.specs.Named.{IsEventOf};
+ghost use Rattle.cred_model.specs.Like.{Does};
+ghost use Rattle.cred_sound.specs.Sound.{IsSound};
 
 mod prepare;
 
+use crate::files::asked_file;
 use crate::holds::Holds;
 use crate::prepared::Preparing;
-use crate::reply::reply_to;
 use crate::seal::seal_next;
+use crate::store::Store;
 use crate::table::{Numbered, Task, sealed_at, set_current, task_among};
+use cred_decide::reply;
 use cred_event::{Answer, Counted, Event, Named, Query, Side};
 use cred_ids::{Id, NoMemory};
-use cred_record::{Cred, IdCall, Refusal, first};
+use cred_record::{IdCall, Refusal, first};
 use cred_script::Script;
 use cred_setid::apply;
 use cred_slots::Slots;
@@ -28,28 +33,28 @@ const TASKS: usize = 64;
 /// How many holds may stand.
 const HOLDS: usize = 512;
 
-/// The state of the kernel. The place of a credential is its number.
+/// The state of the kernel. Contracts see under each sealed number what stands in its slot's place:
+/// where nothing refers to the number any more, that may be a later credential.
 #[derive(Drop, Debug)]
 pub struct State {
     tasks: Vec<Task>,
     holds: Holds,
     prepared: Preparing,
-    creds: Vec<Cred>,
+    store: Store,
     slots: Slots,
     alloc: Global,
 }
 
 impl Model for State {
     ghost use Rattle.cred_model.specs.State as model;
-    ghost use Rattle.cred_book.specs.Kept.{kept_state, IsCounted};
+    ghost use Rattle.cred_book.specs.Kept.{shown, IsKept};
 
     ghost Value = { model.State };
 
-    ghost view = { λ s.
-        kept_state s.tasks.items s.holds s.prepared s.creds.items s.slots };
+    ghost view = { λ s. shown s.tasks.items s.holds s.prepared s.store s.slots };
 
     ghost invariant = { λ s.
-        IsCounted s.tasks.items s.holds s.prepared s.creds.items s.slots };
+        IsKept (shown s.tasks.items s.holds s.prepared s.store s.slots) s.store s.slots };
 }
 
 impl State {
@@ -61,16 +66,18 @@ impl State {
             tasks: Vec::new(alloc),
             holds: Holds::new(alloc),
             prepared: Preparing::new(alloc),
-            creds: Vec::new(alloc),
+            store: Store::new(alloc)?,
             slots: Slots::new(alloc)?,
             alloc,
         })
     }
 
-    /// Makes one event of the script, and answers it. Without memory nothing changes.
-    pub fn step(&mut self, script: &Script, event: &Event) -> Result<Answer, NoMemory>
+    /// Makes one event of a line of the script, and answers it. Without memory nothing changes.
+    pub fn step(&mut self, script: &Script, line: u32, event: &Event) -> Result<Answer, NoMemory>
+        requires kind { IsEventOf (length script.now.files) event.now }
+        requires sound { IsSound self.old }
         ensures ok { IfOk result (λ answer.
-            settled self.old (done script.now self.old event.now) ≡ (answer, self.new)) }
+            Does (settled self.old (done script.now self.old line event.now)) answer self.new) }
         ensures err { OnErr result (self.new ≡ self.old) }
     {
         match event {
@@ -85,7 +92,7 @@ impl State {
             Event::Release { label } => Ok(self.release(*label)),
             Event::Ask { label, query } => self.ask(script, *label, *query),
             Event::Prepare { label, task, hold } => self.prepare(*label, *task, *hold),
-            Event::Alter { label, change } => self.alter(*label, *change),
+            Event::Alter { label, change } => self.alter(script, *label, *change),
             Event::Commit { label } => self.commit(*label),
             Event::Abort { label } => Ok(self.abort(*label)),
             Event::Begin { task, call } => self.begin(*task, call),
@@ -93,7 +100,8 @@ impl State {
                 self.slots.sweep();
                 Ok(Answer::Done)
             }
-            _ => Ok(Answer::Einval),
+            // No line makes the other events yet.
+            _ => unreachable!(),
         }
     }
 
@@ -111,7 +119,7 @@ impl State {
             result ≡ current_of self.now task }
     {
         let task = task_among(&self.tasks, task)?;
-        sealed_at(&self.creds, &self.slots, task.current)
+        sealed_at(&self.store, &self.slots, task.current)
     }
 
     /// The credential that a label holds.
@@ -120,7 +128,7 @@ impl State {
             result ≡ held_by self.now label }
     {
         let number = self.holds.get(label)?;
-        sealed_at(&self.creds, &self.slots, number)
+        sealed_at(&self.store, &self.slots, number)
     }
 
     /// Whether a hold or a prepared label has this label.
@@ -140,8 +148,8 @@ impl State {
         ns: u32,
     ) -> Result<Answer, NoMemory>
         ensures ok { IfOk result (λ answer.
-            settled self.old (by_init self.old number process user group ns)
-            ≡ (answer, self.new)) }
+            Does (settled self.old (by_init self.old number process user group ns))
+            answer self.new) }
         ensures err { OnErr result (self.new ≡ self.old) }
     {
         if task_among(&self.tasks, number).is_some() {
@@ -155,12 +163,11 @@ impl State {
         }
         let cred = first(self.alloc, user, group, ns)?;
         self.tasks.reserve(1)?;
-        self.creds.reserve(1)?;
         self.slots.reserve()?;
         let Some((current, slot)) = seal_next(&mut self.slots) else {
             return Ok(Answer::TableFull);
         };
-        self.creds.push(cred)?;
+        self.store.put(slot, cred);
         self.tasks.push(Task {
             number,
             process,
@@ -207,17 +214,18 @@ impl State {
 
     fn ask(&self, script: &Script, label: u32, query: Query) -> Result<Answer, NoMemory>
         ensures { IfOk result (λ answer.
-            settled self.now (by_ask script.now.files self.now label query) ≡ (answer, self.now)) }
+            settled self.now (by_ask script.now self.now label query) ≡ (answer, self.now)) }
     {
         match self.held(label) {
-            Some(held) => reply_to(self.alloc, script, held.cred, query),
+            Some(held) => reply(self.alloc, asked_file(script, query), held.cred, query),
             None => Ok(Answer::NoHold(label)),
         }
     }
 
     fn begin(&mut self, task: u32, call: &IdCall) -> Result<Answer, NoMemory>
+        requires { IsSound self.old }
         ensures ok { IfOk result (λ answer.
-            settled self.old (by_begin self.old task call.now) ≡ (answer, self.new)) }
+            Does (settled self.old (by_begin self.old task call.now)) answer self.new) }
         ensures err { OnErr result (self.new ≡ self.old) }
     {
         let Some(
@@ -236,12 +244,11 @@ impl State {
             Err(Refusal::Invalid) => return Ok(Answer::Einval),
             Err(Refusal::Memory) => return Err(NoMemory),
         };
-        self.creds.reserve(1)?;
         self.slots.reserve()?;
         let Some((number, slot)) = seal_next(&mut self.slots) else {
             return Ok(Answer::TableFull);
         };
-        self.creds.push(cred)?;
+        self.store.put(slot, cred);
         set_current(&mut self.tasks, task, number);
         self.slots.drop_later(old);
         Ok(Answer::Began {

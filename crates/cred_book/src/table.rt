@@ -1,15 +1,16 @@
-//! The tasks and the credentials, and what is found among them.
-ghost use Rattle.std.specs.Prelude.{◌≡◌, ◌==◌, find, length};
+//! The tasks and the sealed credentials, and what is found among them.
+ghost use Rattle.std.specs.Prelude.{◌≡◌, ◌==◌, find};
 ghost use Rattle.std.specs.Option.{option_map};
 ghost use Rattle.cred_model.specs.State as model;
 ghost use Rattle.cred_model.specs.Step as spec;
-ghost use Rattle.cred_book.specs.Kept.{sealings};
+ghost use Rattle.cred_book.specs.Kept.{creds_in, AreFilled};
 
+use crate::store::Store;
 use cred_record::Cred;
 use cred_slots::Slots;
 use std::marker::Model;
 
-/// A task, its process, and the number of its current credential.
+/// A task, its process, and the number of its current credential. It overrides nothing yet.
 #[derive(Clone, Copy, Debug)]
 pub struct Task {
     pub number: u32,
@@ -19,10 +20,11 @@ pub struct Task {
 
 impl Model for Task {
     ghost use Rattle.cred_model.specs.State as model;
+    ghost use Rattle.cred_model.specs.Step.{first_task};
 
     ghost Value = { model.Task };
 
-    ghost view = { λ t. record { number = t.number; process = t.process; current = t.current } };
+    ghost view = { λ t. first_task t.number t.process t.current };
 
     ghost inverse = { λ t. record { number = t.number; process = t.process; current = t.current } };
 }
@@ -42,20 +44,20 @@ pub struct Numbered<'a> {
     pub slot: u32,
 }
 
-/// The sealed credential of this number.
-pub fn sealed_at<'a>(creds: &'a [Cred], slots: &Slots, number: u64) -> Option<Numbered<'a>>
-    requires { length creds.now ≡ length slots.now.sealed }
+/// The sealed credential of this number, which stands in its slot's place. Where nothing refers to
+/// the number any more, a later credential may stand there.
+pub fn sealed_at<'a>(store: &'a Store, slots: &Slots, number: u64) -> Option<Numbered<'a>>
+    requires { AreFilled store.now slots.now.sealed }
     ensures { option_map (λ n. record { number = n.number; cred = n.cred.now; slot = n.slot })
-        result ≡ model.numbered (sealings creds.now slots.now.sealed) number }
+        result ≡ model.numbered (creds_in store.now slots.now.sealed) number }
 {
-    match creds.get(number as usize) {
-        Some(cred) => Some(Numbered {
-            number,
-            cred,
-            slot: slots.slot_of(number),
-        }),
-        None => None,
+    if number >= slots.next_number() {
+        return None;
     }
+    let slot = slots.slot_of(number);
+    // The place of each sealed number's slot is filled.
+    let cred = store.get(slot).unwrap();
+    Some(Numbered { number, cred, slot })
 }
 
 fn renewed(t: Task, task: u32, number: u64) -> Task

@@ -17,7 +17,7 @@ pub like_self : (s : State) → IsLike s s
 like_self s =
     record { tasks = refl; holds = refl; prepared = refl; deferred = refl; slots = refl; creds = λ k d lt. refl }
 
-refs_same : (a b : State) → IsLike a b → refs a ≡ refs b
+pub refs_same : (a b : State) → IsLike a b → refs a ≡ refs b
 refs_same a b like =
     ap (λ ts. refs (record a { tasks = ts })) like.tasks
     ∙ ap (λ hs. refs (record a { tasks = b.tasks; holds = hs })) like.holds

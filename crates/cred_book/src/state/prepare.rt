@@ -1,15 +1,20 @@
 //! The events on prepared labels.
-ghost use Rattle.std.specs.Prelude.{◌≡◌, IfOk, OnErr};
+ghost use Rattle.std.specs.Prelude.{◌≡◌, true, IfOk, OnErr};
 ghost use Rattle.std.specs.Option.{option_map, option_and_then};
 ghost use Rattle.cred_model.specs.State.{prepared_of, numbered};
+ghost use Rattle.cred_model.specs.Named.{is_built_change};
+ghost use Rattle.cred_model.specs.Like.{Does};
+ghost use Rattle.cred_sound.specs.Sound.{IsSound};
 ghost use Rattle.cred_model.specs.Step.{by_abort, by_alter, by_commit, by_prepare, settled};
 
-use crate::change::change_of;
+use crate::files::{executed_file, initial_chain};
 use crate::prepared::{Changed, Preparation, Ready};
 use crate::state::State;
 use crate::table::{Numbered, sealed_at, set_current, task_among};
+use cred_decide::{Made, change as change_of};
 use cred_event::{Answer, Change, Counted, Named};
 use cred_ids::NoMemory;
+use cred_script::Script;
 
 /// How many prepared labels may stand.
 const PREPARED: usize = 64;
@@ -61,19 +66,32 @@ impl State {
 
     /// What the label prepares is its base, changed so. `NoPrepared`, `Eperm` and `Einval` leave
     /// the state, and with it what an earlier change made of the base.
-    pub fn alter(&mut self, label: u32, change: Change) -> Result<Answer, NoMemory>
+    pub fn alter(&mut self, script: &Script, label: u32, change: Change) -> Result<Answer, NoMemory>
+        requires { is_built_change change ≡ true }
         ensures ok { IfOk result (λ answer.
-            settled self.old (by_alter self.old label change) ≡ (answer, self.new)) }
+            settled self.old (by_alter script.now self.old label change) ≡ (answer, self.new)) }
         ensures err { OnErr result (self.new ≡ self.old) }
     {
         let Some(base) = self.base(label) else {
             return Ok(Answer::NoPrepared(label));
         };
-        let (answer, cred) = match change_of(base.cred, &change)? {
+        let file = executed_file(script, change);
+        let Made {
+            answer,
+            cred,
+            gains,
+        } = match change_of(base.cred, file, &initial_chain(), &change)? {
             Ok(made) => made,
             Err(answer) => return Ok(answer),
         };
-        self.prepared.change(label, Changed { change, cred });
+        self.prepared.change(
+            label,
+            Changed {
+                change,
+                cred,
+                gains,
+            },
+        );
         Ok(answer)
     }
 
@@ -82,8 +100,9 @@ impl State {
     /// label was never changed, and `NoTask` leave the state. `Stale` comes where the task's
     /// current credential isn't the base any more: then the label is given up.
     pub fn commit(&mut self, label: u32) -> Result<Answer, NoMemory>
+        requires { IsSound self.old }
         ensures ok { IfOk result (λ answer.
-            settled self.old (by_commit self.old label) ≡ (answer, self.new)) }
+            Does (settled self.old (by_commit self.old label)) answer self.new) }
         ensures err { OnErr result (self.new ≡ self.old) }
     {
         let Some(Ready { task, base }) = self.prepared.ready(label) else {
@@ -96,11 +115,10 @@ impl State {
             self.abort(label);
             return Ok(Answer::Stale { base, now });
         }
-        self.creds.reserve(1)?;
         self.slots.reserve()?;
-        let (slot, cred) = self.prepared.commit(label);
+        let (slot, last) = self.prepared.commit(label);
         let number = self.slots.seal(slot);
-        self.creds.push(cred)?;
+        self.store.put(slot, last.cred);
         set_current(&mut self.tasks, task, number);
         self.slots.drop_later(now);
         self.slots.drop_later(base);
@@ -110,6 +128,7 @@ impl State {
     /// The label gives up what it prepared, with its slot and the reference to its base.
     /// `NoPrepared` leaves the state.
     pub fn abort(&mut self, label: u32) -> Answer
+        requires { IsSound self.old }
         ensures { settled self.old (by_abort self.old label) ≡ (result, self.new) }
     {
         let Some(Preparation { base, slot, .. }) = self.prepared.give_up(label) else {
@@ -123,9 +142,10 @@ impl State {
     /// The base of a label. `None` where the label isn't prepared.
     fn base(&self, label: u32) -> Option<Numbered<'_>>
         ensures { option_map (λ n. record { number = n.number; cred = n.cred.now; slot = n.slot })
-            result ≡ option_and_then (λ p. numbered self.now.creds p.base) (prepared_of self.now label) }
+            result ≡ option_and_then (λ p. numbered self.now.creds p.base)
+            (prepared_of self.now label) }
     {
         let preparation = self.prepared.get(label)?;
-        sealed_at(&self.creds, &self.slots, preparation.base)
+        sealed_at(&self.store, &self.slots, preparation.base)
     }
 }

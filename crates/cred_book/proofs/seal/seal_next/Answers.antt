@@ -14,6 +14,8 @@ returns c =
     let made = c.seal-number.ensures.table in
     record {
       takes = takes;
+      in_table = c.seal-number.ensures.in_table;
+      alone = c.seal-number.ensures.alone;
       counted = c.seal-number.ensures.number ∙ ap (λ (t : Table). length t.sealed) claimed;
       held = subst (λ (t : Table). IsSameBag after.held (c.seal-number.result ∷ t.held)) claimed c.seal-number.ensures.held;
       sealed = ap (λ (t : Table). t.sealed) made ∙ ap (λ (t : Table). t.sealed ++ slot ∷ []) claimed;

@@ -1,13 +1,15 @@
-use Rattle.std.proofs.Common.{◌≡◌, ℕ, Some, None, is_some, refl, sym, ap, ◌∙◌, subst, arith}
+use Rattle.std.proofs.Common.{◌≡◌, ℕ, length, Some, None, is_some, refl, sym, ap, ◌∙◌, subst, arith}
 use Rattle.std.specs.Option.{IfSome, option_and_then}
 use Rattle.cred_model.specs.Script.{Script, Line}
 use Rattle.cred_model.specs.Course as model
 use Rattle.cred_model.specs.Course.{Course, event_at}
 use Rattle.cred_model.specs.Journal.{next}
+use Rattle.cred_model.specs.Named.{IsEventOf}
 use Rattle.cred_script.specs.Grammar.{line_at}
 use Rattle.cred_book.specs.Book.{Recorded, with_event, answer_of, next_of}
 use Rattle.cred_book.specs.Cursor.{Passes}
 use Rattle.cred_book.proofs.Cursors.{Moves, moves_by, due, over, makes_more, makes_ended, next_of-setup, next-setup, next-other}
+use Rattle.cred_book.proofs.Labelling.{if_some}
 use Rattle.cred_book.proofs.book.Book.next.Goals as goal
 
 pub returns-then-lane-ne0-clause-lane : goal.returns-then-lane-ne0-clause-lane
@@ -29,6 +31,10 @@ returns-in_default c =
       falls = λ more. cc;
       err = tt;
     }
+
+pub event-requires : goal.event-requires
+event-requires c =
+    record { kind = rw (← c.self.view_is) (if_some (IsEventOf (length c.self.inside.script.files)) _ c.in-Some-2.event c.in-Some-2.is c.in_ok-event.ensures.named) }
 
 pub returns-in_default-2 : goal.returns-in_default-2
 returns-in_default-2 c =

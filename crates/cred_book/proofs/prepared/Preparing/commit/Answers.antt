@@ -1,4 +1,4 @@
-use Rattle.std.proofs.Common.{◌∙◌, sym, ap, Some, subst, Option}
+use Rattle.std.proofs.Common.{subst, Option}
 use Rattle.cred_model.specs.State.{Changed}
 use Rattle.cred_book.specs.Prepared.{GivesUp}
 use Rattle.cred_book.proofs.Labels.{is_given, given, is_changed}
@@ -7,8 +7,8 @@ use Rattle.cred_book.proofs.prepared.Preparing.commit.Goals as goal
 pub unwrap-preparation-requires : goal.unwrap-preparation-requires
 unwrap-preparation-requires c = is_given c.args.self.now c.give_up.new.self c.args.label c.give_up.result c.give_up.ensures c.requires
 
-pub unwrap-changed-requires : goal.unwrap-changed-requires
-unwrap-changed-requires c =
+pub unwrap-last-requires : goal.unwrap-last-requires
+unwrap-last-requires c =
     let before = c.args.self.now in
     let after = c.give_up.new.self in
     is_changed before after c.args.label c.unwrap-preparation.result
@@ -23,7 +23,6 @@ returns c =
     record {
       task = p.task;
       base = p.base;
-      change = c.changed.inside.change;
       gives = subst (λ (changed : Option Changed). GivesUp before after (record { label = c.args.label; task = p.task; base = p.base; slot = p.slot; changed = changed }))
-          (c.unwrap-changed.ensures ∙ ap Some (sym c.changed.view_is)) gives;
+          c.unwrap-last.ensures gives;
     }

@@ -1,0 +1,248 @@
+-- How the references that stand are counted while tasks, holds and prepared labels change.
+use Rattle.std.proofs.Common.{◌≡◌, ◌≢◌, ℕ, zero, suc, ◌+◌, ◌<◌, Bool, true, false, cond, ◌==◌, List, [], ◌∷◌, ◌++◌, map, find, remove, slice_get, Some, refl, ap, ◌∙◌, subst, arith}
+use Rattle.std.specs.List.{All, AllPairs, count_by, flat_map}
+use Rattle.std.proofs.lemmas.Bool.{eqb-true}
+use Rattle.std.proofs.lemmas.Bool.Decides.{nat_tests}
+use Rattle.std.proofs.lemmas.Grind.{flat_map-append}
+use Rattle.std.proofs.lemmas.List.{map-append}
+use Rattle.std.proofs.lemmas.List.Elements.{All-head, All-tail}
+use Rattle.cred_model.specs.State.{State, Task, Hold, Prepared, Changed}
+use Rattle.cred_model.specs.Step.{renewed, with_current, changed, with_change}
+use Rattle.cred_model.specs.Slots.{standing, kept}
+use Rattle.cred_slots.specs.Table.{IsSameBag}
+use Rattle.cred_slots.proofs.Counting.{count-cons, count-append}
+use Rattle.cred_book.proofs.Bags.{one_if, counts_itself}
+
+abbrev pub currents : List Task → List ℕ
+currents tasks = map (λ t. t.current) tasks
+
+abbrev pub overrides : List Task → List ℕ
+overrides tasks = flat_map (λ t. t.overrides) tasks
+
+abbrev pub numbers : List Hold → List ℕ
+numbers holds = map (λ h. h.number) holds
+
+abbrev pub bases : List Prepared → List ℕ
+bases prepared = map (λ p. p.base) prepared
+
+-- each kind of thing that refers is counted by itself
+pub count-standing : (test : ℕ → Bool) (s : State)
+    → count_by test (standing s)
+    ≡ count_by test (currents s.tasks) + count_by test (overrides s.tasks) + count_by test (numbers s.holds) + count_by test (bases s.prepared)
+count-standing test s =
+    let first = count-append test (currents s.tasks) (overrides s.tasks ++ (numbers s.holds ++ (bases s.prepared ++ []))) in
+    let second = count-append test (overrides s.tasks) (numbers s.holds ++ (bases s.prepared ++ [])) in
+    let third = count-append test (numbers s.holds) (bases s.prepared ++ []) in
+    let fourth : count_by test (bases s.prepared ++ []) ≡ count_by test (bases s.prepared) + 0 = count-append test (bases s.prepared) [] in
+    omega (arith, first, second, third, fourth)
+
+-- ---- one thing more, or one less, where each refers to one number
+
+count-push : {X : Type 0} (f : X → ℕ) (test : ℕ → Bool) (xs : List X) (x : X)
+    → count_by test (map f (xs ++ x ∷ [])) ≡ count_by test (map f xs) + one_if (test (f x))
+count-push f test xs x =
+    ap (λ ns. count_by test ns) (map-append f xs (x ∷ []))
+    ∙ count-append test (map f xs) (f x ∷ [])
+    ∙ ap (λ n. count_by test (map f xs) + n) (count-cons test (f x) [] ∙ omega arith)
+
+count-remove : {X : Type 0} (f : X → ℕ) (test : ℕ → Bool) (xs : List X) (place : ℕ) (x : X) → slice_get xs place ≡ Some x
+    → count_by test (map f xs) ≡ count_by test (map f (remove xs place)) + one_if (test (f x))
+count-remove f test [] place x there = cc
+count-remove f test (y ∷ ys) zero x there =
+    let one : y ≡ x = cc in
+    let all = count-cons test (f y) (map f ys) in
+    let same : one_if (test (f y)) ≡ one_if (test (f x)) = ap (λ z. one_if (test (f z))) one in
+    omega (arith, all, same)
+count-remove f test (y ∷ ys) (suc place) x there =
+    let all = count-cons test (f y) (map f ys) in
+    let left = count-cons test (f y) (map f (remove ys place)) in
+    let rest = count-remove f test ys place x there in
+    omega (arith, all, left, rest)
+
+-- a first task overrides nothing
+pub standing-task : (s : State) (t : Task) → t.overrides ≡ []
+    → IsSameBag (standing (record s { tasks = s.tasks ++ t ∷ [] })) (t.current ∷ standing s)
+standing-task s t none = record {
+  counts = λ test.
+      let after = count-standing test (record s { tasks = s.tasks ++ t ∷ [] }) in
+      let before = count-standing test s in
+      let more = count-push (λ (u : Task). u.current) test s.tasks t in
+      let same : count_by test (overrides (s.tasks ++ t ∷ [])) ≡ count_by test (overrides s.tasks)
+      = ap (λ ns. count_by test ns) (flat_map-append (λ (u : Task). u.overrides) s.tasks (t ∷ []))
+      ∙ count-append test (overrides s.tasks) (overrides (t ∷ []))
+      ∙ ap (λ (ns : List ℕ). count_by test (overrides s.tasks) + count_by test (ns ++ [])) none ∙ omega arith in
+      let one = count-cons test t.current (standing s) in
+      omega (arith, after, before, more, same, one);
+}
+
+pub standing-unhold : (s : State) (place : ℕ) (h : Hold) → slice_get s.holds place ≡ Some h
+    → IsSameBag (standing s) (h.number ∷ standing (record s { holds = remove s.holds place }))
+standing-unhold s place h there = record {
+  counts = λ test.
+      let left = record s { holds = remove s.holds place } in
+      let after = count-standing test left in
+      let before = count-standing test s in
+      let less = count-remove (λ (g : Hold). g.number) test s.holds place h there in
+      let one = count-cons test h.number (standing left) in
+      omega (arith, after, before, less, one);
+}
+
+pub standing-label : (s : State) (p : Prepared) → IsSameBag (standing (record s { prepared = s.prepared ++ p ∷ [] })) (p.base ∷ standing s)
+standing-label s p = record {
+  counts = λ test.
+      let after = count-standing test (record s { prepared = s.prepared ++ p ∷ [] }) in
+      let before = count-standing test s in
+      let more = count-push (λ (q : Prepared). q.base) test s.prepared p in
+      let one = count-cons test p.base (standing s) in
+      omega (arith, after, before, more, one);
+}
+
+pub standing-unlabel : (s : State) (place : ℕ) (p : Prepared) → slice_get s.prepared place ≡ Some p
+    → IsSameBag (standing s) (p.base ∷ standing (record s { prepared = remove s.prepared place }))
+standing-unlabel s place p there = record {
+  counts = λ test.
+      let left = record s { prepared = remove s.prepared place } in
+      let after = count-standing test left in
+      let before = count-standing test s in
+      let less = count-remove (λ (q : Prepared). q.base) test s.prepared place p there in
+      let one = count-cons test p.base (standing left) in
+      omega (arith, after, before, less, one);
+}
+
+-- ---- another current credential
+
+-- other tasks keep theirs
+with_current-others : (ts : List Task) (task number : ℕ) → All (λ (t : Task). task ≢ t.number) ts → with_current ts task number ≡ ts
+with_current-others [] task number differ = refl
+with_current-others (t ∷ ts) task number differ =
+    let ne : task ≢ t.number = All-head (λ (u : Task). task ≢ u.number) t ts differ in
+    let other : (t.number == task) ≡ false = grind (arith, nat_tests) in
+    ap (λ b. cond b (record t { current = number }) t ∷ with_current ts task number) other
+    ∙ ap (λ us. t ∷ us) (with_current-others ts task number (All-tail (λ (u : Task). task ≢ u.number) t ts differ))
+
+overrides-renewed : (t : Task) (task number : ℕ) → (renewed task number t).overrides ≡ t.overrides
+overrides-renewed t task number = by (t.number == task)
+  where
+    by : (test : Bool) → (cond test (record t { current = number }) t).overrides ≡ t.overrides
+    by true = refl
+    by false = refl
+
+overrides-with_current : (ts : List Task) (task number : ℕ) → overrides (with_current ts task number) ≡ overrides ts
+overrides-with_current [] task number = refl
+overrides-with_current (t ∷ ts) task number =
+    ap (λ (ns : List ℕ). ns ++ overrides (with_current ts task number)) (overrides-renewed t task number)
+    ∙ ap (λ (ns : List ℕ). t.overrides ++ ns) (overrides-with_current ts task number)
+
+-- no two tasks have one number
+abbrev pub Differ : List Task → Type 0
+Differ tasks = AllPairs (λ (a b : Task). a.number ≢ b.number) tasks
+
+currents-at : (test : ℕ → Bool) (same : Bool) (t u : Task) (ts : List Task) (task number : ℕ) → (t.number == task) ≡ same
+    → Differ (t ∷ ts) → cond same (Some t) (find (λ v. v.number == task) ts) ≡ Some u
+    → ((find (λ v. v.number == task) ts ≡ Some u) → count_by test (currents (with_current ts task number)) + one_if (test u.current)
+    ≡ count_by test (currents ts) + one_if (test number))
+    → count_by test (currents (cond same (record t { current = number }) t ∷ with_current ts task number)) + one_if (test u.current)
+    ≡ count_by test (currents (t ∷ ts)) + one_if (test number)
+currents-at test true t u ts task number is differ found rest =
+    let one : t ≡ u = cc in
+    let named : t.number ≡ task = eqb-true t.number task is in
+    let apart : All (λ (v : Task). t.number ≢ v.number) ts = λ k d lt. differ zero (suc k) d (omega arith) (omega arith) in
+    let others : with_current ts task number ≡ ts
+    = with_current-others ts task number (subst (λ (n : ℕ). All (λ (v : Task). n ≢ v.number) ts) named apart) in
+    let before = count-cons test t.current (currents ts) in
+    let after : count_by test (number ∷ currents (with_current ts task number)) ≡ one_if (test number) + count_by test (currents ts)
+    = count-cons test number (currents (with_current ts task number)) ∙ ap (λ us. one_if (test number) + count_by test (currents us)) others in
+    let same_current : one_if (test t.current) ≡ one_if (test u.current) = ap (λ (v : Task). one_if (test v.current)) one in
+    omega (arith, before, after, same_current)
+currents-at test false t u ts task number is differ found rest =
+    let before = count-cons test t.current (currents ts) in
+    let after = count-cons test t.current (currents (with_current ts task number)) in
+    let others = rest found in
+    omega (arith, before, after, others)
+
+currents-with_current : (test : ℕ → Bool) (tasks : List Task) (task number : ℕ) (u : Task) → Differ tasks
+    → find (λ t. t.number == task) tasks ≡ Some u
+    → count_by test (currents (with_current tasks task number)) + one_if (test u.current) ≡ count_by test (currents tasks) + one_if (test number)
+currents-with_current test [] task number u differ found = cc
+currents-with_current test (t ∷ ts) task number u differ found =
+    currents-at test (t.number == task) t u ts task number refl differ found
+    (λ there. currents-with_current test ts task number u (λ i j d lt h. differ (suc i) (suc j) d (omega arith) (omega arith)) there)
+
+pub standing-renewed : (s : State) (task number : ℕ) (u : Task) → Differ s.tasks → find (λ t. t.number == task) s.tasks ≡ Some u
+    → IsSameBag (u.current ∷ standing (record s { tasks = with_current s.tasks task number })) (number ∷ standing s)
+standing-renewed s task number u differ found = record {
+  counts = λ test.
+      let new = record s { tasks = with_current s.tasks task number } in
+      let after = count-standing test new in
+      let before = count-standing test s in
+      let change = currents-with_current test s.tasks task number u differ found in
+      let same : count_by test (overrides new.tasks) ≡ count_by test (overrides s.tasks)
+      = ap (λ ns. count_by test ns) (overrides-with_current s.tasks task number) in
+      let gone = count-cons test u.current (standing new) in
+      let one = count-cons test number (standing s) in
+      omega (arith, after, before, change, same, gone, one);
+}
+
+-- ---- a change of a prepared label
+
+with_change-field : (f : Prepared → ℕ) (prepared : List Prepared) (label : ℕ) (to : Changed) → ((p : Prepared) → f (changed label to p) ≡ f p)
+    → map f (with_change prepared label to) ≡ map f prepared
+with_change-field f [] label to same = refl
+with_change-field f (p ∷ ps) label to same =
+    ap (λ (n : ℕ). n ∷ map f (with_change ps label to)) (same p)
+    ∙ ap (λ (ns : List ℕ). f p ∷ ns) (with_change-field f ps label to same)
+
+pub standing-altered : (s : State) (label : ℕ) (to : Changed) → standing (record s { prepared = with_change s.prepared label to }) ≡ standing s
+standing-altered s label to =
+    ap (λ (ns : List ℕ). currents s.tasks ++ (overrides s.tasks ++ (numbers s.holds ++ (ns ++ []))))
+    (with_change-field (λ (p : Prepared). p.base) s.prepared label to (λ p. by p (p.label == label)))
+  where
+    by : (p : Prepared) (test : Bool) → (cond test (record p { changed = Some to }) p).base ≡ p.base
+    by p true = refl
+    by p false = refl
+
+pub kept-altered : (s : State) (label : ℕ) (to : Changed) → kept (record s { prepared = with_change s.prepared label to }) ≡ kept s
+kept-altered s label to = with_change-field (λ (p : Prepared). p.slot) s.prepared label to (λ p. by p (p.label == label))
+  where
+    by : (p : Prepared) (test : Bool) → (cond test (record p { changed = Some to }) p).slot ≡ p.slot
+    by p true = refl
+    by p false = refl
+
+-- ---- what stands is counted
+
+current-counted : (n : ℕ) (tasks : List Task) (task : ℕ) (u : Task) → find (λ v. v.number == task) tasks ≡ Some u → u.current ≡ n
+    → 0 < count_by (λ m. m == n) (currents tasks)
+current-counted n [] task u found is = cc
+current-counted n (t ∷ ts) task u found is = at (t.number == task) found (λ there. current-counted n ts task u there is)
+  where
+    at : (test : Bool) → cond test (Some t) (find (λ v. v.number == task) ts) ≡ Some u
+        → (find (λ v. v.number == task) ts ≡ Some u → 0 < count_by (λ m. m == n) (currents ts))
+        → 0 < count_by (λ m. m == n) (currents (t ∷ ts))
+    at true first later =
+        let one : t ≡ u = cc in
+        let same : t.current ≡ n = ap (λ (v : Task). v.current) one ∙ is in
+        let counts : one_if (t.current == n) ≡ 1 = ap (λ (k : ℕ). one_if (k == n)) same ∙ counts_itself n in
+        let all = count-cons (λ m. m == n) t.current (currents ts) in
+        omega (arith, all, counts)
+    at false there later =
+        let all = count-cons (λ m. m == n) t.current (currents ts) in
+        let rest = later there in
+        omega (arith, all, rest)
+
+pub current-stands : (s : State) (task : ℕ) (u : Task) → find (λ v. v.number == task) s.tasks ≡ Some u
+    → 0 < count_by (λ m. m == u.current) (standing s)
+current-stands s task u found =
+    let all = count-standing (λ m. m == u.current) s in
+    let some = current-counted u.current s.tasks task u found refl in
+    omega (arith, all, some)
+
+-- The base of a prepared label that is also its task's current credential is referred to twice.
+pub base-stands_twice : (s : State) (place : ℕ) (p : Prepared) (u : Task) → slice_get s.prepared place ≡ Some p
+    → find (λ v. v.number == p.task) s.tasks ≡ Some u → u.current ≡ p.base
+    → 1 < count_by (λ m. m == p.base) (standing s)
+base-stands_twice s place p u there found current =
+    let all = count-standing (λ m. m == p.base) s in
+    let less = count-remove (λ (q : Prepared). q.base) (λ m. m == p.base) s.prepared place p there in
+    let one = counts_itself p.base in
+    let some = current-counted p.base s.tasks p.task u found current in
+    omega (arith, all, less, one, some)

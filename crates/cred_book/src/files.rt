@@ -1,0 +1,39 @@
+//! What an event sees of the script besides the kernel's state.
+ghost use Rattle.std.specs.Prelude.{◌≡◌, [], ◌∷◌};
+ghost use Rattle.std.specs.Option.{option_map};
+ghost use Rattle.cred_model.specs.Named.{change_files, query_files};
+ghost use Rattle.cred_model.specs.Script.{info_of};
+
+use cred_event::{Change, Query};
+use cred_ids::Id;
+use cred_record::FileInfo;
+use cred_script::Script;
+
+/// What the script says of the file that a question names. `None` where it names none.
+pub fn asked_file(script: &Script, query: Query) -> Option<&FileInfo>
+    ensures { option_map (λ file. file.now) result ≡ info_of script.now (query_files query) }
+{
+    match query {
+        Query::Check { file, .. } => script.file(file),
+        _ => None,
+    }
+}
+
+/// What the script says of the file that a change names. `None` where it names none.
+pub fn executed_file(script: &Script, change: Change) -> Option<&FileInfo>
+    ensures { option_map (λ file. file.now) result ≡ info_of script.now (change_files change) }
+{
+    match change {
+        Change::Exec { file } => script.file(file),
+        _ => None,
+    }
+}
+
+/// The root ids of namespace 0 and of its ancestors: it is the initial one and has none
+/// (user_namespaces(7)).
+pub fn initial_chain() -> [Id; 1]
+    ensures { result ≡ 0 ∷ [] }
+{
+    // 0 is an id.
+    [Id::new(0).unwrap()]
+}
