@@ -1,47 +1,68 @@
 #!/bin/sh
-# Measures the proved program on three inputs of 20,000 lines: entries, bytes, user time of one run (the
-# mean of 50), entries a second, and the greatest resident memory. It needs GNU time. No part of the gate.
+# Measures the proved program against a plain, unverified one (plain.rs) on four scripts of 20,000
+# lines. It prints for each: entries, the user time of one run (the mean of 20) and the greatest
+# resident memory of both; and, where valgrind is there, the instructions of both and their ratio,
+# which is the same at each run. The marks are ratios of 1.3 on calls, holds and checks and of 1.5 on
+# changes, and at most 150 bytes of memory an entry on changes.
+#
+# It needs rustc and GNU time. No part of the gate.
 set -eu
 top=$(cd "$(dirname "$0")/.." && pwd)
-program=$top/bin/credtrace
-runs=50
+runs=20
 dir=$(mktemp -d)
 trap 'rm -rf "$dir"' EXIT
 
-awk 'BEGIN {
-  print "init t1 p1 0 0 n0"
-  for (i = 1; i < 20000; i++) print i % 4 ? "t1 setresuid -1 -1 -1" : i % 8 ? "t1 ids" : "t1 caps"
-}' > "$dir/calls"
-awk 'BEGIN {
-  print "init t1 p1 0 0 n0"
-  for (i = 1; i < 20000; i++) print i % 2 ? "take h" int(i / 2) % 50 + 1 " t1" : "drop h" (int(i / 2) - 1) % 50 + 1
-}' > "$dir/holds"
+rustc --edition 2021 -C opt-level=3 -C codegen-units=1 -C panic=abort -o "$dir/plain" "$top/bench/plain.rs"
+"$top/bin/credtrace" run < /dev/null
+proved=$top/crates/credtrace/out/credtrace
+plain=$dir/plain
 
+lines() { # NAME LINE..: the script of 20,000 lines that has these in turn after its init line
+  name=$1
+  shift
+  awk 'BEGIN {
+    print "init t1 p1 0 0 n0"
+    for (i = 0; i < 19999 - 19999 % (ARGC - 1); i++) print ARGV[i % (ARGC - 1) + 1]
+  }' "$@" > "$dir/$name"
+}
+lines calls 't1 setresuid 0 0 0' 't1 ids' 't1 setreuid 0 0' 't1 caps'
+lines changes 't1 keepcaps 1' 't1 setfsuid 1000' 't1 ambraise 0' 't1 capable 21'
+lines holds 'take h1 t1' 'drop h1'
 awk 'BEGIN {
-  for (i = 1; i <= 256; i++) print "file f" i " reg " i " 0 0640"
+  for (i = 1; i <= 256; i++) print "file f" i " reg " i " " i " 0640"
   print "init t1 p1 0 0 n0"
-  for (i = 258; i <= 20000; i++) print "t1 check f" (i * 7) % 256 + 1 " rw"
+  for (i = 0; i < 19742; i++) print "t1 check f" i % 256 + 1 " r"
 }' > "$dir/checks"
 
-measure() {
-  "$program" run < "$dir/$1" > "$dir/report"
+seconds() { # PROGRAM NAME: the mean user time, and the greatest resident memory in KiB
   : > "$dir/times"
   run=0
   while [ "$run" -lt "$runs" ]; do
-    command time -a -o "$dir/times" -f '%U %M' "$program" run < "$dir/$1" > /dev/null
+    command time -a -o "$dir/times" -f '%U %M' "$1" run < "$dir/$2" > /dev/null
     run=$((run + 1))
   done
-  entries=$(wc -l < "$dir/report")
-  bytes=$(wc -c < "$dir/report")
-  awk -v name="$1" -v entries="$entries" -v bytes="$bytes" '
-    { user += $1; if ($2 > most) most = $2 }
-    END {
-      mean = user / NR
-      rate = mean > 0 ? sprintf("%.1f million entries a second", entries / mean / 1000000) : "too fast to tell"
-      printf "%s: %d entries, %d bytes, %.4f s user, %s, %d KiB\n", name, entries, bytes, mean, rate, most
-    }' "$dir/times"
+  awk '{ user += $1; if ($2 > most) most = $2 } END { printf "%.4f %d", user / NR, most }' "$dir/times"
 }
 
-measure calls
-measure holds
-measure checks
+instructions() { # PROGRAM NAME
+  valgrind --tool=callgrind --callgrind-out-file=/dev/null "$1" run < "$dir/$2" 2>&1 > /dev/null |
+    sed -n 's/.*refs: *//p' | tr -d ,
+}
+
+echo "script   entries   proved s, KiB   plain s, KiB   instructions: proved, plain, ratio (mark)"
+for name in calls changes holds checks; do
+  "$proved" run < "$dir/$name" > "$dir/report"
+  "$plain" run < "$dir/$name" | cmp - "$dir/report"
+  mark=1.3
+  [ "$name" = changes ] && mark=1.5
+  ours=$(seconds "$proved" "$name")
+  theirs=$(seconds "$plain" "$name")
+  count="valgrind isn't here"
+  if command -v valgrind > /dev/null; then
+    a=$(instructions "$proved" "$name")
+    b=$(instructions "$plain" "$name")
+    count=$(awk -v a="$a" -v b="$b" -v mark="$mark" \
+      'BEGIN { printf "%.1f M, %.1f M, %.2f (%s)", a / 1e6, b / 1e6, a / b, mark }')
+  fi
+  printf '%-8s %7d   %s   %s   %s\n' "$name" "$(wc -l < "$dir/report")" "$ours" "$theirs" "$count"
+done

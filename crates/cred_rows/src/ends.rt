@@ -1,8 +1,10 @@
 //! What the program does where its words, its input or its ends are not as they should be.
 use crate::runs::{ran, words_of};
-use cred_io::{MemorySink, MemorySource};
+use cred_io::{MemorySink, MemorySource, StdSink, SureSource};
 use cred_program::{Status, credtrace};
 use std::alloc::Global;
+use std::io;
+use std::io::Write;
 use std::test::Fail;
 
 const USAGE: &str = "usage: credtrace run|lanes|audit|gen N|decode HEX\n";
@@ -42,7 +44,7 @@ fn other_words_get_the_usage_line(rt: HostRuntime) -> Result<(), Fail> {
     Ok(())
 }
 
-/// How the program ends where these reads and these writes fail, and what it has written.
+/// How the program ends where these reads and these writes fail, each once, and what it has written.
 fn failing(alloc: Global, reads: &[u64], writes: &[u64]) -> Result<(Status, MemorySink), Fail> {
     let words = words_of(alloc, &["run"])?;
     let mut source = MemorySource::of(alloc, SCRIPT.as_bytes(), reads)?;
@@ -73,5 +75,39 @@ fn a_failed_write_leaves_the_entries_before(rt: HostRuntime) -> Result<(), Fail>
     let (status, sink) = failing(rt.alloc(), &[], &[9])?;
     assert!(rt; status == Status::Done);
     assert!(rt; sink.bytes() == written.as_bytes());
+    Ok(())
+}
+
+/// A writer over a full disk: it takes all, and fails where it is to hand it on.
+#[derive(Drop)]
+struct FullDisk;
+
+impl Write for FullDisk {
+    fn write(&mut self, buf: &[u8]) -> io::Result<usize> {
+        Ok(buf.len())
+    }
+
+    fn flush(&mut self) -> io::Result<()> {
+        Err(io::Error::from(io::ErrorKind::StorageFull))
+    }
+}
+
+#[test]
+fn a_text_that_is_not_handed_on_is_a_write_fault(rt: HostRuntime) -> Result<(), Fail> {
+    // A report, none, the line of an attribute, the reason why bytes are none, and the usage line.
+    let table: [(&[&str], &str); 5] = [
+        (&["run"], SCRIPT),
+        (&["run"], ""),
+        (&["decode", "0100000200200000000000000000000000000000"], ""),
+        (&["decode", "0100"], ""),
+        (&["frob"], ""),
+    ];
+    for (texts, script) in table {
+        let words = words_of(rt.alloc(), texts)?;
+        let mut source = SureSource::of(rt.alloc(), script.as_bytes())?;
+        let mut sink = StdSink::new(FullDisk);
+        let status = credtrace(rt.alloc(), &words, &mut source, &mut sink);
+        assert!(rt; status == Status::WriteFault);
+    }
     Ok(())
 }
