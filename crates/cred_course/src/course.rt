@@ -1,5 +1,6 @@
 //! The course of one line.
-ghost use Rattle.std.specs.Prelude.{◌≡◌, ◌≤◌, ◌<◌, true, IfOk, is_none, is_some};
+ghost use Rattle.std.specs.Prelude.{◌≡◌, ◌≤◌, ◌<◌, true, IfOk, OnErr, IfSome, is_none, is_some};
+ghost use Rattle.cred_event.specs.Lists.{BeginsSetGroups};
 ghost use Rattle.cred_model.specs.Course as spec;
 ghost use Rattle.cred_model.specs.Course.{Leads, after, event_at, left};
 
@@ -73,17 +74,19 @@ impl Course {
     ///
     /// # Errors
     ///
-    /// `NoMemory` where the list of a `setgroups` could not be copied.
+    /// `NoMemory` where the list of a `setgroups` could not be copied; no other event takes memory.
     pub fn event(&self, content: &Content) -> Result<Option<Event>, NoMemory>
         requires { Leads content.now self.now }
         ensures event { IfOk result (λ event. event ≡ event_at content.now self.now) }
         ensures ended { IfOk result (λ event. is_some event ≡ is_some self.now.stage) }
+        ensures refusal { OnErr result (IfSome (event_at content.now self.now) BeginsSetGroups) }
     {
         self.event_at(content)
     }
 
     fn event_at(&self, content: &Content) -> Result<Option<Event>, NoMemory>
-        ensures { IfOk result (λ event. event ≡ event_at content.now self.now) }
+        ensures event { IfOk result (λ event. event ≡ event_at content.now self.now) }
+        ensures refusal { OnErr result (IfSome (event_at content.now self.now) BeginsSetGroups) }
     {
         match self.stage {
             Some(stage) => event_in(self.line, content, stage),

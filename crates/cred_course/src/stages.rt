@@ -1,5 +1,6 @@
 //! The stages of a line: the event of each, and the stage that follows an answer.
-ghost use Rattle.std.specs.Prelude.{◌≡◌, ◌≤◌, IfOk};
+ghost use Rattle.std.specs.Prelude.{◌≡◌, ◌≤◌, IfOk, OnErr, IfSome};
+ghost use Rattle.cred_event.specs.Lists.{BeginsSetGroups};
 ghost use Rattle.cred_event.specs.declared.content.Content.TheVariants as content;
 ghost use Rattle.cred_model.specs.Answers.{is_ok};
 ghost use Rattle.cred_model.specs.Course as spec;
@@ -24,7 +25,8 @@ pub(crate) fn event_in(
     stage: Stage,
 ) -> Result<Option<Event>, NoMemory>
     requires { line ≤ 20000 }
-    ensures { IfOk result (λ event. event ≡ spec.event_in line content.now stage) }
+    ensures event { IfOk result (λ event. event ≡ spec.event_in line content.now stage) }
+    ensures refusal { OnErr result (IfSome (spec.event_in line content.now stage) BeginsSetGroups) }
 {
     Ok(match (content, stage) {
         (Content::One(event), Stage::First) => Some(copy_event(event)?),

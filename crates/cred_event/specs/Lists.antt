@@ -1,10 +1,17 @@
--- Which answers hold a list.
-
+-- Which answers and which events hold a list: to copy one of these takes memory.
+use Rattle.cred_record.specs.Calls.{IsSetGroups}
 use Rattle.cred_event.specs.declared.answer.Answer.{Answer}
 use Rattle.cred_event.specs.declared.answer.Answer.TheVariants.{Told}
 use Rattle.cred_event.specs.declared.answer.Told.TheVariants.{Groups}
+use Rattle.cred_event.specs.declared.event.Event.{Event}
+use Rattle.cred_event.specs.declared.event.Event.TheVariants.{Begin}
 
 -- what is told is a list of groups
 abbrev pub HoldsList : Answer → Type 0
 HoldsList (Told (Groups list)) = Unit {0}
 HoldsList answer = ⊥
+
+-- a task makes setgroups, with a list of groups
+abbrev pub BeginsSetGroups : Event → Type 0
+BeginsSetGroups (Begin task call) = IsSetGroups call
+BeginsSetGroups event = ⊥

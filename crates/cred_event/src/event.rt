@@ -1,5 +1,6 @@
 //! The events: each is one step of the kernel's book.
-ghost use Rattle.std.specs.Prelude.{◌≡◌, IfOk};
+ghost use Rattle.std.specs.Prelude.{◌≡◌, IfOk, OnErr};
+ghost use Rattle.cred_event.specs.Lists.{BeginsSetGroups};
 
 use cred_ids::{Arg, Id, Kind, NoMemory};
 use cred_record::{AdjCall, IdCall, Want};
@@ -158,9 +159,10 @@ pub enum Event {
 ///
 /// # Errors
 ///
-/// `NoMemory` where the list of a `setgroups` could not be copied.
+/// `NoMemory` where the list of a `setgroups` could not be copied; no other event takes memory.
 pub fn copy_event(e: &Event) -> Result<Event, NoMemory>
-    ensures { IfOk result (λ copied. copied ≡ e.now) }
+    ensures equal { IfOk result (λ copied. copied ≡ e.now) }
+    ensures refusal { OnErr result (BeginsSetGroups e.now) }
 {
     Ok(e.clone()?)
 }

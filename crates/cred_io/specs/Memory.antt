@@ -1,5 +1,5 @@
 -- What sources and sinks in memory hold, and which of their calls fail.
-use Rattle.std.specs.Prelude.{ℕ, List, Contains}
+use Rattle.std.specs.Prelude.{ℕ, Bool, List, Contains}
 use Rattle.cred_io.specs.Causes.{next_count}
 
 -- the bytes not yet read, how many reads there were, which reads fail, and how many have failed
@@ -9,12 +9,18 @@ pub record SourceState : Type 0 where
   pub failing : List ℕ
   pub faults : ℕ
 
--- the bytes written, how many writes there were, which writes fail, and how many have failed
+-- the bytes written, whether they are handed on, how many writes there were, which writes fail, and how many have failed
 pub record SinkState : Type 0 where
   pub bytes : List ℕ
+  pub handed_on : Bool
   pub calls : ℕ
   pub failing : List ℕ
   pub faults : ℕ
+
+-- the bytes written, and whether they are handed on
+pub record SureState : Type 0 where
+  pub bytes : List ℕ
+  pub handed_on : Bool
 
 -- after so many calls, the next is one of those that fail
 abbrev pub FailsNext : List ℕ → ℕ → Type 0

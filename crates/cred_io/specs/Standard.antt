@@ -1,5 +1,5 @@
 -- What a clause reads of an end over std's streams.
-use Rattle.std.specs.Prelude.{ℕ}
+use Rattle.std.specs.Prelude.{ℕ, Bool}
 use Rattle.cred_io.specs.declared.standard.StdSource.{StdSource}
 use Rattle.cred_io.specs.declared.standard.StdSink.{StdSink}
 
@@ -14,6 +14,10 @@ std_source_faults s = s.faults
 -- the writer below
 abbrev pub std_writer : {W : Type 0} → StdSink W → W
 std_writer s = s.writer
+
+-- the writer was flushed, and nothing was written since
+abbrev pub std_sink_handed_on : {W : Type 0} → StdSink W → Bool
+std_sink_handed_on s = s.handed_on
 
 -- how many writes and flushes have failed
 abbrev pub std_sink_faults : {W : Type 0} → StdSink W → ℕ

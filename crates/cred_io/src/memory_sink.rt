@@ -1,8 +1,8 @@
 //! A sink in memory of which chosen calls fail, to try code at each fault of a sink.
-ghost use Rattle.std.specs.Prelude.{◌≡◌, ◌<◌, ◌↔◌, ◌++◌, [], length, Some, IfOk, OnOk, IsOk};
+ghost use Rattle.std.specs.Prelude.{◌≡◌, ◌<◌, ◌↔◌, ◌++◌, [], true, false, length, Some, IfOk, OnOk, IsOk};
 ghost use Rattle.std.specs.Io.{WritesAtMost};
 ghost use Rattle.std.specs.Io.KnownBytes.{WriteAppends, Keeps};
-ghost use Rattle.cred_io.specs.Causes.{HasSinkCause, next_count};
+ghost use Rattle.cred_io.specs.Causes.{CountsFaults, next_count};
 ghost use Rattle.cred_io.specs.Memory.{FailsNext};
 
 use crate::{Sink, SinkRefusal};
@@ -14,6 +14,7 @@ use std::marker::Model;
 #[derive(Drop, Debug)]
 pub struct MemorySink {
     bytes: Vec<u8>,
+    handed_on: bool,
     calls: u64,
     failing: Vec<u64>,
     faults: u64,
@@ -26,6 +27,7 @@ impl Model for MemorySink {
 
     ghost view = { λ s. record {
       bytes = s.bytes.items;
+      handed_on = s.handed_on;
       calls = s.calls;
       failing = s.failing.items;
       faults = s.faults;
@@ -38,6 +40,7 @@ impl MemorySink {
     pub fn of(alloc: Global, failing: &[u64]) -> Result<Self, NoMemory>
         ensures { IfOk result (λ s. s ≡ record {
           bytes = [];
+          handed_on = true;
           calls = 0;
           failing = failing.now;
           faults = 0;
@@ -45,6 +48,7 @@ impl MemorySink {
     {
         Ok(MemorySink {
             bytes: Vec::new(alloc),
+            handed_on: true,
             calls: 0,
             failing: failing.to_vec(alloc)?,
             faults: 0,
@@ -62,6 +66,8 @@ impl MemorySink {
 impl Sink for MemorySink {
     ghost written = { λ s. Some s.bytes };
 
+    ghost handed_on = { λ s. s.handed_on };
+
     ghost faults = { λ s. s.faults };
 
     /// Appends the whole piece, unless no memory is found, or this call is one of those that fail:
@@ -70,12 +76,15 @@ impl Sink for MemorySink {
         ensures bound { WritesAtMost result piece.now }
         ensures some { IfOk result (λ n. 0 < length piece.now → 0 < n) }
         ensures bytes { WriteAppends (Some self.old.bytes) (Some self.new.bytes) result piece.now }
-        ensures cause { HasSinkCause self.old.faults self.new.faults result }
+        ensures kept_back { OnOk result (self.new.handed_on ≡ false) }
+        ensures cause { CountsFaults (result ≡ Err SinkRefusal.Failed)
+            self.old.faults self.new.faults }
         ensures fails { (result ≡ Err SinkRefusal.Failed)
             ↔ FailsNext self.old.failing self.old.calls }
         ensures count { IfOk result (λ n. n ≡ length piece.now) }
         ensures ok { OnOk result (self.new ≡ record self.old {
           bytes = self.old.bytes ++ piece.now;
+          handed_on = false;
           calls = next_count self.old.calls;
         }) }
         ensures failed { result ≡ Err SinkRefusal.Failed → self.new ≡ record self.old {
@@ -92,16 +101,20 @@ impl Sink for MemorySink {
             return Err(SinkRefusal::Failed);
         }
         self.bytes.extend_from_slice(piece)?;
+        self.handed_on = false;
         Ok(piece.len())
     }
 
-    /// Nothing is kept back, so there is nothing to do. It is not counted as a call.
+    /// Nothing is kept back, so this only notes that it is done. It is not counted as a call.
     fn flush(&mut self) -> Result<(), SinkRefusal>
         ensures bytes { Keeps (Some self.old.bytes) (Some self.new.bytes) }
-        ensures cause { HasSinkCause self.old.faults self.new.faults result }
+        ensures handed_on { OnOk result (self.new.handed_on ≡ true) }
+        ensures cause { CountsFaults (result ≡ Err SinkRefusal.Failed)
+            self.old.faults self.new.faults }
         ensures sure { IsOk result }
-        ensures unchanged { self.new ≡ self.old }
+        ensures new { self.new ≡ record self.old { handed_on = true } }
     {
+        self.handed_on = true;
         Ok(())
     }
 }

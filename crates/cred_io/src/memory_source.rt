@@ -2,7 +2,7 @@
 ghost use Rattle.std.specs.Prelude.{◌≡◌, ◌↔◌, ◌++◌, length, take, drop, min, Some, IfOk, OnErr, IsErr};
 ghost use Rattle.std.specs.Io.{ReadsAtMost};
 ghost use Rattle.std.specs.Io.KnownBytes.{ReadConsumes};
-ghost use Rattle.cred_io.specs.Causes.{HasCause, next_count};
+ghost use Rattle.cred_io.specs.Causes.{CountsFaults, next_count};
 ghost use Rattle.cred_io.specs.Memory.{FailsNext};
 
 use crate::{Failed, Source};
@@ -10,7 +10,7 @@ use cred_ids::NoMemory;
 use std::alloc::Global;
 use std::marker::Model;
 
-/// Copies the first bytes to the front of the buffer, as many as fit, and answers how many.
+/// Copies the first bytes to the beginning of the buffer, as many as fit, and returns how many.
 pub(crate) fn copy_front(bytes: &[u8], buf: &mut [u8]) -> usize
     ensures count { result ≡ min (length buf.old) (length bytes.now) }
     ensures copied { buf.new ≡ take result bytes.now ++ drop result buf.old }
@@ -77,7 +77,7 @@ impl Source for MemorySource {
     fn read(&mut self, buf: &mut [u8]) -> Result<usize, Failed>
         ensures bound { ReadsAtMost result buf.new }
         ensures bytes { ReadConsumes (Some self.old.left) (Some self.new.left) result buf.new }
-        ensures cause { HasCause self.old.faults self.new.faults result }
+        ensures cause { CountsFaults (IsErr result) self.old.faults self.new.faults }
         ensures fails { IsErr result ↔ FailsNext self.old.failing self.old.calls }
         ensures count { IfOk result (λ n. n ≡ min (length buf.old) (length self.old.left)) }
         ensures copied { IfOk result (λ n. buf.new ≡ take n self.old.left ++ drop n buf.old) }

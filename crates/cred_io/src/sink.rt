@@ -1,10 +1,10 @@
-ghost use Rattle.std.specs.Prelude.{◌≡◌, ◌<◌, List, ℕ, length, IfOk, OnOk, OnErr};
+ghost use Rattle.std.specs.Prelude.{◌≡◌, ◌<◌, List, ℕ, Bool, true, false, length, IfOk, OnOk, OnErr};
 ghost use Rattle.std.specs.declared.option.Option.{Option};
 ghost use Rattle.std.specs.Io.{WritesAtMost};
 ghost use Rattle.std.specs.Io.KnownBytes.{WriteAppends, Appends, Keeps};
-ghost use Rattle.cred_io.specs.Causes.{HasSinkCause};
+ghost use Rattle.cred_io.specs.Causes.{CountsFaults};
 ghost use Rattle.cred_io.specs.Ends.{AppendsPrefix};
-ghost use Rattle.cred_io.specs.declared.sink.SinkRefusal.TheVariants.{Memory};
+ghost use Rattle.cred_io.specs.declared.sink.SinkRefusal.TheVariants.{Failed, Memory};
 
 use std::alloc::AllocError;
 
@@ -16,24 +16,29 @@ pub trait Sink {
     /// The bytes that were written, where the sink tells them.
     ghost written: { Self → Option (List ℕ) };
 
+    /// All that was written is handed on: the sink was flushed, and nothing was written since.
+    ghost handed_on: { Self → Bool };
+
     /// How many calls have failed, at most the greatest `u64`. It never falls.
     ghost faults: { Self → ℕ };
 
     /// Appends the first bytes of `piece`, and answers how many: one at least, unless it is empty.
     ///
-    /// A refusal appends nothing. `Failed` comes only where the count of faults rose in this call.
+    /// A refusal appends nothing. The count of faults rises for `Failed`, and for nothing else.
     fn write(&mut self, piece: &[u8]) -> Result<usize, SinkRefusal>
         ensures bound { WritesAtMost result piece.now }
         ensures some { IfOk result (λ n. 0 < length piece.now → 0 < n) }
         ensures bytes { WriteAppends (written self.old) (written self.new) result piece.now }
-        ensures cause { HasSinkCause (faults self.old) (faults self.new) result };
+        ensures kept_back { OnOk result (handed_on self.new ≡ false) }
+        ensures cause { CountsFaults (result ≡ Err Failed) (faults self.old) (faults self.new) };
 
     /// Hands on what a buffer below has kept back. What was written stays, also after a refusal.
     ///
-    /// `Failed` comes only where the count of faults rose in this call.
+    /// The count of faults rises for `Failed`, and for nothing else.
     fn flush(&mut self) -> Result<(), SinkRefusal>
         ensures bytes { Keeps (written self.old) (written self.new) }
-        ensures cause { HasSinkCause (faults self.old) (faults self.new) result };
+        ensures handed_on { OnOk result (handed_on self.new ≡ true) }
+        ensures cause { CountsFaults (result ≡ Err Failed) (faults self.old) (faults self.new) };
 }
 
 /// Why a sink took nothing.
@@ -53,14 +58,15 @@ impl From<AllocError> for SinkRefusal {
     }
 }
 
-/// Appends the whole piece. After a refusal, which is the sink's own, a front of it was written.
+/// Appends the whole piece. A refusal, which is the sink's own, ends the writing; a prefix of the
+/// piece was then written.
 ///
 /// Each turn of the loop writes a byte at least, or ends.
 pub fn write_all<K: Sink>(sink: &mut K, piece: &[u8]) -> Result<(), SinkRefusal>
     ensures ok { OnOk result (Appends (K.written sink.old) (K.written sink.new) piece.now) }
     ensures err { OnErr result
         (AppendsPrefix (K.written sink.old) (K.written sink.new) piece.now) }
-    ensures cause { HasSinkCause (K.faults sink.old) (K.faults sink.new) result }
+    ensures cause { CountsFaults (result ≡ Err Failed) (K.faults sink.old) (K.faults sink.new) }
 {
     let mut at = 0;
     while at < piece.len() {

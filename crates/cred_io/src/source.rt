@@ -1,8 +1,8 @@
-ghost use Rattle.std.specs.Prelude.{◌≡◌, ◌≤◌, ◌+◌, List, ℕ, length, IfOk};
+ghost use Rattle.std.specs.Prelude.{◌≡◌, ◌≤◌, ◌+◌, List, ℕ, length, IfOk, IsErr};
 ghost use Rattle.std.specs.declared.option.Option.{Option};
 ghost use Rattle.std.specs.Io.{ReadsAtMost};
 ghost use Rattle.std.specs.Io.KnownBytes.{ReadConsumes};
-ghost use Rattle.cred_io.specs.Causes.{HasCause, Rose};
+ghost use Rattle.cred_io.specs.Causes.{CountsFaults};
 ghost use Rattle.cred_io.specs.Ends.{ReadsAll, ReadsMoreThan, ReadsUpTo};
 ghost use Rattle.cred_io.specs.declared.source.ReadRefusal.TheVariants.{Fault, Memory};
 
@@ -23,11 +23,12 @@ pub trait Source {
     /// Moves the first bytes that are left to the front of `buf`, and answers how many. Where `buf`
     /// has room, 0 means that none are left.
     ///
-    /// `Failed` comes only where the count of faults rose in this call, and nothing is then taken.
+    /// After `Failed`, for which the count of faults rises, nothing was taken. No other call raises
+    /// it.
     fn read(&mut self, buf: &mut [u8]) -> Result<usize, Failed>
         ensures bound { ReadsAtMost result buf.new }
         ensures bytes { ReadConsumes (left self.old) (left self.new) result buf.new }
-        ensures cause { HasCause (faults self.old) (faults self.new) result };
+        ensures cause { CountsFaults (IsErr result) (faults self.old) (faults self.new) };
 }
 
 /// Why a source was not read to its end.
@@ -62,17 +63,18 @@ const CHUNK: usize = 8192;
 
 /// Reads to the end, and answers all the bytes if they are no more than `limit`.
 ///
-/// One byte above the limit tells that there are too many, so no more than that are ever read.
-/// Each turn of the loop takes a byte at least, or ends. After a refusal the bytes that were read
-/// are gone.
+/// One byte above the limit shows that there are too many, so no more than that are ever read. A
+/// fault ends the reading; it comes before the limit is passed. Each turn of the loop takes a byte
+/// at least, or ends. After a refusal the bytes that were read are gone.
 pub fn read_all<S: Source>(alloc: Global, source: &mut S, limit: u32) -> Result<Bytes, ReadRefusal>
     ensures whole { IfOk result (ReadsAll (S.left source.old) (S.left source.new)) }
     ensures within { IfOk result (λ bytes. length bytes ≤ limit) }
     ensures too_large { result ≡ Err ReadRefusal.TooLarge
         → ReadsMoreThan limit (S.left source.old) (S.left source.new) }
     ensures fault { result ≡ Err ReadRefusal.Fault
-        → Rose (S.faults source.old) (S.faults source.new) }
-    ensures later { S.faults source.old ≤ S.faults source.new }
+        → ReadsUpTo limit (S.left source.old) (S.left source.new) }
+    ensures cause { CountsFaults (result ≡ Err ReadRefusal.Fault)
+        (S.faults source.old) (S.faults source.new) }
     ensures no_more { ReadsUpTo (limit + 1) (S.left source.old) (S.left source.new) }
 {
     let limit = limit as usize;

@@ -1,15 +1,15 @@
-//! Ends over std's readers and writers. Each counts the errors of its stream, so that a caller can
-//! tell a fault of the outside from code that gives up.
-ghost use Rattle.std.specs.Prelude.{◌≡◌, ◌<◌, ◌≤◌, length, IfOk, OnOk, OnErr, IfErr};
+//! Ends over std's readers and writers. Each counts the calls that it answers by a failure, so that
+//! a caller can tell a fault of the outside from code that gives up.
+ghost use Rattle.std.specs.Prelude.{◌≡◌, ◌<◌, ◌≤◌, true, false, length, IfOk, OnOk, OnErr, IfErr, IsErr};
 ghost use Rattle.std.specs.Io.{ReadsAtMost, WritesAtMost};
 ghost use Rattle.std.specs.Io.KnownBytes.{ReadConsumes, WriteAppends, Keeps};
-ghost use Rattle.cred_io.specs.Causes.{HasCause, HasSinkCause, next_count};
-ghost use Rattle.cred_io.specs.Standard.{std_reader, std_source_faults, std_writer, std_sink_faults};
+ghost use Rattle.cred_io.specs.Causes.{CountsFaults, next_count};
+ghost use Rattle.cred_io.specs.Standard.{std_reader, std_source_faults, std_writer, std_sink_handed_on, std_sink_faults};
 
 use crate::{Failed, Sink, SinkRefusal, Source};
 use std::io::{Read, Write};
 
-/// A reader of std, with a count of its errors.
+/// A reader of std, with a count of the reads that failed.
 #[derive(Drop)]
 pub struct StdSource<R: Read> {
     reader: R,
@@ -31,13 +31,13 @@ impl<R: Read> Source for StdSource<R> {
 
     ghost faults = { std_source_faults };
 
-    /// One read of the reader. Each of its errors is counted and answered as `Failed`.
+    /// One read of the reader. Its error is counted and answered as `Failed`.
     fn read(&mut self, buf: &mut [u8]) -> Result<usize, Failed>
         ensures bound { ReadsAtMost result buf.new }
         ensures bytes { ReadConsumes (R.remaining (std_reader self.old))
             (R.remaining (std_reader self.new)) result buf.new }
-        ensures cause { HasCause (std_source_faults self.old) (std_source_faults self.new) result }
-        ensures ok { OnOk result (std_source_faults self.new ≡ std_source_faults self.old) }
+        ensures cause { CountsFaults (IsErr result)
+            (std_source_faults self.old) (std_source_faults self.new) }
         ensures err { OnErr result
             (std_source_faults self.new ≡ next_count (std_source_faults self.old)) }
     {
@@ -51,25 +51,33 @@ impl<R: Read> Source for StdSource<R> {
     }
 }
 
-/// A writer of std, with a count of its errors. It never answers `Memory`.
+/// A writer of std, with a count of the calls that failed. It never answers `Memory`.
 #[derive(Drop)]
 pub struct StdSink<W: Write> {
     writer: W,
+    handed_on: bool,
     faults: u64,
 }
 
 impl<W: Write> StdSink<W> {
-    /// A sink over this writer, which has not failed.
+    /// A sink over this writer, which has not failed. What was written to the writer before may be
+    /// kept back.
     pub fn new(writer: W) -> Self
         ensures writer { std_writer result ≡ writer }
+        ensures kept_back { std_sink_handed_on result ≡ false }
         ensures fresh { std_sink_faults result ≡ 0 }
     {
-        StdSink { writer, faults: 0 }
+        StdSink {
+            writer,
+            handed_on: false,
+            faults: 0,
+        }
     }
 
-    /// Counts an error of the writer.
+    /// Counts a call that failed.
     fn count_fault(&mut self)
         ensures writer { std_writer self.new ≡ std_writer self.old }
+        ensures handed_on { std_sink_handed_on self.new ≡ std_sink_handed_on self.old }
         ensures count { std_sink_faults self.new ≡ next_count (std_sink_faults self.old) }
         ensures later { std_sink_faults self.old ≤ std_sink_faults self.new }
     {
@@ -80,6 +88,8 @@ impl<W: Write> StdSink<W> {
 impl<W: Write> Sink for StdSink<W> {
     ghost written = { λ s. W.contents (std_writer s) };
 
+    ghost handed_on = { std_sink_handed_on };
+
     ghost faults = { std_sink_faults };
 
     /// One write of the writer. An error, or a writer that takes nothing of a piece, is counted and
@@ -89,12 +99,14 @@ impl<W: Write> Sink for StdSink<W> {
         ensures some { IfOk result (λ n. 0 < length piece.now → 0 < n) }
         ensures bytes { WriteAppends (W.contents (std_writer self.old))
             (W.contents (std_writer self.new)) result piece.now }
-        ensures cause { HasSinkCause (std_sink_faults self.old) (std_sink_faults self.new) result }
-        ensures ok { OnOk result (std_sink_faults self.new ≡ std_sink_faults self.old) }
+        ensures kept_back { std_sink_handed_on self.new ≡ false }
+        ensures cause { CountsFaults (result ≡ Err SinkRefusal.Failed)
+            (std_sink_faults self.old) (std_sink_faults self.new) }
         ensures err { OnErr result
             (std_sink_faults self.new ≡ next_count (std_sink_faults self.old)) }
         ensures never_memory { IfErr result (λ e. e ≡ SinkRefusal.Failed) }
     {
+        self.handed_on = false;
         match self.writer.write(piece) {
             Ok(0) if !piece.is_empty() => {
                 self.count_fault();
@@ -112,14 +124,18 @@ impl<W: Write> Sink for StdSink<W> {
     fn flush(&mut self) -> Result<(), SinkRefusal>
         ensures bytes { Keeps (W.contents (std_writer self.old))
             (W.contents (std_writer self.new)) }
-        ensures cause { HasSinkCause (std_sink_faults self.old) (std_sink_faults self.new) result }
-        ensures ok { OnOk result (std_sink_faults self.new ≡ std_sink_faults self.old) }
+        ensures handed_on { OnOk result (std_sink_handed_on self.new ≡ true) }
+        ensures cause { CountsFaults (result ≡ Err SinkRefusal.Failed)
+            (std_sink_faults self.old) (std_sink_faults self.new) }
         ensures err { OnErr result
             (std_sink_faults self.new ≡ next_count (std_sink_faults self.old)) }
         ensures never_memory { IfErr result (λ e. e ≡ SinkRefusal.Failed) }
     {
         match self.writer.flush() {
-            Ok(()) => Ok(()),
+            Ok(()) => {
+                self.handed_on = true;
+                Ok(())
+            }
             Err(_) => {
                 self.count_fault();
                 Err(SinkRefusal::Failed)

@@ -1,8 +1,8 @@
 //! Ends in memory that never fail.
-ghost use Rattle.std.specs.Prelude.{◌≡◌, ◌<◌, ◌++◌, [], length, take, drop, min, Some, IfOk, OnOk, OnErr, IfErr, IsOk};
+ghost use Rattle.std.specs.Prelude.{◌≡◌, ◌<◌, ◌++◌, [], true, false, length, take, drop, min, Some, IfOk, OnOk, IfErr, IsOk, IsErr};
 ghost use Rattle.std.specs.Io.{ReadsAtMost, WritesAtMost};
 ghost use Rattle.std.specs.Io.KnownBytes.{ReadConsumes, WriteAppends, Keeps};
-ghost use Rattle.cred_io.specs.Causes.{HasCause, HasSinkCause};
+ghost use Rattle.cred_io.specs.Causes.{CountsFaults};
 
 use crate::memory_source::copy_front;
 use crate::{Failed, Sink, SinkRefusal, Source};
@@ -48,7 +48,7 @@ impl Source for SureSource {
     fn read(&mut self, buf: &mut [u8]) -> Result<usize, Failed>
         ensures bound { ReadsAtMost result buf.new }
         ensures bytes { ReadConsumes (Some self.old) (Some self.new) result buf.new }
-        ensures cause { HasCause 0 0 result }
+        ensures cause { CountsFaults (IsErr result) 0 0 }
         ensures count { result ≡ Ok (min (length buf.old) (length self.old)) }
         ensures copied { IfOk result (λ n. buf.new ≡ take n self.old ++ drop n buf.old) }
         ensures rest { IfOk result (λ n. self.new ≡ drop n self.old) }
@@ -59,40 +59,44 @@ impl Source for SureSource {
     }
 }
 
-/// Bytes in memory, to which writing never fails. Clauses see the bytes that were written.
+/// Bytes in memory, to which writing never fails. Clauses see a `SureState`.
 #[derive(Drop, Debug)]
 pub struct SureSink {
     bytes: Vec<u8>,
+    handed_on: bool,
 }
 
 impl Model for SureSink {
-    ghost use Rattle.std.specs.Prelude.{ℕ, List};
+    ghost use Rattle.cred_io.specs.Memory.{SureState};
 
-    ghost Value = { List ℕ };
+    ghost Value = { SureState };
 
-    ghost view = { λ s. s.bytes.items };
+    ghost view = { λ s. record { bytes = s.bytes.items; handed_on = s.handed_on } };
 }
 
 impl SureSink {
     /// A sink to which nothing was written.
     pub fn new(alloc: Global) -> Self
-        ensures { result ≡ [] }
+        ensures { result ≡ record { bytes = []; handed_on = true } }
     {
         SureSink {
             bytes: Vec::new(alloc),
+            handed_on: true,
         }
     }
 
     /// What was written.
     pub fn bytes(&self) -> &[u8]
-        ensures { result.now ≡ self.now }
+        ensures { result.now ≡ self.now.bytes }
     {
         &self.bytes
     }
 }
 
 impl Sink for SureSink {
-    ghost written = { λ s. Some s };
+    ghost written = { λ s. Some s.bytes };
+
+    ghost handed_on = { λ s. s.handed_on };
 
     ghost faults = { λ _. 0 };
 
@@ -100,21 +104,25 @@ impl Sink for SureSink {
     fn write(&mut self, piece: &[u8]) -> Result<usize, SinkRefusal>
         ensures bound { WritesAtMost result piece.now }
         ensures some { IfOk result (λ n. 0 < length piece.now → 0 < n) }
-        ensures bytes { WriteAppends (Some self.old) (Some self.new) result piece.now }
-        ensures cause { HasSinkCause 0 0 result }
+        ensures bytes { WriteAppends (Some self.old.bytes) (Some self.new.bytes) result piece.now }
+        ensures kept_back { OnOk result (self.new.handed_on ≡ false) }
+        ensures cause { CountsFaults (result ≡ Err SinkRefusal.Failed) 0 0 }
         ensures count { IfOk result (λ n. n ≡ length piece.now) }
         ensures never_failed { IfErr result (λ e. e ≡ SinkRefusal.Memory) }
     {
         self.bytes.extend_from_slice(piece)?;
+        self.handed_on = false;
         Ok(piece.len())
     }
 
-    /// Nothing is kept back, so there is nothing to do.
+    /// Nothing is kept back, so this only notes that it is done.
     fn flush(&mut self) -> Result<(), SinkRefusal>
-        ensures bytes { Keeps (Some self.old) (Some self.new) }
-        ensures cause { HasSinkCause 0 0 result }
+        ensures bytes { Keeps (Some self.old.bytes) (Some self.new.bytes) }
+        ensures handed_on { OnOk result (self.new.handed_on ≡ true) }
+        ensures cause { CountsFaults (result ≡ Err SinkRefusal.Failed) 0 0 }
         ensures sure { IsOk result }
     {
+        self.handed_on = true;
         Ok(())
     }
 }

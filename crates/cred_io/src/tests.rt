@@ -78,14 +78,14 @@ fn a_read_that_fails_in_mid_stream_leaves_the_rest(rt: HostRuntime) -> Result<()
 }
 
 #[test]
-fn a_write_that_fails_leaves_a_front(rt: HostRuntime) -> Result<(), Fail> {
+fn a_write_that_fails_leaves_a_prefix(rt: HostRuntime) -> Result<(), Fail> {
     let table = [
         (1, b"".as_slice()),
         (2, b"ab".as_slice()),
         (3, b"abcd".as_slice()),
         (4, b"abcdef".as_slice()),
     ];
-    for (failing, front) in table {
+    for (failing, prefix) in table {
         let mut sink = MemorySink::of(rt.alloc(), &[failing])?;
         let mut refusal = None;
         for piece in [b"ab".as_slice(), b"cd".as_slice(), b"ef".as_slice()] {
@@ -94,7 +94,7 @@ fn a_write_that_fails_leaves_a_front(rt: HostRuntime) -> Result<(), Fail> {
             }
             assert_eq!(rt; sink.flush(), Ok(()));
         }
-        assert_eq!(rt; sink.bytes(), front, "write {failing} fails");
+        assert_eq!(rt; sink.bytes(), prefix, "write {failing} fails");
         assert_eq!(rt; refusal.is_some(), failing < 4, "write {failing} fails");
     }
     Ok(())
@@ -152,5 +152,57 @@ fn errors_of_std_are_faults(rt: HostRuntime) -> Result<(), Fail> {
     let mut sink = StdSink::new(Broken);
     assert_eq!(rt; write_all(&mut sink, b"x"), Err(SinkRefusal::Failed));
     assert_eq!(rt; sink.flush(), Err(SinkRefusal::Failed));
+    Ok(())
+}
+
+/// A stream whose first call fails, and no other.
+#[derive(Drop)]
+struct FailsOnce {
+    called: bool,
+}
+
+impl FailsOnce {
+    /// Fails at the first call.
+    fn call(&mut self) -> io::Result<()> {
+        if self.called {
+            return Ok(());
+        }
+        self.called = true;
+        Err(io::Error::from(io::ErrorKind::Interrupted))
+    }
+}
+
+impl Read for FailsOnce {
+    fn read(&mut self, _buf: &mut [u8]) -> io::Result<usize> {
+        self.call()?;
+        Ok(0)
+    }
+}
+
+impl Write for FailsOnce {
+    fn write(&mut self, buf: &[u8]) -> io::Result<usize> {
+        self.call()?;
+        Ok(buf.len())
+    }
+
+    fn flush(&mut self) -> io::Result<()> {
+        self.call()
+    }
+}
+
+#[test]
+fn an_error_that_does_not_come_again_is_a_fault(rt: HostRuntime) -> Result<(), Fail> {
+    let mut source = StdSource::new(FailsOnce { called: false });
+    let first = read_all(rt.alloc(), &mut source, 100);
+    assert_eq!(rt; first.err(), Some(ReadRefusal::Fault));
+    assert!(rt; read_all(rt.alloc(), &mut source, 100).is_ok());
+
+    let mut written = StdSink::new(FailsOnce { called: false });
+    assert_eq!(rt; write_all(&mut written, b"x"), Err(SinkRefusal::Failed));
+    assert_eq!(rt; write_all(&mut written, b"x"), Ok(()));
+
+    let mut flushed = StdSink::new(FailsOnce { called: false });
+    assert_eq!(rt; flushed.flush(), Err(SinkRefusal::Failed));
+    assert_eq!(rt; flushed.flush(), Ok(()));
     Ok(())
 }

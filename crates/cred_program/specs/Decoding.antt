@@ -29,9 +29,9 @@ IsText bytes text =
     ((a : Attribute) × Spells bytes a × (text ≡ attr_text a))
     ⊎ ((IsAttribute bytes → ⊥) × (text ≡ fault_text (fault bytes)))
 
--- a front of what is told of the bytes was written
-abbrev pub ShowsFront : List ℕ → Option (List ℕ) → Option (List ℕ) → Type 0
-ShowsFront bytes before after = (text : List ℕ) × IsText bytes text × AppendsPrefix before after text
+-- a prefix of what is told of the bytes was written
+abbrev pub ShowsPrefix : List ℕ → Option (List ℕ) → Option (List ℕ) → Type 0
+ShowsPrefix bytes before after = (text : List ℕ) × IsText bytes text × AppendsPrefix before after text
 
 -- The statuses that bytes may have: the bytes alone decide whether it is Done or Bad, and nothing but a fault or want of
 -- memory takes their place.

@@ -1,5 +1,5 @@
 -- What a run of the program leaves at its source and its sink, by the status that it answers.
-use Rattle.std.specs.Prelude.{◌≡◌, ◌≤◌, ◌<◌, ◌⊎◌, ℕ, length, List, Some, None, Result, Ok, Err}
+use Rattle.std.specs.Prelude.{◌≡◌, ◌≤◌, ◌<◌, ◌⊎◌, ℕ, length, List, Result, Ok, Err}
 use Rattle.std.specs.Result.{MatchResult}
 use Rattle.std.specs.declared.option.Option.{Option}
 use Rattle.std.specs.Io.KnownBytes.{Appends}
@@ -8,7 +8,7 @@ use Rattle.cred_io.specs.declared.sink.SinkRefusal.{SinkRefusal}
 use Rattle.cred_io.specs.declared.sink.SinkRefusal.TheVariants as sink
 use Rattle.cred_event.specs.declared.entry.Entry.{Entry}
 use Rattle.cred_model.specs.Script.{Script}
-use Rattle.cred_model.specs.Journal.{IsInOrder, IsSequence}
+use Rattle.cred_model.specs.Journal.{IsSequence}
 use Rattle.cred_laws.specs.Journals.{IsLawful}
 use Rattle.cred_script.specs.declared.refusal.Reason.{Reason}
 use Rattle.cred_script.specs.Lines.{lines_of}
@@ -16,10 +16,7 @@ use Rattle.cred_script.specs.Grammar.{script_of}
 use Rattle.cred_report.specs.Text.{text}
 use Rattle.cred_program.specs.declared.status.Status.{Status}
 use Rattle.cred_program.specs.declared.status.Status.TheVariants as status
-use Rattle.cred_program.specs.declared.words.Command.{Command}
-use Rattle.cred_program.specs.declared.words.Command.TheVariants.{Run, Decode}
-use Rattle.cred_program.specs.Decoding.{Shows, Denies, ShowsFront}
-use Rattle.cred_program.specs.Texts.{usage_text, bad_text}
+use Rattle.cred_program.specs.Texts.{bad_text}
 
 -- how many bytes an input may have
 abbrev pub BYTE_LIMIT : ℕ
@@ -44,6 +41,10 @@ pub record Reads (before after : Option (List ℕ)) (P : List ℕ → Type 0) : 
   pub read : ReadsAll before after input
   pub within : IsWithin input
   pub so : P input
+
+-- All that was left was read, and it is within both limits.
+abbrev pub ReadsWithin : Option (List ℕ) → Option (List ℕ) → Type 0
+ReadsWithin before after = Reads before after (λ input. Unit {0})
 
 -- All that was left was read, and it has more lines than an input may have.
 pub record ReadsMoreLines (before after : Option (List ℕ)) : Type 0 where
@@ -73,39 +74,17 @@ pub record Refuses (before after : Option (List ℕ)) (input : List ℕ) : Type 
   pub read : script_of input ≡ Err bad
   pub written : Appends before after (bad_text bad)
 
--- A front of the text that the input has was written, and nothing else.
+-- A prefix of the text that the input has was written, and nothing else.
 abbrev pub Begins : Option (List ℕ) → Option (List ℕ) → List ℕ → Type 0
 Begins before after input =
     MatchResult (script_of input)
-    (λ script. (journal : List Entry) × IsInOrder script journal
+    (λ script. (journal : List Entry) × IsSequence script journal
     × AppendsPrefix before after (text script journal))
     (λ bad. AppendsPrefix before after (bad_text bad))
 
--- What a command has done that is done, and what it has told that is Bad: `run` of its input, `decode` of its bytes.
-abbrev pub HasDone : Option Command → Option (List ℕ) → Option (List ℕ) → Option (List ℕ) → Option (List ℕ) → Type 0
-HasDone (Some Run) left_before left_after before after = Reads left_before left_after (Reports before after)
-HasDone (Some (Decode bytes)) left_before left_after before after = Shows bytes before after
-HasDone None left_before left_after before after = ⊥
-
-abbrev pub HasRefused : Option Command → Option (List ℕ) → Option (List ℕ) → Option (List ℕ) → Option (List ℕ) → Type 0
-HasRefused (Some Run) left_before left_after before after = Reads left_before left_after (Refuses before after)
-HasRefused (Some (Decode bytes)) left_before left_after before after = Denies bytes before after
-HasRefused None left_before left_after before after = ⊥
-
--- What may have been written when the program ends, whatever its status: nothing, or a front of
--- what the words and the input have, and of the latter only when the input was read to its end and
--- is within the limits.
-abbrev pub BeginsText : Option Command → Option (List ℕ) → Option (List ℕ) → Option (List ℕ) → Option (List ℕ) → Type 0
-BeginsText (Some Run) left_before left_after before after = Reads left_before left_after (Begins before after)
-BeginsText (Some (Decode bytes)) left_before left_after before after = ShowsFront bytes before after
-BeginsText None left_before left_after before after = AppendsPrefix before after usage_text
-
-abbrev pub WritesFront : Option Command → Option (List ℕ) → Option (List ℕ) → Option (List ℕ) → Option (List ℕ) → Type 0
-WritesFront command left_before left_after before after =
-    (after ≡ before) ⊎ BeginsText command left_before left_after before after
-
 -- The statuses that an input may have: which of Done, Bad and TooLarge it is, the input alone
--- decides, and nothing but a fault or want of memory takes their place.
+-- decides, and nothing but a fault or want of memory takes their place. Only what is within the
+-- limits has a text that can fail to be written.
 abbrev pub Suits : List ℕ → Status → Type 0
 Suits input status.Done =
     IsWithin input × MatchResult (script_of input) (λ script. Unit {0}) (λ bad. ⊥)
@@ -114,8 +93,15 @@ Suits input status.Bad =
 Suits input status.TooLarge = IsTooLarge input
 Suits input status.Usage = ⊥
 Suits input status.ReadFault = Unit {0}
-Suits input status.WriteFault = Unit {0}
+Suits input status.WriteFault = IsWithin input
 Suits input status.Memory = Unit {0}
+
+-- The statuses with which a whole text was written.
+abbrev pub IsWhole : Status → Type 0
+IsWhole status.Done = Unit {0}
+IsWhole status.Usage = Unit {0}
+IsWhole status.Bad = Unit {0}
+IsWhole other = ⊥
 
 -- The statuses of words that are no command.
 abbrev pub IsForNoCommand : Status → Type 0

@@ -1,7 +1,8 @@
 //! What the bytes of a file's capability attribute say.
-ghost use Rattle.std.specs.Prelude.{◌≡◌, ◌⊎◌, IfOk, string_bytes};
-ghost use Rattle.cred_io.specs.Causes.{Rose};
-ghost use Rattle.cred_program.specs.Decoding.{Denies, Shows, ShowsFront, SuitsBytes};
+ghost use Rattle.std.specs.Prelude.{◌≡◌, ◌⊎◌, true, IfOk, string_bytes};
+ghost use Rattle.cred_io.specs.Causes.{CountsFaults};
+ghost use Rattle.cred_program.specs.Decoding.{Denies, Shows, ShowsPrefix, SuitsBytes};
+ghost use Rattle.cred_program.specs.Ends.{IsWhole};
 ghost use Rattle.cred_program.specs.Texts as spec;
 ghost use Rattle.cred_program.specs.Texts.{attr_text};
 
@@ -17,11 +18,12 @@ use std::alloc::Global;
 pub fn show<K: Sink>(alloc: Global, bytes: &[u8], sink: &mut K) -> Status
     ensures done { result ≡ Status.Done → Shows bytes.now (K.written sink.old) (K.written sink.new) }
     ensures bad { result ≡ Status.Bad → Denies bytes.now (K.written sink.old) (K.written sink.new) }
-    ensures write_fault { result ≡ Status.WriteFault
-        → Rose (K.faults sink.old) (K.faults sink.new) }
     ensures suits { SuitsBytes bytes.now result }
-    ensures front { (sink.new ≡ sink.old)
-        ⊎ ShowsFront bytes.now (K.written sink.old) (K.written sink.new) }
+    ensures handed_on { IsWhole result → K.handed_on sink.new ≡ true }
+    ensures cause { CountsFaults (result ≡ Status.WriteFault)
+        (K.faults sink.old) (K.faults sink.new) }
+    ensures prefix { (sink.new ≡ sink.old)
+        ⊎ ShowsPrefix bytes.now (K.written sink.old) (K.written sink.new) }
 {
     match decode(bytes) {
         Ok(caps) => match text_of(alloc, caps) {

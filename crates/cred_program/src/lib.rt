@@ -3,6 +3,7 @@
 
 mod decoding;
 mod program;
+mod report;
 mod script;
 mod status;
 mod words;

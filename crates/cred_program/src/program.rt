@@ -1,12 +1,13 @@
 //! The top call.
-ghost use Rattle.std.specs.Prelude.{◌≡◌, ◌≢◌, ◌⊎◌, ℕ, List, Some, None};
+ghost use Rattle.std.specs.Prelude.{◌≡◌, ◌≢◌, ◌⊎◌, ◌+◌, ℕ, List, true, Some, None};
 ghost use Rattle.std.specs.Io.KnownBytes.{Appends};
-ghost use Rattle.cred_io.specs.Causes.{Rose};
+ghost use Rattle.cred_io.specs.Causes.{CountsFaults};
+ghost use Rattle.cred_io.specs.Ends.{AppendsPrefix, ReadsUpTo};
 ghost use Rattle.cred_program.specs.Words.{command_of, texts};
 ghost use Rattle.cred_program.specs.Texts.{usage_text};
-ghost use Rattle.cred_program.specs.Decoding.{SuitsBytes};
-ghost use Rattle.cred_program.specs.Ends.{Begins, HasDone, HasRefused, IsForNoCommand, Reads};
-ghost use Rattle.cred_program.specs.Ends.{ReadsTooMuch, Refuses, Reports, Suits, WritesFront};
+ghost use Rattle.cred_program.specs.Decoding.{Denies, Shows, ShowsPrefix, SuitsBytes};
+ghost use Rattle.cred_program.specs.Ends.{Begins, IsForNoCommand, IsWhole, Reads, ReadsTooMuch};
+ghost use Rattle.cred_program.specs.Ends.{ReadsWithin, Refuses, Reports, Suits};
 
 use crate::decoding::show;
 use crate::script::{BYTE_LIMIT, run_script};
@@ -21,57 +22,86 @@ use std::alloc::Global;
 const USAGE: &str = "usage: credtrace run|lanes|audit|gen N|decode HEX\n";
 
 /// The program, over its words (those after its name), its input and its output: `run` reads a
-/// script and writes its report, `decode HEX` tells what an attribute says, and all other words get
+/// script and writes its report, `decode HEX` writes what an attribute says, and all other words get
 /// the usage line. It answers how that ended.
 ///
-/// `ReadFault` and `WriteFault` come only where the source or the sink counted a fault in this call.
-/// `Memory` comes where an allocation or the sink found none; the source may then have been read in
-/// part. After `WriteFault` and `Memory` what was written is a front of the text; after `ReadFault`
-/// and `TooLarge` nothing was.
+/// `Done`, `Bad` and `Usage` come with the whole text, handed on, and with no fault. The source's
+/// count of faults rises for `ReadFault` alone, and the sink's for `WriteFault` alone. `Memory` comes
+/// where an allocation or the sink found none; the source may then have been read in part. After
+/// `WriteFault` and `Memory` what was written is a prefix of the text; after `ReadFault` and
+/// `TooLarge` nothing was.
 pub fn credtrace<S: Source, K: Sink>(
     alloc: Global,
     words: &[String],
     source: &mut S,
     sink: &mut K,
 ) -> Status
-    // `run`: the input was read to its end and is within the limits, it is a script, and the whole
-    // text of its journal was written. `decode`: the bytes are an attribute, and its text was
-    // written.
-    ensures done { result ≡ Status.Done → HasDone (command_of (texts words.now))
-        (S.left source.old) (S.left source.new) (K.written sink.old) (K.written sink.new) }
+    // `run`. The input was read to its end and is within the limits. Where it is a script, the whole
+    // text of its journal was written; where it is none, its first bad line.
+    ensures run_done { command_of (texts words.now) ≡ Some Command.Run → result ≡ Status.Done
+        → Reads (S.left source.old) (S.left source.new)
+        (Reports (K.written sink.old) (K.written sink.new)) }
+    ensures run_bad { command_of (texts words.now) ≡ Some Command.Run → result ≡ Status.Bad
+        → Reads (S.left source.old) (S.left source.new)
+        (Refuses (K.written sink.old) (K.written sink.new)) }
 
-    // `run`: the input was read to its end and is within the limits, it is no script, and its first
-    // bad line was written. `decode`: the bytes are no attribute, and the reason was written.
-    ensures bad { result ≡ Status.Bad → HasRefused (command_of (texts words.now))
-        (S.left source.old) (S.left source.new) (K.written sink.old) (K.written sink.new) }
+    // More bytes were read than an input may have; or it was read to its end, and has more lines.
+    // A text that could not be written is that of an input within the limits.
+    ensures too_large { result ≡ Status.TooLarge
+        → (command_of (texts words.now) ≡ Some Command.Run)
+        × ReadsTooMuch (S.left source.old) (S.left source.new) }
+    ensures run_write_fault { command_of (texts words.now) ≡ Some Command.Run
+        → result ≡ Status.WriteFault → ReadsWithin (S.left source.old) (S.left source.new) }
+
+    // What is left at the source decides which of Done, Bad and TooLarge it is.
+    ensures run_suits { command_of (texts words.now) ≡ Some Command.Run → (input : List ℕ)
+        → S.left source.old ≡ Some input → Suits input result }
+
+    // Nothing is written before the reading has ended, and then at most a prefix of the text.
+    ensures run_prefix { command_of (texts words.now) ≡ Some Command.Run
+        → (K.written sink.new ≡ K.written sink.old)
+        ⊎ Reads (S.left source.old) (S.left source.new)
+        (Begins (K.written sink.old) (K.written sink.new)) }
+
+    // `decode`. It leaves the source, and its bytes decide whether it is Done or Bad: what the
+    // attribute says was written, or why the bytes are none.
+    ensures decode_done { (bytes : List ℕ)
+        → command_of (texts words.now) ≡ Some (Command.Decode bytes) → result ≡ Status.Done
+        → Shows bytes (K.written sink.old) (K.written sink.new) }
+    ensures decode_bad { (bytes : List ℕ)
+        → command_of (texts words.now) ≡ Some (Command.Decode bytes) → result ≡ Status.Bad
+        → Denies bytes (K.written sink.old) (K.written sink.new) }
+    ensures decode_suits { (bytes : List ℕ)
+        → command_of (texts words.now) ≡ Some (Command.Decode bytes)
+        → (source.new ≡ source.old) × SuitsBytes bytes result }
+    ensures decode_prefix { (bytes : List ℕ)
+        → command_of (texts words.now) ≡ Some (Command.Decode bytes)
+        → (K.written sink.new ≡ K.written sink.old)
+        ⊎ ShowsPrefix bytes (K.written sink.old) (K.written sink.new) }
 
     // Words that are no command, and no others, get the usage line; they leave the source.
     ensures usage { result ≡ Status.Usage → (command_of (texts words.now) ≡ None)
         × Appends (K.written sink.old) (K.written sink.new) usage_text }
     ensures other_words { command_of (texts words.now) ≡ None
         → (source.new ≡ source.old) × IsForNoCommand result }
+    ensures usage_prefix { command_of (texts words.now) ≡ None
+        → (K.written sink.new ≡ K.written sink.old)
+        ⊎ AppendsPrefix (K.written sink.old) (K.written sink.new) usage_text }
 
-    // `decode` leaves the source, and its bytes decide whether it is Done or Bad.
-    ensures decoded { (bytes : List ℕ) → command_of (texts words.now) ≡ Some (Command.Decode bytes)
-        → (source.new ≡ source.old) × SuitsBytes bytes result }
+    // A whole text is handed on.
+    ensures handed_on { IsWhole result → K.handed_on sink.new ≡ true }
 
-    // Each fault has its cause.
-    ensures read_fault { result ≡ Status.ReadFault → (command_of (texts words.now) ≡ Some Command.Run)
-        × Rose (S.faults source.old) (S.faults source.new) }
-    ensures write_fault { result ≡ Status.WriteFault
-        → Rose (K.faults sink.old) (K.faults sink.new) }
+    // Each fault has its cause and its answer. That of a read comes before the limit is passed.
+    ensures read_cause { CountsFaults (result ≡ Status.ReadFault)
+        (S.faults source.old) (S.faults source.new) }
+    ensures write_cause { CountsFaults (result ≡ Status.WriteFault)
+        (K.faults sink.old) (K.faults sink.new) }
+    ensures read_fault { result ≡ Status.ReadFault
+        → (command_of (texts words.now) ≡ Some Command.Run)
+        × ReadsUpTo BYTE_LIMIT (S.left source.old) (S.left source.new) }
 
-    // More bytes were read than an input may have; or it was read to its end, and has more lines.
-    ensures too_large { result ≡ Status.TooLarge → (command_of (texts words.now) ≡ Some Command.Run)
-        × ReadsTooMuch (S.left source.old) (S.left source.new) }
-
-    // What is left at the source decides which of Done, Bad and TooLarge `run` is.
-    ensures suits { command_of (texts words.now) ≡ Some Command.Run → (input : List ℕ)
-        → S.left source.old ≡ Some input → Suits input result }
-
-    // Nothing is written before the reading has ended, and then at most a front of the text.
-    ensures front { WritesFront (command_of (texts words.now)) (S.left source.old)
-        (S.left source.new) (K.written sink.old) (K.written sink.new) }
+    // One byte above the limit is read at most.
+    ensures no_more { ReadsUpTo (BYTE_LIMIT + 1) (S.left source.old) (S.left source.new) }
     ensures silent { (result ≡ Status.ReadFault) ⊎ (result ≡ Status.TooLarge)
         → sink.new ≡ sink.old }
 {
@@ -90,16 +120,22 @@ fn read_and_run<S: Source, K: Sink>(alloc: Global, source: &mut S, sink: &mut K)
     ensures bad { result ≡ Status.Bad → Reads (S.left source.old) (S.left source.new)
         (Refuses (K.written sink.old) (K.written sink.new)) }
     ensures no_usage { result ≢ Status.Usage }
-    ensures read_fault { result ≡ Status.ReadFault
-        → Rose (S.faults source.old) (S.faults source.new) }
-    ensures write_fault { result ≡ Status.WriteFault
-        → Rose (K.faults sink.old) (K.faults sink.new) }
     ensures too_large { result ≡ Status.TooLarge
         → ReadsTooMuch (S.left source.old) (S.left source.new) }
+    ensures write_fault { result ≡ Status.WriteFault
+        → ReadsWithin (S.left source.old) (S.left source.new) }
     ensures suits { (input : List ℕ) → S.left source.old ≡ Some input → Suits input result }
-    ensures front { (K.written sink.new ≡ K.written sink.old)
+    ensures prefix { (K.written sink.new ≡ K.written sink.old)
         ⊎ Reads (S.left source.old) (S.left source.new)
         (Begins (K.written sink.old) (K.written sink.new)) }
+    ensures handed_on { IsWhole result → K.handed_on sink.new ≡ true }
+    ensures read_cause { CountsFaults (result ≡ Status.ReadFault)
+        (S.faults source.old) (S.faults source.new) }
+    ensures write_cause { CountsFaults (result ≡ Status.WriteFault)
+        (K.faults sink.old) (K.faults sink.new) }
+    ensures read_fault { result ≡ Status.ReadFault
+        → ReadsUpTo BYTE_LIMIT (S.left source.old) (S.left source.new) }
+    ensures no_more { ReadsUpTo (BYTE_LIMIT + 1) (S.left source.old) (S.left source.new) }
     ensures silent { (result ≡ Status.ReadFault) ⊎ (result ≡ Status.TooLarge)
         → sink.new ≡ sink.old }
 {

@@ -1,11 +1,12 @@
 //! Running a script from its bytes.
-ghost use Rattle.std.specs.Prelude.{◌≡◌, ◌≢◌, ◌≤◌, ◌<◌, ◌⊎◌, length};
-ghost use Rattle.cred_io.specs.Causes.{Rose};
+ghost use Rattle.std.specs.Prelude.{◌≡◌, ◌≢◌, ◌≤◌, ◌<◌, ◌⊎◌, true, length};
+ghost use Rattle.cred_io.specs.Causes.{CountsFaults};
 ghost use Rattle.cred_script.specs.Lines.{lines_of};
-ghost use Rattle.cred_program.specs.Ends.{Begins, IsWithin, Refuses, Reports, Suits};
+ghost use Rattle.cred_program.specs.Ends.{Begins, IsWhole, IsWithin, Refuses, Reports, Suits};
 
+use crate::report::write_report;
 use crate::status::{Status, finish};
-use crate::writing::{write_bad, write_report};
+use crate::writing::write_bad;
 use cred_book::run;
 use cred_io::Sink;
 use cred_script::{ScriptRefusal, line_count, read};
@@ -27,13 +28,13 @@ pub fn run_script<K: Sink>(alloc: Global, bytes: &[u8], sink: &mut K) -> Status
         → Refuses (K.written sink.old) (K.written sink.new) bytes.now }
     ensures too_large { result ≡ Status.TooLarge
         → (LINE_LIMIT < length (lines_of bytes.now)) × (sink.new ≡ sink.old) }
-    ensures write_fault { result ≡ Status.WriteFault
-        → Rose (K.faults sink.old) (K.faults sink.new) }
     ensures no_read_fault { result ≢ Status.ReadFault }
     ensures suits { Suits bytes.now result }
-    ensures front { (sink.new ≡ sink.old)
+    ensures handed_on { IsWhole result → K.handed_on sink.new ≡ true }
+    ensures cause { CountsFaults (result ≡ Status.WriteFault)
+        (K.faults sink.old) (K.faults sink.new) }
+    ensures prefix { (sink.new ≡ sink.old)
         ⊎ (IsWithin bytes.now × Begins (K.written sink.old) (K.written sink.new) bytes.now) }
-    ensures later { K.faults sink.old ≤ K.faults sink.new }
 {
     if line_count(bytes) > LINE_LIMIT {
         return Status::TooLarge;

@@ -4,7 +4,7 @@ ghost use Rattle.cred_program.specs.Ends.{finished};
 
 use cred_io::SinkRefusal;
 
-/// How a run of the program ended. The number of its place, from 0, is the process's exit status.
+/// How a run of the program ended.
 #[derive(Clone, Copy, PartialEq, Eq, Debug)]
 pub enum Status {
     /// The whole text of the command was written.
@@ -22,6 +22,17 @@ pub enum Status {
     Memory,
     /// The input has more bytes, or more lines, than it may have.
     TooLarge,
+}
+
+impl Status {
+    ghost use Rattle.cred_program.specs.Statuses.{code_of};
+
+    /// The exit status of the process, from 0 to 6 in the order of the variants.
+    pub fn code(self) -> u8
+        ensures { result ≡ code_of self }
+    {
+        self as u8
+    }
 }
 
 /// The status, if its text was written.

@@ -1,5 +1,5 @@
 //! The calls that set ids.
-ghost use Rattle.std.specs.Prelude.{◌≡◌, IfOk};
+ghost use Rattle.std.specs.Prelude.{◌≡◌, IfOk, OnErr};
 
 use crate::list::IdList;
 use cred_ids::{Arg, NoMemory};
@@ -28,9 +28,16 @@ pub enum IdCall {
 }
 
 impl IdCall {
+    ghost use Rattle.cred_record.specs.Calls.{IsSetGroups};
+
     /// An equal call.
+    ///
+    /// # Errors
+    ///
+    /// `NoMemory` where the list of a `setgroups` could not be copied; no other call takes memory.
     pub fn copy(&self) -> Result<IdCall, NoMemory>
-        ensures { IfOk result (λ c. c ≡ self.now) }
+        ensures equal { IfOk result (λ c. c ≡ self.now) }
+        ensures refusal { OnErr result (IsSetGroups self.now) }
     {
         Ok(self.clone()?)
     }

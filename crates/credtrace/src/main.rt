@@ -34,5 +34,5 @@ fn run<R: Runtime + AllocGlobal>(rt: &R) -> Status {
 }
 
 fn main(rt: HostRuntime) -> ExitCode {
-    ExitCode::from(run(&rt) as u8)
+    ExitCode::from(run(&rt).code())
 }

@@ -1,11 +1,11 @@
-use Rattle.std.proofs.Common.{length, ◌-◌, ◌≤◌, take}
+use Rattle.std.proofs.Common.{◌≡◌, length, ◌-◌, ◌≤◌, take}
 use Rattle.std.specs.Io.KnownBytes.{Appends}
 use Rattle.cred_io.proofs.sink.write_all.Given as goal
 
 abbrev pub invariant-loop-at : goal.invariant-loop-at
 invariant-loop-at g l = record {
   within : l.at ≤ length l.piece;
-  later : g.K.Sink.faults l.initial.sink ≤ g.K.Sink.faults l.sink;
+  faults : g.K.Sink.faults l.sink ≡ g.K.Sink.faults l.initial.sink;
   written : Appends (g.K.Sink.written l.initial.sink) (g.K.Sink.written l.sink) (take l.at l.piece);
 }
 

@@ -1,10 +1,10 @@
-use Rattle.std.proofs.Common.{ℕ, arith, ◌≤◌, ◌++◌, length, take, length-append}
+use Rattle.std.proofs.Common.{ℕ, arith, ◌≤◌, ◌++◌, ◌∙◌, refl, length, take, length-append}
 use Rattle.std.proofs.lemmas.List.{take-append-le, length-take}
 use Rattle.cred_io.proofs.Known.{consumes_nothing, consumes_more}
 use Rattle.cred_io.proofs.source.read_all.Goals as goal
 
 pub loop-buf-init : goal.loop-buf-init
-loop-buf-init g c = record { within = omega arith; later = omega arith; taken = rw c.new-bytes.ensures.items (consumes_nothing (g.S.Source.left c.args.source.now)) }
+loop-buf-init g c = record { within = omega arith; faults = refl; taken = rw c.new-bytes.ensures.items (consumes_nothing (g.S.Source.left c.args.source.now)) }
 
 pub loop-buf-preserved : goal.loop-buf-preserved
 loop-buf-preserved g c =
@@ -13,7 +13,7 @@ loop-buf-preserved g c =
     let known : n ≤ length got = c.in_ok-count.ensures.bound.0 in
     record {
       within = omega (arith, c.in_ok-extend_from_slice.ensures.len, length-take {A = ℕ}, length-append {A = ℕ}, c.read.auto.buf);
-      later = omega (arith, c.in_ok-count.ensures.cause.later);
+      faults = c.in_ok-count.ensures.cause.stayed (λ failed. cc) ∙ c.loop-buf.invariant.faults;
       taken = rw c.in_ok-extend_from_slice.ensures.items (rw take-append-le (consumes_more _ _ _ _ _ c.loop-buf.invariant.taken c.in_ok-count.ensures.bytes.0));
     }
 

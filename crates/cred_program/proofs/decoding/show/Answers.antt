@@ -1,10 +1,10 @@
 use Rattle.std.proofs.Common.{inr, ap, ◌∙◌}
 use Rattle.cred_program.specs.Texts.{refusal_text}
-use Rattle.cred_program.proofs.Fronts.{prefix_either}
+use Rattle.cred_program.proofs.Prefixes.{prefix_either}
 use Rattle.cred_program.proofs.decoding.show.Goals as goal
 
-pub returns-in-Ok-refusal_text-clause-front : goal.returns-in-Ok-refusal_text-clause-front
-returns-in-Ok-refusal_text-clause-front g c =
+pub returns-in-Ok-refusal_text-clause-prefix : goal.returns-in-Ok-refusal_text-clause-prefix
+returns-in-Ok-refusal_text-clause-prefix g c =
     let written = c.write_text-in-Ok-refusal_text in
     inr (
       c.as_bytes.result.now,

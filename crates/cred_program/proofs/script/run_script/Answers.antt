@@ -1,7 +1,9 @@
 use Rattle.std.proofs.Common.{◌∙◌, sym, inr, arith}
 use Rattle.cred_report.specs.Text.{text}
 use Rattle.cred_program.specs.Texts.{bad_text}
-use Rattle.cred_program.proofs.Fronts.{prefix_either, reported}
+use Rattle.cred_program.specs.declared.status.Status.TheVariants.{Done}
+use Rattle.cred_program.proofs.Finished.{finished_counts}
+use Rattle.cred_program.proofs.Prefixes.{prefix_either, reported}
 use Rattle.cred_program.proofs.script.run_script.Goals as goal
 
 pub returns-in-Ok-run-clause-done : goal.returns-in-Ok-run-clause-done
@@ -12,21 +14,25 @@ returns-in-Ok-run-clause-done g c = λ done.
     (rw c.in-Ok-run.ensures.script at c.in-Ok-run.ensures.sequence) (rw (same, c.journal.ensures) at c.write_report.ensures.ok)
     (sym c.finish-in-Ok-run.ensures ∙ done)
 
-pub returns-in-Ok-run-clause-front : goal.returns-in-Ok-run-clause-front
-returns-in-Ok-run-clause-front g c =
-    let front = prefix_either _ _ (text c.script.result.now c.journal.result.now) c.write_report.result c.write_report.ensures.ok c.write_report.ensures.err in
+pub returns-in-Ok-run-clause-prefix : goal.returns-in-Ok-run-clause-prefix
+returns-in-Ok-run-clause-prefix g c =
+    let prefix = prefix_either _ _ (text c.script.result.now c.journal.result.now) c.write_report.result c.write_report.ensures.ok c.write_report.ensures.err in
     let same = c.script.ensures ∙ c.in-Ok-run.ensures.script in
     inr (
       record { bytes = omega arith; lines = omega arith },
       rw c.in-Ok.ensures.given (
         c.in-Ok-run.book.journal,
-        rw c.in-Ok-run.ensures.script at c.in-Ok-run.ensures.sequence.in_order,
-        rw (same, c.journal.ensures) at front,
+        rw c.in-Ok-run.ensures.script at c.in-Ok-run.ensures.sequence,
+        rw (same, c.journal.ensures) at prefix,
       ),
     )
 
-pub returns-in-Err-Bad-clause-front : goal.returns-in-Err-Bad-clause-front
-returns-in-Err-Bad-clause-front g c =
-    let front = prefix_either _ _ (bad_text (c.in-Err-Bad.line, c.in-Err-Bad.reason)) c.write_bad.result c.write_bad.ensures.ok c.write_bad.ensures.err in
+pub returns-in-Err-Bad-clause-prefix : goal.returns-in-Err-Bad-clause-prefix
+returns-in-Err-Bad-clause-prefix g c =
+    let prefix = prefix_either _ _ (bad_text (c.in-Err-Bad.line, c.in-Err-Bad.reason)) c.write_bad.result c.write_bad.ensures.ok c.write_bad.ensures.err in
     let given = rw c.in-Err-Bad.field-0-is at c.in-Err-Bad.ensures.given in
-    inr (record { bytes = omega arith; lines = omega arith }, rw given front)
+    inr (record { bytes = omega arith; lines = omega arith }, rw given prefix)
+
+pub returns-in-Ok-run-clause-cause : goal.returns-in-Ok-run-clause-cause
+returns-in-Ok-run-clause-cause g c =
+    finished_counts c.write_report.result Done c.finish-in-Ok-run.result _ _ (λ fault. cc) c.finish-in-Ok-run.ensures c.write_report.ensures.cause

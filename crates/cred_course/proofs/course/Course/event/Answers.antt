@@ -10,4 +10,4 @@ pub returns-clause-ended : goal.returns-clause-ended
 returns-clause-ended c =
     let course = c.args.self.now in
     IfOk-weaker c.event_at.result (λ (event : Option Event). event ≡ event_at c.args.content.now course) (λ event. is_some event ≡ is_some course.stage)
-    (λ event is. ap is_some is ∙ makes_event c.args.content.now course course.stage refl c.requires) c.event_at.ensures
+    (λ event is. ap is_some is ∙ makes_event c.args.content.now course course.stage refl c.requires) c.event_at.ensures.event

@@ -1,5 +1,5 @@
--- Fronts of a text that was to be written.
-use Rattle.std.proofs.Common.{◌≡◌, ℕ, ◌+◌, ◌<◌, List, ◌++◌, length, take, drop, get_or, Option, Some, None, Result, Ok, Err, refl, sym, subst, arith}
+-- Prefixes of a text that was to be written.
+use Rattle.std.proofs.Common.{◌≡◌, ℕ, ◌+◌, ◌<◌, List, ◌++◌, length, take, drop, get_or, ◌≤◌, Option, Result, Ok, Err, refl, arith}
 use Rattle.std.proofs.lemmas.List.{take_all, take_at}
 use Rattle.std.specs.Io.KnownBytes.{Appends, Keeps}
 use Rattle.std.specs.Result.{OnOk, OnErr}
@@ -12,45 +12,41 @@ use Rattle.cred_model.specs.Script.{Script}
 use Rattle.cred_model.specs.Journal.{IsSequence}
 use Rattle.cred_laws.proofs.Lawful.{lawful}
 use Rattle.cred_script.specs.Grammar.{script_of}
-use Rattle.cred_program.specs.Ends.{Reports, BeginsText, finished}
-use Rattle.cred_program.specs.Decoding.{ShowsFront}
-use Rattle.cred_program.specs.Texts.{usage_text}
-use Rattle.cred_program.specs.declared.words.Command.{Command}
-use Rattle.cred_program.specs.declared.words.Command.TheVariants.{Decode}
+use Rattle.cred_program.specs.Ends.{Reports, finished}
 use Rattle.cred_program.specs.declared.status.Status.TheVariants as status
 use Rattle.cred_report.specs.Text.{entry_text, text}
 use Rattle.cred_report.proofs.Journals.{text_at, take_past}
 
--- a whole text is one of its fronts
+-- a whole text is one of its prefixes
 pub whole : (a b : Option (List ℕ)) (bytes : List ℕ) → Appends a b bytes → AppendsPrefix a b bytes
 whole a b bytes all = record { count = length bytes; written = rw (take_all (length bytes) bytes (omega arith)) all }
 
 pub prefix_either : (a b : Option (List ℕ)) (bytes : List ℕ) (r : Result (Unit {0}) SinkRefusal) → OnOk r (Appends a b bytes)
     → OnErr r (AppendsPrefix a b bytes) → AppendsPrefix a b bytes
-prefix_either a b bytes (Ok done) all front = whole a b bytes all
-prefix_either a b bytes (Err refusal) all front = front
+prefix_either a b bytes (Ok done) all prefix = whole a b bytes all
+prefix_either a b bytes (Err refusal) all prefix = prefix
 
 -- a text whose writing was answered by Usage was written
-pub told : (a b : Option (List ℕ)) (bytes : List ℕ) (r : Result (Unit {0}) SinkRefusal) → OnOk r (Appends a b bytes)
+pub usage_written : (a b : Option (List ℕ)) (bytes : List ℕ) (r : Result (Unit {0}) SinkRefusal) → OnOk r (Appends a b bytes)
     → finished r status.Usage ≡ status.Usage → Appends a b bytes
-told a b bytes (Ok done) all is = all
-told a b bytes (Err sink.Failed) all is = cc
-told a b bytes (Err sink.Memory) all is = cc
+usage_written a b bytes (Ok done) all is = all
+usage_written a b bytes (Err sink.Failed) all is = cc
+usage_written a b bytes (Err sink.Memory) all is = cc
 
 -- a whole text that was written, and then kept
 pub whole_kept : (a b c : Option (List ℕ)) (bytes : List ℕ) → Appends a b bytes → Keeps b c → AppendsPrefix a c bytes
 whole_kept a b c bytes all kept = whole a c bytes (appends_kept a b c bytes all kept)
 
--- the entries before one, and a front of that one's text
+-- the entries before one, and a prefix of that one's text
 pub prefix_at : (a b c : Option (List ℕ)) (script : Script) (journal : List Entry) (i : ℕ) (entry : Entry) → i < length journal
     → entry ≡ get_or journal i entry → Appends a b (text script (take i journal)) → AppendsPrefix b c (entry_text script entry)
     → AppendsPrefix a c (text script journal)
 prefix_at a b c script journal i entry lt e before this =
     let done : List ℕ = text script (take i journal) in
-    let front : List ℕ = take this.count (entry_text script entry) in
-    let here : take (length done + length front) (text script journal) ≡ done ++ front
+    let some : List ℕ = take this.count (entry_text script entry) in
+    let here : take (length done + length some) (text script journal) ≡ done ++ some
     = rw (text_at script journal i entry lt e) (take_past this.count done (entry_text script entry) (text script (drop (i + 1) journal))) in
-    record { count = length done + length front; written = rw here (appends_more a b c done front before this.written) }
+    record { count = length done + length some; written = rw here (appends_more a b c done some before this.written) }
 
 -- the entries before one
 pub prefix_before : (a b : Option (List ℕ)) (script : Script) (journal : List Entry) (i : ℕ) (entry : Entry) → i < length journal
@@ -66,6 +62,13 @@ pub flushed : (a b c : Option (List ℕ)) (bytes : List ℕ) (r : Result (Unit {
 flushed a b c bytes (Ok done) all kept = tt
 flushed a b c bytes (Err refusal) all kept = whole_kept a b c bytes all kept
 
+-- what a flush after all entries leaves
+pub flushed_entries : (a b c : Option (List ℕ)) (script : Script) (journal : List Entry) (i : ℕ) (r : Result (Unit {0}) SinkRefusal)
+    → length journal ≤ i → Appends a b (text script (take i journal)) → Keeps b c → OnErr r (AppendsPrefix a c (text script journal))
+flushed_entries a b c script journal i r ended all kept =
+    let same : take i journal ≡ journal = take_all i journal ended in
+    flushed a b c (text script journal) r (rw same at all) kept
+
 -- a whole report that was written, and the laws of its journal
 pub reported : (before after : Option (List ℕ)) (input : List ℕ) (script : Script) (journal : List Entry) (r : Result (Unit {0}) SinkRefusal)
     → script_of input ≡ Ok script → IsSequence script journal → OnOk r (Appends before after (text script journal))
@@ -74,16 +77,3 @@ reported before after input script journal (Ok whole) read run all done =
     record { script = script; read = read; journal = journal; run = run; lawful = lawful script journal; written = all }
 reported before after input script journal (Err sink.Failed) read run all done = cc
 reported before after input script journal (Err sink.Memory) read run all done = cc
-
--- the text of `decode`, and the usage line
-pub begins_bytes : (command : Option Command) (bytes items : List ℕ) (left_before left_after before after : Option (List ℕ))
-    → command ≡ Some (Decode bytes) → items ≡ bytes → ShowsFront items before after
-    → BeginsText command left_before left_after before after
-begins_bytes command bytes items left_before left_after before after is same front =
-    subst (λ (o : Option Command). BeginsText o left_before left_after before after) (sym is)
-    (subst (λ (l : List ℕ). ShowsFront l before after) same front)
-
-pub begins_usage : (command : Option Command) (left_before left_after before after : Option (List ℕ)) → command ≡ None
-    → AppendsPrefix before after usage_text → BeginsText command left_before left_after before after
-begins_usage command left_before left_after before after is front =
-    subst (λ (o : Option Command). BeginsText o left_before left_after before after) (sym is) front

@@ -1,11 +1,11 @@
-use Rattle.std.proofs.Common.{◌≡◌, ◌≤◌, ◌++◌, List, ℕ, length, take, ap, ◌∙◌, arith}
-use Rattle.std.proofs.lemmas.List.{append-nil, take_all}
+use Rattle.std.proofs.Common.{◌++◌, List, ℕ, ap, ◌∙◌}
+use Rattle.std.proofs.lemmas.List.{append-nil}
 use Rattle.std.proofs.lemmas.Result.{err_from_is_err_and}
 use Rattle.cred_io.proofs.Known.{appends_more}
-use Rattle.cred_report.specs.Text.{entry_text, text}
+use Rattle.cred_report.specs.Text.{entry_text}
 use Rattle.cred_report.proofs.Journals.{text_more}
-use Rattle.cred_program.proofs.Fronts.{prefix_at, prefix_before, flushed}
-use Rattle.cred_program.proofs.writing.write_report.Goals as goal
+use Rattle.cred_program.proofs.Prefixes.{prefix_at, prefix_before}
+use Rattle.cred_program.proofs.report.write_report.Goals as goal
 
 pub returns-in_default-clause-err : goal.returns-in_default-clause-err
 returns-in_default-clause-err g c =
@@ -26,13 +26,7 @@ loop-entry-preserved g c =
     let line = entry_text c.args.script.now c.entry-item.result in
     let piece = c.items.ensures ∙ c.in-Ok.ensures ∙ ap (λ (bs : List ℕ). line ++ bs) c.clear.ensures ∙ append-nil line in
     record {
-      later = omega (arith, c.in_ok-write_all.ensures.cause.later);
+      faults = c.in_ok-write_all.ensures.cause.stayed (λ failed. cc) ∙ c.loop-entry.invariant.faults;
       written = rw (text_more c.args.script.now c.args.journal.now c.loop-entry.entry-index c.entry-item.result c.loop-entry-test.true c.entry-item.is)
           (appends_more _ _ _ _ _ c.loop-entry.invariant.written (rw piece at c.in_ok-write_all.ensures.ok));
     }
-
-pub returns-clause-err : goal.returns-clause-err
-returns-clause-err g c =
-    let ended : length c.args.journal.now ≤ c.loop-entry.entry-index = omega arith in
-    let all : take c.loop-entry.entry-index c.args.journal.now ≡ c.args.journal.now = take_all c.loop-entry.entry-index c.args.journal.now ended in
-    flushed _ _ _ (text c.args.script.now c.args.journal.now) c.flush.result (rw all at c.loop-entry.invariant.written) c.flush.ensures.bytes
