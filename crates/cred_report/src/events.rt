@@ -5,7 +5,7 @@ ghost use Rattle.cred_report.specs.Events.{take_text, event_text};
 
 use crate::calls::{prepend_call, prepend_change};
 use crate::pen::Pen;
-use crate::questions::{letters_of, prepend_file, prepend_query};
+use crate::questions::{prepend_file, prepend_letters, prepend_query};
 use crate::words::{prepend_number, prepend_three, prepend_two, prepend_word};
 use cred_event::{Change, Event, Query, Side};
 use cred_ids::{Id, NoMemory};
@@ -24,25 +24,19 @@ fn prepend_init(out: &mut Pen, task: u32, process: u32, user: Id, group: Id, ns:
     prepend_two(out, ("init t", task), (" p", process))
 }
 
-/// The words before a label that takes a credential of a task.
-fn take_word(side: Side) -> &'static str
-    ensures text { result.now ≡ take_text side }
-    ensures short { length result.now ≤ 16 }
-{
-    match side {
-        Side::Subjective => "take h",
-        Side::Objective => "takereal h",
-    }
-}
-
-/// Writes the taking of a credential of a task.
+/// Writes the taking of a credential of a task. Each word is written in an arm of its own, where its
+/// length is known, and needs no call.
 fn prepend_take(out: &mut Pen, label: u32, task: u32, side: Side)
     requires { 120 ≤ out.old.room }
     ensures text { out.new.text
         ≡ (take_text side ++ decimal label ++ codes " t" ++ decimal task) ++ out.old.text }
     ensures room { out.old.room ≤ out.new.room + 120 }
 {
-    prepend_two(out, (take_word(side), label), (" t", task))
+    prepend_two(out, ("", label), (" t", task));
+    match side {
+        Side::Subjective => prepend_word(out, "take h"),
+        Side::Objective => prepend_word(out, "takereal h"),
+    }
 }
 
 /// Writes the question on a label's credential.
@@ -111,7 +105,7 @@ fn prepend_open(
     ensures room { OnOk result (40 ≤ out.new.room) }
 {
     prepend_number(out, " f", fd);
-    prepend_word(out, letters_of(want));
+    prepend_letters(out, want);
     prepend_word(out, " ");
     prepend_file(out, script, file)?;
     prepend_word(out, " ");

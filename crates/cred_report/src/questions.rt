@@ -1,5 +1,5 @@
 //! Questions about a credential, and the files and permissions that they name.
-ghost use Rattle.std.specs.Prelude.{◌≡◌, ◌≤◌, ◌++◌, OnOk, length};
+ghost use Rattle.std.specs.Prelude.{◌≡◌, ◌≤◌, ◌+◌, ◌++◌, OnOk};
 ghost use Rattle.cred_report.specs.Questions.{file_text, want_text, query_text};
 
 use crate::pen::{PARTS, Pen};
@@ -33,20 +33,20 @@ fn prepend_name(out: &mut Pen, name: &str) -> Result<(), NoMemory>
     Ok(())
 }
 
-/// The letters of what is wanted.
-pub(crate) fn letters_of(want: Want) -> &'static str
-    ensures text { result.now ≡ want_text want }
-    ensures short { length result.now ≤ 3 }
+/// Writes the letters of what is wanted.
+pub(crate) fn prepend_letters(out: &mut Pen, want: Want)
+    requires { 3 ≤ out.old.room }
+    ensures text { out.new.text ≡ want_text want ++ out.old.text }
+    ensures room { out.old.room ≤ out.new.room + 3 }
 {
-    match (want.r, want.w, want.x) {
-        (false, false, false) => "",
-        (true, false, false) => "r",
-        (false, true, false) => "w",
-        (false, false, true) => "x",
-        (true, true, false) => "rw",
-        (true, false, true) => "rx",
-        (false, true, true) => "wx",
-        (true, true, true) => "rwx",
+    if want.x {
+        prepend_word(out, "x");
+    }
+    if want.w {
+        prepend_word(out, "w");
+    }
+    if want.r {
+        prepend_word(out, "r");
     }
 }
 
@@ -65,7 +65,7 @@ pub(crate) fn prepend_query(out: &mut Pen, script: &Script, query: Query) -> Res
         Query::Bset(cap) => prepend_number(out, "bset ", cap),
         Query::AmbIs(cap) => prepend_number(out, "ambis ", cap),
         Query::Check { file, want } => {
-            prepend_word(out, letters_of(want));
+            prepend_letters(out, want);
             prepend_word(out, " ");
             prepend_file(out, script, file)?;
             prepend_word(out, "check ")

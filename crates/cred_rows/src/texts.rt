@@ -3,7 +3,7 @@ use cred_caps::{CapSet, SecureBits};
 use cred_event::{AbortCause, Answer, Change, Counted, Entry, Event, Named, Query, Side, Told};
 use cred_ids::{Arg, Id, Ids4, Kind};
 use cred_record::{AdjCall, Gains, IdCall, IdList};
-use cred_report::{append, print};
+use cred_report::{Pen, prepend, print};
 use cred_script::{Script, read};
 use std::alloc::Global;
 use std::test::Fail;
@@ -43,11 +43,11 @@ fn sealed(cred: u64, slot: u32) -> Answer {
 /// The text of the entries, one after another in one buffer.
 fn report(alloc: Global, entries: &[Entry]) -> Result<Vec<u8>, Fail> {
     let script = script(alloc)?;
-    let mut out = Vec::new(alloc);
-    for entry in entries {
-        append(&mut out, &script, entry)?;
+    let mut out = Pen::new(alloc);
+    for entry in entries.iter().rev() {
+        prepend(&mut out, &script, entry)?;
     }
-    Ok(out)
+    Ok(out.items().to_vec(alloc)?)
 }
 
 fn drop_label(line: u32, label: u32) -> Entry {
