@@ -4,6 +4,8 @@
 
 mod changes;
 mod replies;
+#[cfg(test)]
+mod tests;
 
 pub use changes::{Made, change};
 pub use replies::reply;
