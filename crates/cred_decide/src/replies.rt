@@ -12,9 +12,9 @@ use cred_ids::NoMemory;
 use cred_record::{Cred, FileInfo, IdList, Want};
 use std::alloc::Global;
 
-/// What a question about a credential is told (credentials(7), capabilities(7), prctl(2)). `file` is
-/// the file that the question names, if it names one; other questions don't look at it. A number of
-/// a capability may be any `u32`: above 40 the answer is `Einval`.
+/// What a question about a credential is told (credentials(7), capabilities(7), prctl(2)). `file`
+/// is the file that the question names, if it names one; other questions don't look at it. A number
+/// of a capability may be any `u32`: above 40 the answer is `Einval`.
 ///
 /// # Errors
 ///

@@ -1,5 +1,5 @@
--- What no call on a credential undoes (capabilities(7), prctl(2)), and which of them adds to what is
--- permitted.
+-- What no call on a credential undoes (capabilities(7), prctl(2)), and which of them adds to what
+-- is permitted.
 use Rattle.std.specs.Prelude.{◌≡◌, ℕ, true, List, Result, Ok}
 use Rattle.std.specs.declared.option.Option.{Option}
 use Rattle.cred_caps.specs.declared.secure.Flag.{Flag}
@@ -14,8 +14,8 @@ use Rattle.cred_event.specs.declared.event.Change.{Change}
 use Rattle.cred_event.specs.declared.event.Change.TheVariants.{Exec}
 use Rattle.cred_model.specs.Change.{Made, made_by_rule, by_change}
 
--- A call that may change the credential of the task that makes it: one that sets ids, or a change of
--- a prepared credential, which sees the file that it names, if any, and the root ids of the
+-- A call that may change the credential of the task that makes it: one that sets ids, or a change
+-- of a prepared credential, which sees the file that it names, if any, and the root ids of the
 -- credential's namespace and of that one's ancestors.
 pub data Call : Type 0 where
   SetIds : IdCall → Call
@@ -31,7 +31,8 @@ pub record IsNext (c : Credential) (next : Made) : Type 0 where
   pub call : Call
   pub made : after c call ≡ Ok next
 
--- from the old to the new securebits, a lock that is set stays set, and then its flag stays as it is
+-- from the old to the new securebits, a lock that is set stays set, and then its flag stays as it
+-- is
 pub record KeepsLocked (old new : ℕ) : Type 0 where
   pub lock : (f : Flag) → is_locked old f ≡ true → is_locked new f ≡ true
   pub flag : (f : Flag) → is_locked old f ≡ true → is_set new f ≡ is_set old f
@@ -45,8 +46,8 @@ abbrev pub BoundingNeverGrows : Type 0
 BoundingNeverGrows =
     (c : Credential) (next : Made) → IsNext c next → IsWithin next.cred.bound c.bound
 
--- what a call may add to the permitted set: an execve what it says that it gained, and no other call
--- anything
+-- what a call may add to the permitted set: an execve what it says that it gained, and no other
+-- call anything
 abbrev pub added : Call → Made → Caps
 added (Changes file chain (Exec place)) next =
     union next.gains.file (union next.gains.inherit next.gains.root)
