@@ -1,6 +1,6 @@
--- The forms of a line: what its words are, and what it then declares or holds. Each definition takes
--- the words that stand after the one that names the form. How many there are is asked before what they
--- spell.
+-- The forms of a line: what its words are, and what it then declares or holds. Each definition
+-- takes the words that stand after the one that names the form. How many there are is asked before
+-- what they spell.
 use Rattle.std.specs.Prelude.{ℕ, List, [], ◌∷◌, Result, Ok, Err, ok_or}
 use Rattle.cred_event.specs.declared.event.Event.{Event}
 use Rattle.cred_event.specs.declared.event.Event.TheVariants.{Init, Take, Release, Ask, Prepare, Alter, Commit, Abort, Begin, Sweep}
@@ -75,9 +75,7 @@ take_of side words = do
 unfoldable pub event_of : List NamedFile → EventName → List (List ℕ) → Result Event Reason
 event_of files name.Take words = take_of Subjective words
 event_of files name.TakeReal words = take_of Objective words
-event_of files name.Release words = do
-  label ← one_of label_of words
-  Ok (Release label)
+event_of files name.Release words = one_of label_of words >>= λ label. Ok (Release label)
 event_of files name.Ask (hold ∷ asked ∷ words) = do
   question ← query_named files asked words
   label ← word_of label_of hold
@@ -92,21 +90,15 @@ event_of files name.Alter (prepared ∷ changed ∷ words) = do
   label ← word_of label_of prepared
   Ok (Alter label change)
 event_of files name.Alter words = Err Count
-event_of files name.Commit words = do
-  label ← one_of label_of words
-  Ok (Commit label)
-event_of files name.Abort words = do
-  label ← one_of label_of words
-  Ok (Abort label)
+event_of files name.Commit words = one_of label_of words >>= λ label. Ok (Commit label)
+event_of files name.Abort words = one_of label_of words >>= λ label. Ok (Abort label)
 event_of files name.Begin (caller ∷ called ∷ words) = do
   kind ← ok_or (names.id_name called) Word
   made ← id_call_of kind words
   task ← word_of task_of caller
   Ok (Begin task made)
 event_of files name.Begin words = Err Count
-event_of files name.Sweep words = do
-  end ← no_words words
-  Ok Sweep
+event_of files name.Sweep words = no_words words >>= λ end. Ok Sweep
 
 -- what the task does, by its name
 unfoldable pub call_of : List NamedFile → ℕ → CallName → List (List ℕ) → Result Content Reason
@@ -127,8 +119,8 @@ content_of files task (word ∷ words) = do
   called ← ok_or (names.call_name word) Word
   call_of files task called words
 
--- A line of this form, where these files are declared before it. `init T P ID ID N` creates a first
--- task, with its process, user, group and namespace.
+-- A line of this form, where these files are declared before it. `init T P ID ID N` creates a
+-- first task, with its process, user, group and namespace.
 unfoldable pub parse_form : List NamedFile → Form → List (List ℕ) → Result Parsed Reason
 parse_form files form.Init words = do
   word ← five_of task_of process_of id_of id_of namespace_of words

@@ -1,4 +1,4 @@
--- What was read of a script before a line, what that asks of the line, and what the line adds to it.
+-- What was read of a script before a line, what that asks of the line, and what the line adds.
 use Rattle.std.specs.Prelude.{ℕ, ◌==◌, Bool, true, false, not, ◌&&◌, nat_lt, List, [], ◌∷◌, ◌++◌, length, is_some, Result, Ok, Err, ok_or, if◌then◌else◌}
 use Rattle.std.specs.List.{list_all}
 use Rattle.cred_event.specs.declared.content.Content.{Content}
@@ -15,8 +15,8 @@ use Rattle.cred_script.specs.declared.forms.Parsed.{Parsed}
 use Rattle.cred_script.specs.declared.forms.Parsed.TheVariants.{Empty, File, Starts, Holds}
 use Rattle.cred_script.specs.Files.{place_of}
 
--- The files that are declared, the lines, whether a first task was created, and whether a call or an
--- event stands there, so that nothing more may be declared.
+-- The files that are declared, the lines, whether a first task was created, and whether a call or
+-- an event stands there, so that nothing more may be declared.
 pub record Reading : Type 0 where
   pub files : List NamedFile
   pub lines : List Line

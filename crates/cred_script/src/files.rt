@@ -79,7 +79,8 @@ impl Files {
         Some(self.by_name.get_index_of(name)? as u32)
     }
 
-    /// The place of the file of this name, or, where none has it, the next one that a file may take.
+    /// The place of the file of this name, or, where none has it, the next one that a file may
+    /// take.
     pub(crate) fn place_or_next(&self, name: &str) -> u32
         ensures { result ≡ spec.place_or_next self.now name.now }
     {

@@ -67,8 +67,8 @@ impl Reading {
         Script { files, lines }
     }
 
-    /// One more line, of which it was tested whether each byte is printable. A bad one is reported by
-    /// its number. The list of words is one that an earlier line left, to be used again.
+    /// One more line, of which it was tested whether each byte is printable. A bad one is reported
+    /// by its number. The list of words is one that an earlier line left, to be used again.
     pub(crate) fn add_numbered<'b>(
         &mut self,
         alloc: Global,

@@ -1,9 +1,9 @@
 //! The words of scripts and of entries: how a text is split into lines and words, what a word
 //! spells, and which words name something.
 //!
-//! `Lines` and `Words` split a text. `Spellings` says what one word may be, `Names` has the tables of
-//! keywords, and the trait `Spelling` gives each kind of word its spelling, so that a form's words are
-//! read by naming their kinds.
+//! `Lines` and `Words` split a text. `Spellings` says what one word may be, `Names` has the tables
+//! of keywords, and the trait `Spelling` gives each kind of word its spelling, so that a form's words
+//! are read by naming their kinds.
 #![tactic(auto)]
 
 mod bytes;

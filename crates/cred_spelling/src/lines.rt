@@ -32,8 +32,8 @@ fn end_count(bytes: &[u8]) -> usize
     count
 }
 
-/// The first line, without its LF, the bytes after it, and whether each byte of the line is from 0x20
-/// to 0x7E.
+/// The first line, without its LF, the bytes after it, and whether each byte of the line is from
+/// 0x20 to 0x7E.
 pub fn first_line(bytes: &[u8]) -> (&[u8], &[u8], bool)
     requires { 0 < length bytes.now }
     ensures line { spec.lines_of bytes.now ≡ result.0.now ∷ spec.lines_of result.1.now }
