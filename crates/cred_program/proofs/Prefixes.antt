@@ -11,6 +11,7 @@ use Rattle.cred_io.specs.declared.sink.SinkRefusal.TheVariants as sink
 use Rattle.cred_model.specs.Script.{Script}
 use Rattle.cred_model.specs.Journal.{IsSequence}
 use Rattle.cred_laws.proofs.Lawful.{lawful}
+use Rattle.cred_laws.proofs.OrderLaws.{sequence_is_legal}
 use Rattle.cred_script.specs.Grammar.{script_of}
 use Rattle.cred_program.specs.Ends.{Reports, finished}
 use Rattle.cred_program.specs.declared.status.Status.TheVariants as status
@@ -74,6 +75,14 @@ pub reported : (before after : Option (List ℕ)) (input : List ℕ) (script : S
     → script_of input ≡ Ok script → IsSequence script journal → OnOk r (Appends before after (text script journal))
     → finished r status.Done ≡ status.Done → Reports before after input
 reported before after input script journal (Ok whole) read run all done =
-    record { script = script; read = read; journal = journal; run = run; lawful = lawful script journal; written = all }
+    record {
+      script = script;
+      read = read;
+      journal = journal;
+      run = run;
+      legal = λ setup. sequence_is_legal script journal setup run;
+      lawful = lawful script journal;
+      written = all;
+    }
 reported before after input script journal (Err sink.Failed) read run all done = cc
 reported before after input script journal (Err sink.Memory) read run all done = cc
