@@ -9,7 +9,8 @@ pub record SourceState : Type 0 where
   pub failing : List ℕ
   pub faults : ℕ
 
--- the bytes written, whether they are handed on, how many writes there were, which writes fail, and how many have failed
+-- the bytes written, whether they are handed on, how many writes there were, which writes fail,
+-- and how many have failed
 pub record SinkState : Type 0 where
   pub bytes : List ℕ
   pub handed_on : Bool

@@ -8,10 +8,11 @@ use Rattle.cred_io.specs.declared.sink.SinkRefusal.{SinkRefusal}
 use Rattle.cred_io.proofs.Known.{appends_more, appends_kept}
 use Rattle.cred_event.specs.declared.entry.Entry.{Entry}
 use Rattle.cred_io.specs.declared.sink.SinkRefusal.TheVariants as sink
-use Rattle.cred_model.specs.Script.{Script}
+use Rattle.cred_model.specs.Script.{Script, SetupFirst}
 use Rattle.cred_model.specs.Journal.{IsSequence}
 use Rattle.cred_laws.proofs.AnsweredLaws.{in_order_is_answered}
 use Rattle.cred_laws.proofs.Lawful.{lawful}
+use Rattle.cred_laws.proofs.OrderLaws.{sequence_is_legal}
 use Rattle.cred_script.specs.Grammar.{script_of}
 use Rattle.cred_program.specs.Ends.{Reports, finished}
 use Rattle.cred_program.specs.declared.status.Status.TheVariants as status
@@ -72,9 +73,17 @@ flushed_entries a b c script journal i r ended all kept =
 
 -- a whole report that was written, and the laws of its journal
 pub reported : (before after : Option (List ℕ)) (input : List ℕ) (script : Script) (journal : List Entry) (r : Result (Unit {0}) SinkRefusal)
-    → script_of input ≡ Ok script → IsSequence script journal → OnOk r (Appends before after (text script journal))
+    → script_of input ≡ Ok script → SetupFirst script → IsSequence script journal → OnOk r (Appends before after (text script journal))
     → finished r status.Done ≡ status.Done → Reports before after input
-reported before after input script journal (Ok whole) read run all done =
-    record { script = script; read = read; journal = journal; run = run; lawful = lawful script journal (in_order_is_answered script journal run.in_order); written = all }
-reported before after input script journal (Err sink.Failed) read run all done = cc
-reported before after input script journal (Err sink.Memory) read run all done = cc
+reported before after input script journal (Ok whole) read setup run all done =
+    record {
+      script = script;
+      read = read;
+      journal = journal;
+      run = run;
+      legal = sequence_is_legal script journal setup run;
+      lawful = lawful script journal (in_order_is_answered script journal run.in_order);
+      written = all;
+    }
+reported before after input script journal (Err sink.Failed) read setup run all done = cc
+reported before after input script journal (Err sink.Memory) read setup run all done = cc

@@ -8,7 +8,7 @@ use Rattle.cred_io.specs.declared.sink.SinkRefusal.{SinkRefusal}
 use Rattle.cred_io.specs.declared.sink.SinkRefusal.TheVariants as sink
 use Rattle.cred_event.specs.declared.entry.Entry.{Entry}
 use Rattle.cred_model.specs.Script.{Script}
-use Rattle.cred_model.specs.Journal.{IsSequence}
+use Rattle.cred_model.specs.Journal.{IsSequence, IsLegal}
 use Rattle.cred_laws.specs.Journals.{IsLawful}
 use Rattle.cred_spelling.specs.declared.reason.Reason.{Reason}
 use Rattle.cred_script.specs.Lines.{lines_of}
@@ -58,13 +58,15 @@ ReadsTooMuch before after =
     ReadsMoreThan BYTE_LIMIT before after ⊎ ReadsMoreLines before after
 
 -- The input is a script, and the text of the journal in which its lines run whole and in order
--- was written. The laws hold of it: no slot is rewritten while something refers to it, a hold keeps
--- its credential, and no permitted set grows but by what its entry says was gained.
+-- was written. It is one of the journals that the script may have. The laws hold of it: no slot is
+-- rewritten while something refers to it, a hold keeps its credential, and no permitted set grows
+-- but by what its entry says was gained.
 pub record Reports (before after : Option (List ℕ)) (input : List ℕ) : Type 0 where
   pub script : Script
   pub read : script_of input ≡ Ok script
   pub journal : List Entry
   pub run : IsSequence script journal
+  pub legal : IsLegal script journal
   pub lawful : IsLawful script journal
   pub written : Appends before after (text script journal)
 

@@ -22,13 +22,13 @@ use std::alloc::Global;
 const USAGE: &str = "usage: credtrace run|lanes|audit|gen N|decode HEX\n";
 
 /// The program, over its words (those after its name), its input and its output: `run` reads a
-/// script and writes its report, `decode HEX` writes what an attribute says, and all other words get
-/// the usage line. It answers how that ended.
+/// script and writes its report, `decode HEX` writes what an attribute says, and all other words
+/// get the usage line. It answers how that ended.
 ///
 /// `Done`, `Bad` and `Usage` come with the whole text, handed on, and with no fault. The source's
-/// count of faults rises for `ReadFault` alone, and the sink's for `WriteFault` alone. `Memory` comes
-/// where an allocation or the sink found none; the source may then have been read in part. After
-/// `WriteFault` and `Memory` what was written is a prefix of the text; after `ReadFault` and
+/// count of faults rises for `ReadFault` alone, and the sink's for `WriteFault` alone. `Memory`
+/// comes where an allocation or the sink found none; the source may then have been read in part.
+/// After `WriteFault` and `Memory` what was written is a prefix of the text; after `ReadFault` and
 /// `TooLarge` nothing was.
 pub fn credtrace<S: Source, K: Sink>(
     alloc: Global,
@@ -36,8 +36,8 @@ pub fn credtrace<S: Source, K: Sink>(
     source: &mut S,
     sink: &mut K,
 ) -> Status
-    // `run`. The input was read to its end and is within the limits. Where it is a script, the whole
-    // text of its journal was written; where it is none, its first bad line.
+    // `run`. The input was read to its end and is within the limits. Where it is a script, the
+    // whole text of its journal was written; where it is none, its first bad line.
     ensures run_done { command_of (texts words.now) ≡ Some Command.Run → result ≡ Status.Done
         → Reads (S.left source.old) (S.left source.new)
         (Reports (K.written sink.old) (K.written sink.new)) }

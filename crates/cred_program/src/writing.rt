@@ -1,4 +1,5 @@
-//! Writing texts that are no reports, and handing them on: what a buffer keeps back can still be lost.
+//! Writing texts that are no reports, and handing them on: what a buffer keeps back can still be
+//! lost.
 ghost use Rattle.std.specs.Prelude.{◌≡◌, true, OnOk, OnErr};
 ghost use Rattle.std.specs.Io.KnownBytes.{Appends};
 ghost use Rattle.cred_io.specs.Causes.{CountsFaults};

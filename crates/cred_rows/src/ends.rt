@@ -44,7 +44,8 @@ fn other_words_get_the_usage_line(rt: HostRuntime) -> Result<(), Fail> {
     Ok(())
 }
 
-/// How the program ends where these reads and these writes fail, each once, and what it has written.
+/// How the program ends where these reads and these writes fail, each once, and what it has
+/// written.
 fn failing(alloc: Global, reads: &[u64], writes: &[u64]) -> Result<(Status, MemorySink), Fail> {
     let words = words_of(alloc, &["run"])?;
     let mut source = MemorySource::of(alloc, SCRIPT.as_bytes(), reads)?;

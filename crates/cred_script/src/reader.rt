@@ -1,5 +1,6 @@
 //! Reading a script.
 ghost use Rattle.std.specs.Prelude.{◌≡◌, ◌≤◌, IfOk, length};
+ghost use Rattle.cred_model.specs.Script.{SetupFirst};
 ghost use Rattle.cred_spelling.specs.Lines.{lines_of};
 ghost use Rattle.cred_script.specs.FirstBad.{TellsFirstBad};
 ghost use Rattle.cred_script.specs.Grammar.{script_of};
@@ -22,6 +23,7 @@ pub fn read(alloc: Global, bytes: &[u8]) -> Result<Script, ScriptRefusal>
     ensures given { Gives (λ script. script) result (script_of bytes.now) }
     ensures first { TellsFirstBad (lines_of bytes.now) result }
     ensures lines { IfOk result (λ script. length script.lines ≡ length (lines_of bytes.now)) }
+    ensures setup { IfOk result (λ script. SetupFirst script) }
 {
     read_lines(alloc, bytes)
 }
@@ -31,6 +33,7 @@ fn read_lines(alloc: Global, bytes: &[u8]) -> Result<Script, ScriptRefusal>
     requires few { length (lines_of bytes.now) ≤ 20000 }
     ensures given { Gives (λ script. script) result (script_of bytes.now) }
     ensures lines { IfOk result (λ script. length script.lines ≡ length (lines_of bytes.now)) }
+    ensures setup { IfOk result (λ script. SetupFirst script) }
 {
     let mut reading = Reading::nothing(alloc);
     let mut words = Vec::new(alloc);

@@ -1,5 +1,6 @@
 //! What was read of a script, and one more line of it.
 ghost use Rattle.std.specs.Prelude.{◌≡◌, ◌<◌, ◌+◌, IfErr, OnOk, length};
+ghost use Rattle.cred_model.specs.Script.{SetupFirst};
 ghost use Rattle.cred_spelling.specs.Lines.{is_printable};
 ghost use Rattle.cred_spelling.specs.Read.{Says, nows};
 ghost use Rattle.cred_script.specs.Grammar as grammar;
@@ -61,7 +62,8 @@ impl Reading {
 
     /// The script that was read.
     pub(crate) fn into_script(self) -> Script
-        ensures { result ≡ spec.script self }
+        ensures value { result ≡ spec.script self }
+        ensures setup { SetupFirst result }
     {
         let Reading { files, lines, .. } = self;
         Script { files, lines }

@@ -11,6 +11,7 @@ returns-in-Ok-run-clause-done g c = λ done.
     let script = c.in-Ok.script in
     let same = c.script.ensures ∙ c.in-Ok-run.ensures.script in
     reported _ _ c.args.bytes.now script c.in-Ok-run.book.journal c.write_report.result c.in-Ok.ensures.given
+    c.in-Ok.ensures.setup
     (rw c.in-Ok-run.ensures.script at c.in-Ok-run.ensures.sequence) (rw (same, c.journal.ensures) at c.write_report.ensures.ok)
     (sym c.finish-in-Ok-run.ensures ∙ done)
 
