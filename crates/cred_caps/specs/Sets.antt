@@ -9,7 +9,9 @@ pub record AreSets : Type 0 where
   pub in_full : (n : ℕ) → IsCap n → has full n ≡ true
   pub in_union : (a b : Caps) (n : ℕ) → has (union a b) n ≡ (has a n || has b n)
   pub in_meet : (a b : Caps) (n : ℕ) → has (meet a b) n ≡ (has a n && has b n)
-  pub in_less : (a b : Caps) (n : ℕ) → IsCaps b → IsCap n → has (less a b) n ≡ (has a n && not (has b n))
+  pub in_less : (a b : Caps) (n : ℕ) → IsCaps b → IsCap n
+      → has (less a b) n ≡ (has a n && not (has b n))
   pub in_with : (s : Caps) (c n : ℕ) → has (with s c) n ≡ (has s n || (c == n))
-  pub in_without : (s : Caps) (c n : ℕ) → IsCap c → IsCap n → has (without s c) n ≡ (has s n && not (c == n))
+  pub in_without : (s : Caps) (c n : ℕ) → IsCap c → IsCap n
+      → has (without s c) n ≡ (has s n && not (c == n))
   pub in_other : (a b : Caps) → IsWithin a b ↔ ((n : ℕ) → has a n ≡ true → has b n ≡ true)

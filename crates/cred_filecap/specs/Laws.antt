@@ -10,4 +10,5 @@ NoBytesSpellTwo = (bytes : List ℕ) (a b : Attribute) → Spells bytes a → Sp
 -- a version 3 attribute whose root id is the number that is no id counts for no task
 abbrev pub NoIdCountsNowhere : Type 0
 NoIdCountsNowhere =
-    (a : Attribute) (chain : List ℕ) → All IsId chain → a.version ≡ 3 → a.root ≡ NO_ID → counts a chain ≡ false
+    (a : Attribute) (chain : List ℕ) → All IsId chain → a.version ≡ 3 → a.root ≡ NO_ID
+    → counts a chain ≡ false

@@ -31,10 +31,11 @@ IsText bytes text =
 
 -- a prefix of what is told of the bytes was written
 abbrev pub ShowsPrefix : List ℕ → Option (List ℕ) → Option (List ℕ) → Type 0
-ShowsPrefix bytes before after = (text : List ℕ) × IsText bytes text × AppendsPrefix before after text
+ShowsPrefix bytes before after =
+    (text : List ℕ) × IsText bytes text × AppendsPrefix before after text
 
--- The statuses that bytes may have: the bytes alone decide whether it is Done or Bad, and nothing but a fault or want of
--- memory takes their place.
+-- The statuses that bytes may have: the bytes alone decide whether it is Done or Bad, and nothing
+-- but a fault or want of memory takes their place.
 abbrev pub SuitsBytes : List ℕ → Status → Type 0
 SuitsBytes bytes status.Done = IsAttribute bytes
 SuitsBytes bytes status.Bad = IsAttribute bytes → ⊥

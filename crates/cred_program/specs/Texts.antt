@@ -27,7 +27,8 @@ bad_text bad = codes "bad " ++ decimal bad.0 ++ codes " " ++ reason_text bad.1 +
 -- of what an attribute says
 abbrev pub attr_text : Attribute → List ℕ
 attr_text a =
-    codes "version " ++ decimal a.version ++ codes " perm" ++ set_text a.perm ++ codes " inh" ++ set_text a.inh
+    codes "version " ++ decimal a.version ++ codes " perm" ++ set_text a.perm ++ codes " inh" ++
+    set_text a.inh
     ++ codes " effective" ++ flag_text a.effective ++ codes " root " ++ decimal a.root ++ codes "\n"
 
 -- to bytes that are no attribute, for this reason

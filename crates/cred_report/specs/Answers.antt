@@ -41,7 +41,8 @@ answer_text (Was previous) = codes "ok was " ++ decimal previous
 answer_text (Executed cred slot ended gains) =
     codes "ok" ++ sealed_text cred slot ++ codes " ended " ++ decimal ended
     ++ codes " gain" ++ set_text gains.file ++ set_text gains.inherit ++ set_text gains.root
-answer_text (Began cred slot left) = codes "ok" ++ sealed_text cred slot ++ codes " left " ++ decimal left
+answer_text (Began cred slot left) =
+    codes "ok" ++ sealed_text cred slot ++ codes " left " ++ decimal left
 answer_text (Acted task cred slot left) =
     codes "ok t" ++ decimal task ++ sealed_text cred slot ++ codes " left " ++ decimal left
 answer_text (Told told) = codes "ok" ++ told_text told

@@ -16,11 +16,13 @@ abbrev pub call_text : IdCall → List ℕ
 call_text (SetUid id) = codes "setuid" ++ arg_text id
 call_text (SetEuid id) = codes "seteuid" ++ arg_text id
 call_text (SetReuid real effective) = codes "setreuid" ++ arg_text real ++ arg_text effective
-call_text (SetResuid real effective saved) = codes "setresuid" ++ arg_text real ++ arg_text effective ++ arg_text saved
+call_text (SetResuid real effective saved) =
+    codes "setresuid" ++ arg_text real ++ arg_text effective ++ arg_text saved
 call_text (SetGid id) = codes "setgid" ++ arg_text id
 call_text (SetEgid id) = codes "setegid" ++ arg_text id
 call_text (SetRegid real effective) = codes "setregid" ++ arg_text real ++ arg_text effective
-call_text (SetResgid real effective saved) = codes "setresgid" ++ arg_text real ++ arg_text effective ++ arg_text saved
+call_text (SetResgid real effective saved) =
+    codes "setresgid" ++ arg_text real ++ arg_text effective ++ arg_text saved
 call_text (SetGroups groups) = codes "setgroups" ++ ids_text groups
 
 abbrev pub adjust_text : AdjCall → List ℕ

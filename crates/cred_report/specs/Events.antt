@@ -1,5 +1,5 @@
--- The text of an event. A letter tells what a number is of: a task, a process, a label (h), a descriptor (f) or a
--- namespace.
+-- The text of an event. A letter tells what a number is of: a task, a process, a label (h), a
+-- descriptor (f) or a namespace.
 use Rattle.std.specs.Prelude.{ℕ, List, ◌++◌, codes, decimal}
 use Rattle.cred_event.specs.declared.event.Side.{Side}
 use Rattle.cred_event.specs.declared.event.Side.TheVariants.{Subjective, Objective}
@@ -16,28 +16,37 @@ take_text Objective = codes "takereal h"
 
 abbrev pub event_text : Script → Event → List ℕ
 event_text script (Init task process user group ns) =
-    codes "init t" ++ decimal task ++ codes " p" ++ decimal process ++ codes " " ++ decimal user ++ codes " " ++ decimal group
+    codes "init t" ++ decimal task ++ codes " p" ++ decimal process ++ codes " " ++ decimal user ++
+    codes " " ++ decimal group
     ++ codes " n" ++ decimal ns
-event_text script (Take label task side) = take_text side ++ decimal label ++ codes " t" ++ decimal task
-event_text script (TakeFile label fd) = codes "takefile h" ++ decimal label ++ codes " f" ++ decimal fd
+event_text script (Take label task side) =
+    take_text side ++ decimal label ++ codes " t" ++ decimal task
+event_text script (TakeFile label fd) =
+    codes "takefile h" ++ decimal label ++ codes " f" ++ decimal fd
 event_text script (Release label) = codes "drop h" ++ decimal label
-event_text script (Ask label query) = codes "ask h" ++ decimal label ++ codes " " ++ query_text script query
+event_text script (Ask label query) =
+    codes "ask h" ++ decimal label ++ codes " " ++ query_text script query
 event_text script (Signal from hold to target) =
-    codes "signal t" ++ decimal from ++ codes " h" ++ decimal hold ++ codes " t" ++ decimal to ++ codes " h" ++ decimal target
+    codes "signal t" ++ decimal from ++ codes " h" ++ decimal hold ++ codes " t" ++ decimal to ++
+    codes " h" ++ decimal target
 event_text script (Prepare label task hold) =
     codes "prepare h" ++ decimal label ++ codes " t" ++ decimal task ++ codes " h" ++ decimal hold
-event_text script (Alter label change) = codes "change h" ++ decimal label ++ codes " " ++ change_text script change
+event_text script (Alter label change) =
+    codes "change h" ++ decimal label ++ codes " " ++ change_text script change
 event_text script (Commit label) = codes "commit h" ++ decimal label
 event_text script (Abort label) = codes "abort h" ++ decimal label
-event_text script (Override task label) = codes "override t" ++ decimal task ++ codes " h" ++ decimal label
+event_text script (Override task label) =
+    codes "override t" ++ decimal task ++ codes " h" ++ decimal label
 event_text script (Revert task) = codes "revert t" ++ decimal task
 event_text script (Begin task call) = codes "begin t" ++ decimal task ++ codes " " ++ call_text call
 event_text script (Act cast) = codes "act " ++ decimal cast
 event_text script (OpenFile hold file want fd) =
-    codes "open h" ++ decimal hold ++ codes " " ++ file_text script file ++ codes " " ++ want_text want
+    codes "open h" ++ decimal hold ++ codes " " ++ file_text script file ++ codes " " ++
+    want_text want
     ++ codes " f" ++ decimal fd
 event_text script (CloseFile fd) = codes "close f" ++ decimal fd
-event_text script (Spawn task child) = codes "spawn t" ++ decimal task ++ codes " t" ++ decimal child
+event_text script (Spawn task child) =
+    codes "spawn t" ++ decimal task ++ codes " t" ++ decimal child
 event_text script (Fork task child process) =
     codes "fork t" ++ decimal task ++ codes " t" ++ decimal child ++ codes " p" ++ decimal process
 event_text script (Exit task) = codes "exit t" ++ decimal task

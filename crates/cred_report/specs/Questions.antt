@@ -6,7 +6,8 @@ use Rattle.cred_event.specs.declared.event.Query.{Query}
 use Rattle.cred_event.specs.declared.event.Query.TheVariants.{Ids, Caps, Groups, Bits, Capable, Bset, AmbIs, Check}
 use Rattle.cred_model.specs.Script.{Script, NamedFile}
 
--- Where there is no file there is no name. An entry of a script names only the files that it declares.
+-- Where there is no file there is no name. An entry of a script names only the files that it
+-- declares.
 abbrev pub name_of : Option NamedFile → List ℕ
 name_of None = []
 name_of (Some file) = file.name
@@ -18,7 +19,8 @@ file_text script place = name_of (slice_get script.files place)
 -- the letters of what is wanted, in this order
 abbrev pub want_text : Want → List ℕ
 want_text want =
-    (if want.r then codes "r" else []) ++ (if want.w then codes "w" else []) ++ (if want.x then codes "x" else [])
+    (if want.r then codes "r" else []) ++ (if want.w then codes "w" else []) ++
+    (if want.x then codes "x" else [])
 
 abbrev pub query_text : Script → Query → List ℕ
 query_text script Ids = codes "ids"
@@ -28,4 +30,5 @@ query_text script Bits = codes "bits"
 query_text script (Capable cap) = codes "capable " ++ decimal cap
 query_text script (Bset cap) = codes "bset " ++ decimal cap
 query_text script (AmbIs cap) = codes "ambis " ++ decimal cap
-query_text script (Check file want) = codes "check " ++ file_text script file ++ codes " " ++ want_text want
+query_text script (Check file want) =
+    codes "check " ++ file_text script file ++ codes " " ++ want_text want

@@ -9,7 +9,8 @@ use Rattle.cred_report.specs.Answers.{answer_text}
 -- the number of the line that made the event, the event and its answer, on a line of the report
 abbrev pub entry_text : Script → Entry → List ℕ
 entry_text script entry =
-    decimal entry.line ++ codes " " ++ event_text script entry.event ++ codes " -> " ++ answer_text entry.answer ++ codes "\n"
+    decimal entry.line ++ codes " " ++ event_text script entry.event ++ codes " -> " ++
+    answer_text entry.answer ++ codes "\n"
 
 -- the entries one after another
 abbrev pub text : Script → List Entry → List ℕ

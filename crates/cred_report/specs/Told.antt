@@ -8,11 +8,13 @@ use Rattle.cred_report.specs.Numbers.{ids_text, set_text, flag_text}
 -- the four ids of a kind, each after a space
 abbrev pub ids4_text : Ids4 → List ℕ
 ids4_text ids =
-    codes " " ++ decimal ids.real ++ codes " " ++ decimal ids.effective ++ codes " " ++ decimal ids.saved ++ codes " " ++ decimal ids.fs
+    codes " " ++ decimal ids.real ++ codes " " ++ decimal ids.effective ++ codes " " ++
+    decimal ids.saved ++ codes " " ++ decimal ids.fs
 
 abbrev pub told_text : Told → List ℕ
 told_text (Ids uid gid) = ids4_text uid ++ ids4_text gid
-told_text (Caps perm inh eff bound amb) = set_text perm ++ set_text inh ++ set_text eff ++ set_text bound ++ set_text amb
+told_text (Caps perm inh eff bound amb) =
+    set_text perm ++ set_text inh ++ set_text eff ++ set_text bound ++ set_text amb
 told_text (Groups groups) = ids_text groups
 told_text (Bits bits nnp) = codes " " ++ decimal bits ++ flag_text nnp
 told_text (Flag flag) = flag_text flag

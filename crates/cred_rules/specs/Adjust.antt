@@ -76,8 +76,8 @@ is_same_flag old new f = bit_at old (place f) == bit_at new (place f)
 abbrev pub keeps_lock : ℕ → ℕ → Flag → Bool
 keeps_lock old new f = not (is_locked old f) || is_locked new f && is_same_flag old new f
 
--- with CAP_SETPCAP the securebits may become n, where n has no bit above the eight and keeps what is
--- locked (capabilities(7), "The securebits flags")
+-- with CAP_SETPCAP the securebits may become n, where n has no bit above the eight and keeps what
+-- is locked (capabilities(7), "The securebits flags")
 abbrev pub may_set_bits : Credential → ℕ → Bool
 may_set_bits c n = has_cap c SETPCAP && nat_le n LAST_BITS && list_all (keeps_lock c.bits n) FLAGS
 

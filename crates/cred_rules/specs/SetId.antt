@@ -74,7 +74,8 @@ unfoldable pub after_setresuid : Bool → Ids4 → Arg → Arg → Arg → Resul
 after_setresuid able ids real effective saved =
     let e = id_or effective ids.effective in
     permitted
-    (able || is_one_of real (three ids) && is_one_of effective (three ids) && is_one_of saved (three ids))
+    (able ||
+    is_one_of real (three ids) && is_one_of effective (three ids) && is_one_of saved (three ids))
     (record { real = id_or real ids.real; effective = e; saved = id_or saved ids.saved; fs = e })
 
 -- seteuid(2), setegid(2): the effective id alone, by the rule of setresuid(2)

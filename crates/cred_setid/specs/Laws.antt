@@ -16,13 +16,16 @@ pub record AreOwn (old new : Ids4) : Type 0 where
 -- without CAP_SETUID no call gives a user id that the caller did not have
 abbrev pub UserIdsStayOwn : Type 0
 UserIdsStayOwn =
-    (c d : Credential) (call : IdCall) → has_cap c SETUID ≡ false → set_id c call ≡ Ok d → AreOwn c.uid d.uid
+    (c d : Credential) (call : IdCall) → has_cap c SETUID ≡ false → set_id c call ≡ Ok d
+    → AreOwn c.uid d.uid
 
 -- without CAP_SETGID no call gives a group id that the caller did not have
 abbrev pub GroupIdsStayOwn : Type 0
 GroupIdsStayOwn =
-    (c d : Credential) (call : IdCall) → has_cap c SETGID ≡ false → set_id c call ≡ Ok d → AreOwn c.gid d.gid
+    (c d : Credential) (call : IdCall) → has_cap c SETGID ≡ false → set_id c call ≡ Ok d
+    → AreOwn c.gid d.gid
 
 -- no call that sets ids adds to the permitted set, also not for root
 abbrev pub PermittedNeverGrows : Type 0
-PermittedNeverGrows = (c d : Credential) (call : IdCall) → set_id c call ≡ Ok d → IsWithin d.perm c.perm
+PermittedNeverGrows =
+    (c d : Credential) (call : IdCall) → set_id c call ≡ Ok d → IsWithin d.perm c.perm

@@ -33,10 +33,13 @@ without_late row = record row { late = 0 }
 -- The flags are set where the rows count something.
 pub record IsFlagged (count : Row → ℕ) (flags : List Bool) (rows : List Row) : Type 0 where
   pub long : length flags ≡ SLOTS
-  pub each : (slot : ℕ) → slot < SLOTS → slice_index_or flags slot false ≡ nat_lt 0 (count (row_at rows slot))
+  pub each : (slot : ℕ) → slot < SLOTS
+      → slice_index_or flags slot false ≡ nat_lt 0 (count (row_at rows slot))
 
--- `sealable` and `referable` are how many numbers may be sealed, and how many may be given up, in the memory that is there.
-pub record IsSound (rows : List Row) (sealed deferred : List ℕ) (kept used late : List Bool) (held spare sealable referable : ℕ) : Type 0 where
+-- `sealable` and `referable` are how many numbers may be sealed, and how many may be given up, in
+-- the memory that is there.
+pub record IsSound (rows : List Row) (sealed deferred : List ℕ) (kept used late : List Bool)
+    (held spare sealable referable : ℕ) : Type 0 where
   pub all_rows : length rows ≡ SLOTS
   pub all_kept : length kept ≡ SLOTS
   pub is_used : IsFlagged held_count used rows
@@ -44,9 +47,11 @@ pub record IsSound (rows : List Row) (sealed deferred : List ℕ) (kept used lat
   -- each number stands in one of the slots
   pub places : (number slot : ℕ) → slice_get sealed number ≡ Some slot → slot < SLOTS
   -- a number that is referred to stands in the slot that counts it
-  pub stands : (slot : ℕ) → slot < SLOTS → let row = row_at rows slot in 0 < row.held + row.late → slice_get sealed row.number ≡ Some slot
+  pub stands : (slot : ℕ) → slot < SLOTS → let row = row_at rows slot in 0 < row.held + row.late
+      → slice_get sealed row.number ≡ Some slot
   -- nothing refers to a kept slot
-  pub keeps : (slot : ℕ) → slot < SLOTS → slice_index_or kept slot false ≡ true → let row = row_at rows slot in row.held + row.late ≡ 0
+  pub keeps : (slot : ℕ) → slot < SLOTS → slice_index_or kept slot false ≡ true
+      → let row = row_at rows slot in row.held + row.late ≡ 0
   -- what was given up is counted as late, and all that is held is counted in one number
   pub given_up : IsSameBag deferred (late_in rows)
   pub counted : length (held_in rows) ≡ held

@@ -11,7 +11,8 @@ SLOTS = 256
 pub record Table : Type 0 where
   -- the slot of each number that was sealed: the place in this list is the number
   pub sealed : List ℕ
-  -- the numbers that are referred to, each as often as it is, in some order, without those that were given up
+  -- the numbers that are referred to, each as often as it is, in some order, without those that
+  -- were given up
   pub held : List ℕ
   -- the references that were given up since the last sweep, in that order
   pub deferred : List ℕ
@@ -22,7 +23,13 @@ pub record Table : Type 0 where
 
 -- the table before the first number is sealed
 unfoldable pub empty : Table
-empty = record { sealed = []; held = []; deferred = []; kept = map (λ _. false) (range_with_len 0 SLOTS); spare = 0 }
+empty = record {
+  sealed = [];
+  held = [];
+  deferred = [];
+  kept = map (λ _. false) (range_with_len 0 SLOTS);
+  spare = 0;
+}
 
 -- all references; one that was given up counts until the sweep
 abbrev pub references : Table → List ℕ
@@ -34,7 +41,8 @@ references_to t number = count_by (λ n. n == number) (references t)
 
 -- the number stands in the slot
 abbrev pub stands_in : List ℕ → ℕ → ℕ → Bool
-stands_in sealed slot number = option_map_or (λ place. place == slot) (slice_get sealed number) false
+stands_in sealed slot number =
+    option_map_or (λ place. place == slot) (slice_get sealed number) false
 
 -- how many references there are to numbers in the slot
 abbrev pub uses : Table → ℕ → ℕ
@@ -45,7 +53,8 @@ is_kept t slot = slice_index_or t.kept slot false
 
 -- A slot is live if something refers to a number in it, or if it is kept.
 abbrev pub is_live : Table → ℕ → Bool
-is_live t slot = list_any (λ number. stands_in t.sealed slot number) (references t) || is_kept t slot
+is_live t slot =
+    list_any (λ number. stands_in t.sealed slot number) (references t) || is_kept t slot
 
 -- 0 to 255
 unfoldable pub slots : List ℕ
@@ -67,10 +76,12 @@ room t = record t { deferred = if is_some (least_free t) then t.deferred else []
 abbrev pub free : Table → Option ℕ
 free t = least_free (room t)
 
--- Two lists have the same numbers, each as often, if each test passes as many of the one as of the other.
+-- Two lists have the same numbers, each as often, if each test passes as many of the one as of the
+-- other.
 pub record IsSameBag (xs ys : List ℕ) : Type 0 where
   pub counts : (test : ℕ → Bool) → count_by test xs ≡ count_by test ys
 
 -- Of all numbers that stand in the slot, only this one is referred to.
 pub record IsAlone (t : Table) (number slot : ℕ) : Type 0 where
-  pub only : (other : ℕ) → stands_in t.sealed slot other ≡ true → 0 < references_to t other → other ≡ number
+  pub only : (other : ℕ) → stands_in t.sealed slot other ≡ true → 0 < references_to t other
+      → other ≡ number
