@@ -6,7 +6,7 @@ ghost use Rattle.cred_rules.specs.Access.{in_group, class_of};
 use cred_ids::Id;
 use cred_record::{Cred, FileInfo};
 
-/// A class of tasks, as a file's mode tells them apart (inode(7)).
+/// A class of tasks, as a file's mode divides them (inode(7)).
 #[derive(Clone, Copy, PartialEq, Eq, Debug)]
 pub enum Class {
     /// The file's owner.

@@ -52,7 +52,7 @@ impl Book {
     ///
     /// # Errors
     ///
-    /// `NoMemory` where the state found none.
+    /// `NoMemory` if an allocation of the state fails.
     pub fn new(alloc: Global, script: Script) -> Result<Book, NoMemory>
         ensures script { IfOk result (λ book. book.script ≡ script) }
         ensures journal { IfOk result (λ book. book.journal ≡ []) }
@@ -94,7 +94,7 @@ impl Book {
     ///
     /// # Errors
     ///
-    /// `NoMemory` where the state, the entry or the copy found none: the book is as it was.
+    /// `NoMemory` if an allocation of the state, the entry or the copy fails: the book is as it was.
     pub fn event(&mut self, line: u32, event: Event) -> Result<Answer, NoMemory>
         requires kind { IsEventOf (length self.old.script.files) event }
         ensures entered { OnOk result (self.new ≡ with_event self.old line event) }
@@ -119,7 +119,7 @@ impl Book {
     ///
     /// # Errors
     ///
-    /// `NoMemory` where the event, the state or the entry found none: the book is as it was.
+    /// `NoMemory` if an allocation of the event, the state or the entry fails: the book is as it was.
     pub fn next(&mut self, lane: u32) -> Result<Step, NoMemory>
         requires { Stands self.old }
         ensures script { self.new.script ≡ self.old.script }

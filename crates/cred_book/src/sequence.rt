@@ -12,7 +12,7 @@ use std::alloc::Global;
 ///
 /// # Errors
 ///
-/// `NoMemory` where an entry found none.
+/// `NoMemory` if an allocation fails.
 pub fn run(alloc: Global, script: Script) -> Result<Book, NoMemory>
     ensures script { IfOk result (λ book. book.script ≡ script) }
     ensures sequence { IfOk result (λ book. IsSequence book.script book.journal) }

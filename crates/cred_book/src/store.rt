@@ -36,7 +36,7 @@ impl Store {
     ///
     /// # Errors
     ///
-    /// `NoMemory` where the places found none.
+    /// `NoMemory` if the allocation of the places fails.
     pub fn new(alloc: Global) -> Result<Store, NoMemory>
         ensures { IfOk result (λ store. store ≡ replicate SLOTS None) }
     {

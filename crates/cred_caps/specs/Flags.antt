@@ -5,7 +5,7 @@ use Rattle.std.specs.Int.{bit_at}
 use Rattle.cred_caps.specs.declared.secure.Flag.{Flag}
 use Rattle.cred_caps.specs.Secure.{place, is_set, is_locked, with_flag}
 
--- the new bits have the flag as told, and every other of the eight bits, also each lock, as it was
+-- the new bits have the flag as asked, and every other of the eight bits, also each lock, as it was
 pub record SetsFlag (old new : ℕ) (f : Flag) (on : Bool) : Type 0 where
   pub itself : is_set new f ≡ on
   pub others : (n : ℕ) → n < 8 → n ≢ place f → bit_at new n ≡ bit_at old n

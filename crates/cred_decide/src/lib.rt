@@ -1,4 +1,4 @@
-//! What is decided on one credential: what a question about it is told, and what a change makes of
+//! What is decided on one credential: what a question about it is answered, and what a change makes of
 //! it. A decision sees the credential and the file that it names, and no task, label or slot.
 #![tactic(auto)]
 

@@ -54,7 +54,7 @@ pub fn reply(
     Ok(Answer::Told(told))
 }
 
-/// What a question about one capability is told: a number that is none is refused.
+/// The answer to a question about one capability: a number that is none is refused.
 fn flag(is: Option<bool>) -> Answer
     ensures { result ≡ flag is }
 {
@@ -71,7 +71,7 @@ fn is_capable(cred: &Cred, n: u32) -> Option<bool>
     Some(capable(cred, Cap::new(n)?))
 }
 
-/// What the check of a file is told: `Done` where all that is wanted is permitted.
+/// The answer to the check of a file: `Done` where all that is wanted is permitted.
 fn checked(cred: &Cred, file: Option<&FileInfo>, want: Want) -> Answer
     ensures { result ≡ checked cred.now (option_map (λ file. file.now) file.entry) want }
 {

@@ -53,7 +53,7 @@ pub enum Change {
 /// a broadcast by the number of the line that began it.
 #[derive(Clone, Drop, Debug)]
 pub enum Event {
-    /// A first task is born into a process, with these ids and this namespace.
+    /// A first task is created in a process, with these ids and this namespace.
     Init {
         task: u32,
         process: u32,

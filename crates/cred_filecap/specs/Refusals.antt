@@ -1,9 +1,9 @@
--- How it is told why bytes are no attribute.
+-- How the reason why bytes are no attribute is reported.
 use Rattle.cred_rules.specs.Attribute.{Fault, WrongLength, WrongRevision}
 use Rattle.cred_filecap.specs.declared.refusal.AttrRefusal.{AttrRefusal}
 use Rattle.cred_filecap.specs.declared.refusal.AttrRefusal.TheVariants.{BadLength, BadRevision}
 
--- the refusal that a fault is told as
+-- the refusal that reports a fault
 abbrev pub refusal_of : Fault → AttrRefusal
 refusal_of (WrongLength n) = BadLength n
 refusal_of (WrongRevision n) = BadRevision n

@@ -17,7 +17,7 @@ use std::alloc::Global;
 ///
 /// # Errors
 ///
-/// `NoMemory` where the bytes found none.
+/// `NoMemory` if the allocation of the bytes fails.
 pub fn encode(alloc: Global, caps: &FileCaps) -> Result<Attr, NoMemory>
     ensures spells { IfOk result (λ attr. Spells attr caps.now) }
     ensures canonical { IfOk result (λ attr. IsCanonical attr) }

@@ -58,7 +58,7 @@ impl Groups {
         }
     }
 
-    /// The ids of a list, sorted, with its repeats. `TooMany` tells the length of a list of more
+    /// The ids of a list, sorted, with its repeats. `TooMany` has the length of a list of more
     /// than 32 ids, and comes for no other list.
     pub fn from_list(alloc: Global, list: &[Id]) -> Result<Groups, GroupsRefusal>
         ensures sorted { IfOk result (λ g. g ≡ in_order list.now) }
@@ -73,7 +73,7 @@ impl Groups {
             return Err(GroupsRefusal::TooMany(list.len()));
         }
         let mut ids = Vec::with_capacity(alloc, list.len())?;
-        // Copied one by one, since `number` tells the proof that each is an id.
+        // Copied one by one, since `number` shows the proof that each is an id.
         for id in list {
             let _number = id.number();
             ids.push(*id).map_err(AllocError::from)?;

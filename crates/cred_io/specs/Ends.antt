@@ -20,7 +20,7 @@ pub record ReadsUpTo (limit : ℕ) (before after : Option (List ℕ)) : Type 0 w
   pub taken : Consumes before after bytes
   pub within : length bytes ≤ limit
 
--- a front of the text was written, and nothing else
+-- a prefix of the text was written, and nothing else
 pub record AppendsPrefix (before after : Option (List ℕ)) (text : List ℕ) : Type 0 where
   pub count : ℕ
   pub written : Appends before after (take count text)

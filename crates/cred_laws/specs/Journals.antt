@@ -65,7 +65,7 @@ GainsAsAnswered script journal =
     → current_of (state_at script journal (k + 1)) task ≡ Some after
     → IfSome (slice_get journal k) (λ entry. Gains entry.answer before after)
 
--- A task comes to live by the entry that creates it, with the credential that this one gives it.
+-- A task lives from the entry on that creates it, with the credential that this one gives it.
 abbrev pub CreatesTasks : Script → List Entry → Type 0
 CreatesTasks script journal =
     (k task : ℕ) (after : Numbered) → task_of (state_at script journal k) task ≡ None

@@ -5,7 +5,7 @@ ghost use Rattle.cred_laws.specs.Journals.{JournalsAreLawful};
 /// is sound, and each prepared credential there is what its change makes of its base. Its entries
 /// seal credentials only in slots that are not in use; what is sealed, what is held and what is
 /// prepared stays. What an entry adds to what a living task is permitted is what its answer says
-/// was gained, and a task comes to live by the entry that creates it.
+/// was gained, and a task lives from the entry on that creates it.
 ///
 /// A journal in order, and one whose lanes take turns, has those answers.
 pub fn journals_are_lawful()

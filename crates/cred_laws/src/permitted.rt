@@ -19,7 +19,7 @@ pub fn permitted_gains()
     ensures { PermittedGains }
 {}
 
-/// A task that comes to live is created by the event: a first task with a new credential, that of
+/// A task that an event adds is created by it: a first task with a new credential, that of
 /// the ids and the namespace which the event names.
 pub fn new_tasks_are_created()
     ensures { NewTasksAreCreated }

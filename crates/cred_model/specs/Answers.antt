@@ -19,17 +19,17 @@ abbrev pub refusal : Denial → Answer
 refusal Perm = answer.Eperm
 refusal Invalid = answer.Einval
 
--- what a question about one capability is told: a number that is no capability's is refused
+-- the answer to a question about one capability: a number that is no capability's is refused
 abbrev pub flag : Option Bool → Answer
 flag None = answer.Einval
 flag (Some is) = answer.Told (told.Flag is)
 
--- what a check of a file is told; there is always a file, since a question names a declared one
+-- the answer to a check of a file; there is always one, since a question names a declared file
 abbrev pub checked : Credential → Option File → Want → Answer
 checked c None asked = answer.Eacces
 checked c (Some file) asked = if may c file asked then answer.Done else answer.Eacces
 
--- What a question about a credential is told, where this is the file that it names, if any.
+-- The answer to a question about a credential, where this is the file that it names, if any.
 abbrev pub reply : Option File → Credential → Query → Answer
 reply file c Ids = answer.Told (told.Ids c.uid c.gid)
 reply file c Caps = answer.Told (told.Caps c.perm c.inh c.eff c.bound c.amb)

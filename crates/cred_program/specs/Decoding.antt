@@ -1,4 +1,4 @@
--- What is told of the bytes of a file's capability attribute.
+-- What is written of the bytes of a file's capability attribute.
 use Rattle.std.specs.Prelude.{◌≡◌, ◌⊎◌, ℕ, List}
 use Rattle.std.specs.declared.option.Option.{Option}
 use Rattle.std.specs.Io.KnownBytes.{Appends}
@@ -23,13 +23,13 @@ pub record Denies (bytes : List ℕ) (before after : Option (List ℕ)) : Type 0
   pub none : IsAttribute bytes → ⊥
   pub written : Appends before after (fault_text (fault bytes))
 
--- what is told of the bytes
+-- the text that the bytes have
 abbrev pub IsText : List ℕ → List ℕ → Type 0
 IsText bytes text =
     ((a : Attribute) × Spells bytes a × (text ≡ attr_text a))
     ⊎ ((IsAttribute bytes → ⊥) × (text ≡ fault_text (fault bytes)))
 
--- a prefix of what is told of the bytes was written
+-- a prefix of the text that the bytes have was written
 abbrev pub ShowsPrefix : List ℕ → Option (List ℕ) → Option (List ℕ) → Type 0
 ShowsPrefix bytes before after =
     (text : List ℕ) × IsText bytes text × AppendsPrefix before after text

@@ -7,7 +7,7 @@ use cred_io::Bytes;
 use cred_script::bytes_of;
 use std::alloc::Global;
 
-/// What the program is told to do.
+/// What the program is to do.
 #[derive(Drop, Debug)]
 pub enum Command {
     /// Run a script.

@@ -5,7 +5,7 @@ use Rattle.cred_record.specs.declared.refusal.Denial.TheVariants as denial
 use Rattle.cred_record.specs.declared.refusal.Refusal.{Refusal}
 use Rattle.cred_record.specs.declared.refusal.Refusal.TheVariants as refusal
 
--- the refusal that a denial is told as
+-- the refusal that reports a denial
 abbrev pub refusal_of : Denial → Refusal
 refusal_of denial.Perm = refusal.Perm
 refusal_of denial.Invalid = refusal.Invalid

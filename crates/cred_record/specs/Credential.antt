@@ -34,8 +34,8 @@ ROOT = 0
 abbrev pub has_cap : Credential → ℕ → Bool
 has_cap c n = has c.eff n
 
--- what a first task has: root's permitted and effective sets are full, all others' are empty,
--- nothing is bounded
+-- what a first task has: root's permitted and effective sets are full, any other user's are empty,
+-- and the bounding set is full
 abbrev pub first_credential : ℕ → ℕ → ℕ → Credential
 first_credential user group ns = record {
   uid = all_four user;

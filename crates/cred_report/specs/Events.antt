@@ -1,4 +1,4 @@
--- The text of an event. A letter tells what a number is of: a task, a process, a label (h), a
+-- The text of an event. A letter says what a number is of: a task, a process, a label (h), a
 -- descriptor (f) or a namespace.
 use Rattle.std.specs.Prelude.{ℕ, List, ◌++◌, codes, decimal}
 use Rattle.cred_event.specs.declared.event.Side.{Side}

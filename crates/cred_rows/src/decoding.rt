@@ -1,4 +1,4 @@
-//! Attributes of files, with the line that tells what they say.
+//! Attributes of files, with the line that says what they mean.
 use crate::runs::ran;
 use cred_program::Status;
 use std::test::Fail;

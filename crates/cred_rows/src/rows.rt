@@ -114,7 +114,7 @@ const ROWS: [Row; 13] = [
          5 drop h100050 -> ok\n",
     ),
     (
-        // More than 32 groups are EINVAL, but who may set none is told EPERM first.
+        // More than 32 groups are EINVAL, but who may set none gets EPERM first.
         "init t1 p1 0 0 n0\n\
          t1 setgroups 1 2 3 4 5 6 7 8 9 10 11 12 13 14 15 16 17 \
          18 19 20 21 22 23 24 25 26 27 28 29 30 31 32 33\n\

@@ -203,7 +203,7 @@ fn changes_and_commits(rt: HostRuntime) -> Result<(), Fail> {
     Ok(())
 }
 
-/// What questions are told: the ids after an exec of a set-user-ID file, and the rest.
+/// The answers to questions: the ids after an exec of a set-user-ID file, and the rest.
 #[test]
 fn tells_what_is_asked(rt: HostRuntime) -> Result<(), Fail> {
     let root = id(0)?;

@@ -12,12 +12,12 @@ use crate::script::Script;
 use cred_spelling::first_line;
 use std::alloc::Global;
 
-/// The script that these bytes are. `line_count` tells whether they are few enough lines.
+/// The script that these bytes are. `line_count` says whether they are few enough lines.
 ///
 /// # Errors
 ///
 /// `Bad` with the first bad line and its reason, exactly where the bytes are no script; `Memory`
-/// where its words or what it keeps found none.
+/// if an allocation for its words or for what it keeps fails.
 pub fn read(alloc: Global, bytes: &[u8]) -> Result<Script, ScriptRefusal>
     requires few { length (lines_of bytes.now) ≤ 20000 }
     ensures given { Gives (λ script. script) result (script_of bytes.now) }
