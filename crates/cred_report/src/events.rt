@@ -16,16 +16,16 @@ use cred_script::Script;
 fn prepend_init(out: &mut Pen, task: u32, process: u32, user: Id, group: Id, ns: u32)
     requires { 120 ≤ out.old.room }
     ensures text { out.new.text
-        ≡ (codes "init t" ++ decimal task ++ codes " p" ++ decimal process ++ codes " " ++ decimal user
-        ++ codes " " ++ decimal group ++ codes " n" ++ decimal ns) ++ out.old.text }
+        ≡ (codes "init t" ++ decimal task ++ codes " p" ++ decimal process
+        ++ codes " " ++ decimal user ++ codes " " ++ decimal group ++ codes " n" ++ decimal ns) ++ out.old.text }
     ensures room { out.old.room ≤ out.new.room + 120 }
 {
     prepend_three(out, (" ", user.number()), (" ", group.number()), (" n", ns));
     prepend_two(out, ("init t", task), (" p", process))
 }
 
-/// Writes the taking of a credential of a task. Each word is written in an arm of its own, where its
-/// length is known, and needs no call.
+/// Writes the taking of a credential of a task. Each word is written in an arm of its own, where
+/// its length is known, and needs no call.
 fn prepend_take(out: &mut Pen, label: u32, task: u32, side: Side)
     requires { 120 ≤ out.old.room }
     ensures text { out.new.text

@@ -97,8 +97,8 @@ impl Pen {
         self.at = start;
     }
 
-    /// Writes the number before the text, in decimal. Most numbers of a report have one digit, which
-    /// needs no division and no call.
+    /// Writes the number before the text, in decimal. Most numbers of a report have one digit,
+    /// which needs no division and no call.
     #[inline(always)]
     #[tactic(auto, using(std::proofs::lemmas::Fmt::decimal_digit))]
     pub(crate) fn number(&mut self, number: u64)

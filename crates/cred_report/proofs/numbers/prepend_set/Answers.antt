@@ -1,4 +1,4 @@
-use Rattle.std.proofs.Common.{◌≡◌, ℕ, false, codes, sym, ◌∙◌}
+use Rattle.std.proofs.Common.{◌≡◌, false, codes, sym, ◌∙◌}
 use Rattle.std.proofs.DigitsParse.{digits_onto-nil}
 use Rattle.std.specs.Fmt.{digits}
 use Rattle.cred_report.proofs.numbers.prepend_set.Goals as goal
