@@ -1,5 +1,5 @@
 -- The slots and entries of a master, as contracts see them.
-use Rattle.std.proofs.Common.{◌≡◌, ◌≢◌, zero, suc, add-one, ◌+◌, ◌<◌, ◌≤◌, ℕ, List, ◌++◌, ◌∷◌, [], map, replicate, take, drop, length, set, Some, None, Bool, true, false, true≢false, refl, sym, ap, ◌∙◌, subst, ⊎_elim, arith}
+use Rattle.std.proofs.Common.{length-append, ◌≡◌, ◌≢◌, zero, suc, add-one, ◌+◌, ◌<◌, ◌≤◌, ℕ, List, ◌++◌, ◌∷◌, [], map, replicate, take, drop, length, set, Some, None, Bool, true, false, true≢false, refl, sym, ap, ◌∙◌, subst, ⊎_elim, arith}
 use Rattle.std.specs.Prelude.{slice_get, slice_index, not, ◌&&◌, if◌then◌else◌}
 use Rattle.std.specs.List.{AllByRecursion}
 use Rattle.std.proofs.lemmas.List.{drop_all, get_or-drop, get_or-take, append-nil, take_all, map-append}
@@ -113,3 +113,15 @@ whole-words ws wide = let w = width_is in take_all WORDS ws (omega arith)
 -- a word among those that were read
 pub part-at : (ws part : List ℕ) (n first i : ℕ) → part ≡ take n (drop first ws) → i < n → slice_index part i ≡ slice_index ws (first + i)
 part-at ws part n first i is small = ap (λ (xs : List ℕ). slice_index xs i) is ∙ get_or-take n (drop first ws) i 0 small ∙ get_or-drop first ws i 0
+
+pub taken-length : {A : Type 0} (old : List A) (x : A) (new : List A) → IsTaken old x new → length old ≡ suc (length new)
+taken-length old x new h =
+    let a = length-append h.0 (x ∷ h.1) in
+    let b = length-append h.0 h.1 in
+    let c = ap length h.2 in
+    let d = ap length h.3 in
+    omega arith
+
+pub none-left : {A : Type 0} (xs : List A) → length xs ≡ 0 → xs ≡ []
+none-left [] is = refl
+none-left (x ∷ xs) is = absurd (omega arith)

@@ -1,10 +1,11 @@
 -- What contracts see of the tokens: labels, slots, credentials, and the identity of the cells.
-use Rattle.std.specs.Prelude.{◌≡◌, ◌≢◌, ℕ, List, length, Option, Some, None, Bool, true, false, not, slice_get}
+use Rattle.std.specs.Prelude.{◌≡◌, ◌≢◌, ℕ, List, length, replicate, Option, Some, None, Bool, true, false, not, slice_get}
 use Rattle.std.specs.List.{AllByRecursion}
 use Rattle.atomic_table.specs.Seated.{TableId}
 use Rattle.cred_record.specs.Credential.{Credential}
 use Rattle.cred_record.specs.Words.{credential_of, are_words}
 use Rattle.cred_words.specs.Size.{width}
+use Rattle.cred_words.specs.declared.size.TheConstants.{SLOTS}
 use Rattle.cred_words.specs.declared.view.Slot.{Slot}
 use Rattle.cred_words.specs.declared.view.Token.{Token}
 
@@ -41,6 +42,10 @@ pub record Written : Type 0 where
 -- the slot is sealed. No writer is then out on it, since a loan to a writer unseals it
 abbrev pub IsSealed : List (Option Credential) → ℕ → Type 0
 IsSealed slots slot = (c : Credential) × (slice_get slots slot ≡ Some (Some c))
+
+-- no slot is sealed
+unfoldable pub none_sealed : List (Option Credential)
+none_sealed = replicate SLOTS None
 
 -- no token is out on the slot
 abbrev pub IsAlone : List Entry → ℕ → Type 0

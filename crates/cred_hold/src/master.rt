@@ -1,7 +1,7 @@
 //! The master of the shared words: what it lends, and what it takes back.
-ghost use Rattle.std.specs.Prelude.{◌≡◌, ◌<◌, [], ◌∷◌, Some, None, IfOk, replicate, slice_get, slice_set};
+ghost use Rattle.std.specs.Prelude.{◌≡◌, ◌<◌, [], ◌∷◌, Some, None, IfOk, slice_get, slice_set};
 ghost use Rattle.cred_words.specs.Lists.{IsTaken};
-ghost use Rattle.cred_hold.specs.Tokens.{entry, IsSealed, IsAlone};
+ghost use Rattle.cred_hold.specs.Tokens.{entry, none_sealed, IsSealed, IsAlone};
 
 use crate::tokens::{Hold, Writer};
 use cred_ids::NoMemory;
@@ -42,7 +42,7 @@ impl Model for Master {
 /// Memory ran out.
 pub fn make(alloc: Global) -> Result<(Cells, Master), NoMemory>
     ensures { IfOk result (λ r. (r.1.id ≡ r.0) × (r.1.entries ≡ [])
-        × (r.1.slots ≡ replicate SLOTS None)) }
+        × (r.1.slots ≡ none_sealed)) }
 {
     let (cells, inner) = Cells::make(alloc)?;
     Ok((cells, Master { inner }))
