@@ -60,8 +60,8 @@ revision_of bytes = slice_index bytes 3
 
 -- ---- what they spell
 
--- version 2 (VFS_CAP_REVISION_2) has five words. It has no root id, and is taken to have 0, that of the
--- initial namespace
+-- version 2 (VFS_CAP_REVISION_2) has five words. It has no root id, and is taken to have 0, that of
+-- the initial namespace
 pub record IsVersion2 (bytes : List ℕ) (a : Attribute) : Type 0 where
   pub size : length bytes ≡ 20
   pub revision : revision_of bytes ≡ 2
