@@ -19,7 +19,7 @@ use Rattle.cred_slots.proofs.Counting.{count-cons}
 use Rattle.cred_book.specs.Prepared.{changed_of}
 use Rattle.cred_book.specs.Kept.{AreFilled, shown, IsKept}
 use Rattle.cred_book.proofs.Bags.{bag-other, bag-less, counts_itself}
-use Rattle.cred_book.proofs.Labels.{find-at, place-of_found}
+use Rattle.cred_book.proofs.Places.{find-at, place-of_found}
 use Rattle.cred_book.proofs.Labelling.{abort_tests, keeps-less}
 use Rattle.cred_book.proofs.Sealing.{Drops, alone_later}
 use Rattle.cred_book.proofs.Standing.{Differ, standing-renewed, standing-unlabel, base-stands_twice}

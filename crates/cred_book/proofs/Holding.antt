@@ -7,7 +7,7 @@ use Rattle.cred_model.specs.Step.{by_release, settled}
 use Rattle.cred_slots.specs.Table.{Table}
 use Rattle.cred_book.specs.Kept.{AreFilled, shown, IsKept, creds_in}
 use Rattle.cred_book.proofs.Bags.{bag-less, bag-has, bag-at}
-use Rattle.cred_book.proofs.Labels.{place-of_found}
+use Rattle.cred_book.proofs.Places.{place-of_found}
 use Rattle.cred_book.proofs.Sealing.{Drops, keeps_same}
 use Rattle.cred_book.proofs.Standing.{standing-unhold}
 

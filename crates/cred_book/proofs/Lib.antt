@@ -1,6 +1,8 @@
 pub mod Courses
 pub mod Cursors
-pub mod Newest
+pub mod NewestApart
+pub mod Places
+pub mod ByLabel
 pub mod Labels
 pub mod Bags
 pub mod Keeps

@@ -1,8 +1,22 @@
--- The prepared labels.
-use Rattle.std.specs.Prelude.{◌≡◌, ℕ, ◌==◌, List, find, position, remove, slice_get, Some}
+-- The prepared labels, as values under labels.
+use Rattle.std.specs.Prelude.{◌≡◌, ℕ, ◌==◌, List, find, map, position, remove, slice_get, Some}
 use Rattle.std.specs.declared.option.Option.{Option}
 use Rattle.std.specs.Option.{option_and_then}
 use Rattle.cred_model.specs.State.{Prepared, Changed}
+use Rattle.cred_book.specs.declared.prepared.Preparation.{Preparation}
+
+-- what is prepared under the label
+abbrev pub prepared_as : ℕ → Preparation → Prepared
+prepared_as label p = record {
+  label = label;
+  task = p.task;
+  base = p.base;
+  slot = p.slot;
+  changed = p.changed;
+}
+
+abbrev pub all_prepared : List (ℕ × Preparation) → List Prepared
+all_prepared entries = map (λ entry. prepared_as entry.0 entry.1) entries
 
 -- where a label stands among those that are prepared
 abbrev pub place_of : List Prepared → ℕ → Option ℕ

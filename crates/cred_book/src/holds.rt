@@ -3,44 +3,25 @@ ghost use Rattle.std.specs.Prelude.{◌≡◌, ◌==◌, [], ◌∷◌, ◌++◌
 ghost use Rattle.std.specs.Option.{option_map};
 ghost use Rattle.cred_book.specs.Holds.{place_of, Releases};
 
+use crate::labelled::Labelled;
 use cred_ids::NoMemory;
 use std::alloc::Global;
 use std::marker::Model;
 
-/// A label, and the number of the credential that it holds.
-#[derive(Clone, Copy, Debug)]
-struct Hold {
-    label: u32,
-    number: u64,
-}
-
-impl Model for Hold {
-    ghost use Rattle.cred_model.specs.State as model;
-
-    ghost Value = { model.Hold };
-
-    ghost view = { λ h. record { label = h.label; number = h.number } };
-
-    ghost inverse = { λ h. record { label = h.label; number = h.number } };
-}
-
-/// The holds, in the order in which the labels took hold. They are few, and a line looks for its
-/// own, which is the newest: so a label is looked for from the last one on.
+/// The number of a credential under each label, in the order in which the labels took hold.
 #[derive(Drop, Debug)]
 pub struct Holds {
-    all: Vec<Hold>,
+    numbers: Labelled<u64>,
 }
 
 impl Model for Holds {
-    ghost use Rattle.std.specs.Prelude.{List, ◌≢◌};
-    ghost use Rattle.std.specs.List.{AllPairs};
+    ghost use Rattle.std.specs.Prelude.{List};
     ghost use Rattle.cred_model.specs.State.{Hold};
+    ghost use Rattle.cred_book.specs.Holds.{holds_of};
 
     ghost Value = { List Hold };
 
-    ghost view = { λ h. h.all.items };
-
-    ghost invariant = { λ h. AllPairs (λ a b. a.label ≢ b.label) h.all.items };
+    ghost view = { λ h. holds_of h.numbers };
 }
 
 impl Holds {
@@ -49,7 +30,7 @@ impl Holds {
         ensures { result ≡ [] }
     {
         Holds {
-            all: Vec::new(alloc),
+            numbers: Labelled::new(alloc),
         }
     }
 
@@ -57,15 +38,14 @@ impl Holds {
     pub fn len(&self) -> usize
         ensures { result ≡ length self.now }
     {
-        self.all.len()
+        self.numbers.len()
     }
 
     /// The number that a label holds.
     pub fn get(&self, label: u32) -> Option<u64>
         ensures { result ≡ option_map (λ h. h.number) (find (λ h. h.label == label) self.now) }
     {
-        let place = self.place(label)?;
-        Some(self.all[place].number)
+        self.numbers.get(label).copied()
     }
 
     /// A label takes hold of a number. Without memory nothing changes.
@@ -75,8 +55,7 @@ impl Holds {
             (self.new ≡ self.old ++ record { label = label; number = number } ∷ []) }
         ensures err { OnErr result (self.new ≡ self.old) }
     {
-        self.all.push(Hold { label, number })?;
-        Ok(())
+        self.numbers.push(label, number)
     }
 
     /// A label lets go of the number that it held.
@@ -85,14 +64,6 @@ impl Holds {
             ((place_of self.old label ≡ None) × (self.new ≡ self.old))
             (λ number. Releases self.old self.new label number) }
     {
-        let place = self.place(label)?;
-        Some(self.all.remove(place).number)
-    }
-
-    /// Where a label stands among the holds.
-    fn place(&self, label: u32) -> Option<usize>
-        ensures { result ≡ place_of self.now label }
-    {
-        self.all.iter().rposition(|h| h.label == label)
+        self.numbers.remove(label)
     }
 }

@@ -5,6 +5,7 @@ mod book;
 mod cursor;
 mod files;
 mod holds;
+mod labelled;
 mod prepared;
 mod seal;
 mod sequence;

@@ -2,8 +2,9 @@
 ghost use Rattle.std.specs.Prelude.{◌≡◌, ◌==◌, [], ◌∷◌, ◌++◌, find, length, None, IsSome, MatchOption, OnOk, OnErr};
 ghost use Rattle.std.specs.Option.{option_map};
 ghost use Rattle.cred_model.specs.Step.{with_change};
-ghost use Rattle.cred_book.specs.Prepared.{place_of, changed_of, IsReady, Ends, Commits};
+ghost use Rattle.cred_book.specs.Prepared.{prepared_as, place_of, changed_of, IsReady, Ends, Commits};
 
+use crate::labelled::Labelled;
 use cred_event::Change;
 use cred_ids::NoMemory;
 use cred_record::{Cred, Gains};
@@ -26,29 +27,14 @@ impl Model for Changed {
     ghost view = { λ c. record { change = c.change; cred = c.cred; gains = c.gains } };
 }
 
-/// What a label prepares: the task that it is for, the number of the credential that it is based
-/// on, the slot that is kept for it, and what the base has become, once it was changed.
+/// What is prepared under a label: the task that it is for, the number of the credential that it is
+/// based on, the slot that is kept for it, and what the base has become, once it was changed.
 #[derive(Drop, Debug)]
-pub struct Prepared {
-    pub label: u32,
+pub struct Preparation {
     pub task: u32,
     pub base: u64,
     pub slot: u32,
     pub changed: Option<Changed>,
-}
-
-impl Model for Prepared {
-    ghost use Rattle.cred_model.specs.State as model;
-
-    ghost Value = { model.Prepared };
-
-    ghost view = { λ p. record {
-      label = p.label;
-      task = p.task;
-      base = p.base;
-      slot = p.slot;
-      changed = p.changed;
-    } };
 }
 
 /// Which task a changed label is for, and the number of the credential that it is based on.
@@ -65,23 +51,20 @@ pub struct Ended {
     pub slot: u32,
 }
 
-/// What is prepared under each label, in the order in which the labels began. They are few, and a
-/// line looks for its own, which is the newest: so a label is looked for from the last one on.
+/// What is prepared under each label, in the order in which the labels began.
 #[derive(Drop, Debug)]
 pub struct Preparing {
-    all: Vec<Prepared>,
+    entries: Labelled<Preparation>,
 }
 
 impl Model for Preparing {
-    ghost use Rattle.std.specs.Prelude.{List, ◌≢◌};
-    ghost use Rattle.std.specs.List.{AllPairs};
+    ghost use Rattle.std.specs.Prelude.{List};
     ghost use Rattle.cred_model.specs.State.{Prepared};
+    ghost use Rattle.cred_book.specs.Prepared.{all_prepared};
 
     ghost Value = { List Prepared };
 
-    ghost view = { λ p. p.all.items };
-
-    ghost invariant = { λ p. AllPairs (λ a b. a.label ≢ b.label) p.all.items };
+    ghost view = { λ p. all_prepared p.entries };
 }
 
 impl Preparing {
@@ -90,7 +73,7 @@ impl Preparing {
         ensures { result ≡ [] }
     {
         Preparing {
-            all: Vec::new(alloc),
+            entries: Labelled::new(alloc),
         }
     }
 
@@ -98,15 +81,15 @@ impl Preparing {
     pub fn len(&self) -> usize
         ensures { result ≡ length self.now }
     {
-        self.all.len()
+        self.entries.len()
     }
 
     /// What is prepared under a label. `None` where it isn't prepared.
-    pub fn get(&self, label: u32) -> Option<&Prepared>
-        ensures { option_map (λ p. p.now) result ≡ find (λ p. p.label == label) self.now }
+    pub fn get(&self, label: u32) -> Option<&Preparation>
+        ensures { option_map (λ p. prepared_as label p.now) result
+            ≡ find (λ p. p.label == label) self.now }
     {
-        let place = self.place(label)?;
-        Some(&self.all[place])
+        self.entries.get(label)
     }
 
     /// A label that was changed. `None` where the label isn't prepared, or was never changed.
@@ -115,22 +98,21 @@ impl Preparing {
             (changed_of self.now label ≡ None)
             (λ ready. IsReady self.now label ready.task ready.base) }
     {
-        let prepared = self.get(label)?;
-        prepared.changed.as_ref()?;
+        let preparation = self.get(label)?;
+        preparation.changed.as_ref()?;
         Some(Ready {
-            task: prepared.task,
-            base: prepared.base,
+            task: preparation.task,
+            base: preparation.base,
         })
     }
 
     /// A label that wasn't prepared begins to prepare. Without memory nothing changes.
-    pub fn prepare(&mut self, prepared: Prepared) -> Result<(), NoMemory>
-        requires { find (λ p. p.label == prepared.label) self.old ≡ None }
-        ensures ok { OnOk result (self.new ≡ self.old ++ prepared ∷ []) }
+    pub fn prepare(&mut self, label: u32, preparation: Preparation) -> Result<(), NoMemory>
+        requires { find (λ p. p.label == label) self.old ≡ None }
+        ensures ok { OnOk result (self.new ≡ self.old ++ prepared_as label preparation ∷ []) }
         ensures err { OnErr result (self.new ≡ self.old) }
     {
-        self.all.push(prepared)?;
-        Ok(())
+        self.entries.push(label, preparation)
     }
 
     /// The base of a label was changed to this: what an earlier change made of it is dropped. Where
@@ -138,10 +120,16 @@ impl Preparing {
     pub fn change(&mut self, label: u32, to: Changed)
         ensures { self.new ≡ with_change self.old label to }
     {
-        if let Some(place) = self.place(label) {
-            let prepared = &mut self.all[place];
-            prepared.changed = Some(to);
-        }
+        let Some(preparation) = self.entries.get(label) else {
+            return;
+        };
+        let changed = Preparation {
+            task: preparation.task,
+            base: preparation.base,
+            slot: preparation.slot,
+            changed: Some(to),
+        };
+        self.entries.set(label, changed);
     }
 
     /// A label gives up what it prepared. `None` where it isn't prepared; then nothing changes.
@@ -150,8 +138,7 @@ impl Preparing {
             ((place_of self.old label ≡ None) × (self.new ≡ self.old))
             (λ ended. Ends self.old self.new label ended.base ended.slot) }
     {
-        let place = self.place(label)?;
-        let Prepared { base, slot, .. } = self.all.remove(place);
+        let Preparation { base, slot, .. } = self.entries.remove(label)?;
         Some(Ended { base, slot })
     }
 
@@ -161,15 +148,7 @@ impl Preparing {
         ensures { Commits self.old self.new label result.0 result.1 }
     {
         // Both are there: the label was changed.
-        let place = self.place(label).unwrap();
-        let prepared = self.all.remove(place);
-        (prepared.slot, prepared.changed.unwrap())
-    }
-
-    /// Where a label stands among those that are prepared.
-    fn place(&self, label: u32) -> Option<usize>
-        ensures { result ≡ place_of self.now label }
-    {
-        self.all.iter().rposition(|p| p.label == label)
+        let preparation = self.entries.remove(label).unwrap();
+        (preparation.slot, preparation.changed.unwrap())
     }
 }

@@ -8,7 +8,7 @@ ghost use Rattle.cred_sound.specs.Sound.{IsSound};
 ghost use Rattle.cred_model.specs.Step.{by_abort, by_alter, by_commit, by_prepare, settled};
 
 use crate::files::{executed_file, initial_chain};
-use crate::prepared::{Changed, Ended, Prepared, Ready};
+use crate::prepared::{Changed, Ended, Preparation, Ready};
 use crate::state::State;
 use crate::table::{Numbered, sealed_at, set_current, task_among};
 use cred_decide::{Made, change as change_of};
@@ -50,13 +50,15 @@ impl State {
             self.slots.sweep();
             return Ok(Answer::TableFull);
         };
-        self.prepared.prepare(Prepared {
+        self.prepared.prepare(
             label,
-            task,
-            base,
-            slot,
-            changed: None,
-        })?;
+            Preparation {
+                task,
+                base,
+                slot,
+                changed: None,
+            },
+        )?;
         self.slots.claim();
         self.slots.add(base);
         Ok(Answer::Kept { slot })
@@ -143,7 +145,7 @@ impl State {
             result ≡ option_and_then (λ p. numbered self.now.creds p.base)
             (prepared_of self.now label) }
     {
-        let prepared = self.prepared.get(label)?;
-        sealed_at(&self.store, &self.slots, prepared.base)
+        let preparation = self.prepared.get(label)?;
+        sealed_at(&self.store, &self.slots, preparation.base)
     }
 }

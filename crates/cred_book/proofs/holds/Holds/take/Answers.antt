@@ -1,12 +1,14 @@
-use Rattle.std.proofs.lemmas.List.Quantifiers.{all_pairs_push}
+use Rattle.std.proofs.Common.{ap, ◌∙◌}
+use Rattle.std.specs.Option.{option_map}
 use Rattle.cred_model.specs.State.{Hold}
-use Rattle.cred_model.proofs.Lists.{Differ}
-use Rattle.cred_sound.proofs.Unique.{none_has}
+use Rattle.cred_book.proofs.ByLabel.{lookup-holds, on_ok, taken}
 use Rattle.cred_book.proofs.holds.Holds.take.Goals as goal
 
-pub invariant_of-self-2 : goal.invariant_of-self-2
-invariant_of-self-2 c =
-    let new = rw (← c.self.view_is) at c.requires in
-    let label_of : Hold → _ = λ h. h.label in
-    rw c.in_ok-push.ensures.items
-    (all_pairs_push (Differ label_of) c.self.inside.all.items _ c.self.invariant (none_has label_of c.self.inside.all.items c.args.label new))
+pub push-requires : goal.push-requires
+push-requires c =
+    lookup-holds c.args.label c.self.inside.numbers ∙ ap (option_map (λ (h : Hold). h.number)) (rw (← c.self.view_is) at c.requires)
+
+pub returns-clause-ok : goal.returns-clause-ok
+returns-clause-ok c =
+    rw (← c.self.view_is)
+    (on_ok c.push.result (taken c.args.label c.args.number c.self.inside.numbers c.push.new.self) c.push.ensures.ok)

@@ -1,14 +1,20 @@
 use Rattle.std.proofs.Common.{sym, ◌∙◌}
-use Rattle.cred_book.proofs.Labels.{gave_up}
+use Rattle.cred_book.proofs.ByLabel.{gave_up, not_given}
 use Rattle.cred_book.proofs.prepared.Preparing.give_up.Goals as goal
+
+pub returns-in_err-base : goal.returns-in_err-base
+returns-in_err-base c =
+    let none = sym c.remove.ensures.value ∙ c.in_err-base.was in
+    rw (c.from_residual.ensures, ← c.self.view_is)
+    (not_given c.args.label c.self.inside.entries c.remove.new.self none c.remove.ensures.left)
 
 pub returns : goal.returns
 returns c =
-    let at = rw (← c.self.view_is) at (sym c.in_ok-place.ensures) in
+    let p = c.in_ok-base.field-0 in
+    let found = sym c.remove.ensures.value ∙ c.in_ok-base.was in
     rw (← c.self.view_is)
     (record {
-      task = c.base.inside.task;
-      changed = c.base.inside.changed;
-      gives = gave_up c.self.inside.all.items c.args.label c.in_ok-place.place _ _ at (c.base.view_is ∙ c.remove.ensures.value)
-          c.remove.new.self.items c.remove.ensures.items;
+      task = p.task;
+      changed = p.changed;
+      gives = gave_up c.args.label p c.self.inside.entries c.remove.new.self found c.remove.ensures.left;
     })

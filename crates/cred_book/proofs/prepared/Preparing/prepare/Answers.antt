@@ -1,13 +1,10 @@
-use Rattle.std.proofs.lemmas.List.Quantifiers.{all_pairs_push}
-use Rattle.cred_model.specs.State.{Prepared}
-use Rattle.cred_model.proofs.Lists.{Differ}
-use Rattle.cred_sound.proofs.Unique.{none_has}
+use Rattle.cred_book.proofs.ByLabel.{begun, is_new, on_ok}
 use Rattle.cred_book.proofs.prepared.Preparing.prepare.Goals as goal
 
-pub invariant_of-self-2 : goal.invariant_of-self-2
-invariant_of-self-2 c =
-    let new = rw (← c.self.view_is) at c.requires in
-    let label_of : Prepared → _ = λ p. p.label in
-    rw c.in_ok-push.ensures.items
-    (all_pairs_push (Differ label_of) c.self.inside.all.items c.args.prepared c.self.invariant
-    (none_has label_of c.self.inside.all.items c.args.prepared.label new))
+pub push-requires : goal.push-requires
+push-requires c = is_new c.args.label c.self.inside.entries (rw (← c.self.view_is) at c.requires)
+
+pub returns-clause-ok : goal.returns-clause-ok
+returns-clause-ok c =
+    rw (← c.self.view_is)
+    (on_ok c.push.result (begun c.args.label c.args.preparation c.self.inside.entries c.push.new.self) c.push.ensures.ok)
