@@ -6,7 +6,7 @@ use Rattle.cred_event.specs.declared.answer.Told.TheVariants.{Groups}
 use Rattle.cred_event.specs.declared.event.Event.{Event}
 use Rattle.cred_event.specs.declared.event.Event.TheVariants.{Begin}
 
--- what is told is a list of groups
+-- the answer to a question about groups: a list
 abbrev pub HoldsList : Answer → Type 0
 HoldsList (Told (Groups list)) = Unit {0}
 HoldsList answer = ⊥

@@ -39,7 +39,7 @@ impl Model for Master {
 ///
 /// # Errors
 ///
-/// Memory ran out.
+/// `NoMemory` if the allocation of the cells fails.
 pub fn make(alloc: Global) -> Result<(Cells, Master), NoMemory>
     ensures { IfOk result (λ r. (r.1.id ≡ r.0) × (r.1.entries ≡ [])
         × (r.1.slots ≡ none_sealed)) }

@@ -154,7 +154,7 @@ fn cred_in(words: &[u64; WORDS], groups: Groups) -> Option<Cred>
 ///
 /// # Errors
 ///
-/// Memory ran out.
+/// `NoMemory` if the allocation of the groups fails.
 pub fn of_words(alloc: Global, words: &[u64; WORDS]) -> Result<Option<Cred>, NoMemory>
     ensures value { IfOk result (λ o. IfSome o
         (λ c. IsCredential c × (words_of c ≡ words.now))) }

@@ -54,7 +54,11 @@ impl Model for Slots {
 }
 
 impl Slots {
-    /// Nothing is sealed, kept or given up.
+    /// A table in which nothing is sealed, kept or given up.
+    ///
+    /// # Errors
+    ///
+    /// `NoMemory` if the allocation of the rows fails.
     pub fn new(alloc: Global) -> Result<Slots, NoMemory>
         ensures { IfOk result (λ slots. slots ≡ empty) }
     {
@@ -112,7 +116,11 @@ impl Slots {
     }
 
     /// Takes the memory for one `seal` or `add`, if it isn't there, and for the reference once it
-    /// is given up. Without memory nothing changes.
+    /// is given up.
+    ///
+    /// # Errors
+    ///
+    /// `NoMemory` if an allocation fails: the table is as it was.
     pub fn reserve(&mut self) -> Result<(), NoMemory>
         ensures ok { OnOk result (self.new ≡ record self.old { spare = max self.old.spare 1 }) }
         ensures err { OnErr result (self.new ≡ self.old) }
