@@ -107,7 +107,7 @@ impl Slots {
         Some(slot)
     }
 
-    /// The slot is kept no more.
+    /// The slot is no longer kept.
     pub fn give_up(&mut self, slot: u32)
         requires { IsTrue (is_kept self.old slot) }
         ensures { self.new ≡ record self.old { kept = slice_set self.old.kept slot false } }
@@ -133,7 +133,7 @@ impl Slots {
         Ok(())
     }
 
-    /// The next number stands in the slot, which is kept no more, and has one reference.
+    /// The next number stands in the slot, which is no longer kept, and has one reference.
     pub fn seal(&mut self, slot: u32) -> u64
         requires kept { IsTrue (is_kept self.old slot) }
         requires spare { 0 < self.old.spare }
@@ -199,7 +199,7 @@ impl Slots {
         self.deferred.push_reserved(number);
     }
 
-    /// What was given up counts no more.
+    /// What was given up no longer counts.
     pub fn sweep(&mut self)
         ensures { self.new ≡ swept self.old }
     {
@@ -237,7 +237,7 @@ impl Slots {
         self.kept.union(&self.used).union(&self.late).first_unset()
     }
 
-    /// The least slot that isn't live once what was given up counts no more.
+    /// The least slot that isn't live once what was given up no longer counts.
     fn least_free_once_swept(&self) -> Option<u32>
         ensures { result ≡ least_free (swept self.now) }
     {

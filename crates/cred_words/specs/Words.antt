@@ -156,7 +156,7 @@ words_at (x ∷ xs) (suc s) = words_at xs s
 abbrev pub lent_token : Ledger → ℕ → ℕ → Bool → Token
 lent_token d label slot writes = token d.next label slot writes (words_at d.slots slot)
 
--- the slots after a loan: a writer's is sealed no more
+-- the slots after a loan: a writer's is no longer sealed
 abbrev pub slots_after : List Slot → ℕ → Bool → List Slot
 slots_after slots slot true = slice_set slots slot (slot_of (words_at slots slot) false)
 slots_after slots slot false = slots
