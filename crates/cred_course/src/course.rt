@@ -68,7 +68,7 @@ impl Course {
         self.line
     }
 
-    /// Has the line made its last event?
+    /// Whether the line has made its last event.
     pub fn ended(&self) -> bool
         ensures { result ≡ is_none self.now.stage }
     {

@@ -1,5 +1,5 @@
 //! Ends over std's readers and writers. Each counts the calls that it answers by a failure, so that
-//! a caller can tell a fault of the outside from code that gives up.
+//! a caller can distinguish a fault of the outside from code that gives up.
 ghost use Rattle.std.specs.Prelude.{◌≡◌, ◌<◌, ◌≤◌, true, false, length, IfOk, OnOk, OnErr, IfErr, IsErr};
 ghost use Rattle.std.specs.Io.{ReadsAtMost, WritesAtMost};
 ghost use Rattle.std.specs.Io.KnownBytes.{ReadConsumes, WriteAppends, Keeps};

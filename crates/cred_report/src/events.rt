@@ -12,12 +12,13 @@ use cred_ids::{Id, NoMemory};
 use cred_record::{IdCall, Want};
 use cred_script::Script;
 
-/// Writes the birth of a first task.
+/// Writes the creation of a first task.
 fn prepend_init(out: &mut Pen, task: u32, process: u32, user: Id, group: Id, ns: u32)
     requires { 120 ≤ out.old.room }
     ensures text { out.new.text
         ≡ (codes "init t" ++ decimal task ++ codes " p" ++ decimal process
-        ++ codes " " ++ decimal user ++ codes " " ++ decimal group ++ codes " n" ++ decimal ns) ++ out.old.text }
+        ++ codes " " ++ decimal user ++ codes " " ++ decimal group ++ codes " n" ++ decimal ns)
+        ++ out.old.text }
     ensures room { out.old.room ≤ out.new.room + 120 }
 {
     prepend_three(out, (" ", user.number()), (" ", group.number()), (" n", ns));

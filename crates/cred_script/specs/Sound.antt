@@ -1,5 +1,5 @@
 -- What is true of the lines of every script.
-use Rattle.std.specs.Prelude.{◌≡◌, ℕ, ◌≤◌, ◌<◌, List, [], ◌∷◌, length, All, AllPairs, None}
+use Rattle.std.specs.Prelude.{◌≡◌, ℕ, ◌≤◌, ◌<◌, List, [], ◌∷◌, length, All, AllPairs, None, ⊤}
 use Rattle.cred_event.specs.declared.event.Event.{Event}
 use Rattle.cred_event.specs.declared.event.Event.TheVariants.{Take, TakeFile, Release, Ask, Signal, Prepare, Alter, Commit, Abort, Override, OpenFile}
 use Rattle.cred_event.specs.declared.content.Content.{Content}
@@ -43,7 +43,7 @@ pub record IsSound (count : ℕ) (line : Line) : Type 0 where
 
 -- what is true of a line that was parsed, where these files are declared before it
 abbrev pub IsParsed : List NamedFile → Parsed → Type 0
-IsParsed declared Empty = Unit {0}
+IsParsed declared Empty = ⊤
 IsParsed declared (File file) = (length declared < 256) × (place_of declared file.name ≡ None)
 IsParsed declared (Starts content) = IsSound (length declared) (setup_line content)
 IsParsed declared (Holds content) = IsSound (length declared) (setup_line content)

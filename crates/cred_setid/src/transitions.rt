@@ -1,6 +1,6 @@
 //! Every transition of the five calls on user ids over the ids 0, 1 and 2, against what the manual
-//! pages say in prose: setuid(2), seteuid(2), setreuid(2), setresuid(2) and setfsuid(2). Each page is
-//! written down here sentence by sentence, apart from the definitions.
+//! pages say in prose: setuid(2), seteuid(2), setreuid(2), setresuid(2) and setfsuid(2). Each page
+//! is written down here sentence by sentence, apart from the definitions.
 use crate::{apply, setfs};
 use cred_ids::{Arg, Id, Ids4, Kind, NoMemory};
 use cred_record::{Cred, IdCall, Refusal, first};
@@ -24,8 +24,8 @@ struct Process {
     privileged: bool,
 }
 
-/// "whenever the effective user ID is changed, the kernel also changes the filesystem user ID to the
-/// same value", and setresuid(2): "regardless of what changes are made".
+/// "whenever the effective user ID is changed, the kernel also changes the filesystem user ID to
+/// the same value", and setresuid(2): "regardless of what changes are made".
 fn followed(p: Process) -> Process {
     Process {
         fs: p.effective,
@@ -91,8 +91,8 @@ fn setreuid(p: Process, ruid: u32, euid: u32) -> Result<Process, Refusal> {
         new.real = ruid;
     }
     // "If the real user ID is set (i.e., ruid is not -1) or the effective user ID is set to a value
-    // not equal to the previous real user ID, the saved set-user-ID will be set to the new effective
-    // user ID."
+    // not equal to the previous real user ID, the saved set-user-ID will be set to the new
+    // effective user ID."
     if ruid != NONE || euid != NONE && euid != p.real {
         new.saved = new.effective;
     }
@@ -100,8 +100,9 @@ fn setreuid(p: Process, ruid: u32, euid: u32) -> Result<Process, Refusal> {
 }
 
 fn setresuid(p: Process, ruid: u32, euid: u32, suid: u32) -> Result<Process, Refusal> {
-    // "An unprivileged process may change its real UID, effective UID, and saved set-user-ID, each to
-    // one of: the current real UID, the current effective UID, or the current saved set-user-ID."
+    // "An unprivileged process may change its real UID, effective UID, and saved set-user-ID, each
+    // to one of: the current real UID, the current effective UID, or the current saved
+    // set-user-ID."
     for uid in [ruid, euid, suid] {
         if uid != NONE && !p.privileged && ![p.real, p.effective, p.saved].contains(&uid) {
             return Err(Refusal::Perm);

@@ -8,6 +8,10 @@ use crate::reason::Reason;
 use std::alloc::AllocError;
 
 /// Puts the words of a line, which stand apart by runs of spaces, in the place of others.
+///
+/// # Errors
+///
+/// `AllocError` if the list cannot grow: nothing is said of the words that it has then.
 pub fn split_into<'b>(words: &mut Vec<&'b [u8]>, line: &'b [u8]) -> Result<(), AllocError>
     ensures { OnOk result (nows words.new.items ≡ spec.words_of line.now) }
 {
