@@ -7,4 +7,4 @@ mod stages;
 #[cfg(test)]
 mod tests;
 
-pub use course::{Course, LINE_LIMIT};
+pub use course::Course;

@@ -6,8 +6,7 @@ ghost use Rattle.cred_model.specs.Answers.{is_ok};
 ghost use Rattle.cred_model.specs.Course as spec;
 ghost use Rattle.cred_model.specs.Named.{is_built_line};
 
-use crate::course::LINE_LIMIT;
-use cred_event::{Answer, Change, Content, Event, Query, Side, Stage, copy_event};
+use cred_event::{Answer, Change, Content, Event, LINE_LIMIT, Query, Side, Stage, copy_event};
 use cred_ids::NoMemory;
 
 /// Whether a line with this content makes events.
