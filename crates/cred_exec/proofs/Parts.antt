@@ -34,8 +34,10 @@ within-both s t u st su = same_from_bits _ _ (λ n.
 -- what is left of a set without a part has nothing of that part
 pub parts-apart : (s part : Caps) → meet part (less s part) ≡ empty
 parts-apart s part = same_from_bits _ _ (λ n.
-    let none = sym (bit_at_and part (2 ^ 64 - 1 - part) n) ∙ ap (λ x. bit_at x n) (less-within part part (within_itself part)) ∙ bit_at-zero n in
-    bit_at_and part (less s part) n ∙ omega (arith, bit_at_and s (2 ^ 64 - 1 - part) n, bit_at-zero n))
+    let others = 2 ^ 64 - 1 - part in
+    let empty_n = ap (λ x. bit_at x n) (less-within part part (within_itself part)) ∙ bit_at-zero n in
+    let none = sym (bit_at_and part others n) ∙ empty_n in
+    bit_at_and part (less s part) n ∙ omega (arith, bit_at_and s others n, bit_at-zero n))
 
 -- a set without another has bits below 64 alone
 pub less-small : (a b : Caps) → less a b < 2 ^ 64

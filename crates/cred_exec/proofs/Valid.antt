@@ -14,7 +14,8 @@ kept true s t within = empty-within t
 kept false s t within = within
 
 -- and what is within the whole and within what was permitted is within what no_new_privs leaves
-cut : (b : Bool) (s t u : Caps) → IsWithin s t → IsWithin s u → IsWithin s (if b then meet t u else t)
+cut :
+    (b : Bool) (s t u : Caps) → IsWithin s t → IsWithin s u → IsWithin s (if b then meet t u else t)
 cut true s t u within within' = within-both s t u within within'
 cut false s t u within within' = within
 
@@ -22,7 +23,10 @@ either : (b : Bool) (s t : Caps) → IsWithin t s → IsWithin (if b then s else
 either true s t within = within_itself s
 either false s t within = within
 
-pub valid_after : (root : ℕ) (c : Credential) (f : File) (a : Option Attribute) → AreValidSets c.perm c.inh c.eff c.amb → AreValidSets (perm_after root c f a) c.inh (eff_after root c f a) (amb_after c f a)
+pub valid_after :
+    (root : ℕ) (c : Credential) (f : File) (a : Option Attribute)
+    → AreValidSets c.perm c.inh c.eff c.amb
+    → AreValidSets (perm_after root c f a) c.inh (eff_after root c f a) (amb_after c f a)
 valid_after root c f a valid =
     let amb = amb_after c f a in
     let permitted : IsWithin amb (perm_after root c f a) =

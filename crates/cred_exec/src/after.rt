@@ -2,7 +2,8 @@
 ghost use Rattle.std.specs.Prelude.{◌≡◌, IfOk};
 ghost use Rattle.cred_caps.specs.Caps.{IsWithin};
 ghost use Rattle.cred_record.specs.Credential.{ROOT};
-ghost use Rattle.cred_rules.specs.Exec.{is_privileged, amb_after, limited, perm_after, eff_after, after_exec};
+ghost use Rattle.cred_rules.specs.Exec.{is_privileged, amb_after, limited, perm_after};
+ghost use Rattle.cred_rules.specs.Exec.{eff_after, after_exec};
 
 use crate::attribute::{sets_group, sets_user};
 use crate::ids::{group_after, ids_after, user_after};

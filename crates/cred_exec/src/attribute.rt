@@ -2,7 +2,8 @@
 ghost use Rattle.std.specs.Prelude.{◌≡◌, ◌<◌, Ok, Err, IfOk, OnErr};
 ghost use Rattle.cred_rules.specs.Access.{has_bit};
 ghost use Rattle.cred_rules.specs.Attribute.{attribute_of};
-ghost use Rattle.cred_rules.specs.Exec.{SpellsNothing, has_effect, sets_user, sets_group, read_by, attribute_for};
+ghost use Rattle.cred_rules.specs.Exec.{SpellsNothing, has_effect, sets_user, sets_group};
+ghost use Rattle.cred_rules.specs.Exec.{read_by, attribute_for};
 
 use cred_filecap::{AttrRefusal, FileCaps, counts, decode};
 use cred_ids::Id;

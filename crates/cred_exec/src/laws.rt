@@ -1,5 +1,8 @@
 //! Laws of execve(2), over the rule that `exec` is proved to follow. There is nothing to run.
-ghost use Rattle.cred_exec.specs.Laws.{GainsAreWhatIsGained, NoNewPrivsGainsNothing, PlainFilesKeepAmbient, PrivilegedFilesEmptyAmbient, InheritableAndBoundingStay, OtherSecurebitsStay, RealIdsAndGroupsStay};
+ghost use Rattle.cred_exec.specs.Laws.{GainsAreWhatIsGained, NoNewPrivsGainsNothing};
+ghost use Rattle.cred_exec.specs.Laws.{PlainFilesKeepAmbient, PrivilegedFilesEmptyAmbient};
+ghost use Rattle.cred_exec.specs.Laws.{InheritableAndBoundingStay, OtherSecurebitsStay};
+ghost use Rattle.cred_exec.specs.Laws.{RealIdsAndGroupsStay};
 
 /// No two of the three gains have a capability in common, and together they are just what is
 /// permitted after the execve and was not before.

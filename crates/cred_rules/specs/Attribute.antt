@@ -106,12 +106,12 @@ said bytes version root = record {
   root = root;
 }
 
--- the attribute that the bytes spell, or none: `Spells` as a function, for a rule that computes with
--- it
+-- the attribute that the bytes spell, or none: `Spells` as a function, for a rule that computes
 unfoldable pub attribute_of : List ℕ → Option Attribute
 attribute_of bytes =
     if (length bytes == 20) && (revision_of bytes == 2) then Some (said bytes 2 0)
-    else if (length bytes == 24) && (revision_of bytes == 3) then Some (said bytes 3 (root_id bytes))
+    else if (length bytes == 24) && (revision_of bytes == 3) then
+    Some (said bytes 3 (root_id bytes))
     else None
 
 -- every bit that spells nothing is zero: in the first word those between the effective flag and the

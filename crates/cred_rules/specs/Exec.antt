@@ -224,7 +224,8 @@ executed root c f a =
     if gives_all c a then Ok (record { cred = after_exec root c f a; gains = gains_of root c f a })
     else Err GivesTooLittle
 
-abbrev pub executed_by : ℕ → Credential → File → Result (Option Attribute) NoExec → Result Executed NoExec
+abbrev pub executed_by
+    : ℕ → Credential → File → Result (Option Attribute) NoExec → Result Executed NoExec
 executed_by root c f (Ok a) = executed root c f a
 executed_by root c f (Err e) = Err e
 

@@ -8,7 +8,8 @@ use Rattle.cred_exec.proofs.attribute.read_by.Goals.{then-counts, else-counts}
 pub returns-in_err-caps-clause-refusal : goal.returns-in_err-caps-clause-refusal
 returns-in_err-caps-clause-refusal c =
     let none : read_by c.args.chain.now (attribute_of c.args.bytes.now) ≡ Err SpellsNothing =
-    read_by-not_spelled c.args.chain.now c.args.bytes.now (λ a spells. let no = c.in_err-caps.ensures.each_value a spells in cc) in
+    read_by-not_spelled c.args.chain.now c.args.bytes.now
+    (λ a spells. let other = c.in_err-caps.ensures.each_value a spells in cc) in
     search (rules, none)
 
 pub returns-clause-value : goal.returns-clause-value
