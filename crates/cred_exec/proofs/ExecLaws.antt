@@ -46,6 +46,7 @@ may-by false r e same = cc
 made :
     (c : Credential) (f : File) (chain : List ℕ) (e : Executed) → exec c f chain ≡ Ok e
     → IsMade c f chain e
+unfolding exec
 made c f chain e same =
     made-by c f chain e (attribute_for c f chain) refl
     (may-by (may_execute c f) (executed_by ROOT c f (attribute_for c f chain)) e same)

@@ -48,6 +48,7 @@ fn may_execute(cred: &Cred, file: &FileInfo) -> bool
 /// - `Perm` where the attribute counts and has the effective flag, and its permitted set is not
 ///   all given by the file's own sets: the bounding set lacks a part of it;
 /// - `Memory` where the credential could not be copied.
+#[tactic(auto, unfolding(cred_rules::specs::Exec::exec))]
 pub fn exec(cred: &Cred, file: &FileInfo, chain: &[Id]) -> Result<(Cred, Gains), ExecRefusal>
     ensures { AnswersExec result (exec cred.now file.now chain.now) }
 {

@@ -106,12 +106,16 @@ said bytes version root = record {
   root = root;
 }
 
--- the attribute that the bytes spell, or none: `Spells` as a function, for a rule that computes
+-- so many bytes with this revision
+abbrev pub has_form : List ℕ → ℕ → ℕ → Bool
+has_form bytes size revision = (length bytes == size) && (revision_of bytes == revision)
+
+-- the attribute that the bytes spell, or none: `Spells` as a function, so that a rule can compute
+-- with it
 unfoldable pub attribute_of : List ℕ → Option Attribute
 attribute_of bytes =
-    if (length bytes == 20) && (revision_of bytes == 2) then Some (said bytes 2 0)
-    else if (length bytes == 24) && (revision_of bytes == 3) then
-    Some (said bytes 3 (root_id bytes))
+    if has_form bytes 20 2 then Some (said bytes 2 0)
+    else if has_form bytes 24 3 then Some (said bytes 3 (root_id bytes))
     else None
 
 -- every bit that spells nothing is zero: in the first word those between the effective flag and the

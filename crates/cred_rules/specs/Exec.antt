@@ -89,8 +89,8 @@ user_after c f = if sets_user c f then f.owner else c.uid.effective
 abbrev pub group_after : Credential → File → ℕ
 group_after c f = if sets_group c f then f.group else c.gid.effective
 
--- then the effective id is copied to the saved id (execve(2)) and to the filesystem id (the
--- kernel's security/commoncap.c). The real id stays
+-- then the effective id is copied to the saved id (execve(2)) and to the filesystem id
+-- (security/commoncap.c of Linux). The real id stays
 abbrev pub ids_after : Ids4 → ℕ → Ids4
 ids_after ids effective = record {
   real = ids.real;
@@ -118,8 +118,8 @@ abbrev pub given_by : Credential → FileSets → Caps
 given_by c s = union (meet c.inh s.inh) (meet s.perm c.bound)
 
 -- a file with the effective flag gives all of its permitted set (capabilities(7), "Safety checking
--- for capability-dumb binaries"). The test is of the file's own sets, also for root (the kernel's
--- security/commoncap.c)
+-- for capability-dumb binaries"). The test is of the file's own sets, also for root
+-- (security/commoncap.c of Linux)
 abbrev pub gives_all : Credential → Option Attribute → Bool
 gives_all c a = not (sets_of a).effective || is_within (sets_of a).perm (given_by c (sets_of a))
 
@@ -218,7 +218,7 @@ gains_of root c f a =
 
 -- ---- the call
 
--- what the file makes of the task, once its attribute is read
+-- what the file makes of the task, once its attribute is read; or why it is refused
 abbrev pub executed : ℕ → Credential → File → Option Attribute → Result Executed NoExec
 executed root c f a =
     if gives_all c a then Ok (record { cred = after_exec root c f a; gains = gains_of root c f a })
@@ -231,7 +231,7 @@ executed_by root c f (Err e) = Err e
 
 -- the credential of a task after the execve of a file, and what that gains; or why it is refused.
 -- `chain` has the root ids of the task's user namespace and of its ancestors
-abbrev pub exec : Credential → File → List ℕ → Result Executed NoExec
+unfoldable pub exec : Credential → File → List ℕ → Result Executed NoExec
 exec c f chain =
     if may_execute c f then executed_by ROOT c f (attribute_for c f chain)
     else Err MayNotExecute
