@@ -5,7 +5,9 @@
 mod flags;
 mod row;
 pub mod slots;
+pub mod stack;
 #[cfg(test)]
 mod tests;
 
 pub use slots::Slots;
+pub use stack::{DEPTH, Stack};
