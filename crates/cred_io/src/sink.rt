@@ -10,10 +10,10 @@ use std::alloc::AllocError;
 
 /// Where bytes go.
 ///
-/// A real stream does not report what was written to it. So that is optional, and the clauses on
-/// the bytes hold where it is reported.
+/// A real stream does not tell what was written to it. So that is optional, and the clauses on the
+/// bytes hold where it is told.
 pub trait Sink {
-    /// The bytes that were written, where the sink reports them.
+    /// The bytes that were written, where the sink tells them.
     ghost written: { Self → Option (List ℕ) };
 
     /// All that was written is handed on: the sink was flushed, and nothing was written since.
@@ -22,12 +22,9 @@ pub trait Sink {
     /// How many calls have failed, at most the greatest `u64`. It never falls.
     ghost faults: { Self → ℕ };
 
-    /// Appends the first bytes of `piece`, and returns how many: one at least, unless it is empty.
+    /// Appends the first bytes of `piece`, and answers how many: one at least, unless it is empty.
     ///
-    /// # Errors
-    ///
-    /// `Failed` where the sink fails, and `Memory` where an allocation of its own does. Nothing is
-    /// appended then. The count of faults rises for `Failed`, and for nothing else.
+    /// A refusal appends nothing. The count of faults rises for `Failed`, and for nothing else.
     fn write(&mut self, piece: &[u8]) -> Result<usize, SinkRefusal>
         ensures bound { WritesAtMost result piece.now }
         ensures some { IfOk result (λ n. 0 < length piece.now → 0 < n) }
@@ -35,12 +32,9 @@ pub trait Sink {
         ensures kept_back { OnOk result (handed_on self.new ≡ false) }
         ensures cause { CountsFaults (result ≡ Err Failed) (faults self.old) (faults self.new) };
 
-    /// Hands on what a buffer below has kept back.
+    /// Hands on what a buffer below has kept back. What was written stays, also after a refusal.
     ///
-    /// # Errors
-    ///
-    /// `Failed` where the sink fails, and `Memory` where an allocation of its own does. What was
-    /// written stays. The count of faults rises for `Failed`, and for nothing else.
+    /// The count of faults rises for `Failed`, and for nothing else.
     fn flush(&mut self) -> Result<(), SinkRefusal>
         ensures bytes { Keeps (written self.old) (written self.new) }
         ensures handed_on { OnOk result (handed_on self.new ≡ true) }
@@ -52,7 +46,7 @@ pub trait Sink {
 pub enum SinkRefusal {
     /// The sink failed, and its count of faults rose.
     Failed,
-    /// An allocation of the sink failed.
+    /// The sink found no memory.
     Memory,
 }
 
@@ -64,11 +58,10 @@ impl From<AllocError> for SinkRefusal {
     }
 }
 
-/// Appends the whole piece. Each turn of the loop writes a byte at least, or ends.
+/// Appends the whole piece. A refusal, which is the sink's own, ends the writing; a prefix of the
+/// piece was then written.
 ///
-/// # Errors
-///
-/// The first refusal of the sink, which ends the writing: a prefix of the piece was written.
+/// Each turn of the loop writes a byte at least, or ends.
 pub fn write_all<K: Sink>(sink: &mut K, piece: &[u8]) -> Result<(), SinkRefusal>
     ensures ok { OnOk result (Appends (K.written sink.old) (K.written sink.new) piece.now) }
     ensures err { OnErr result

@@ -7,6 +7,7 @@ use Rattle.cred_io.specs.Ends.{ReadsAll, ReadsMoreThan, AppendsPrefix}
 use Rattle.cred_io.specs.declared.sink.SinkRefusal.{SinkRefusal}
 use Rattle.cred_io.specs.declared.sink.SinkRefusal.TheVariants as sink
 use Rattle.cred_event.specs.declared.entry.Entry.{Entry}
+use Rattle.cred_event.specs.declared.entry.TheConstants.{LINE_LIMIT}
 use Rattle.cred_model.specs.Script.{Script}
 use Rattle.cred_model.specs.Journal.{IsSequence, IsLegal}
 use Rattle.cred_laws.specs.Journals.{IsLawful}
@@ -21,10 +22,6 @@ use Rattle.cred_program.specs.Texts.{bad_text}
 -- how many bytes an input may have
 abbrev pub BYTE_LIMIT : ℕ
 BYTE_LIMIT = 1048576
-
--- how many lines an input may have
-abbrev pub LINE_LIMIT : ℕ
-LINE_LIMIT = 20000
 
 -- an input that has no more bytes and no more lines than it may have
 pub record IsWithin (input : List ℕ) : Type 0 where
@@ -58,9 +55,9 @@ ReadsTooMuch before after =
     ReadsMoreThan BYTE_LIMIT before after ⊎ ReadsMoreLines before after
 
 -- The input is a script, and the text of the journal in which its lines run whole and in order
--- was written. It is one of the journals that the script may have. The laws hold of it: no slot is
--- rewritten while something refers to it, a hold keeps its credential, and no permitted set grows
--- but by what its entry says was gained.
+-- was written. It is one of the journals that the script may have. The laws hold of it: no slot in
+-- use is rewritten, a hold keeps its credential, and no permitted set grows but by what its entry
+-- says was gained.
 pub record Reports (before after : Option (List ℕ)) (input : List ℕ) : Type 0 where
   pub script : Script
   pub read : script_of input ≡ Ok script

@@ -11,12 +11,7 @@ use cred_report::{Pen, prepend};
 use cred_script::Script;
 use std::alloc::Global;
 
-/// Writes the text of a journal, one entry at a time, through one buffer, and hands it on.
-///
-/// # Errors
-///
-/// The sink's refusal, and `Memory` if an allocation of the buffer fails: a prefix of the text was
-/// written.
+/// Writes the text of a journal, one entry at a time, through one buffer.
 #[tactic(auto, using(crate::proofs::Prefixes::flushed_entries))]
 pub fn write_report<K: Sink>(
     alloc: Global,
