@@ -11,7 +11,7 @@ pub enum ExecRefusal {
     BadAttribute,
     /// EPERM: the file has the effective flag, and would not give all of its permitted set.
     Perm,
-    /// Memory ran out.
+    /// An allocation failed.
     Memory,
 }
 

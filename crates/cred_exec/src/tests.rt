@@ -332,7 +332,7 @@ fn every_execve_is_as_the_pages_say(rt: HostRuntime) -> Result<(), Fail> {
 }
 
 /// execve(2), EACCES: "The file or a script interpreter is not a regular file" and "Execute
-/// permission is denied for the file". It is told before EINVAL, also to root.
+/// permission is denied for the file". It comes before EINVAL, also for root.
 #[test]
 fn what_may_not_be_executed_is_not_read(rt: HostRuntime) -> Result<(), Fail> {
     for (user, kind, mode, refusal) in [
