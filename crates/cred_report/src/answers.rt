@@ -58,7 +58,8 @@ fn prepend_sealed(out: &mut Pen, word: &str, cred: u64, slot: u32)
     ensures room { out.old.room ≤ out.new.room + (length word.now + 44) }
 {
     prepend_number(out, " s", slot);
-    prepend_long(out, " c", cred);
+    out.cred(cred);
+    prepend_word(out, " c");
     prepend_word(out, word)
 }
 

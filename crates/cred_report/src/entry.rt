@@ -6,7 +6,7 @@ use crate::answers::prepend_answer;
 use crate::events::prepend_event;
 use crate::pen::{PARTS, Pen};
 use crate::text::Text;
-use crate::words::{prepend_number, prepend_word};
+use crate::words::prepend_word;
 use cred_event::Entry;
 use cred_ids::NoMemory;
 use cred_script::Script;
@@ -26,7 +26,7 @@ pub fn prepend(out: &mut Pen, script: &Script, entry: &Entry) -> Result<(), NoMe
     prepend_word(out, " -> ");
     prepend_event(out, script, &entry.event)?;
     prepend_word(out, " ");
-    prepend_number(out, "", entry.line);
+    out.line(entry.line);
     Ok(())
 }
 

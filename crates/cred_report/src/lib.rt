@@ -12,6 +12,7 @@ mod forward;
 mod numbers;
 mod pen;
 mod questions;
+mod tens;
 mod text;
 mod told;
 mod words;

@@ -1,6 +1,7 @@
 //! A text that is written from its end to its start.
 ghost use Rattle.std.specs.Prelude.{◌≡◌, ◌≤◌, ◌+◌, ◌++◌, [], OnOk, decimal, length};
 
+use crate::tens::Tens;
 use cred_ids::NoMemory;
 use itoa::write_digits;
 use std::alloc::Global;
@@ -17,6 +18,10 @@ pub struct Pen {
     alloc: Global,
     bytes: Vec<u8>,
     at: usize,
+    // What was written last of each kind.
+    line: Tens,
+    label: Tens,
+    cred: Tens,
 }
 
 impl Model for Pen {
@@ -39,6 +44,9 @@ impl Pen {
             alloc,
             bytes: Vec::new(alloc),
             at: 0,
+            line: Tens::new(),
+            label: Tens::new(),
+            cred: Tens::new(),
         }
     }
 
@@ -110,6 +118,39 @@ impl Pen {
             self.piece(&[b'0' + number as u8])
         } else {
             self.digits(number)
+        }
+    }
+
+    /// Writes the number of a line before the text.
+    #[inline(always)]
+    pub(crate) fn line(&mut self, number: u32)
+        requires { 20 ≤ self.old.room }
+        ensures text { self.new.text ≡ decimal number ++ self.old.text }
+        ensures room { self.old.room ≤ self.new.room + 20 }
+    {
+        self.at = self.line.write(number, &mut self.bytes, self.at);
+    }
+
+    /// Writes a label before the text.
+    #[inline(always)]
+    pub(crate) fn label(&mut self, number: u32)
+        requires { 20 ≤ self.old.room }
+        ensures text { self.new.text ≡ decimal number ++ self.old.text }
+        ensures room { self.old.room ≤ self.new.room + 20 }
+    {
+        self.at = self.label.write(number, &mut self.bytes, self.at);
+    }
+
+    /// Writes the number of a credential before the text.
+    #[inline(always)]
+    pub(crate) fn cred(&mut self, number: u64)
+        requires { 20 ≤ self.old.room }
+        ensures text { self.new.text ≡ decimal number ++ self.old.text }
+        ensures room { self.old.room ≤ self.new.room + 20 }
+    {
+        match u32::try_from(number) {
+            Ok(number) => self.at = self.cred.write(number, &mut self.bytes, self.at),
+            Err(_) => self.digits(number),
         }
     }
 
