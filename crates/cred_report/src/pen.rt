@@ -76,7 +76,8 @@ impl Pen {
         Ok(())
     }
 
-    /// Moves the text to the end of a longer buffer, with this much room before it.
+    /// Moves the text to the end of a buffer of twice the length at least, with this much room before
+    /// it.
     #[cold]
     #[inline(never)]
     fn grow(&mut self, room: usize) -> Result<(), NoMemory>
@@ -84,7 +85,8 @@ impl Pen {
         ensures room { OnOk result (room ≤ self.new.room) }
     {
         let kept = self.bytes.len() - self.at;
-        let start = self.bytes.len().checked_add(room).ok_or(NoMemory)?;
+        let more = self.bytes.len().max(room);
+        let start = self.at.checked_add(more).ok_or(NoMemory)?;
         let size = start.checked_add(kept).ok_or(NoMemory)?;
         let mut longer = vec![in self.alloc; 0; size]?;
         longer[start..].copy_from_slice(&self.bytes[self.at..]);
