@@ -10,6 +10,9 @@ use std::marker::Model;
 /// How many bytes the parts of one entry take at most, but for names and lists of ids.
 pub(crate) const PARTS: usize = 512;
 
+/// How many bytes a short word has at most.
+const SHORT: usize = 24;
+
 /// A text in a buffer that is filled from its end, so that the digits of a number come out in the
 /// order in which division gives them, and none is moved. Who writes makes room first, once for
 /// many pieces. Contracts see the text, and how many bytes have room before it.
@@ -22,6 +25,7 @@ pub struct Pen {
     line: Tens,
     label: Tens,
     cred: Tens,
+    slot: Tens,
 }
 
 impl Model for Pen {
@@ -47,6 +51,7 @@ impl Pen {
             line: Tens::new(),
             label: Tens::new(),
             cred: Tens::new(),
+            slot: Tens::new(),
         }
     }
 
@@ -107,6 +112,24 @@ impl Pen {
         self.at = start;
     }
 
+    /// Writes the word before the text. A word that is short is copied to an array first: that no
+    /// other place overlaps the array is known, and so the copy from there takes no test of it. Where the
+    /// word is known nothing is left of the first copy.
+    #[inline(always)]
+    pub(crate) fn word(&mut self, word: &str)
+        requires { length word.now ≤ self.old.room }
+        ensures text { self.new.text ≡ word.now ++ self.old.text }
+        ensures room { self.new.room + length word.now ≡ self.old.room }
+    {
+        let len = word.len();
+        if len > SHORT {
+            return self.piece(word.as_bytes());
+        }
+        let mut own = [0; SHORT];
+        own[..len].copy_from_slice(word.as_bytes());
+        self.piece(&own[..len]);
+    }
+
     /// Writes the number before the text, in decimal. Most numbers of a report have one digit,
     /// which needs no division and no call.
     #[inline(always)]
@@ -154,6 +177,16 @@ impl Pen {
             Ok(number) => self.at = self.cred.write(number, &mut self.bytes, self.at),
             Err(_) => self.digits(number),
         }
+    }
+
+    /// Writes the number of a slot before the text.
+    #[inline(always)]
+    pub(crate) fn slot(&mut self, number: u32)
+        requires { 20 ≤ self.old.room }
+        ensures text { self.new.text ≡ decimal number ++ self.old.text }
+        ensures room { self.old.room ≤ self.new.room + 20 }
+    {
+        self.at = self.slot.write(number, &mut self.bytes, self.at);
     }
 
     #[inline(never)]

@@ -10,7 +10,7 @@ pub(crate) fn prepend_word(out: &mut Pen, word: &str)
     ensures text { out.new.text ≡ word.now ++ out.old.text }
     ensures room { out.new.room + length word.now ≡ out.old.room }
 {
-    out.piece(word.as_bytes())
+    out.word(word)
 }
 
 /// Writes the word and the number, which may be one of a credential.
