@@ -109,6 +109,10 @@ impl Sink for MemorySink {
         Ok(piece.len())
     }
 
+    fn pieces_a_write(&self) -> usize {
+        1
+    }
+
     /// Nothing is kept back, so this only notes that it is done. It is not counted as a call.
     fn flush(&mut self) -> Result<(), SinkRefusal>
         ensures bytes { Keeps (Some self.old.bytes) (Some self.new.bytes) }

@@ -51,6 +51,9 @@ impl<R: Read> Source for StdSource<R> {
     }
 }
 
+/// How many pieces of a text are gathered for one write to a writer of std.
+const GATHERED: usize = 1024;
+
 /// A writer of std, with a count of the calls that failed. It never answers `Memory`.
 #[derive(Drop)]
 pub struct StdSink<W: Write> {
@@ -118,6 +121,11 @@ impl<W: Write> Sink for StdSink<W> {
                 Err(SinkRefusal::Failed)
             }
         }
+    }
+
+    /// As many as fill some 40 KiB: they are gathered before they are written.
+    fn pieces_a_write(&self) -> usize {
+        GATHERED
     }
 
     /// The writer's flush. Its error is counted and answered as `Failed`.

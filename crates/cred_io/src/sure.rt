@@ -119,6 +119,10 @@ impl Sink for SureSink {
         Ok(piece.len())
     }
 
+    fn pieces_a_write(&self) -> usize {
+        1
+    }
+
     /// Nothing is kept back, so this only notes that it is done.
     fn flush(&mut self) -> Result<(), SinkRefusal>
         ensures bytes { Keeps (Some self.old.bytes) (Some self.new.bytes) }
