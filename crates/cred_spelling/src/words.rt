@@ -113,13 +113,11 @@ pub fn five<A: Spelling, B: Spelling, C: Spelling, D: Spelling, E: Spelling>(
         (spec.five_of A.spelled B.spelled C.spelled D.spelled E.spelled (nows words.now)) }
 {
     match words {
-        [a, b, c, d, e] => Ok((
-            word::<A>(a)?,
-            word::<B>(b)?,
-            word::<C>(c)?,
-            word::<D>(d)?,
-            word::<E>(e)?,
-        )),
+        [a, b, c, d, e] => {
+            let (v, w) = two::<A, B>(&[*a, *b])?;
+            let (x, y, z) = three::<C, D, E>(&[*c, *d, *e])?;
+            Ok((v, w, x, y, z))
+        }
         _ => Err(Reason::Count),
     }
 }
