@@ -33,7 +33,7 @@ use Rattle.cred_script.specs.Files.{FILES, place_of, has_room, file_of}
 use Rattle.cred_script.specs.IdCalls.{id_call_of}
 use Rattle.cred_script.specs.Forms.{query_of, query_named, take_of, ask_of, alter_of, begin_of, event_of, call_of, content_of, parse_form}
 use Rattle.cred_script.specs.Grammar.{parse_full, parse_words, parse_line}
-use Rattle.cred_script.specs.Reading.{Reading, has_namespaces, has_files, has_names, names_declared, form_at, in_order, admits, setup_line}
+use Rattle.cred_script.specs.Reading.{Reading, has_namespaces, has_files, has_names, form_at, in_order, admits, setup_line}
 use Rattle.cred_script.specs.Sound.{event_labels, labels, IsSound, IsParsed}
 
 -- ---- what holds of a value, if there is one, through the steps that lead to it

@@ -23,7 +23,7 @@ use Rattle.cred_spelling.specs.declared.reason.Reason.{Reason}
 use Rattle.cred_spelling.specs.declared.reason.Reason.TheVariants.{Word, Count}
 use Rattle.cred_spelling.specs.Names as names
 use Rattle.cred_spelling.specs.Spellings.{id_of, cap_of, task_of, process_of, label_of, namespace_of, want_of}
-use Rattle.cred_spelling.specs.Words.{◌>>=◌, name_of, word_of, no_words, one_of, two_of, three_of, five_of}
+use Rattle.cred_spelling.specs.Words.{◌>>=◌, name_of, word_of, no_words, bare, one_of, two_of, three_of, five_of}
 use Rattle.cred_script.specs.declared.forms.Parsed.{Parsed}
 use Rattle.cred_script.specs.declared.forms.Parsed.TheVariants.{File, Starts, Holds}
 use Rattle.cred_script.specs.Files.{place_or_next, file_of}
@@ -32,18 +32,10 @@ use Rattle.cred_script.specs.Changes.{change_of}
 
 -- a question, by its name
 unfoldable pub query_of : List NamedFile → QueryName → List (List ℕ) → Result Query Reason
-query_of files query_name.Ids words = do
-  end ← no_words words
-  Ok query.Ids
-query_of files query_name.Caps words = do
-  end ← no_words words
-  Ok query.Caps
-query_of files query_name.Groups words = do
-  end ← no_words words
-  Ok query.Groups
-query_of files query_name.Bits words = do
-  end ← no_words words
-  Ok query.Bits
+query_of files query_name.Ids words = bare words query.Ids
+query_of files query_name.Caps words = bare words query.Caps
+query_of files query_name.Groups words = bare words query.Groups
+query_of files query_name.Bits words = bare words query.Bits
 query_of files query_name.Capable words = do
   cap ← one_of cap_of words
   Ok (query.Capable cap)

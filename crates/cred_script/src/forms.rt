@@ -14,8 +14,8 @@ use cred_event::{Content, Event, Query, Side};
 use cred_ids::Id;
 use cred_record::Want;
 use cred_spelling::{
-    CallName, Cap, EventName, Form, Label, Namespace, Process, QueryName, Reason, Task, call_name,
-    change_name, five, id_name, name_of, no_words, one, query_name, three, two, word,
+    CallName, Cap, EventName, Form, Label, Namespace, Process, QueryName, Reason, Task, bare,
+    call_name, change_name, five, id_name, name_of, no_words, one, query_name, three, two, word,
 };
 use std::alloc::Global;
 
@@ -169,22 +169,10 @@ fn query_of(files: &Files, name: QueryName, words: &[&[u8]]) -> Result<Query, Re
     ensures { Says (λ query. query) result (spec.query_of files.now name (nows words.now)) }
 {
     match name {
-        QueryName::Ids => {
-            no_words(words)?;
-            Ok(Query::Ids)
-        }
-        QueryName::Caps => {
-            no_words(words)?;
-            Ok(Query::Caps)
-        }
-        QueryName::Groups => {
-            no_words(words)?;
-            Ok(Query::Groups)
-        }
-        QueryName::Bits => {
-            no_words(words)?;
-            Ok(Query::Bits)
-        }
+        QueryName::Ids => bare(words, Query::Ids),
+        QueryName::Caps => bare(words, Query::Caps),
+        QueryName::Groups => bare(words, Query::Groups),
+        QueryName::Bits => bare(words, Query::Bits),
         QueryName::Capable => Ok(Query::Capable(one::<Cap>(words)?)),
         QueryName::Bset => Ok(Query::Bset(one::<Cap>(words)?)),
         QueryName::AmbIs => Ok(Query::AmbIs(one::<Cap>(words)?)),

@@ -34,6 +34,10 @@ abbrev pub no_words : List (List ℕ) → Result (Unit {0}) Reason
 no_words [] = Ok tt
 no_words words = Err Count
 
+-- a value, where no words follow
+abbrev pub bare : {A : Type 0} → List (List ℕ) → A → Result A Reason
+bare words value = no_words words >>= λ end. Ok value
+
 -- one word
 abbrev pub one_of : {A : Type 0} → (List ℕ → Option A) → List (List ℕ) → Result A Reason
 one_of spelled (a ∷ []) = word_of spelled a

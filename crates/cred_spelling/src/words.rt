@@ -53,6 +53,18 @@ pub fn no_words(words: &[&[u8]]) -> Result<(), Reason>
     }
 }
 
+/// The value, where no words follow.
+///
+/// # Errors
+///
+/// `Reason::Count` where there are some.
+pub fn bare<T: Copy>(words: &[&[u8]], value: T) -> Result<T, Reason>
+    ensures { Says (λ x. x) result (spec.bare (nows words.now) value) }
+{
+    no_words(words)?;
+    Ok(value)
+}
+
 /// What the only word spells.
 ///
 /// # Errors
