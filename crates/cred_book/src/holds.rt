@@ -49,11 +49,7 @@ impl Holds {
         self.numbers.get(&label).copied()
     }
 
-    /// A label takes hold of a number.
-    ///
-    /// # Errors
-    ///
-    /// `NoMemory` if the map cannot grow: the holds are as they were.
+    /// A label takes hold of a number. Without memory nothing changes.
     #[tactic(auto, using(crate::proofs::LabelMap::holds))]
     pub fn take(&mut self, label: u32, number: u64) -> Result<(), NoMemory>
         requires { find (λ h. h.label == label) self.old ≡ None }

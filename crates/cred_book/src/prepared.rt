@@ -99,11 +99,7 @@ impl Preparing {
         })
     }
 
-    /// A label that wasn't prepared begins to prepare.
-    ///
-    /// # Errors
-    ///
-    /// `NoMemory` if the map cannot grow: the labels are as they were.
+    /// A label that wasn't prepared begins to prepare. Without memory nothing changes.
     pub fn prepare(&mut self, label: u32, preparation: Preparation) -> Result<(), NoMemory>
         requires { find (λ p. p.label == label) self.old ≡ None }
         ensures ok { OnOk result (self.new ≡ self.old ++ prepared_as label preparation ∷ []) }
