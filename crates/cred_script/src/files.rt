@@ -13,7 +13,7 @@ use std::marker::Model;
 const FILES: usize = 256;
 
 /// A file that a line declares.
-#[derive(Drop, Debug)]
+#[derive(Drop)]
 pub(crate) struct ScriptFile {
     pub(crate) name: String,
     pub(crate) info: FileInfo,

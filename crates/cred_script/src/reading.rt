@@ -20,7 +20,7 @@ use std::alloc::Global;
 use std::marker::Model;
 
 /// What was read of a script.
-#[derive(Drop, Debug)]
+#[derive(Drop)]
 pub(crate) struct Reading {
     files: Files,
     lines: Vec<ScriptLine>,
@@ -126,14 +126,12 @@ impl Reading {
                 Ok(())
             }
             Parsed::Starts(content) => {
-                self.push(content)?;
                 self.has_task = true;
-                Ok(())
+                self.push(content)
             }
             Parsed::Holds(content) => {
-                self.push(content)?;
                 self.is_used = true;
-                Ok(())
+                self.push(content)
             }
         }
     }
@@ -196,9 +194,16 @@ impl Reading {
     {
         let form = self.form_at(first)?;
         let line = parse_form(alloc, &self.files, form, words)?;
-        self.in_order(&line)?;
-        self.names_declared(&line)?;
+        self.admits(&line)?;
         Ok(line)
+    }
+
+    /// The line may stand here.
+    fn admits(&self, line: &Parsed) -> Result<(), Reason>
+        ensures { Says (λ x. x) result (spec.admits self.now line.now) }
+    {
+        self.in_order(line)?;
+        self.names_declared(line)
     }
 
     /// The form that the first word names.

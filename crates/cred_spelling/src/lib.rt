@@ -26,4 +26,4 @@ pub use names::{
 };
 pub use reason::Reason;
 pub use spellings::{id_of, is, kind_of, mode_of, want_of};
-pub use words::{five, is_comment, no_words, one, split_into, three, two, word};
+pub use words::{bare, five, is_comment, no_words, one, split_into, three, two, word};

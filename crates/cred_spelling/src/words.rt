@@ -53,6 +53,18 @@ pub fn no_words(words: &[&[u8]]) -> Result<(), Reason>
     }
 }
 
+/// The value, where no words follow.
+///
+/// # Errors
+///
+/// `Reason::Count` where there are some.
+pub fn bare<T: Copy>(words: &[&[u8]], value: T) -> Result<T, Reason>
+    ensures { Says (λ x. x) result (spec.bare (nows words.now) value) }
+{
+    no_words(words)?;
+    Ok(value)
+}
+
 /// What the only word spells.
 ///
 /// # Errors
@@ -113,13 +125,11 @@ pub fn five<A: Spelling, B: Spelling, C: Spelling, D: Spelling, E: Spelling>(
         (spec.five_of A.spelled B.spelled C.spelled D.spelled E.spelled (nows words.now)) }
 {
     match words {
-        [a, b, c, d, e] => Ok((
-            word::<A>(a)?,
-            word::<B>(b)?,
-            word::<C>(c)?,
-            word::<D>(d)?,
-            word::<E>(e)?,
-        )),
+        [a, b, c, d, e] => {
+            let (v, w) = two::<A, B>(&[*a, *b])?;
+            let (x, y, z) = three::<C, D, E>(&[*c, *d, *e])?;
+            Ok((v, w, x, y, z))
+        }
         _ => Err(Reason::Count),
     }
 }
