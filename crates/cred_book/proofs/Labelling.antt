@@ -1,9 +1,9 @@
 -- A label begins to prepare, changes what it prepares, and gives it up.
-use Rattle.std.proofs.Common.{◌≡◌, ◌≢◌, ℕ, ◌<◌, Bool, true, false, not, ◌==◌, ◌||◌, nat_lt, List, [], ◌∷◌, ◌++◌, find, position, remove, count_by, slice_get, slice_set, slice_index_or, length, Option, None, Some, is_some, refl, sym, ap, ◌∙◌, subst, arith}
+use Rattle.std.proofs.Common.{◌≡◌, ◌≢◌, ℕ, ◌<◌, Bool, true, false, not, ◌==◌, ◌||◌, nat_lt, List, [], ◌∷◌, ◌++◌, find, map, position, remove, suc, take, drop, count_by, slice_get, slice_set, slice_index_or, length, Option, None, Some, is_some, refl, sym, ap, ◌∙◌, subst, arith}
 use Rattle.std.specs.List.{AllPairs}
 use Rattle.std.specs.Option.{option_map, IfSome}
 use Rattle.std.proofs.lemmas.Bool.Decides.{nat_tests}
-use Rattle.std.proofs.lemmas.List.{map-append}
+use Rattle.std.proofs.lemmas.List.{take-map, drop-map, map-append}
 use Rattle.std.proofs.lemmas.Option.{slice_get-map}
 use Rattle.cred_record.specs.Credential.{Credential}
 use Rattle.cred_event.specs.declared.answer.Answer.{Answer}
@@ -17,9 +17,14 @@ use Rattle.cred_slots.specs.Table as table
 use Rattle.cred_book.specs.Kept.{AreFilled, creds_in, shown, IsCounted, IsKept}
 use Rattle.cred_book.proofs.Bags.{bag-more, bag-less, bag-has, bag-at}
 use Rattle.cred_book.proofs.Keeps.{is_among, keeps-push, keeps-remove, among-at}
-use Rattle.cred_book.proofs.LabelMap.{remove-map}
 use Rattle.cred_book.proofs.Sealing.{in_free, in_none}
 use Rattle.cred_book.proofs.Standing.{standing-label, standing-unlabel, standing-altered, kept-altered}
+
+remove-map : {X Y : Type 0} (f : X → Y) (xs : List X) (i : ℕ) → map f (remove xs i) ≡ remove (map f xs) i
+remove-map f xs i =
+    map-append f (take i xs) (drop (suc i) xs)
+    ∙ ap (λ ys. ys ++ map f (drop (suc i) xs)) (sym (take-map f i xs))
+    ∙ ap (λ ys. take i (map f xs) ++ ys) (sym (drop-map f (suc i) xs))
 
 -- ---- a slot is claimed
 

@@ -1,19 +1,18 @@
 -- What is found and changed among prepared labels.
-use Rattle.std.proofs.Common.{◌≡◌, ℕ, zero, suc, ◌+◌, ◌<◌, ◌==◌, Bool, true, false, not, cond, nat_lt, List, [], ◌∷◌, length, find, position, slice_get, get_or, Option, None, Some, MatchOption, nat_eq, refl, sym, ap, ◌∙◌, subst, arith}
-use Rattle.std.specs.Cmp.{nat_eq_equiv}
-use Rattle.std.specs.List.{IsDistinct, prefix_len}
-use Rattle.std.specs.Map.{keys_of, lookup, set_value}
+use Rattle.std.proofs.Common.{◌≡◌, ◌≢◌, ℕ, zero, suc, ◌+◌, ◌<◌, ◌==◌, Bool, true, false, not, cond, nat_lt, List, [], ◌∷◌, length, find, position, remove, set, slice_get, get_or, Option, None, Some, refl, sym, ap, ◌∙◌, inl, inr, subst, arith}
+use Rattle.std.specs.List.{All, AllPairs, prefix_len}
 use Rattle.std.specs.Option.{option_and_then, IsSome}
+use Rattle.std.proofs.lemmas.Bool.{cases_eq, cases_lt, eq-eqb}
 use Rattle.std.proofs.lemmas.Bool.Decides.{nat_tests}
+use Rattle.std.proofs.lemmas.List.{ext_get_or, get_or-map, get_or-set_other, get_or-set_same, length-map, length-set}
+use Rattle.std.proofs.lemmas.List.Elements.{All-head, All-tail}
 use Rattle.std.proofs.lemmas.List.Quantifiers.{position-Some}
-use Rattle.std.proofs.lemmas.Map.{lookup-none}
-use Rattle.std.proofs.lemmas.Map.Entries.{none_past_head}
 use Rattle.std.proofs.lemmas.Option.{get_or_from_slice_get}
+use Rattle.cred_model.proofs.Lists.{found_none}
 use Rattle.cred_model.specs.State.{Prepared, Changed}
 use Rattle.cred_model.specs.Step.{changed, with_change}
-use Rattle.cred_book.specs.declared.prepared.Preparation.{Preparation}
-use Rattle.cred_book.specs.Prepared.{prepared_as, all_prepared, place_of, changed_of, IsReady, GivesUp, Commits}
-use Rattle.cred_book.proofs.LabelMap.{test_sym}
+use Rattle.cred_book.specs.Prepared.{place_of, changed_of, IsReady, GivesUp, Commits}
+use Rattle.cred_book.proofs.Newest.{other, find-none, find-place, label-there, place-within, there-place}
 
 -- ---- the first that passes a test, and its place
 
@@ -62,32 +61,6 @@ has_change : (found : Option Prepared) → IsSome (option_and_then (λ p. p.chan
 has_change None some = cc
 has_change (Some p) some = (p, refl, some)
 
-pub is_given : (before after : List Prepared) (label : ℕ) (found : Option Preparation)
-    → MatchOption found ((place_of before label ≡ None) × (after ≡ before)) (λ p. GivesUp before after (prepared_as label p))
-    → IsSome (changed_of before label) → IsSome found
-is_given before after label None gives some =
-    let p = has_change (find (λ p. p.label == label) before) some in
-    let at = place-of_found (λ p. p.label == label) before p.0 p.1 in
-    let none : place_of before label ≡ None = gives.0 in
-    let there : place_of before label ≡ Some at.0 = at.1 in
-    cc
-is_given before after label (Some p) gives some = refl
-
-pub given : (before after : List Prepared) (label : ℕ) (found : Option Preparation) (p : Preparation)
-    → MatchOption found ((place_of before label ≡ None) × (after ≡ before)) (λ q. GivesUp before after (prepared_as label q))
-    → found ≡ Some p → GivesUp before after (prepared_as label p)
-given before after label found p gives is =
-    subst (λ o. MatchOption o ((place_of before label ≡ None) × (after ≡ before)) (λ q. GivesUp before after (prepared_as label q))) is gives
-
-pub is_changed : (before after : List Prepared) (label : ℕ) (p : Preparation) → GivesUp before after (prepared_as label p)
-    → IsSome (changed_of before label) → IsSome p.changed
-is_changed before after label p gives some =
-    let q = has_change (find (λ r. r.label == label) before) some in
-    let here : find (λ r. r.label == label) before ≡ Some (prepared_as label p) = find-at (λ r. r.label == label) before gives.place _ gives.found gives.there in
-    let there : find (λ r. r.label == label) before ≡ Some q.0 = q.1 in
-    let same : q.0 ≡ prepared_as label p = cc in
-    subst (λ (r : Prepared). IsSome r.changed) same q.2
-
 -- What a changed label gave up is what it was found with.
 pub same_label : (before after : List Prepared) (label task base slot : ℕ) (last : Changed) → IsReady before label task base
     → (gives : Commits before after label slot last) → (gives.task ≡ task) × (gives.base ≡ base)
@@ -104,57 +77,108 @@ some_changed None some = cc
 some_changed (Some last) some = (last, refl)
 
 -- a label that was found with a change
-pub readies : (prepared : List Prepared) (label : ℕ) (p : Preparation) → find (λ q. q.label == label) prepared ≡ Some (prepared_as label p) → IsSome p.changed
+pub readies : (prepared : List Prepared) (label : ℕ) (p : Prepared) → find (λ q. q.label == label) prepared ≡ Some p → IsSome p.changed
     → IsReady prepared label p.task p.base
 readies prepared label p found some =
     let last = some_changed p.changed some in
+    let at = place-of_found (λ q. q.label == label) prepared p found in
+    let same : p.label ≡ label
+    = label-there (λ (q : Prepared). q.label) label prepared at.0 p p at.1 (sym (get_or_from_slice_get prepared at.0 p p at.2)) in
     record {
       slot = p.slot;
       last = last.0;
-      found = found ∙ ap (λ (changed : Option Changed). Some (record { label = label; task = p.task; base = p.base; slot = p.slot; changed = changed })) last.1;
+      found = found
+          ∙ ap (λ (changed : Option Changed). Some (record p { changed = changed })) last.1
+          ∙ ap (λ (l : ℕ). Some (record p { label = l; changed = Some last.0 })) same;
     }
+
+-- ---- what stands at a label's place
+
+module _ (before : List Prepared) (label place : ℕ) (p d : Prepared) (at : place_of before label ≡ Some place) (is : p ≡ get_or before place d) where
+  abbrev label_of : Prepared → ℕ
+  label_of q = q.label
+
+  pub is_its : p.label ≡ label
+  is_its = label-there label_of label before place p d at is
+
+  pub is_found : find (λ q. q.label == label) before ≡ Some p
+  is_found = find-place label_of label before place p d at is
+
+  pub gave_up : (after : List Prepared) → after ≡ remove before place → GivesUp before after (record p { label = label })
+  gave_up after left = record {
+    place = place;
+    found = at;
+    there = there-place label_of label before place p d at is ∙ ap (λ (l : ℕ). Some (record p { label = l })) is_its;
+    left = left;
+  }
+
+  pub is_changed : IsSome (changed_of before label) → IsSome p.changed
+  is_changed some = subst (λ (found : Option Prepared). IsSome (option_and_then (λ q. q.changed) found)) is_found some
+
+  pub commits : (after : List Prepared) (last : Changed) → after ≡ remove before place → p.changed ≡ Some last
+      → Commits before after label p.slot last
+  commits after last left same = record {
+    task = p.task;
+    base = p.base;
+    gives = subst (λ (changed : Option Changed). GivesUp before after (record p { label = label; changed = changed })) same (gave_up after left);
+  }
+
+-- a label that was changed has a place
+pub is_placed : (before : List Prepared) (label : ℕ) (found : Option ℕ) → found ≡ place_of before label → IsSome (changed_of before label)
+    → IsSome found
+is_placed before label None is some =
+    let none = find-none (λ (q : Prepared). q.label) label before (sym is) in
+    subst (λ (found : Option Prepared). IsSome (option_and_then (λ q. q.changed) found)) none some
+is_placed before label (Some place) is some = refl
 
 -- ---- a change
 
 module _ (label : ℕ) (to : Changed) where
-  abbrev pub altered : Preparation → Preparation
-  altered p = record p { changed = Some to }
+  leaves_other : (p : Prepared) → (p.label == label) ≡ false → changed label to p ≡ p
+  leaves_other p other = ap (λ (b : Bool). cond b (record p { changed = Some to }) p) other
 
-  leaves_other : (p : Prepared) (test : Bool) → (p.label == label) ≡ test → test ≡ false → changed label to p ≡ p
-  leaves_other p test is other = ap (λ (b : Bool). cond b (record p { changed = Some to }) p) (is ∙ other)
+  changes_it : (p : Prepared) → p.label ≡ label → changed label to p ≡ record p { changed = Some to }
+  changes_it p same = ap (λ (b : Bool). cond b (record p { changed = Some to }) p) (eq-eqb p.label label same)
 
-  none_after : (test : Bool) (x : Preparation) (rest : Option Preparation) → cond test (Some x) rest ≡ None → (test ≡ false) × (rest ≡ None)
-  none_after true x rest none = cc
-  none_after false x rest none = (refl, none)
+  unchanged : (ps : List Prepared) → All (λ p. (p.label == label) ≡ false) ps → with_change ps label to ≡ ps
+  unchanged [] each = refl
+  unchanged (p ∷ ps) each =
+      ap (λ (q : Prepared). q ∷ with_change ps label to) (leaves_other p (All-head (λ q. (q.label == label) ≡ false) p ps each))
+      ∙ ap (λ (qs : List Prepared). p ∷ qs) (unchanged ps (All-tail (λ q. (q.label == label) ≡ false) p ps each))
 
-  pub with_change-none : (es : List (ℕ × Preparation)) → lookup (nat_eq label) es ≡ None → with_change (all_prepared es) label to ≡ all_prepared es
-  with_change-none [] none = refl
-  with_change-none (e ∷ es) none =
-      let first = none_after (nat_eq label e.0) e.1 (lookup (nat_eq label) es) none in
-      let head : changed label to (prepared_as e.0 e.1) ≡ prepared_as e.0 e.1
-      = leaves_other (prepared_as e.0 e.1) (nat_eq label e.0) (test_sym e.0 label) first.0 in
-      ap (λ (p : Prepared). p ∷ with_change (all_prepared es) label to) head
-      ∙ ap (λ (ps : List Prepared). prepared_as e.0 e.1 ∷ ps) (with_change-none es first.1)
+  pub with_change-none : (ps : List Prepared) → place_of ps label ≡ None → with_change ps label to ≡ ps
+  with_change-none ps none =
+      unchanged ps (found_none (λ p. p.label == label) ps (find-none (λ (p : Prepared). p.label) label ps none))
 
-  changed_at : (e : ℕ × Preparation) (v : Preparation) (es : List (ℕ × Preparation)) (test : Bool) → nat_eq label e.0 ≡ test
-      → cond test (Some e.1) (lookup (nat_eq label) es) ≡ Some v
-      → (test ≡ true → lookup (nat_eq label) es ≡ None)
-      → (lookup (nat_eq label) es ≡ Some v → all_prepared (set_value (nat_eq label) es (altered v)) ≡ with_change (all_prepared es) label to)
-      → all_prepared (cond test ((e.0, altered v) ∷ es) (e ∷ set_value (nat_eq label) es (altered v)))
-      ≡ cond test (prepared_as e.0 (altered e.1)) (prepared_as e.0 e.1) ∷ with_change (all_prepared es) label to
-  changed_at e v es true is found last rest =
-      let same : v ≡ e.1 = cc in
-      ap (λ (x : Preparation). prepared_as e.0 (altered x) ∷ all_prepared es) same
-      ∙ ap (λ (ps : List Prepared). prepared_as e.0 (altered e.1) ∷ ps) (sym (with_change-none es (last refl)))
-  changed_at e v es false is found last rest = ap (λ (ps : List Prepared). prepared_as e.0 e.1 ∷ ps) (rest found)
-
-  -- Only one label is this one, so that each of its kind was changed.
-  pub with_change-set : (v : Preparation) (es : List (ℕ × Preparation)) → IsDistinct nat_eq (keys_of es) → lookup (nat_eq label) es ≡ Some v
-      → all_prepared (set_value (nat_eq label) es (altered v)) ≡ with_change (all_prepared es) label to
-  unfolding IsDistinct
-  with_change-set v [] distinct found = cc
-  with_change-set v (e ∷ es) distinct found =
-      changed_at e v es (nat_eq label e.0) refl found
-      (λ same. lookup-none (nat_eq label) es (none_past_head nat_eq_equiv label e es distinct same))
-      (λ there. with_change-set v es distinct.1 there)
-      ∙ ap (λ (b : Bool). cond b (prepared_as e.0 (altered e.1)) (prepared_as e.0 e.1) ∷ with_change (all_prepared es) label to) (test_sym label e.0)
+  -- Only one label is this one.
+  pub with_change-at : (ps : List Prepared) (place : ℕ) (p d : Prepared) → AllPairs (λ a b. a.label ≢ b.label) ps → place_of ps label ≡ Some place
+      → p ≡ get_or ps place d → with_change ps label to ≡ set ps place (record p { changed = Some to })
+  with_change-at ps place p d differ at is =
+      let own = is_its ps label place p d at is in
+      let within = place-within (λ (q : Prepared). q.label) label ps place d at in
+      let here : ℕ → Prepared = λ k. get_or ps k d in
+      ext_get_or d (with_change ps label to) (set ps place (record p { changed = Some to }))
+      (length-map ps (changed label to) ∙ sym (length-set ps place (record p { changed = Some to })))
+      (λ k lt.
+      let inside : k < length ps = omega (arith, length-map ps (changed label to)) in
+      get_or-map (changed label to) ps k d d inside
+      ∙ elim (cases_eq k place) [
+        | inl same ↦
+            ap (λ (n : ℕ). changed label to (here n)) same ∙ ap (changed label to) (sym is) ∙ changes_it p own
+            ∙ sym (ap (λ (n : ℕ). get_or (set ps place (record p { changed = Some to })) n d) same
+            ∙ get_or-set_same ps place (record p { changed = Some to }) d within)
+        | inr ne ↦
+            leaves_other (here k)
+            (other (here k).label label (λ it. apart ps d differ k place inside within ne (it ∙ sym own ∙ ap (λ (q : Prepared). q.label) is)))
+            ∙ sym (get_or-set_other ps place k (record p { changed = Some to }) d ne)
+      ])
+    where
+      apart : (ps : List Prepared) (d : Prepared) → AllPairs (λ a b. a.label ≢ b.label) ps → (i j : ℕ) → i < length ps → j < length ps → i ≢ j
+          → (get_or ps i d).label ≢ (get_or ps j d).label
+      apart ps d differ i j i_in j_in ne same = elim (cases_lt i j) [
+        | inl before ↦ differ i j d before j_in same
+        | inr from ↦ elim (cases_lt j i) [
+          | inl after ↦ differ j i d after i_in (sym same)
+          | inr to ↦ let here : i ≡ j = omega arith in ne here
+        ]
+      ]

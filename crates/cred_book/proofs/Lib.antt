@@ -1,6 +1,6 @@
 pub mod Courses
 pub mod Cursors
-pub mod LabelMap
+pub mod Newest
 pub mod Labels
 pub mod Bags
 pub mod Keeps

@@ -1,13 +1,7 @@
--- The holds, as a map from labels keeps them.
-use Rattle.std.specs.Prelude.{◌≡◌, ℕ, ◌==◌, List, map, position, remove, slice_get, Some}
+-- The holds, by their labels.
+use Rattle.std.specs.Prelude.{◌≡◌, ℕ, ◌==◌, List, position, remove, slice_get, Some}
 use Rattle.std.specs.declared.option.Option.{Option}
 use Rattle.cred_model.specs.State.{Hold}
-
-abbrev pub hold_of : ℕ × ℕ → Hold
-hold_of entry = record { label = entry.0; number = entry.1 }
-
-abbrev pub holds_of : List (ℕ × ℕ) → List Hold
-holds_of entries = map hold_of entries
 
 -- where a label stands among the holds
 abbrev pub place_of : List Hold → ℕ → Option ℕ

@@ -1,22 +1,8 @@
--- The prepared labels, as a map from labels keeps them.
-use Rattle.std.specs.Prelude.{◌≡◌, ℕ, ◌==◌, List, find, map, position, remove, slice_get, Some}
+-- The prepared labels.
+use Rattle.std.specs.Prelude.{◌≡◌, ℕ, ◌==◌, List, find, position, remove, slice_get, Some}
 use Rattle.std.specs.declared.option.Option.{Option}
 use Rattle.std.specs.Option.{option_and_then}
 use Rattle.cred_model.specs.State.{Prepared, Changed}
-use Rattle.cred_book.specs.declared.prepared.Preparation.{Preparation}
-
--- what is prepared under the label
-abbrev pub prepared_as : ℕ → Preparation → Prepared
-prepared_as label p = record {
-  label = label;
-  task = p.task;
-  base = p.base;
-  slot = p.slot;
-  changed = p.changed;
-}
-
-abbrev pub all_prepared : List (ℕ × Preparation) → List Prepared
-all_prepared entries = map (λ entry. prepared_as entry.0 entry.1) entries
 
 -- where a label stands among those that are prepared
 abbrev pub place_of : List Prepared → ℕ → Option ℕ
@@ -40,6 +26,14 @@ pub record GivesUp (before after : List Prepared) (p : Prepared) : Type 0 where
   pub found : place_of before p.label ≡ Some place
   pub there : slice_get before place ≡ Some p
   pub left : after ≡ remove before place
+
+-- This label gave up what it prepared on this base, and the slot that it kept.
+pub record Ends (before after : List Prepared) (label base slot : ℕ) : Type 0 where
+  pub task : ℕ
+  pub changed : Option Changed
+  pub gives :
+      GivesUp before after
+      (record { label = label; task = task; base = base; slot = slot; changed = changed })
 
 -- This label gave up what it prepared, which was changed last so, and the slot that it kept.
 pub record Commits (before after : List Prepared) (label slot : ℕ) (last : Changed) : Type 0 where

@@ -1,11 +1,13 @@
 //! The journal of a run.
-ghost use Rattle.std.specs.Prelude.{◌≡◌, ◌<◌, [], length, IfOk, OnOk, OnErr};
+ghost use Rattle.std.specs.Prelude.{◌≡◌, ◌<◌, [], length, true, is_some, IfOk, IfSome, OnOk, OnErr};
+ghost use Rattle.cred_model.specs.Course as course_model;
 ghost use Rattle.cred_model.specs.Journal as model;
 ghost use Rattle.cred_model.specs.Journal.{replay};
 ghost use Rattle.cred_model.specs.Named.{IsEventOf};
 ghost use Rattle.cred_model.specs.Slots.{uses};
+ghost use Rattle.cred_script.specs.Grammar.{line_at};
 ghost use Rattle.cred_book.specs.Book.{with_event, answer_of, next_of};
-ghost use Rattle.cred_book.specs.Cursor.{IsSetup, Makes, Stands, left};
+ghost use Rattle.cred_book.specs.Cursor.{IsOfLine, IsSetup, Makes, Passes, Stands, left};
 ghost use Rattle.cred_book.specs.declared.cursor.Step.TheVariants.{More};
 
 use crate::cursor::{Step, cursor_after, first_cursor, next_event};
@@ -142,8 +144,32 @@ impl Book {
         let Some(event) = next_event(&self.script, course)? else {
             return Ok(Step::Ended);
         };
-        let answer = self.event(course.line(), event)?;
-        self.cursor = cursor_after(&self.script, course, &answer);
+        self.cursor = self.enter(course, event)?;
         Ok(Step::More)
+    }
+
+    /// Enters the next event of a course, and answers the cursor after it; the book's own stays.
+    /// The answer moves into the entry, where `event` makes a copy of it.
+    fn enter(&mut self, course: Course, event: Event) -> Result<Option<Course>, NoMemory>
+        requires kind { IsEventOf (length self.old.script.files) event }
+        requires line { IsOfLine self.old.script course }
+        requires going { is_some course.stage ≡ true }
+        ensures entered { OnOk result (self.new ≡ with_event self.old course.line event) }
+        ensures passes { IfOk result (λ cursor. IfSome (line_at self.old.script course.line)
+            (λ line. Passes self.old.script
+            (course_model.after line.content course (answer_of self.old course.line event))
+            cursor)) }
+        ensures err { OnErr result (self.new ≡ self.old) }
+    {
+        self.journal.reserve(1)?;
+        let line = course.line();
+        let answer = self.state.step(&self.script, line, &event)?;
+        let cursor = cursor_after(&self.script, course, &answer);
+        self.journal.push_reserved(Entry {
+            line,
+            event,
+            answer,
+        });
+        Ok(cursor)
     }
 }

@@ -4,24 +4,43 @@ ghost use Rattle.std.specs.Option.{option_map};
 ghost use Rattle.cred_book.specs.Holds.{place_of, Releases};
 
 use cred_ids::NoMemory;
-use indexmap::IndexMap;
 use std::alloc::Global;
 use std::marker::Model;
 
-/// The number of a credential under each label, in the order in which the labels took hold.
+/// A label, and the number of the credential that it holds.
+#[derive(Clone, Copy, Debug)]
+struct Hold {
+    label: u32,
+    number: u64,
+}
+
+impl Model for Hold {
+    ghost use Rattle.cred_model.specs.State as model;
+
+    ghost Value = { model.Hold };
+
+    ghost view = { λ h. record { label = h.label; number = h.number } };
+
+    ghost inverse = { λ h. record { label = h.label; number = h.number } };
+}
+
+/// The holds, in the order in which the labels took hold. They are few, and a line looks for its
+/// own, which is the newest: so a label is looked for from the last one on.
 #[derive(Drop, Debug)]
 pub struct Holds {
-    numbers: IndexMap<u32, u64>,
+    all: Vec<Hold>,
 }
 
 impl Model for Holds {
-    ghost use Rattle.std.specs.Prelude.{List};
+    ghost use Rattle.std.specs.Prelude.{List, ◌≢◌};
+    ghost use Rattle.std.specs.List.{AllPairs};
     ghost use Rattle.cred_model.specs.State.{Hold};
-    ghost use Rattle.cred_book.specs.Holds.{holds_of};
 
     ghost Value = { List Hold };
 
-    ghost view = { λ h. holds_of h.numbers.entries };
+    ghost view = { λ h. h.all.items };
+
+    ghost invariant = { λ h. AllPairs (λ a b. a.label ≢ b.label) h.all.items };
 }
 
 impl Holds {
@@ -30,7 +49,7 @@ impl Holds {
         ensures { result ≡ [] }
     {
         Holds {
-            numbers: IndexMap::new(alloc),
+            all: Vec::new(alloc),
         }
     }
 
@@ -38,38 +57,42 @@ impl Holds {
     pub fn len(&self) -> usize
         ensures { result ≡ length self.now }
     {
-        self.numbers.len()
+        self.all.len()
     }
 
     /// The number that a label holds.
-    #[tactic(auto, using(crate::proofs::LabelMap::holds))]
     pub fn get(&self, label: u32) -> Option<u64>
         ensures { result ≡ option_map (λ h. h.number) (find (λ h. h.label == label) self.now) }
     {
-        self.numbers.get(&label).copied()
+        let place = self.place(label)?;
+        Some(self.all[place].number)
     }
 
     /// A label takes hold of a number. Without memory nothing changes.
-    #[tactic(auto, using(crate::proofs::LabelMap::holds))]
     pub fn take(&mut self, label: u32, number: u64) -> Result<(), NoMemory>
         requires { find (λ h. h.label == label) self.old ≡ None }
         ensures ok { OnOk result
             (self.new ≡ self.old ++ record { label = label; number = number } ∷ []) }
         ensures err { OnErr result (self.new ≡ self.old) }
     {
-        self.numbers.insert(label, number)?;
+        self.all.push(Hold { label, number })?;
         Ok(())
     }
 
     /// A label lets go of the number that it held.
-    #[tactic(auto, using(crate::proofs::LabelMap::holds))]
     pub fn release(&mut self, label: u32) -> Option<u64>
         ensures { MatchOption result
             ((place_of self.old label ≡ None) × (self.new ≡ self.old))
             (λ number. Releases self.old self.new label number) }
     {
-        let place = self.numbers.get_index_of(&label)?;
-        let (_, number) = self.numbers.shift_remove_index(place)?;
-        Some(number)
+        let place = self.place(label)?;
+        Some(self.all.remove(place).number)
+    }
+
+    /// Where a label stands among the holds.
+    fn place(&self, label: u32) -> Option<usize>
+        ensures { result ≡ place_of self.now label }
+    {
+        self.all.iter().rposition(|h| h.label == label)
     }
 }

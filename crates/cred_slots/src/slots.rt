@@ -101,8 +101,7 @@ impl Slots {
             self.new ≡ record (room self.old) { kept = slice_set self.old.kept slot true }) }
         ensures kept { IfSome result (λ slot. IsTrue (is_kept self.new slot)) }
     {
-        self.make_room();
-        let slot = self.least_free()?;
+        let slot = self.make_room()?;
         self.keep(slot);
         Some(slot)
     }
@@ -244,12 +243,17 @@ impl Slots {
         self.kept.union(&self.used).first_unset()
     }
 
-    /// Sweeps if all slots are live.
-    fn make_room(&mut self)
-        ensures { self.new ≡ room self.old }
+    /// Sweeps if all slots are live, and gives the least slot that isn't live then.
+    fn make_room(&mut self) -> Option<u32>
+        ensures room { self.new ≡ room self.old }
+        ensures slot { result ≡ least_free self.new }
     {
-        if self.least_free().is_none() {
-            self.sweep();
+        match self.least_free() {
+            Some(slot) => Some(slot),
+            None => {
+                self.sweep();
+                self.least_free()
+            }
         }
     }
 

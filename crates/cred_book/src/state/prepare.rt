@@ -8,7 +8,7 @@ ghost use Rattle.cred_sound.specs.Sound.{IsSound};
 ghost use Rattle.cred_model.specs.Step.{by_abort, by_alter, by_commit, by_prepare, settled};
 
 use crate::files::{executed_file, initial_chain};
-use crate::prepared::{Changed, Preparation, Ready};
+use crate::prepared::{Changed, Ended, Prepared, Ready};
 use crate::state::State;
 use crate::table::{Numbered, sealed_at, set_current, task_among};
 use cred_decide::{Made, change as change_of};
@@ -55,15 +55,13 @@ impl State {
             self.slots.sweep();
             return Ok(Answer::TableFull);
         };
-        self.prepared.prepare(
+        self.prepared.prepare(Prepared {
             label,
-            Preparation {
-                task,
-                base,
-                slot,
-                changed: None,
-            },
-        )?;
+            task,
+            base,
+            slot,
+            changed: None,
+        })?;
         self.slots.claim();
         self.slots.add(base);
         Ok(Answer::Kept { slot })
@@ -144,7 +142,7 @@ impl State {
         requires { IsSound self.old }
         ensures { settled self.old (by_abort self.old label) ≡ (result, self.new) }
     {
-        let Some(Preparation { base, slot, .. }) = self.prepared.give_up(label) else {
+        let Some(Ended { base, slot }) = self.prepared.give_up(label) else {
             return Answer::NoPrepared(label);
         };
         self.slots.give_up(slot);
@@ -158,7 +156,7 @@ impl State {
             result ≡ option_and_then (λ p. numbered self.now.creds p.base)
             (prepared_of self.now label) }
     {
-        let preparation = self.prepared.get(label)?;
-        sealed_at(&self.store, &self.slots, preparation.base)
+        let prepared = self.prepared.get(label)?;
+        sealed_at(&self.store, &self.slots, prepared.base)
     }
 }

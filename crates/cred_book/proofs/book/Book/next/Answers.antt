@@ -1,4 +1,4 @@
-use Rattle.std.proofs.Common.{◌≡◌, ℕ, length, Some, None, is_some, refl, sym, ap, ◌∙◌, subst, arith}
+use Rattle.std.proofs.Common.{◌≡◌, length, Some, None, is_some, refl, sym, ap, ◌∙◌, subst, arith}
 use Rattle.std.specs.Option.{IfSome, option_and_then}
 use Rattle.cred_model.specs.Script.{Script, Line}
 use Rattle.cred_model.specs.Course as model
@@ -32,9 +32,9 @@ returns-in_default c =
       err = tt;
     }
 
-pub event-requires : goal.event-requires
-event-requires c =
-    record { kind = rw (← c.self.view_is) (if_some (IsEventOf (length c.self.inside.script.files)) _ c.in-Some-2.event c.in-Some-2.is c.in_ok-event.ensures.named) }
+pub enter-requires-clause-kind : goal.enter-requires-clause-kind
+enter-requires-clause-kind c =
+    rw (← c.self.view_is) (if_some (IsEventOf (length c.self.inside.script.files)) _ c.in-Some-2.event c.in-Some-2.is c.in_ok-event.ensures.named)
 
 pub returns-in_default-2 : goal.returns-in_default-2
 returns-in_default-2 c =
@@ -50,12 +50,12 @@ returns-in_default-2 c =
 pub returns : goal.returns
 returns c =
     let book : Recorded = c.args.self.now in
-    let grown : Recorded = c.event.new.self in
+    let grown : Recorded = c.enter.new.self in
     let course : Course = c.in-Some.course in
     let after : Recorded = record {
       script = c.self-2.inside.script;
       journal = c.self-2.inside.journal.items;
-      cursor = c.cursor_after-self-inside.result;
+      cursor = c.in_ok-self-inside.field-0;
     } in
     let zero : c.args.lane ≡ 0 = omega (arith, c.if-lane-ne0.false) in
     let here : book.cursor ≡ Some course = sym (ap (λ (b : Recorded). b.cursor) c.self.view_is) ∙ c.in-Some.is in
@@ -63,17 +63,13 @@ returns c =
     let has : option_and_then (λ (l : Line). event_at l.content course) (line_at book.script course.line) ≡ Some c.in-Some-2.event
     = ap (λ (s : Script). option_and_then (λ (l : Line). event_at l.content course) (line_at s course.line)) (sym script)
     ∙ sym c.in_ok-event.ensures.event ∙ c.in-Some-2.is in
-    let number : c.line.result ≡ course.line = c.line.ensures.value in
-    let is : grown ≡ with_event book course.line c.in-Some-2.event
-    = c.in_ok-answer.ensures.entered ∙ ap (λ (n : ℕ). with_event book n c.in-Some-2.event) number in
-    let answer : c.in_ok-answer.answer ≡ answer_of book course.line c.in-Some-2.event
-    = c.in_ok-answer.ensures.answer ∙ ap (λ (n : ℕ). answer_of book n c.in-Some-2.event) number in
+    let is : grown ≡ with_event book course.line c.in-Some-2.event = c.in_ok-self-inside.ensures.entered in
     let same : c.self-2.inside.script ≡ grown.script = ap (λ (b : Recorded). b.script) c.self-2.view_is in
-    let passes : IfSome (line_at grown.script course.line) (λ l. Passes grown.script (model.after l.content course c.in_ok-answer.answer) after.cursor)
-    = subst (λ (s : Script). IfSome (line_at s course.line) (λ l. Passes s (model.after l.content course c.in_ok-answer.answer) after.cursor)) same
-    c.cursor_after-self-inside.ensures in
+    let passes = subst
+    (λ (s : Script). IfSome (line_at s course.line) (λ l. Passes s (model.after l.content course (answer_of book course.line c.in-Some-2.event)) after.cursor))
+    (sym (ap (λ (b : Recorded). b.script) is)) c.in_ok-self-inside.ensures.passes in
     let m : Moves book after
-    = moves_by book grown after course c.in-Some-2.event c.in_ok-answer.answer here c.requires has is answer same
+    = moves_by book grown after course c.in-Some-2.event (answer_of book course.line c.in-Some-2.event) here c.requires has is refl same
     (ap (λ (b : Recorded). b.journal) c.self-2.view_is) passes in
     record {
       script = m.script;

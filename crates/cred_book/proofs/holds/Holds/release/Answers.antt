@@ -1,9 +1,18 @@
-use Rattle.cred_book.proofs.LabelMap.{released}
+use Rattle.std.proofs.Common.{ℕ, Some, sym, ap, ◌∙◌}
+use Rattle.cred_model.specs.State.{Hold}
+use Rattle.cred_book.proofs.Newest.{label-there, there-place}
 use Rattle.cred_book.proofs.holds.Holds.release.Goals as goal
 
 pub returns : goal.returns
 returns c =
-    let was = released c.args.label c.in_ok-place.place (c.in_ok-number.field-0-0, c.in_ok-number.number)
-    c.self.inside.numbers.entries c.shift_remove_index.new.self.entries
-    c.in_ok-place.ensures.index c.in_ok-number.ensures.entry c.in_ok-number.ensures.entries in
-    rw (← c.self.view_is) (record { place = c.in_ok-place.place; found = was.0; held = was.1; left = was.2 })
+    let at = rw (← c.self.view_is) at (sym c.in_ok-place.ensures) in
+    let is = c.result.view_is ∙ c.remove.ensures.value in
+    let own = label-there (λ (h : Hold). h.label) c.args.label c.self.inside.all.items c.in_ok-place.place _ _ at is in
+    rw (← c.self.view_is)
+    (record {
+      place = c.in_ok-place.place;
+      found = at;
+      held = there-place (λ (h : Hold). h.label) c.args.label c.self.inside.all.items c.in_ok-place.place _ _ at is
+          ∙ ap (λ (l : ℕ). Some (record { label = l; number = c.result.inside.number })) own;
+      left = c.remove.ensures.items;
+    })

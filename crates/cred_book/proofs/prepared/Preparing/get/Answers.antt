@@ -1,15 +1,16 @@
-use Rattle.std.proofs.Common.{◌≡◌, ℕ, ◌∙◌, sym, ap, refl, Option, None, Some, Bor}
-use Rattle.std.specs.Option.{option_map, option_copied}
-use Rattle.cred_book.specs.declared.prepared.Preparation.{Preparation}
-use Rattle.cred_book.specs.Prepared.{prepared_as}
-use Rattle.cred_book.proofs.LabelMap.{find-prepared}
+use Rattle.std.proofs.Common.{sym, ap, ◌∙◌, Bor}
+use Rattle.std.specs.Option.{option_map}
+use Rattle.cred_model.specs.State.{Prepared}
+use Rattle.cred_book.proofs.Newest.{find-none, find-place}
 use Rattle.cred_book.proofs.prepared.Preparing.get.Goals as goal
 
-read : (label : ℕ) (found : Option (Bor Preparation)) → option_map (λ p. prepared_as label p.now) found ≡ option_map (prepared_as label) (option_copied found)
-read label None = refl
-read label (Some p) = refl
+pub returns-in_err-place : goal.returns-in_err-place
+returns-in_err-place c =
+    ap (option_map (λ (p : Bor Prepared). p.now)) c.from_residual.ensures
+    ∙ sym (find-none (λ (p : Prepared). p.label) c.args.label c.args.self.now (sym c.in_err-place.ensures))
 
 pub returns : goal.returns
 returns c =
+    let at = rw (← c.self.view_is) at (sym c.in_ok-place.ensures) in
     rw (← c.self.view_is)
-    (read c.args.label c.get.result ∙ ap (option_map (prepared_as c.args.label)) c.get.ensures.value ∙ sym (find-prepared c.args.label c.self.inside.entries.entries))
+    (sym (find-place (λ (p : Prepared). p.label) c.args.label c.self.inside.all.items c.in_ok-place.place _ _ at c.index.ensures))

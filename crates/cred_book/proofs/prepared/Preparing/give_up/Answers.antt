@@ -1,9 +1,14 @@
-use Rattle.cred_book.proofs.LabelMap.{gave_up}
+use Rattle.std.proofs.Common.{sym, ◌∙◌}
+use Rattle.cred_book.proofs.Labels.{gave_up}
 use Rattle.cred_book.proofs.prepared.Preparing.give_up.Goals as goal
 
 pub returns : goal.returns
 returns c =
+    let at = rw (← c.self.view_is) at (sym c.in_ok-place.ensures) in
     rw (← c.self.view_is)
-    (gave_up c.args.label c.in_ok-place.place (c.in_ok-preparation.field-0-0, c.in_ok-preparation.preparation)
-    c.self.inside.entries.entries c.shift_remove_index.new.self.entries
-    c.in_ok-place.ensures.index c.in_ok-preparation.ensures.entry c.in_ok-preparation.ensures.entries)
+    (record {
+      task = c.base.inside.task;
+      changed = c.base.inside.changed;
+      gives = gave_up c.self.inside.all.items c.args.label c.in_ok-place.place _ _ at (c.base.view_is ∙ c.remove.ensures.value)
+          c.remove.new.self.items c.remove.ensures.items;
+    })

@@ -1,13 +1,13 @@
-use Rattle.std.proofs.Common.{◌∙◌, nat_eq}
-use Rattle.indexmap.proofs.CallerLemmas.{insert_entry-new}
-use Rattle.cred_book.proofs.LabelMap.{absent, begun}
+use Rattle.std.proofs.lemmas.List.Quantifiers.{all_pairs_push}
+use Rattle.cred_model.specs.State.{Prepared}
+use Rattle.cred_model.proofs.Lists.{Differ}
+use Rattle.cred_sound.proofs.Unique.{none_has}
 use Rattle.cred_book.proofs.prepared.Preparing.prepare.Goals as goal
 
-pub returns-clause-ok : goal.returns-clause-ok
-returns-clause-ok c =
-    let entries = c.self.inside.entries.entries in
-    let view = c.self.view_is in
-    let new = absent c.args.label entries (rw (← view) at c.requires) in
-    rw (← view)
-    (begun c.args.label c.args.preparation entries c.insert.new.self.entries
-    (c.in_ok-insert.ensures.entries ∙ insert_entry-new nat_eq c.self.inside.entries c.args.label c.args.preparation new))
+pub invariant_of-self-2 : goal.invariant_of-self-2
+invariant_of-self-2 c =
+    let new = rw (← c.self.view_is) at c.requires in
+    let label_of : Prepared → _ = λ p. p.label in
+    rw c.in_ok-push.ensures.items
+    (all_pairs_push (Differ label_of) c.self.inside.all.items c.args.prepared c.self.invariant
+    (none_has label_of c.self.inside.all.items c.args.prepared.label new))

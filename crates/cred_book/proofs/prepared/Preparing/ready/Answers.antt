@@ -1,10 +1,8 @@
-use Rattle.std.proofs.Common.{is_some, sym, ap}
-use Rattle.std.specs.Option.{IsSome}
+use Rattle.std.proofs.Common.{Some, sym, ap, ◌∙◌}
 use Rattle.cred_book.proofs.Labels.{readies}
 use Rattle.cred_book.proofs.prepared.Preparing.ready.Goals as goal
 
 pub returns : goal.returns
 returns c =
-    let p = c.in_ok-preparation.preparation.now in
-    let some : IsSome p.changed = ap is_some (sym c.in_ok-as_ref.ensures.value) in
-    readies c.args.self.now c.args.label p (sym c.in_ok-preparation.ensures) some
+    readies c.args.self.now c.args.label _ (sym c.in_ok-prepared.ensures ∙ ap Some (sym c.prepared.view_is))
+    (sym c.in_ok-as_ref.ensures.variant)

@@ -4,17 +4,17 @@ use Rattle.cred_book.proofs.Labelling.{slot-kept, base-held, abort_kept, abort_d
 use Rattle.cred_book.proofs.state.State.abort.Goals as goal
 
 pub give_up-requires-2 : goal.give_up-requires-2
-give_up-requires-2 c = slot-kept c.self.invariant c.in-Some.ensures.place _ c.in-Some.ensures.there
+give_up-requires-2 c = slot-kept c.self.invariant c.in-Some.ensures.gives.place _ c.in-Some.ensures.gives.there
 
 pub drop_later-requires : goal.drop_later-requires
 drop_later-requires c =
-    let gives = c.in-Some.ensures in
+    let gives = c.in-Some.ensures.gives in
     let base = c.in-Some.field-0.base in
     subst (λ (x : Table). 0 < count_by (λ m. m == base) x.held) (sym c.give_up-2.ensures) (base-held c.self.invariant gives.place _ gives.there)
 
 pub invariant_of-self-2 : goal.invariant_of-self-2
 invariant_of-self-2 c =
-    let gives = c.in-Some.ensures in
+    let gives = c.in-Some.ensures.gives in
     let base = c.in-Some.field-0.base in
     let after = c.drop_later.new.self in
     let sound = rw (← c.self.view_is) at c.requires in
@@ -28,7 +28,7 @@ invariant_of-self-2 c =
 
 pub returns : goal.returns
 returns c =
-    let gives = c.in-Some.ensures in
+    let gives = c.in-Some.ensures.gives in
     let base = c.in-Some.field-0.base in
     let after = c.drop_later.new.self in
     rw (← c.self.view_is, gives.left)

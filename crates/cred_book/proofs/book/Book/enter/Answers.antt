@@ -1,0 +1,49 @@
+use Rattle.std.proofs.Common.{◌≡◌, ℕ, ◌∙◌, ◌++◌, ◌∷◌, [], List, sym, ap, subst}
+use Rattle.std.specs.Option.{IfSome}
+use Rattle.cred_event.specs.declared.answer.Answer.{Answer}
+use Rattle.cred_event.specs.declared.entry.Entry.{Entry}
+use Rattle.cred_model.specs.Course as model
+use Rattle.cred_script.specs.Grammar.{line_at}
+use Rattle.cred_book.specs.Book.{Recorded, answer_of}
+use Rattle.cred_book.specs.Cursor.{Passes}
+use Rattle.cred_book.proofs.Entered.{follows_sound, replays, enters}
+use Rattle.cred_book.proofs.book.Book.enter.Goals as goal
+
+pub step-requires-clause-sound : goal.step-requires-clause-sound
+step-requires-clause-sound c = follows_sound c.self.inside.script c.self.inside.state c.self.inside.journal.items c.self.invariant
+
+pub invariant_of-self-2 : goal.invariant_of-self-2
+invariant_of-self-2 c =
+    let entry : Entry = record { line = c.line-line.result; event = c.args.event; answer = c.in_ok-answer.answer } in
+    let longer = c.push_reserved.ensures.items ∙ ap (λ (js : List Entry). js ++ entry ∷ []) c.in_ok-reserve.ensures.items in
+    enters c.self.inside.script c.self.inside.state c.step.new.self c.self.inside.journal.items c.push_reserved.new.self.items entry
+    c.self.invariant c.in_ok-answer.ensures.ok longer
+
+pub returns-clause-entered : goal.returns-clause-entered
+returns-clause-entered c =
+    let b = c.self.inside in
+    let number : c.line-line.result ≡ c.args.course.line = c.line-line.ensures.value in
+    let entry : ℕ → Answer → Entry = λ line answer. record { line = line; event = c.args.event; answer = answer } in
+    let longer = c.push_reserved.ensures.items ∙ ap (λ (js : List Entry). js ++ entry c.line-line.result c.in_ok-answer.answer ∷ []) c.in_ok-reserve.ensures.items in
+    let made = replays b.script b.state c.step.new.self b.journal.items (entry c.line-line.result c.in_ok-answer.answer) c.self.invariant c.in_ok-answer.ensures.ok in
+    rw (← c.self.view_is)
+    (ap (λ (js : List Entry). record { script = b.script; journal = js; cursor = b.cursor })
+    (longer ∙ ap (λ (answer : Answer). b.journal.items ++ entry c.line-line.result answer ∷ []) (sym made.answers)
+    ∙ ap (λ (n : ℕ). b.journal.items ++ entry n (answer_of (record { script = b.script; journal = b.journal.items; cursor = b.cursor }) n c.args.event) ∷ []) number))
+
+pub returns-clause-passes : goal.returns-clause-passes
+returns-clause-passes c =
+    let b = c.self.inside in
+    let number : c.line-line.result ≡ c.args.course.line = c.line-line.ensures.value in
+    let entry : Entry = record { line = c.line-line.result; event = c.args.event; answer = c.in_ok-answer.answer } in
+    let made = replays b.script b.state c.step.new.self b.journal.items entry c.self.invariant c.in_ok-answer.ensures.ok in
+    let book : Recorded = record { script = b.script; journal = b.journal.items; cursor = b.cursor } in
+    let answer : c.in_ok-answer.answer ≡ answer_of book c.args.course.line c.args.event
+    = sym made.answers ∙ ap (λ (n : ℕ). answer_of book n c.args.event) number in
+    let passes = subst
+    (λ (a : Answer). IfSome (line_at b.script c.args.course.line) (λ line. Passes b.script (model.after line.content c.args.course a) c.cursor_after-cursor.result))
+    answer c.cursor_after-cursor.ensures in
+    subst
+    (λ (r : Recorded). IfSome (line_at r.script c.args.course.line)
+    (λ line. Passes r.script (model.after line.content c.args.course (answer_of r c.args.course.line c.args.event)) c.cursor_after-cursor.result))
+    c.self.view_is passes
