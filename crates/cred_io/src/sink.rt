@@ -32,8 +32,8 @@ pub trait Sink {
         ensures kept_back { OnOk result (handed_on self.new ≡ false) }
         ensures cause { CountsFaults (result ≡ Err Failed) (faults self.old) (faults self.new) };
 
-    /// How many pieces of a text go into one write, at least one. It is 1 for a sink whose writes are
-    /// counted, so that each piece is a write of its own there.
+    /// How many pieces of a text go into one write, at least one. It is 1 for a sink whose writes
+    /// are counted, so that each piece is a write of its own there.
     fn pieces_a_write(&self) -> usize
         ensures { 0 < result };
 

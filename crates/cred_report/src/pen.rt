@@ -81,8 +81,8 @@ impl Pen {
         Ok(())
     }
 
-    /// Moves the text to the end of a buffer of twice the length at least, with this much room before
-    /// it.
+    /// Moves the text to the end of a buffer of twice the length at least, with this much room
+    /// before it.
     #[cold]
     #[inline(never)]
     fn grow(&mut self, room: usize) -> Result<(), NoMemory>
@@ -112,9 +112,9 @@ impl Pen {
         self.at = start;
     }
 
-    /// Writes the word before the text. A word that is short is copied to an array first: that no
-    /// other place overlaps the array is known, and so the copy from there takes no test of it. Where the
-    /// word is known nothing is left of the first copy.
+    /// Writes the word before the text. A short word is copied to an array of its own first, which
+    /// nothing overlaps: so the copy from there takes no test for that. Where the word is known,
+    /// nothing of the first copy is left in the program.
     #[inline(always)]
     pub(crate) fn word(&mut self, word: &str)
         requires { length word.now ≤ self.old.room }
