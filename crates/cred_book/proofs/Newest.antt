@@ -3,6 +3,7 @@ use Rattle.std.proofs.Common.{◌≡◌, ◌≢◌, ℕ, ◌<◌, ◌≤◌, ◌
 use Rattle.std.specs.List.{All, AllPairs, position_or_len}
 use Rattle.std.proofs.lemmas.Bool.{eqb-true}
 use Rattle.std.proofs.lemmas.Bool.Decides.{nat_tests}
+use Rattle.std.proofs.lemmas.List.Elements.{All-weaker}
 use Rattle.std.proofs.lemmas.List.Folds.{find_at}
 use Rattle.std.proofs.lemmas.List.Quantifiers.{position-Some}
 use Rattle.std.proofs.lemmas.List.Sums.{position_or_len_is}
@@ -41,6 +42,14 @@ module _ {X : Type 0} (f : X → ℕ) (label : ℕ) where
       = position_or_len_is test (x ∷ xs) (length (x ∷ xs)) x (omega arith) (λ k lt. each k x lt) (λ lt. absurd (omega arith)) in
       ap (λ (k : ℕ). cond (nat_lt k (length (x ∷ xs))) (Some k) None) n
       ∙ ap (λ (b : Bool). cond b (Some (length (x ∷ xs))) None) (not_less (length (x ∷ xs)))
+
+  -- where no label is above this bound, and the label is
+  pub place-above : (xs : List X) (most : ℕ) → All (λ x. f x ≤ most) xs → most < label → position test xs ≡ None
+  place-above xs most each above =
+      place-none xs (All-weaker (λ x. f x ≤ most) (λ x. test x ≡ false) (λ x le. under (f x) le) xs each)
+    where
+      under : (n : ℕ) → n ≤ most → (n == label) ≡ false
+      under n le = other n label (λ same. absurd (omega (arith, le, above, same)))
 
   pub place-at : (xs : List X) (i : ℕ) (d : X) → AllPairs (Differ f) xs → i < length xs → test (get_or xs i d) ≡ true
       → position test xs ≡ Some i

@@ -24,23 +24,27 @@ impl Model for Hold {
     ghost inverse = { λ h. record { label = h.label; number = h.number } };
 }
 
-/// The holds, in the order in which the labels took hold. They are few, and a line looks for its
-/// own, which is the newest: so a label is looked for from the last one on.
+/// The holds, in the order in which the labels took hold. A line looks for its own, which is the
+/// newest: so a label is looked for from the last one on, and one above all that ever took hold, as
+/// a line's own is until then, isn't looked for.
 #[derive(Drop, Debug)]
 pub struct Holds {
     all: Vec<Hold>,
+    /// No label above this one took hold yet.
+    greatest: u32,
 }
 
 impl Model for Holds {
-    ghost use Rattle.std.specs.Prelude.{List, ◌≢◌};
-    ghost use Rattle.std.specs.List.{AllPairs};
+    ghost use Rattle.std.specs.Prelude.{List, ◌≢◌, ◌≤◌};
+    ghost use Rattle.std.specs.List.{All, AllPairs};
     ghost use Rattle.cred_model.specs.State.{Hold};
 
     ghost Value = { List Hold };
 
     ghost view = { λ h. h.all.items };
 
-    ghost invariant = { λ h. AllPairs (λ a b. a.label ≢ b.label) h.all.items };
+    ghost invariant = { λ h. AllPairs (λ a b. a.label ≢ b.label) h.all.items
+        × All (λ hold. hold.label ≤ h.greatest) h.all.items };
 }
 
 impl Holds {
@@ -50,6 +54,7 @@ impl Holds {
     {
         Holds {
             all: Vec::new(alloc),
+            greatest: 0,
         }
     }
 
@@ -76,6 +81,7 @@ impl Holds {
         ensures err { OnErr result (self.new ≡ self.old) }
     {
         self.all.push(Hold { label, number })?;
+        self.greatest = self.greatest.max(label);
         Ok(())
     }
 
@@ -93,6 +99,9 @@ impl Holds {
     fn place(&self, label: u32) -> Option<usize>
         ensures { result ≡ place_of self.now label }
     {
+        if label > self.greatest {
+            return None;
+        }
         self.all.iter().rposition(|h| h.label == label)
     }
 }
