@@ -5,7 +5,5 @@
 mod flags;
 mod row;
 pub mod slots;
-#[cfg(test)]
-mod tests;
 
 pub use slots::Slots;
