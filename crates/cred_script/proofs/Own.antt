@@ -65,7 +65,7 @@ tested false e = record { is = tt }
 -- ---- labels
 
 abbrev IsLabel : ℕ → Type 0
-IsLabel label = label ≤ 99999
+IsLabel label = label ≤ LAST_LABEL
 
 at_most : (a b : Bool) (n most : ℕ) → nat_le n most ≡ b → IfSome (cond (a && b) (Some n) None) (λ number. number ≤ most)
 at_most false b n most is = tt
@@ -79,7 +79,7 @@ small true least most (Some n) = at_most (nat_le least n) (nat_le n most) n most
 
 label_small : (word : List ℕ) → IfSome (label_of word) IsLabel
 label_small [] = tt
-label_small (first ∷ digits) = small (first == 104) 1 99999 (number_of digits)
+label_small (first ∷ digits) = small (first == letter (codes "h")) 1 LAST_LABEL (number_of digits)
 
 spelled_good : {A : Type 0} (P : A → Type 0) (o : Option A) → IfSome o P → Good P (ok_or o Word)
 spelled_good P None holds = record { is = tt }

@@ -34,7 +34,7 @@ labels content = []
 
 -- The greatest label that a script may name. Greater ones are those that a line takes for itself.
 abbrev pub LAST_LABEL : ℕ
-LAST_LABEL = 99999
+LAST_LABEL = LAST_NUMBER
 
 -- the greatest number of a lane
 abbrev pub LAST_LANE : ℕ
