@@ -2,12 +2,12 @@
 //! run with ample memory.
 ghost use Rattle.std.specs.Prelude.{◌<◌, ◌≤◌};
 
-use crate::pages::{
+use crate::tests::exec_pages::{
     After, Attribute, EFFECTIVE_GROUP, EFFECTIVE_USER, GROUP, Held, OWNER, Process, Program,
     REAL_GROUP, REAL_USER, ROOT, SetGroupId, Source, outcome,
 };
-use crate::{ExecRefusal, exec};
 use cred_caps::{CapSet, Flag, SecureBits};
+use cred_exec::{ExecRefusal, exec};
 use cred_ids::{Groups, Id, Ids4};
 use cred_record::{Attr, Cred, FileInfo, FileKind, Gains, first};
 use std::alloc::Global;

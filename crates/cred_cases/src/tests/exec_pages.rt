@@ -1,6 +1,6 @@
 //! What the manual pages say of an execve in prose, apart from the definitions: of one capability,
 //! and of a process and a program that the pages would describe in words.
-use crate::ExecRefusal;
+use cred_exec::ExecRefusal;
 
 /// The user id of root.
 pub const ROOT: u32 = 0;

@@ -1,8 +1,8 @@
 //! What no clause can say: that each call succeeds where memory is left. Where an allocation fails,
 //! as `rt try --test --fail-alloc N` has it, the call is made again, after a look whether the table
 //! is as it was.
-use crate::{Numbers, Procs, TaskList};
 use cred_ids::NoMemory;
+use cred_procs::{Numbers, Procs, TaskList};
 use std::alloc::Global;
 use std::test::Fail;
 
