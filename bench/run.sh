@@ -1,9 +1,9 @@
 #!/bin/sh
 # Measures the proved program against a plain, unverified one (plain.rs) on four scripts of 20,000
 # lines. It prints for each: entries, the user time of one run (the mean of 20) and the greatest
-# resident memory of both; and, where valgrind is there, the instructions of both and their ratio,
-# which is the same at each run. The marks are ratios of 1.3 on calls, holds and checks and of 1.5 on
-# changes, and at most 150 bytes of memory an entry on changes.
+# resident memory of both, the proved program's also by entry; and, where valgrind is there, the
+# instructions of both and their ratio, which is the same at each run. The marks are ratios of 1.3 on
+# calls, holds and checks and of 1.5 on changes, and at most 150 bytes of memory an entry on changes.
 #
 # It needs rustc and GNU time. No part of the gate.
 set -eu
@@ -49,7 +49,12 @@ instructions() { # PROGRAM NAME
     sed -n 's/.*refs: *//p' | tr -d ,
 }
 
-echo "script   entries   proved s, KiB   plain s, KiB   instructions: proved, plain, ratio (mark)"
+row() {
+  printf '%-8s %7s   %13s   %12s   %21s   %s\n' "$@"
+}
+
+row script entries 'proved s, KiB' 'plain s, KiB' 'bytes an entry (mark)' \
+  'instructions: proved, plain, ratio (mark)'
 for name in calls changes holds checks; do
   "$proved" run < "$dir/$name" > "$dir/report"
   "$plain" run < "$dir/$name" | cmp - "$dir/report"
@@ -64,5 +69,8 @@ for name in calls changes holds checks; do
     count=$(awk -v a="$a" -v b="$b" -v mark="$mark" \
       'BEGIN { printf "%.1f M, %.1f M, %.2f (%s)", a / 1e6, b / 1e6, a / b, mark }')
   fi
-  printf '%-8s %7d   %s   %s   %s\n' "$name" "$(wc -l < "$dir/report")" "$ours" "$theirs" "$count"
+  entries=$(wc -l < "$dir/report")
+  bytes=$((${ours#* } * 1024 / entries))
+  [ "$name" = changes ] && bytes="$bytes (150)"
+  row "$name" "$entries" "$ours" "$theirs" "$bytes" "$count"
 done

@@ -25,7 +25,11 @@ fn access_effective(cred: &Cred) -> CapSet
 /// The credential that access(2) asks by, for a program that acts with more rights than the user
 /// who called it: the filesystem ids are the real ids, and the effective set is the permitted one
 /// if the real user id is 0, else empty. With NO_SETUID_FIXUP the effective set stays. All else is
-/// as in `cred`, which stays as it is. The one error is want of memory.
+/// as in `cred`, which stays as it is.
+///
+/// # Errors
+///
+/// `NoMemory` if the groups could not be copied.
 #[tactic(auto, unfolding(cred_rules::specs::Access::access_credential))]
 pub fn access_cred(cred: &Cred) -> Result<Cred, NoMemory>
     ensures { IfOk result (λ new. new ≡ access_credential cred.now) }

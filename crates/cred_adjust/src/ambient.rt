@@ -16,6 +16,11 @@ fn may_raise(cred: &Cred, cap: Cap) -> bool
 }
 
 /// The credential with capability n added to the ambient set.
+///
+/// # Errors
+///
+/// `Invalid` above 40; then `Perm` where the capability is not permitted or not inheritable, and
+/// while NO_CAP_AMBIENT_RAISE is set; then `Memory` if the groups could not be copied.
 #[tactic(auto, unfolding(cred_rules::specs::Adjust::after_amb_raise), using(cred_caps::proofs::SetLaws::with_within))]
 pub fn raise_ambient(cred: &Cred, n: u32) -> Result<Cred, Refusal>
     ensures { AnswersBy result (after_amb_raise cred.now n) }
@@ -30,6 +35,10 @@ pub fn raise_ambient(cred: &Cred, n: u32) -> Result<Cred, Refusal>
 }
 
 /// The credential with capability n taken out of the ambient set.
+///
+/// # Errors
+///
+/// `Invalid` above 40; then `Memory` if the groups could not be copied.
 #[tactic(auto, unfolding(cred_rules::specs::Adjust::after_amb_lower), using(cred_caps::proofs::SetLaws::within))]
 pub fn lower_ambient(cred: &Cred, n: u32) -> Result<Cred, Refusal>
     ensures { AnswersBy result (after_amb_lower cred.now n) }
@@ -41,6 +50,10 @@ pub fn lower_ambient(cred: &Cred, n: u32) -> Result<Cred, Refusal>
 }
 
 /// The credential with an empty ambient set.
+///
+/// # Errors
+///
+/// `NoMemory` if the groups could not be copied.
 pub fn clear_ambient(cred: &Cred) -> Result<Cred, NoMemory>
     ensures { IfOk result (λ new. new ≡ record cred.now { amb = empty }) }
 {

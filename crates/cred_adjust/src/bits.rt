@@ -31,6 +31,11 @@ fn keeps_locks(old: SecureBits, new: SecureBits) -> bool
 }
 
 /// The credential with all securebits as n has them.
+///
+/// # Errors
+///
+/// `Perm` without CAP_SETPCAP, above 255, with a lock unset that was set, and with a flag changed
+/// whose lock was set; then `Memory` if the groups could not be copied.
 #[tactic(auto, unfolding(cred_rules::specs::Adjust::after_bits))]
 pub fn set_bits(cred: &Cred, n: u32) -> Result<Cred, Refusal>
     ensures { AnswersBy result (after_bits cred.now n) }
@@ -48,6 +53,11 @@ pub fn set_bits(cred: &Cred, n: u32) -> Result<Cred, Refusal>
 }
 
 /// The credential with KEEP_CAPS set or unset.
+///
+/// # Errors
+///
+/// `Invalid` for another number than 0 and 1; then `Perm` while the flag is locked; then `Memory`
+/// if the groups could not be copied.
 #[tactic(auto, unfolding(cred_rules::specs::Adjust::after_keep_caps))]
 pub fn set_keep_caps(cred: &Cred, n: u32) -> Result<Cred, Refusal>
     ensures { AnswersBy result (after_keep_caps cred.now n) }
@@ -64,6 +74,10 @@ pub fn set_keep_caps(cred: &Cred, n: u32) -> Result<Cred, Refusal>
 }
 
 /// The credential with no_new_privs set.
+///
+/// # Errors
+///
+/// `Invalid` for another number than 1; then `Memory` if the groups could not be copied.
 #[tactic(auto, unfolding(cred_rules::specs::Adjust::after_no_new_privs))]
 pub fn set_no_new_privs(cred: &Cred, n: u32) -> Result<Cred, Refusal>
     ensures { AnswersBy result (after_no_new_privs cred.now n) }

@@ -7,6 +7,11 @@ use cred_caps::Cap;
 use cred_record::{Cred, Refusal, copy};
 
 /// The credential with capability n dropped from the bounding set.
+///
+/// # Errors
+///
+/// `Perm` without CAP_SETPCAP; then `Invalid` above 40; then `Memory` if the groups could not be
+/// copied.
 #[tactic(auto, unfolding(cred_rules::specs::Adjust::after_bound_drop))]
 pub fn drop_bound(cred: &Cred, n: u32) -> Result<Cred, Refusal>
     ensures { AnswersBy result (after_bound_drop cred.now n) }

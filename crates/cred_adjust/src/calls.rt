@@ -12,6 +12,8 @@ use cred_record::{AdjCall, Cred, Refusal};
 /// (capset(2), prctl(2), capabilities(7)). All else is as in `cred`, which stays as it is. A number
 /// of the call may be any `u32`.
 ///
+/// # Errors
+///
 /// `Perm` comes:
 ///
 /// - for capset where the new inheritable set is not within the old inheritable and bounding sets,
@@ -28,6 +30,8 @@ use cred_record::{AdjCall, Cred, Refusal};
 ///
 /// `Invalid` comes for a number above 40 where a capability is named, for KEEP_CAPS with another
 /// number than 0 and 1, tested before its lock, and for no_new_privs with another number than 1.
+///
+/// `Memory` comes if the groups could not be copied, where neither of the others does.
 pub fn apply(cred: &Cred, call: &AdjCall) -> Result<Cred, Refusal>
     ensures { AnswersBy result (adjust cred.now call.now) }
 {

@@ -17,6 +17,11 @@ fn may_set_caps(cred: &Cred, perm: &CapSet, inh: &CapSet, eff: &CapSet) -> bool
 
 /// The credential with these permitted, inheritable and effective sets. The ambient set is cut to
 /// what is still permitted and inheritable.
+///
+/// # Errors
+///
+/// `Perm` where the caller may not have these sets (capset(2)); then `Memory` if the groups could
+/// not be copied.
 #[tactic(auto, unfolding(cred_rules::specs::Adjust::after_capset), using(cred_caps::proofs::SetLaws::within))]
 pub fn set_caps(cred: &Cred, perm: CapSet, inh: CapSet, eff: CapSet) -> Result<Cred, Refusal>
     ensures { AnswersBy result (after_capset cred.now perm inh eff) }

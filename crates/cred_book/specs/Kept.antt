@@ -5,9 +5,10 @@ use Rattle.std.specs.declared.option.Option.{Option}
 use Rattle.std.specs.List.{All, list_any}
 use Rattle.std.specs.Option.{IsSome, option_map_or}
 use Rattle.cred_record.specs.Credential.{Credential, first_credential}
-use Rattle.cred_model.specs.State.{State, Task, Hold, Prepared, Sealing}
+use Rattle.cred_model.specs.State.{State, Task, Hold, Prepared, Sealing, Numbered}
 use Rattle.cred_model.specs.Slots.{standing, kept}
 use Rattle.cred_slots.specs.Table.{Table, SLOTS, IsSameBag, IsAlone, is_kept, room, free}
+use Rattle.cred_book.specs.declared.table.Numbered as table
 
 -- what stands for the credential of a place that has none
 unfoldable pub nobody : Credential
@@ -20,6 +21,10 @@ placed store slot = option_map_or (λ cred. cred) (slice_index_or store slot Non
 -- what stands under each sealed number, where these are their slots
 abbrev pub creds_in : List (Option Credential) → List ℕ → List Sealing
 creds_in store slots = map (λ slot. record { cred = placed store slot; slot = slot }) slots
+
+-- a sealed credential with its number, wherever it lies
+abbrev pub seen_numbered : table.Numbered → Numbered
+seen_numbered n = record { number = n.number; cred = n.cred.now; slot = n.slot }
 
 -- a credential is in the place of each of these slots
 abbrev pub AreFilled : List (Option Credential) → List ℕ → Type 0

@@ -96,7 +96,8 @@ impl Book {
     ///
     /// # Errors
     ///
-    /// `NoMemory` if an allocation of the state, the entry or the copy fails: the book is as it was.
+    /// `NoMemory` if an allocation of the state, the entry or the copy fails: the book is as it
+    /// was.
     pub fn event(&mut self, line: u32, event: Event) -> Result<Answer, NoMemory>
         requires kind { IsEventOf (length self.old.script.files) event }
         ensures entered { OnOk result (self.new ≡ with_event self.old line event) }
@@ -121,7 +122,8 @@ impl Book {
     ///
     /// # Errors
     ///
-    /// `NoMemory` if an allocation of the event, the state or the entry fails: the book is as it was.
+    /// `NoMemory` if an allocation of the event, the state or the entry fails: the book is as it
+    /// was.
     pub fn next(&mut self, lane: u32) -> Result<Step, NoMemory>
         requires { Stands self.old }
         ensures script { self.new.script ≡ self.old.script }

@@ -29,7 +29,11 @@ pub fn first_cursor(script: &Script) -> Option<Course>
 }
 
 /// The next event of the course's line. It is of a kind that is built, and names only declared
-/// files and namespaces, as its line does.
+/// files and namespaces, as its line does. `None` where the line has ended.
+///
+/// # Errors
+///
+/// `NoMemory` if the event's list of groups could not be copied.
 pub fn next_event(script: &Script, course: Course) -> Result<Option<Event>, NoMemory>
     requires line { IsOfLine script.now course }
     ensures event { IfOk result (λ event. event

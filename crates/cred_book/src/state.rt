@@ -59,6 +59,10 @@ impl Model for State {
 
 impl State {
     /// The state before the first event.
+    ///
+    /// # Errors
+    ///
+    /// `NoMemory` if an allocation of the places or of the slots fails.
     pub fn new(alloc: Global) -> Result<State, NoMemory>
         ensures { IfOk result (λ state. state ≡ opening) }
     {
@@ -72,7 +76,12 @@ impl State {
         })
     }
 
-    /// Makes one event of a line of the script, and answers it. Without memory nothing changes.
+    /// Makes one event of a line of the script, and answers it.
+    ///
+    /// # Errors
+    ///
+    /// `NoMemory` if an allocation of a credential, of a list in the answer or of room for what is
+    /// entered fails: the state is as it was.
     pub fn step(&mut self, script: &Script, line: u32, event: &Event) -> Result<Answer, NoMemory>
         requires kind { IsEventOf (length script.now.files) event.now }
         requires sound { IsSound self.old }

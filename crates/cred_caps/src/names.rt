@@ -69,7 +69,7 @@ pub fn cap_name(c: Cap) -> &'static str
 /// a text that is no such name.
 pub fn cap_of_name(name: &str) -> Option<Cap>
     ensures cap { IfSome result (λ c. slice_get cap_names c ≡ Some name.now) }
-    ensures none { IsNone result → Contains cap_names name.now → ⊥ }
+    ensures none { IsNone result → ¬ Contains cap_names name.now }
 {
     for n in 0..41 {
         let cap = Cap::new(n)?;

@@ -6,12 +6,9 @@ ghost use Rattle.cred_model.specs.Course.{Leads, after, event_at, is_bounded, le
 ghost use Rattle.cred_model.specs.Named.{is_built_line};
 
 use crate::stages::{event_in, is_late, makes_events, next_stage};
-use cred_event::{Answer, Content, Event, Stage};
+use cred_event::{Answer, Content, Event, LINE_LIMIT, Stage};
 use cred_ids::NoMemory;
 use std::marker::Model;
-
-/// The greatest number of a line.
-pub const LINE_LIMIT: u32 = 20_000;
 
 /// How often a line tries to change a credential, where another change comes before its commit.
 const TRIES: u8 = 8;
@@ -68,7 +65,7 @@ impl Course {
         self.line
     }
 
-    /// Has the line made its last event?
+    /// Whether the line has made its last event.
     pub fn ended(&self) -> bool
         ensures { result ≡ is_none self.now.stage }
     {

@@ -6,11 +6,10 @@ ghost use Rattle.cred_model.specs.Answers.{is_ok};
 ghost use Rattle.cred_model.specs.Course as spec;
 ghost use Rattle.cred_model.specs.Named.{is_built_line};
 
-use crate::course::LINE_LIMIT;
-use cred_event::{Answer, Change, Content, Event, Query, Side, Stage, copy_event};
+use cred_event::{Answer, Change, Content, Event, LINE_LIMIT, Query, Side, Stage, copy_event};
 use cred_ids::NoMemory;
 
-/// Does a line with this content make events?
+/// Whether a line with this content makes events.
 pub(crate) fn makes_events(content: &Content) -> bool
     requires { is_built_line content.now ≡ true }
     ensures { result ≡ spec.makes_events content.now }
@@ -113,7 +112,7 @@ pub(crate) fn next_stage(content: &Content, stage: Stage, answer: &Answer) -> Op
     }
 }
 
-/// Came the commit too late?
+/// Whether the commit came too late.
 pub(crate) fn is_late(stage: Option<Stage>, answer: &Answer) -> bool
     ensures { result ≡ spec.is_late stage answer.now }
 {
@@ -123,7 +122,7 @@ pub(crate) fn is_late(stage: Option<Stage>, answer: &Answer) -> bool
     )
 }
 
-/// The event did what it says.
+/// Whether the event was not refused.
 fn is_ok(answer: &Answer) -> bool
     ensures { result ≡ is_ok answer.now }
 {

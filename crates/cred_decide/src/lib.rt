@@ -1,11 +1,9 @@
-//! What is decided on one credential: what a question about it is answered, and what a change makes of
-//! it. A decision sees the credential and the file that it names, and no task, label or slot.
+//! What is decided on one credential: the answer to a question about it, and what a change makes
+//! of it. A decision sees the credential and the file that it names, and no task, label or slot.
 #![tactic(auto)]
 
 mod changes;
 mod replies;
-#[cfg(test)]
-mod tests;
 
 pub use changes::{Made, change};
 pub use replies::reply;

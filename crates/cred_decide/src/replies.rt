@@ -1,4 +1,4 @@
-//! What a question about a credential is told.
+//! The answers to questions about a credential.
 ghost use Rattle.std.specs.Prelude.{◌≡◌, IfOk, OnErr};
 ghost use Rattle.std.specs.Option.{option_map};
 ghost use Rattle.cred_rules.specs.Adjust.{read_in};
@@ -12,7 +12,7 @@ use cred_ids::NoMemory;
 use cred_record::{Cred, FileInfo, IdList, Want};
 use std::alloc::Global;
 
-/// What a question about a credential is told (credentials(7), capabilities(7), prctl(2)). `file`
+/// The answer to a question about a credential (credentials(7), capabilities(7), prctl(2)). `file`
 /// is the file that the question names, if it names one; other questions don't look at it. A number
 /// of a capability may be any `u32`: above 40 the answer is `Einval`.
 ///

@@ -1,4 +1,5 @@
 -- Which answers and which events hold a list: to copy one of these takes memory.
+use Rattle.std.specs.Prelude.{⊤}
 use Rattle.cred_record.specs.Calls.{IsSetGroups}
 use Rattle.cred_event.specs.declared.answer.Answer.{Answer}
 use Rattle.cred_event.specs.declared.answer.Answer.TheVariants.{Told}
@@ -6,9 +7,9 @@ use Rattle.cred_event.specs.declared.answer.Told.TheVariants.{Groups}
 use Rattle.cred_event.specs.declared.event.Event.{Event}
 use Rattle.cred_event.specs.declared.event.Event.TheVariants.{Begin}
 
--- what is told is a list of groups
+-- the answer to a question about groups: a list
 abbrev pub HoldsList : Answer → Type 0
-HoldsList (Told (Groups list)) = Unit {0}
+HoldsList (Told (Groups list)) = ⊤
 HoldsList answer = ⊥
 
 -- a task makes setgroups, with a list of groups

@@ -1,4 +1,5 @@
 pub mod AttributeLaws
+pub mod AttributeOf
 pub mod SetLemmas
 pub mod WordLemmas
 pub mod Written

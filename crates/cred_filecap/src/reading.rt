@@ -26,6 +26,8 @@ fn set_at(bytes: &[u8], low: usize, high: usize) -> CapSet
 /// memory. Flags other than the effective one, and bits above capability 40, are ignored, as Linux
 /// does.
 ///
+/// # Errors
+///
 /// - `BadLength` has the number of bytes where it is below 4, or where it is another than the
 ///   version's: 20 for revision 2, and 24 for revision 3.
 /// - `BadRevision` has the revision of at least 4 bytes where it is neither 2 nor 3.

@@ -39,7 +39,7 @@ impl Model for Master {
 ///
 /// # Errors
 ///
-/// Memory ran out.
+/// `NoMemory` if the allocation of the cells fails.
 pub fn make(alloc: Global) -> Result<(Cells, Master), NoMemory>
     ensures { IfOk result (λ r. (r.1.id ≡ r.0) × (r.1.entries ≡ [])
         × (r.1.slots ≡ none_sealed)) }
@@ -78,7 +78,7 @@ impl Master {
         self.inner.load_after_return(cells, false);
     }
 
-    /// Lends a writer on a slot on which nothing is lent. The slot is sealed no more. It takes no
+    /// Lends a writer on a slot on which nothing is lent. The slot is no longer sealed. It takes no
     /// memory.
     pub fn lend_writer(&mut self, cells: &Cells, label: u32, slot: u32) -> Writer
         requires own { self.old.id ≡ cells.now }

@@ -76,7 +76,7 @@ impl Model for Writer {
 ///
 /// # Errors
 ///
-/// Memory ran out. The hold stays as it was, as on success.
+/// `NoMemory` if the allocation of the groups fails. The hold stays as it was, as on success.
 pub fn read(alloc: Global, cells: &Cells, hold: &mut Hold) -> Result<Cred, NoMemory>
     requires { hold.old.id ≡ cells.now }
     ensures value { IfOk result (λ c. c ≡ hold.old.cred) }

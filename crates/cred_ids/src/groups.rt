@@ -58,8 +58,12 @@ impl Groups {
         }
     }
 
-    /// The ids of a list, sorted, with its repeats. `TooMany` has the length of a list of more
-    /// than 32 ids, and comes for no other list.
+    /// The ids of a list, sorted, with its repeats.
+    ///
+    /// # Errors
+    ///
+    /// `TooMany` with the length of the list where it has more than 32 ids, and for no other list;
+    /// then `Memory` if an allocation of the groups fails.
     pub fn from_list(alloc: Global, list: &[Id]) -> Result<Groups, GroupsRefusal>
         ensures sorted { IfOk result (λ g. g ≡ in_order list.now) }
         ensures too_many { IsErrOf result (GroupsRefusal.TooMany (length list.now))
@@ -126,6 +130,10 @@ impl Groups {
     }
 
     /// Equal groups in memory of their own.
+    ///
+    /// # Errors
+    ///
+    /// `NoMemory` if the allocation of the copy fails.
     pub fn copy(&self) -> Result<Groups, NoMemory>
         ensures { IfOk result (λ g. g ≡ self.now) }
     {

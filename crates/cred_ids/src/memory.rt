@@ -1,4 +1,4 @@
-//! Want of memory.
+//! The error of an allocation.
 use std::alloc::{AllocError, AllocFailed};
 
 /// Memory ran out. What was handed to the call is as it was, unless the call says otherwise.

@@ -12,5 +12,5 @@ Rose before now = next_count before ≤ now
 -- A count of faults rose where this failed, and stayed where it didn't; it never falls.
 pub record CountsFaults (failed : Type 0) (before now : ℕ) : Type 0 where
   pub rose : failed → Rose before now
-  pub stayed : (failed → ⊥) → now ≡ before
+  pub stayed : ¬ failed → now ≡ before
   pub later : before ≤ now

@@ -1,4 +1,4 @@
--- What a run of reads took from a source and a run of writes left in a sink, where these tell.
+-- What a run of reads took from a source and a run of writes left in a sink, where these report it.
 use Rattle.std.specs.Prelude.{ℕ, ◌<◌, ◌≤◌, List, length, take}
 use Rattle.std.specs.declared.option.Option.{Option}
 use Rattle.std.specs.Io.KnownBytes.{Consumes, Appends, IsAtEnd}

@@ -19,7 +19,11 @@ impl Model for Bytes {
 }
 
 impl Bytes {
-    /// A copy of these bytes. It is refused only for want of memory.
+    /// A copy of these bytes.
+    ///
+    /// # Errors
+    ///
+    /// `NoMemory` if the allocation of the copy fails.
     pub fn of(alloc: Global, items: &[u8]) -> Result<Bytes, NoMemory>
         ensures { IfOk result (λ b. b ≡ items.now) }
     {

@@ -36,7 +36,11 @@ impl Model for MemorySink {
 
 impl MemorySink {
     /// A sink to which nothing was written, and whose calls with these numbers fail. The first call
-    /// is 1, and the number stays at the greatest `u64`. It is refused only for want of memory.
+    /// is 1, and the number stays at the greatest `u64`.
+    ///
+    /// # Errors
+    ///
+    /// `NoMemory` if the allocation of the numbers fails.
     pub fn of(alloc: Global, failing: &[u64]) -> Result<Self, NoMemory>
         ensures { IfOk result (λ s. s ≡ record {
           bytes = [];
@@ -70,7 +74,7 @@ impl Sink for MemorySink {
 
     ghost faults = { λ s. s.faults };
 
-    /// Appends the whole piece, unless no memory is found, or this call is one of those that fail:
+    /// Appends the whole piece, unless an allocation fails, or this call is one of those that fail:
     /// such a call is counted as a fault, and appends nothing.
     fn write(&mut self, piece: &[u8]) -> Result<usize, SinkRefusal>
         ensures bound { WritesAtMost result piece.now }
@@ -103,6 +107,10 @@ impl Sink for MemorySink {
         self.bytes.extend_from_slice(piece)?;
         self.handed_on = false;
         Ok(piece.len())
+    }
+
+    fn pieces_a_write(&self) -> usize {
+        1
     }
 
     /// Nothing is kept back, so this only notes that it is done. It is not counted as a call.

@@ -48,7 +48,11 @@ impl Model for MemorySource {
 
 impl MemorySource {
     /// A source of these bytes whose calls with these numbers fail. The first call is 1, and the
-    /// number stays at the greatest `u64`. It is refused only for want of memory.
+    /// number stays at the greatest `u64`.
+    ///
+    /// # Errors
+    ///
+    /// `NoMemory` if the allocation of the bytes or of the numbers fails.
     pub fn of(alloc: Global, bytes: &[u8], failing: &[u64]) -> Result<Self, NoMemory>
         ensures { IfOk result (λ s. s ≡ record {
           left = bytes.now;

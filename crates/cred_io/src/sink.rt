@@ -32,6 +32,11 @@ pub trait Sink {
         ensures kept_back { OnOk result (handed_on self.new ≡ false) }
         ensures cause { CountsFaults (result ≡ Err Failed) (faults self.old) (faults self.new) };
 
+    /// How many pieces of a text go into one write, at least one. It is 1 for a sink whose writes
+    /// are counted, so that each piece is a write of its own there.
+    fn pieces_a_write(&self) -> usize
+        ensures { 0 < result };
+
     /// Hands on what a buffer below has kept back. What was written stays, also after a refusal.
     ///
     /// The count of faults rises for `Failed`, and for nothing else.

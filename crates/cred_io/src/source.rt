@@ -11,20 +11,22 @@ use std::alloc::{AllocError, Global};
 
 /// Where bytes come from.
 ///
-/// A real stream does not tell what it has left. So that is optional, and the clause on the bytes
-/// holds where it is told.
+/// A real stream does not report what it has left. So that is optional, and the clause on the
+/// bytes holds where it is reported.
 pub trait Source {
-    /// The bytes that are not yet read, where the source tells them.
+    /// The bytes that are not yet read, where the source reports them.
     ghost left: { Self → Option (List ℕ) };
 
     /// How many calls have failed, at most the greatest `u64`. It never falls.
     ghost faults: { Self → ℕ };
 
-    /// Moves the first bytes that are left to the front of `buf`, and answers how many. Where `buf`
-    /// has room, 0 means that none are left.
+    /// Moves the first bytes that are left to the beginning of `buf`, and returns how many. Where
+    /// `buf` has room, 0 means that none are left.
     ///
-    /// After `Failed`, for which the count of faults rises, nothing was taken. No other call raises
-    /// it.
+    /// # Errors
+    ///
+    /// `Failed` where the source fails: nothing was taken. The count of faults rises then, and in
+    /// no other call.
     fn read(&mut self, buf: &mut [u8]) -> Result<usize, Failed>
         ensures bound { ReadsAtMost result buf.new }
         ensures bytes { ReadConsumes (left self.old) (left self.new) result buf.new }
@@ -38,7 +40,7 @@ pub enum ReadRefusal {
     Fault,
     /// There are more bytes than the limit.
     TooLarge,
-    /// No memory was found for the bytes.
+    /// An allocation for the bytes failed.
     Memory,
 }
 
@@ -61,11 +63,15 @@ impl From<AllocError> for ReadRefusal {
 /// How many bytes one read asks for. A function pays for its buffer at each call, so it is small.
 const CHUNK: usize = 8192;
 
-/// Reads to the end, and answers all the bytes if they are no more than `limit`.
+/// Reads to the end, and returns all the bytes if they are no more than `limit`. One byte above the
+/// limit shows that there are too many, so no more than that are ever read. Each turn of the loop
+/// takes a byte at least, or ends.
 ///
-/// One byte above the limit shows that there are too many, so no more than that are ever read. A
-/// fault ends the reading; it comes before the limit is passed. Each turn of the loop takes a byte
-/// at least, or ends. After a refusal the bytes that were read are gone.
+/// # Errors
+///
+/// `Fault` where a read fails, which comes before the limit is passed; `TooLarge` where there are
+/// more bytes than `limit`; `Memory` if an allocation fails. The bytes that were read are gone
+/// then.
 pub fn read_all<S: Source>(alloc: Global, source: &mut S, limit: u32) -> Result<Bytes, ReadRefusal>
     ensures whole { IfOk result (ReadsAll (S.left source.old) (S.left source.new)) }
     ensures within { IfOk result (λ bytes. length bytes ≤ limit) }

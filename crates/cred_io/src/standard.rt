@@ -1,5 +1,5 @@
 //! Ends over std's readers and writers. Each counts the calls that it answers by a failure, so that
-//! a caller can tell a fault of the outside from code that gives up.
+//! a caller can distinguish a fault of the outside from code that gives up.
 ghost use Rattle.std.specs.Prelude.{◌≡◌, ◌<◌, ◌≤◌, true, false, length, IfOk, OnOk, OnErr, IfErr, IsErr};
 ghost use Rattle.std.specs.Io.{ReadsAtMost, WritesAtMost};
 ghost use Rattle.std.specs.Io.KnownBytes.{ReadConsumes, WriteAppends, Keeps};
@@ -50,6 +50,9 @@ impl<R: Read> Source for StdSource<R> {
         }
     }
 }
+
+/// How many pieces of a text are gathered for one write to a writer of std.
+const GATHERED: usize = 1024;
 
 /// A writer of std, with a count of the calls that failed. It never answers `Memory`.
 #[derive(Drop)]
@@ -118,6 +121,11 @@ impl<W: Write> Sink for StdSink<W> {
                 Err(SinkRefusal::Failed)
             }
         }
+    }
+
+    /// As many as fill some 40 KiB: they are gathered before they are written.
+    fn pieces_a_write(&self) -> usize {
+        GATHERED
     }
 
     /// The writer's flush. Its error is counted and answered as `Failed`.

@@ -28,7 +28,11 @@ impl Model for SureSource {
 }
 
 impl SureSource {
-    /// A source of these bytes. It is refused only for want of memory.
+    /// A source of these bytes.
+    ///
+    /// # Errors
+    ///
+    /// `NoMemory` if the allocation of the bytes fails.
     pub fn of(alloc: Global, bytes: &[u8]) -> Result<Self, NoMemory>
         ensures { IfOk result (λ s. s ≡ bytes.now) }
     {
@@ -100,7 +104,7 @@ impl Sink for SureSink {
 
     ghost faults = { λ _. 0 };
 
-    /// Appends the whole piece, unless no memory is found.
+    /// Appends the whole piece, unless an allocation fails.
     fn write(&mut self, piece: &[u8]) -> Result<usize, SinkRefusal>
         ensures bound { WritesAtMost result piece.now }
         ensures some { IfOk result (λ n. 0 < length piece.now → 0 < n) }
@@ -113,6 +117,10 @@ impl Sink for SureSink {
         self.bytes.extend_from_slice(piece)?;
         self.handed_on = false;
         Ok(piece.len())
+    }
+
+    fn pieces_a_write(&self) -> usize {
+        1
     }
 
     /// Nothing is kept back, so this only notes that it is done.

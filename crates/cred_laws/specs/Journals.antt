@@ -23,8 +23,9 @@ IsAlwaysSound script journal = (k : ℕ) → IsSound (state_at script journal k)
 abbrev pub IsAlwaysMade : Script → List Entry → Type 0
 IsAlwaysMade script journal = (k : ℕ) → AreMade script (state_at script journal k)
 
--- What an entry seals is put where nothing that was referred to stood, and where no prepared label
--- kept the slot but the one that the entry commits.
+-- What an entry seals is put where no credential in use stood, and where no prepared label kept the
+-- slot but the one that the entry commits. One that was given up and waits for the sweep is not in
+-- use.
 abbrev pub WritesUnusedSlots : Script → List Entry → Type 0
 WritesUnusedSlots script journal =
     (k number : ℕ) (new : Numbered) → length (state_at script journal k).creds ≤ number

@@ -9,8 +9,8 @@ use Rattle.cred_model.specs.Step.{step}
 use Rattle.cred_sound.specs.Ledger.{ledger, IsClear}
 use Rattle.cred_sound.specs.Sound.{IsSound}
 
--- Nothing that stands refers to a credential in the slot, and no prepared label keeps it but the
--- one that the event commits.
+-- No reference in use is to a credential in the slot, and no prepared label keeps it but the one
+-- that the event commits.
 pub record IsUnused (s : State) (event : Event) (slot : ℕ) : Type 0 where
   pub clear : IsClear (ledger s).slots slot (standing s)
   pub kept : All (λ p. p.slot ≡ slot → event ≡ Commit p.label) s.prepared

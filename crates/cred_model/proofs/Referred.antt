@@ -1,5 +1,5 @@
 -- What holds of each reference, by the kinds of things that refer.
-use Rattle.std.proofs.Common.{ℕ, ◌==◌, List, [], ◌++◌, Some, true, false, cond, ◌∷◌}
+use Rattle.std.proofs.Common.{ℕ, ◌==◌, List, [], Some, true, false, cond, ◌∷◌}
 use Rattle.std.specs.List.{All, AllByRecursion, concat}
 use Rattle.std.proofs.lemmas.List.Elements.{All-append, All-map, All-nil}
 use Rattle.cred_model.specs.State.{State, Task, Hold, Prepared, Changed}

@@ -1,8 +1,9 @@
 -- States that no event can tell apart.
-use Rattle.std.specs.Prelude.{◌≡◌, map, slice_get, All}
+use Rattle.std.specs.Prelude.{◌≡◌, Result, map, slice_get, All}
 use Rattle.cred_event.specs.declared.answer.Answer.{Answer}
 use Rattle.cred_model.specs.State.{State}
 use Rattle.cred_model.specs.Slots.{refs}
+use Rattle.cred_model.specs.Step.{settled}
 
 -- The two have the same tasks, holds, prepared labels and deferred numbers, sealed the same numbers
 -- in the same slots, and have the same credential under each number that is referred to. Of the
@@ -20,7 +21,15 @@ pub record AreAlike (a b : Answer × State) : Type 0 where
   pub answers : a.0 ≡ b.0
   pub states : IsLike a.1 b.1
 
--- What an event gives is this answer, and a state like this one.
+-- What an event gives is this answer, and a state that this one is like.
 pub record Does (gives : Answer × State) (answer : Answer) (after : State) : Type 0 where
   pub answers : gives.0 ≡ answer
   pub leads : IsLike after gives.1
+
+-- In this state the event, by its tests and what it does, gives this answer and this state.
+abbrev pub Gives : State → Result (Answer × State) Answer → Answer → State → Type 0
+Gives before event answer after = settled before event ≡ (answer, after)
+
+-- The same, but the state is only like the one that the event leads to.
+abbrev pub GivesLike : State → Result (Answer × State) Answer → Answer → State → Type 0
+GivesLike before event answer after = Does (settled before event) answer after

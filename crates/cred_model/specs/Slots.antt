@@ -18,11 +18,11 @@ places s =
     map (λ p. p.base) s.prepared ∷
     []
 
--- all references that stand
+-- all references in use: those that were not given up
 abbrev pub standing : State → List ℕ
 standing s = concat (places s)
 
--- Every reference: those that stand, and those that were given up since the last sweep.
+-- Every reference: those in use, and those that were given up since the last sweep.
 abbrev pub refs : State → List ℕ
 refs s = standing s ++ s.deferred
 

@@ -101,8 +101,8 @@ with_change prepared label to = map (changed label to) prepared
 abbrev pub altered : State → ℕ → Changed → State
 altered s label to = record s { prepared = with_change s.prepared label to }
 
--- The prepared label at this place is given up, and its slot with it: it refers to its base no
--- more.
+-- The prepared label at this place is given up, and its slot with it: it no longer refers to its
+-- base.
 abbrev pub given_up : State → ℕ → Prepared → State
 given_up s place p = record s {
   prepared = remove s.prepared place;

@@ -1,5 +1,5 @@
 -- Prefixes of a text that was to be written.
-use Rattle.std.proofs.Common.{◌≡◌, ℕ, ◌+◌, ◌<◌, List, ◌++◌, length, take, drop, get_or, ◌≤◌, Option, Result, Ok, Err, refl, arith}
+use Rattle.std.proofs.Common.{◌≡◌, ℕ, ◌+◌, List, ◌++◌, length, take, drop, slice_range, ◌≤◌, Option, Result, Ok, Err, refl, arith}
 use Rattle.std.proofs.lemmas.List.{take_all, take_at}
 use Rattle.std.specs.Io.KnownBytes.{Appends, Keeps}
 use Rattle.std.specs.Result.{OnOk, OnErr}
@@ -16,7 +16,7 @@ use Rattle.cred_laws.proofs.OrderLaws.{sequence_is_legal}
 use Rattle.cred_script.specs.Grammar.{script_of}
 use Rattle.cred_program.specs.Ends.{Reports, finished}
 use Rattle.cred_program.specs.declared.status.Status.TheVariants as status
-use Rattle.cred_report.specs.Text.{entry_text, text}
+use Rattle.cred_report.specs.Text.{text}
 use Rattle.cred_report.proofs.Journals.{text_at, take_past}
 
 -- a whole text is one of its prefixes
@@ -39,23 +39,24 @@ usage_written a b bytes (Err sink.Memory) all is = cc
 pub whole_kept : (a b c : Option (List ℕ)) (bytes : List ℕ) → Appends a b bytes → Keeps b c → AppendsPrefix a c bytes
 whole_kept a b c bytes all kept = whole a c bytes (appends_kept a b c bytes all kept)
 
--- the entries before one, and a prefix of that one's text
-pub prefix_at : (a b c : Option (List ℕ)) (script : Script) (journal : List Entry) (i : ℕ) (entry : Entry) → i < length journal
-    → entry ≡ get_or journal i entry → Appends a b (text script (take i journal)) → AppendsPrefix b c (entry_text script entry)
+-- the entries before one, and a prefix of the text of some from there on
+pub prefix_at : (a b c : Option (List ℕ)) (script : Script) (journal : List Entry) (at end : ℕ) → at ≤ end
+    → Appends a b (text script (take at journal)) → AppendsPrefix b c (text script (slice_range journal at end))
     → AppendsPrefix a c (text script journal)
-prefix_at a b c script journal i entry lt e before this =
-    let done : List ℕ = text script (take i journal) in
-    let some : List ℕ = take this.count (entry_text script entry) in
+prefix_at a b c script journal at end le before this =
+    let done : List ℕ = text script (take at journal) in
+    let more : List ℕ = text script (slice_range journal at end) in
+    let some : List ℕ = take this.count more in
     let here : take (length done + length some) (text script journal) ≡ done ++ some
-    = rw (text_at script journal i entry lt e) (take_past this.count done (entry_text script entry) (text script (drop (i + 1) journal))) in
+    = rw (text_at script journal at end le) (take_past this.count done more (text script (drop end journal))) in
     record { count = length done + length some; written = rw here (appends_more a b c done some before this.written) }
 
 -- the entries before one
-pub prefix_before : (a b : Option (List ℕ)) (script : Script) (journal : List Entry) (i : ℕ) (entry : Entry) → i < length journal
-    → entry ≡ get_or journal i entry → Appends a b (text script (take i journal)) → AppendsPrefix a b (text script journal)
-prefix_before a b script journal i entry lt e before =
-    let done : List ℕ = text script (take i journal) in
-    let here : take (length done) (text script journal) ≡ done = rw (text_at script journal i entry lt e) (take_at done _ _ refl) in
+pub prefix_before : (a b : Option (List ℕ)) (script : Script) (journal : List Entry) (at : ℕ)
+    → Appends a b (text script (take at journal)) → AppendsPrefix a b (text script journal)
+prefix_before a b script journal at before =
+    let done : List ℕ = text script (take at journal) in
+    let here : take (length done) (text script journal) ≡ done = rw (text_at script journal at at (omega arith)) (take_at done _ _ refl) in
     record { count = length done; written = rw here before }
 
 -- what a flush after the whole text leaves
@@ -65,10 +66,10 @@ flushed a b c bytes (Ok done) all kept = tt
 flushed a b c bytes (Err refusal) all kept = whole_kept a b c bytes all kept
 
 -- what a flush after all entries leaves
-pub flushed_entries : (a b c : Option (List ℕ)) (script : Script) (journal : List Entry) (i : ℕ) (r : Result (Unit {0}) SinkRefusal)
-    → length journal ≤ i → Appends a b (text script (take i journal)) → Keeps b c → OnErr r (AppendsPrefix a c (text script journal))
-flushed_entries a b c script journal i r ended all kept =
-    let same : take i journal ≡ journal = take_all i journal ended in
+pub flushed_entries : (a b c : Option (List ℕ)) (script : Script) (journal : List Entry) (at : ℕ) (r : Result (Unit {0}) SinkRefusal)
+    → length journal ≤ at → Appends a b (text script (take at journal)) → Keeps b c → OnErr r (AppendsPrefix a c (text script journal))
+flushed_entries a b c script journal at r ended all kept =
+    let same : take at journal ≡ journal = take_all at journal ended in
     flushed a b c (text script journal) r (rw same at all) kept
 
 -- a whole report that was written, and the laws of its journal

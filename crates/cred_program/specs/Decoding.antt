@@ -1,5 +1,5 @@
 -- What is written of the bytes of a file's capability attribute.
-use Rattle.std.specs.Prelude.{◌≡◌, ◌⊎◌, ℕ, List}
+use Rattle.std.specs.Prelude.{◌≡◌, ◌⊎◌, ℕ, List, ⊤}
 use Rattle.std.specs.declared.option.Option.{Option}
 use Rattle.std.specs.Io.KnownBytes.{Appends}
 use Rattle.cred_io.specs.Ends.{AppendsPrefix}
@@ -20,14 +20,14 @@ pub record Shows (bytes : List ℕ) (before after : Option (List ℕ)) : Type 0 
 
 -- The bytes spell none, and it was written why.
 pub record Denies (bytes : List ℕ) (before after : Option (List ℕ)) : Type 0 where
-  pub none : IsAttribute bytes → ⊥
+  pub none : ¬ IsAttribute bytes
   pub written : Appends before after (fault_text (fault bytes))
 
 -- the text that the bytes have
 abbrev pub IsText : List ℕ → List ℕ → Type 0
 IsText bytes text =
     ((a : Attribute) × Spells bytes a × (text ≡ attr_text a))
-    ⊎ ((IsAttribute bytes → ⊥) × (text ≡ fault_text (fault bytes)))
+    ⊎ (¬ IsAttribute bytes × (text ≡ fault_text (fault bytes)))
 
 -- a prefix of the text that the bytes have was written
 abbrev pub ShowsPrefix : List ℕ → Option (List ℕ) → Option (List ℕ) → Type 0
@@ -38,7 +38,7 @@ ShowsPrefix bytes before after =
 -- but a fault or want of memory takes their place.
 abbrev pub SuitsBytes : List ℕ → Status → Type 0
 SuitsBytes bytes status.Done = IsAttribute bytes
-SuitsBytes bytes status.Bad = IsAttribute bytes → ⊥
-SuitsBytes bytes status.WriteFault = Unit {0}
-SuitsBytes bytes status.Memory = Unit {0}
+SuitsBytes bytes status.Bad = ¬ IsAttribute bytes
+SuitsBytes bytes status.WriteFault = ⊤
+SuitsBytes bytes status.Memory = ⊤
 SuitsBytes bytes other = ⊥

@@ -1,5 +1,5 @@
 -- What a run of the program leaves at its source and its sink, by the status that it answers.
-use Rattle.std.specs.Prelude.{◌≡◌, ◌≤◌, ◌<◌, ◌⊎◌, ℕ, length, List, Result, Ok, Err}
+use Rattle.std.specs.Prelude.{◌≡◌, ◌≤◌, ◌<◌, ◌⊎◌, ℕ, length, List, Result, Ok, Err, ⊤}
 use Rattle.std.specs.Result.{MatchResult}
 use Rattle.std.specs.declared.option.Option.{Option}
 use Rattle.std.specs.Io.KnownBytes.{Appends}
@@ -7,6 +7,7 @@ use Rattle.cred_io.specs.Ends.{ReadsAll, ReadsMoreThan, AppendsPrefix}
 use Rattle.cred_io.specs.declared.sink.SinkRefusal.{SinkRefusal}
 use Rattle.cred_io.specs.declared.sink.SinkRefusal.TheVariants as sink
 use Rattle.cred_event.specs.declared.entry.Entry.{Entry}
+use Rattle.cred_event.specs.declared.entry.TheConstants.{LINE_LIMIT}
 use Rattle.cred_model.specs.Script.{Script}
 use Rattle.cred_model.specs.Journal.{IsSequence, IsLegal}
 use Rattle.cred_laws.specs.Journals.{IsLawful}
@@ -21,10 +22,6 @@ use Rattle.cred_program.specs.Texts.{bad_text}
 -- how many bytes an input may have
 abbrev pub BYTE_LIMIT : ℕ
 BYTE_LIMIT = 1048576
-
--- how many lines an input may have
-abbrev pub LINE_LIMIT : ℕ
-LINE_LIMIT = 20000
 
 -- an input that has no more bytes and no more lines than it may have
 pub record IsWithin (input : List ℕ) : Type 0 where
@@ -44,7 +41,7 @@ pub record Reads (before after : Option (List ℕ)) (P : List ℕ → Type 0) : 
 
 -- All that was left was read, and it is within both limits.
 abbrev pub ReadsWithin : Option (List ℕ) → Option (List ℕ) → Type 0
-ReadsWithin before after = Reads before after (λ input. Unit {0})
+ReadsWithin before after = Reads before after (λ input. ⊤)
 
 -- All that was left was read, and it has more lines than an input may have.
 pub record ReadsMoreLines (before after : Option (List ℕ)) : Type 0 where
@@ -58,9 +55,9 @@ ReadsTooMuch before after =
     ReadsMoreThan BYTE_LIMIT before after ⊎ ReadsMoreLines before after
 
 -- The input is a script, and the text of the journal in which its lines run whole and in order
--- was written. It is one of the journals that the script may have. The laws hold of it: no slot is
--- rewritten while something refers to it, a hold keeps its credential, and no permitted set grows
--- but by what its entry says was gained.
+-- was written. It is one of the journals that the script may have. The laws hold of it: no slot in
+-- use is rewritten, a hold keeps its credential, and no permitted set grows but by what its entry
+-- says was gained.
 pub record Reports (before after : Option (List ℕ)) (input : List ℕ) : Type 0 where
   pub script : Script
   pub read : script_of input ≡ Ok script
@@ -89,27 +86,27 @@ Begins before after input =
 -- limits has a text that can fail to be written.
 abbrev pub Suits : List ℕ → Status → Type 0
 Suits input status.Done =
-    IsWithin input × MatchResult (script_of input) (λ script. Unit {0}) (λ bad. ⊥)
+    IsWithin input × MatchResult (script_of input) (λ script. ⊤) (λ bad. ⊥)
 Suits input status.Bad =
-    IsWithin input × MatchResult (script_of input) (λ script. ⊥) (λ bad. Unit {0})
+    IsWithin input × MatchResult (script_of input) (λ script. ⊥) (λ bad. ⊤)
 Suits input status.TooLarge = IsTooLarge input
 Suits input status.Usage = ⊥
-Suits input status.ReadFault = Unit {0}
+Suits input status.ReadFault = ⊤
 Suits input status.WriteFault = IsWithin input
-Suits input status.Memory = Unit {0}
+Suits input status.Memory = ⊤
 
 -- The statuses with which a whole text was written.
 abbrev pub IsWhole : Status → Type 0
-IsWhole status.Done = Unit {0}
-IsWhole status.Usage = Unit {0}
-IsWhole status.Bad = Unit {0}
+IsWhole status.Done = ⊤
+IsWhole status.Usage = ⊤
+IsWhole status.Bad = ⊤
 IsWhole other = ⊥
 
 -- The statuses of words that are no command.
 abbrev pub IsForNoCommand : Status → Type 0
-IsForNoCommand status.Usage = Unit {0}
-IsForNoCommand status.WriteFault = Unit {0}
-IsForNoCommand status.Memory = Unit {0}
+IsForNoCommand status.Usage = ⊤
+IsForNoCommand status.WriteFault = ⊤
+IsForNoCommand status.Memory = ⊤
 IsForNoCommand other = ⊥
 
 -- the status after a text was written or refused

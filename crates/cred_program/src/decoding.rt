@@ -16,8 +16,10 @@ use std::alloc::Global;
 
 /// Writes what the bytes of an attribute say, or why they are none.
 pub fn show<K: Sink>(alloc: Global, bytes: &[u8], sink: &mut K) -> Status
-    ensures done { result ≡ Status.Done → Shows bytes.now (K.written sink.old) (K.written sink.new) }
-    ensures bad { result ≡ Status.Bad → Denies bytes.now (K.written sink.old) (K.written sink.new) }
+    ensures done { result ≡ Status.Done
+        → Shows bytes.now (K.written sink.old) (K.written sink.new) }
+    ensures bad { result ≡ Status.Bad
+        → Denies bytes.now (K.written sink.old) (K.written sink.new) }
     ensures suits { SuitsBytes bytes.now result }
     ensures handed_on { IsWhole result → K.handed_on sink.new ≡ true }
     ensures cause { CountsFaults (result ≡ Status.WriteFault)

@@ -23,11 +23,12 @@ const USAGE: &str = "usage: credtrace run|lanes|audit|gen N|decode HEX\n";
 
 /// The program, over its words (those after its name), its input and its output: `run` reads a
 /// script and writes its report, `decode HEX` writes what an attribute says, and all other words
-/// get the usage line. It answers how that ended.
+/// get the usage line. It returns how that ended.
 ///
 /// `Done`, `Bad` and `Usage` come with the whole text, handed on, and with no fault. The source's
 /// count of faults rises for `ReadFault` alone, and the sink's for `WriteFault` alone. `Memory`
-/// comes where an allocation or the sink found none; the source may then have been read in part.
+/// comes where an allocation failed, one of the sink's among them; the source may then have been
+/// read in part.
 /// After `WriteFault` and `Memory` what was written is a prefix of the text; after `ReadFault` and
 /// `TooLarge` nothing was.
 pub fn credtrace<S: Source, K: Sink>(

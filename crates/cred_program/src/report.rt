@@ -1,5 +1,5 @@
 //! Writing the report of a journal, and handing it on.
-ghost use Rattle.std.specs.Prelude.{◌≡◌, true, OnOk, OnErr};
+ghost use Rattle.std.specs.Prelude.{◌≡◌, ◌<◌, ◌≤◌, true, OnOk, OnErr};
 ghost use Rattle.std.specs.Io.KnownBytes.{Appends};
 ghost use Rattle.cred_io.specs.Causes.{CountsFaults};
 ghost use Rattle.cred_io.specs.Ends.{AppendsPrefix};
@@ -7,11 +7,24 @@ ghost use Rattle.cred_report.specs.Text.{text};
 
 use cred_event::Entry;
 use cred_io::{Sink, SinkRefusal, write_all};
-use cred_report::{Pen, prepend};
+use cred_report::{Pen, prepend_all};
 use cred_script::Script;
 use std::alloc::Global;
 
-/// Writes the text of a journal, one entry at a time, through one buffer.
+/// Where the entries end that are written together with the one at this place.
+fn end_of(at: usize, count: usize, together: usize) -> usize
+    requires { (at < count) × (0 < together) }
+    ensures more { at < result }
+    ensures within { result ≤ count }
+{
+    if count - at < together {
+        count
+    } else {
+        at + together
+    }
+}
+
+/// Writes the text of a journal through one buffer, as many entries in one write as the sink takes.
 #[tactic(auto, using(crate::proofs::Prefixes::flushed_entries))]
 pub fn write_report<K: Sink>(
     alloc: Global,
@@ -27,13 +40,16 @@ pub fn write_report<K: Sink>(
     ensures cause { CountsFaults (result ≡ Err SinkRefusal.Failed)
         (K.faults sink.old) (K.faults sink.new) }
 {
-    let mut line = Pen::new(alloc);
-    for entry in journal {
-        line.clear();
-        let Ok(()) = prepend(&mut line, script, entry) else {
+    let mut pen = Pen::new(alloc);
+    let mut at = 0;
+    while at < journal.len() {
+        let end = end_of(at, journal.len(), sink.pieces_a_write());
+        pen.clear();
+        let Ok(()) = prepend_all(&mut pen, script, &journal[at..end]) else {
             return Err(SinkRefusal::Memory);
         };
-        write_all(sink, line.items())?;
+        write_all(sink, pen.items())?;
+        at = end;
     }
     sink.flush()
 }

@@ -8,15 +8,13 @@ use crate::report::write_report;
 use crate::status::{Status, finish};
 use crate::writing::write_bad;
 use cred_book::run;
+use cred_event::LINE_LIMIT;
 use cred_io::Sink;
 use cred_script::{ScriptRefusal, line_count, read};
 use std::alloc::Global;
 
 /// How many bytes an input may have.
 pub const BYTE_LIMIT: u32 = 1_048_576;
-
-/// How many lines an input may have.
-pub const LINE_LIMIT: usize = 20_000;
 
 /// Runs the script that these bytes are, and writes its report, or its first bad line; nothing
 /// where there are too many lines.

@@ -11,8 +11,8 @@ pub enum Status {
     Done,
     /// The words are no command, and the usage line was written.
     Usage,
-    /// The input is no script, and its first bad line was written; or the word of `decode` spells no
-    /// attribute, and the reason was written.
+    /// The input is no script, and its first bad line was written; or the word of `decode` spells
+    /// no attribute, and the reason was written.
     Bad,
     /// The input could not be read.
     ReadFault,

@@ -12,11 +12,15 @@ use std::alloc::Global;
 pub enum Command {
     /// Run a script.
     Run,
-    /// Tell what the bytes of a file's capability attribute say.
+    /// Say what the bytes of a file's capability attribute say.
     Decode(Bytes),
 }
 
 /// The command that the words are; none for any other words.
+///
+/// # Errors
+///
+/// `NoMemory` if the allocation of the bytes that `decode` is given fails.
 pub fn command_of(alloc: Global, words: &[String]) -> Result<Option<Command>, NoMemory>
     ensures { IfOk result (λ command. command ≡ command_of (texts words.now)) }
 {

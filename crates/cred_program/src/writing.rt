@@ -10,7 +10,11 @@ use cred_io::{Sink, SinkRefusal, write_all};
 use cred_script::Reason;
 use std::alloc::Global;
 
-/// Writes a text that is no report.
+/// Writes a text that is no report, and hands it on.
+///
+/// # Errors
+///
+/// The sink's refusal: a prefix of the text was written.
 #[tactic(auto, using(crate::proofs::Prefixes::flushed))]
 pub fn write_text<K: Sink>(sink: &mut K, piece: &[u8]) -> Result<(), SinkRefusal>
     ensures ok { OnOk result (Appends (K.written sink.old) (K.written sink.new) piece.now) }
@@ -24,7 +28,11 @@ pub fn write_text<K: Sink>(sink: &mut K, piece: &[u8]) -> Result<(), SinkRefusal
     sink.flush()
 }
 
-/// Writes the first bad line of a script, and the reason.
+/// Writes the first bad line of a script, and the reason, and hands it on.
+///
+/// # Errors
+///
+/// The sink's refusal, and `Memory` if an allocation of the text fails: a prefix of it was written.
 pub fn write_bad<K: Sink>(
     alloc: Global,
     sink: &mut K,

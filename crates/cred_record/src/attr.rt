@@ -23,6 +23,10 @@ impl Model for Attr {
 
 impl Attr {
     /// The attribute of these bytes.
+    ///
+    /// # Errors
+    ///
+    /// `NoMemory` if the allocation of the attribute fails.
     pub fn of(alloc: Global, items: &[u8]) -> Result<Attr, NoMemory>
         ensures { IfOk result (λ a. a ≡ items.now) }
     {
@@ -46,6 +50,10 @@ impl Attr {
     }
 
     /// Equal bytes in memory of their own.
+    ///
+    /// # Errors
+    ///
+    /// `NoMemory` if the allocation of the copy fails.
     pub fn copy(&self) -> Result<Attr, NoMemory>
         ensures { IfOk result (λ a. a ≡ self.now) }
     {

@@ -61,6 +61,10 @@ impl Model for Cred {
 /// The credential of a first task: all ids as given, no groups, the bounding set full, the
 /// permitted and the effective set full for root and empty for each other user, and all else empty,
 /// unset and false.
+///
+/// # Errors
+///
+/// `NoMemory` if an allocation of the credential fails.
 pub fn first(alloc: Global, user: Id, group: Id, ns: u32) -> Result<Cred, NoMemory>
     ensures { IfOk result (λ c. c ≡ first_credential user group ns) }
 {
@@ -85,6 +89,10 @@ pub fn first(alloc: Global, user: Id, group: Id, ns: u32) -> Result<Cred, NoMemo
 }
 
 /// An equal credential in memory of its own.
+///
+/// # Errors
+///
+/// `NoMemory` if the allocation of the groups fails.
 pub fn copy(cred: &Cred) -> Result<Cred, NoMemory>
     ensures { IfOk result (λ c. c ≡ cred.now) }
 {

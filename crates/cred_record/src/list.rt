@@ -22,6 +22,10 @@ impl Model for IdList {
 
 impl IdList {
     /// The list of these ids.
+    ///
+    /// # Errors
+    ///
+    /// `NoMemory` if the allocation of the list fails.
     pub fn of(alloc: Global, items: &[Id]) -> Result<IdList, NoMemory>
         ensures { IfOk result (λ l. l ≡ items.now) }
     {
@@ -45,6 +49,10 @@ impl IdList {
     }
 
     /// An equal list in memory of its own.
+    ///
+    /// # Errors
+    ///
+    /// `NoMemory` if the allocation of the copy fails.
     pub fn copy(&self) -> Result<IdList, NoMemory>
         ensures { IfOk result (λ l. l ≡ self.now) }
     {

@@ -59,7 +59,7 @@ fn group_number(words: &[u64; WORDS], place: usize) -> u32
 fn groups_in(alloc: Global, words: &[u64; WORDS]) -> Result<Option<Groups>, NoMemory>
     ensures some { IfOk result (λ o. IfSome o
         (λ g. are_words words.now ≡ true → g ≡ (credential_of words.now).groups)) }
-    ensures none { IfOk result (λ o. IfNone o (are_words words.now ≡ true → ⊥)) }
+    ensures none { IfOk result (λ o. IfNone o (¬ (are_words words.now ≡ true))) }
 {
     let count = (words[FLAGS] >> 16) as usize;
     if count > Groups::LIMIT {
@@ -99,7 +99,7 @@ fn are_valid(sets: &Sets) -> bool
 /// The sets. `None` only where the words are no credential's.
 fn sets_in(words: &[u64; WORDS]) -> Option<Sets>
     ensures some { IfSome result (λ s. AreSetsOf words.now s.perm s.inh s.eff s.bound s.amb) }
-    ensures none { IfNone result (are_words words.now ≡ true → ⊥) }
+    ensures none { IfNone result (¬ (are_words words.now ≡ true)) }
 {
     let sets = Sets {
         perm: CapSet::of_bits(words[PERMITTED])?,
@@ -130,7 +130,7 @@ fn namespace_in(word: u64) -> Option<u32>
 fn cred_in(words: &[u64; WORDS], groups: Groups) -> Option<Cred>
     requires { are_words words.now ≡ true → groups ≡ (credential_of words.now).groups }
     ensures some { IfSome result (λ c. are_words words.now ≡ true → c ≡ credential_of words.now) }
-    ensures none { IfNone result (are_words words.now ≡ true → ⊥) }
+    ensures none { IfNone result (¬ (are_words words.now ≡ true)) }
 {
     let sets = sets_in(words)?;
     Some(Cred {
@@ -154,7 +154,7 @@ fn cred_in(words: &[u64; WORDS], groups: Groups) -> Option<Cred>
 ///
 /// # Errors
 ///
-/// Memory ran out.
+/// `NoMemory` if the allocation of the groups fails.
 pub fn of_words(alloc: Global, words: &[u64; WORDS]) -> Result<Option<Cred>, NoMemory>
     ensures value { IfOk result (λ o. IfSome o
         (λ c. IsCredential c × (words_of c ≡ words.now))) }

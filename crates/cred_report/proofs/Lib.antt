@@ -1,2 +1,3 @@
 pub mod Journals
 mod Digits
+mod LastDigit

@@ -2,7 +2,7 @@
 ghost use Rattle.std.specs.Prelude.{◌≡◌, ◌≤◌, ◌+◌, ◌++◌, OnOk, codes, decimal, length};
 ghost use Rattle.cred_report.specs.Answers.{exists_text, too_many_text, cause_text};
 ghost use Rattle.cred_report.specs.Numbers.{set_text};
-ghost use Rattle.cred_report.specs.Answers.{sealed_text, answer_text};
+ghost use Rattle.cred_report.specs.Answers.{answer_text};
 
 use crate::numbers::prepend_sets;
 use crate::pen::Pen;
@@ -54,12 +54,24 @@ fn cause_word(cause: AbortCause) -> &'static str
 #[inline(always)]
 fn prepend_sealed(out: &mut Pen, word: &str, cred: u64, slot: u32)
     requires { length word.now + 44 ≤ out.old.room }
-    ensures text { out.new.text ≡ (word.now ++ sealed_text cred slot) ++ out.old.text }
+    ensures text { out.new.text
+        ≡ (word.now ++ decimal cred ++ codes " s" ++ decimal slot) ++ out.old.text }
     ensures room { out.old.room ≤ out.new.room + (length word.now + 44) }
 {
-    prepend_number(out, " s", slot);
-    prepend_long(out, " c", cred);
+    out.slot(slot);
+    prepend_word(out, " s");
+    out.cred(cred);
     prepend_word(out, word)
+}
+
+/// Writes the answer to a preparation.
+fn prepend_kept(out: &mut Pen, slot: u32)
+    requires { 192 ≤ out.old.room }
+    ensures text { out.new.text ≡ answer_text (Answer.Kept slot) ++ out.old.text }
+    ensures room { out.old.room ≤ out.new.room + 192 }
+{
+    out.slot(slot);
+    prepend_word(out, "ok s")
 }
 
 /// Writes how many threads ended, and what the file's attribute, inheritance and root gained.
@@ -84,7 +96,7 @@ fn prepend_executed(out: &mut Pen, cred: u64, slot: u32, ended: u32, gains: Gain
     ensures room { out.old.room ≤ out.new.room + 192 }
 {
     prepend_gains(out, ended, gains);
-    prepend_sealed(out, "ok", cred, slot)
+    prepend_sealed(out, "ok c", cred, slot)
 }
 
 /// Writes the answer to an id call.
@@ -94,7 +106,7 @@ fn prepend_began(out: &mut Pen, cred: u64, slot: u32, left: u32)
     ensures room { out.old.room ≤ out.new.room + 192 }
 {
     prepend_number(out, " left ", left);
-    prepend_sealed(out, "ok", cred, slot)
+    prepend_sealed(out, "ok c", cred, slot)
 }
 
 /// Writes the answer of a thread that followed a broadcast.
@@ -104,7 +116,7 @@ fn prepend_acted(out: &mut Pen, task: u32, cred: u64, slot: u32, left: u32)
     ensures room { out.old.room ≤ out.new.room + 192 }
 {
     prepend_number(out, " left ", left);
-    prepend_sealed(out, "", cred, slot);
+    prepend_sealed(out, " c", cred, slot);
     prepend_number(out, "ok t", task)
 }
 
@@ -136,8 +148,8 @@ pub(crate) fn prepend_answer(out: &mut Pen, answer: &Answer) -> Result<(), NoMem
 {
     match answer {
         Answer::Done => prepend_word(out, "ok"),
-        Answer::Sealed { cred, slot } => prepend_sealed(out, "ok", *cred, *slot),
-        Answer::Kept { slot } => prepend_number(out, "ok s", *slot),
+        Answer::Sealed { cred, slot } => prepend_sealed(out, "ok c", *cred, *slot),
+        Answer::Kept { slot } => prepend_kept(out, *slot),
         Answer::Was { previous } => prepend_number(out, "ok was ", previous.number()),
         Answer::Executed {
             cred,

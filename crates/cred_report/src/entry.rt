@@ -1,12 +1,12 @@
 //! Entries of the journal.
 ghost use Rattle.std.specs.Prelude.{◌≡◌, ◌++◌, OnOk, IfOk};
-ghost use Rattle.cred_report.specs.Text.{entry_text};
+ghost use Rattle.cred_report.specs.Text.{entry_text, text};
 
 use crate::answers::prepend_answer;
 use crate::events::prepend_event;
 use crate::pen::{PARTS, Pen};
 use crate::text::Text;
-use crate::words::{prepend_number, prepend_word};
+use crate::words::prepend_word;
 use cred_event::Entry;
 use cred_ids::NoMemory;
 use cred_script::Script;
@@ -17,6 +17,7 @@ use std::alloc::Global;
 /// # Errors
 ///
 /// `NoMemory` where the buffer cannot grow. Nothing is said of what it holds then.
+#[inline(always)]
 pub fn prepend(out: &mut Pen, script: &Script, entry: &Entry) -> Result<(), NoMemory>
     ensures { OnOk result (out.new.text ≡ entry_text script.now entry.now ++ out.old.text) }
 {
@@ -26,7 +27,21 @@ pub fn prepend(out: &mut Pen, script: &Script, entry: &Entry) -> Result<(), NoMe
     prepend_word(out, " -> ");
     prepend_event(out, script, &entry.event)?;
     prepend_word(out, " ");
-    prepend_number(out, "", entry.line);
+    out.line(entry.line);
+    Ok(())
+}
+
+/// Writes the text of the entries, in their order. The errors are those of one entry.
+// A function of its own, in which no call stands for an entry.
+#[inline(never)]
+pub fn prepend_all(out: &mut Pen, script: &Script, entries: &[Entry]) -> Result<(), NoMemory>
+    ensures { OnOk result (out.new.text ≡ text script.now entries.now ++ out.old.text) }
+{
+    let mut at = entries.len();
+    while at > 0 {
+        at -= 1;
+        prepend(out, script, &entries[at])?;
+    }
     Ok(())
 }
 

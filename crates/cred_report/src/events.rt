@@ -6,18 +6,19 @@ ghost use Rattle.cred_report.specs.Events.{take_text, event_text};
 use crate::calls::{prepend_call, prepend_change};
 use crate::pen::Pen;
 use crate::questions::{prepend_file, prepend_letters, prepend_query};
-use crate::words::{prepend_number, prepend_three, prepend_two, prepend_word};
+use crate::words::{prepend_label, prepend_number, prepend_three, prepend_two, prepend_word};
 use cred_event::{Change, Event, Query, Side};
 use cred_ids::{Id, NoMemory};
 use cred_record::{IdCall, Want};
 use cred_script::Script;
 
-/// Writes the birth of a first task.
+/// Writes the creation of a first task.
 fn prepend_init(out: &mut Pen, task: u32, process: u32, user: Id, group: Id, ns: u32)
     requires { 120 ≤ out.old.room }
     ensures text { out.new.text
         ≡ (codes "init t" ++ decimal task ++ codes " p" ++ decimal process
-        ++ codes " " ++ decimal user ++ codes " " ++ decimal group ++ codes " n" ++ decimal ns) ++ out.old.text }
+        ++ codes " " ++ decimal user ++ codes " " ++ decimal group ++ codes " n" ++ decimal ns)
+        ++ out.old.text }
     ensures room { out.old.room ≤ out.new.room + 120 }
 {
     prepend_three(out, (" ", user.number()), (" ", group.number()), (" n", ns));
@@ -32,7 +33,8 @@ fn prepend_take(out: &mut Pen, label: u32, task: u32, side: Side)
         ≡ (take_text side ++ decimal label ++ codes " t" ++ decimal task) ++ out.old.text }
     ensures room { out.old.room ≤ out.new.room + 120 }
 {
-    prepend_two(out, ("", label), (" t", task));
+    prepend_number(out, " t", task);
+    prepend_label(out, "", label);
     match side {
         Side::Subjective => prepend_word(out, "take h"),
         Side::Objective => prepend_word(out, "takereal h"),
@@ -48,7 +50,7 @@ fn prepend_ask(out: &mut Pen, script: &Script, label: u32, query: Query) -> Resu
 {
     prepend_query(out, script, query)?;
     prepend_word(out, " ");
-    prepend_number(out, "ask h", label);
+    prepend_label(out, "ask h", label);
     Ok(())
 }
 
@@ -64,6 +66,19 @@ fn prepend_signal(out: &mut Pen, from: u32, hold: u32, to: u32, target: u32)
     prepend_two(out, ("signal t", from), (" h", hold))
 }
 
+/// Writes the preparation of a new credential for a task.
+fn prepend_prepare(out: &mut Pen, label: u32, task: u32, hold: u32)
+    requires { 120 ≤ out.old.room }
+    ensures text { out.new.text
+        ≡ (codes "prepare h" ++ decimal label ++ codes " t" ++ decimal task
+        ++ codes " h" ++ decimal hold) ++ out.old.text }
+    ensures room { out.old.room ≤ out.new.room + 120 }
+{
+    prepend_label(out, " h", hold);
+    prepend_number(out, " t", task);
+    prepend_label(out, "prepare h", label)
+}
+
 /// Writes the change of a prepared credential.
 fn prepend_alter(out: &mut Pen, script: &Script, label: u32, change: Change) -> Result<(), NoMemory>
     requires { 160 ≤ out.old.room }
@@ -73,7 +88,7 @@ fn prepend_alter(out: &mut Pen, script: &Script, label: u32, change: Change) -> 
 {
     prepend_change(out, script, change)?;
     prepend_word(out, " ");
-    prepend_number(out, "change h", label);
+    prepend_label(out, "change h", label);
     Ok(())
 }
 
@@ -129,7 +144,7 @@ pub(crate) fn prepend_event(out: &mut Pen, script: &Script, event: &Event) -> Re
         } => prepend_init(out, *task, *process, *user, *group, *ns),
         Event::Take { label, task, side } => prepend_take(out, *label, *task, *side),
         Event::TakeFile { label, fd } => prepend_two(out, ("takefile h", *label), (" f", *fd)),
-        Event::Release { label } => prepend_number(out, "drop h", *label),
+        Event::Release { label } => prepend_label(out, "drop h", *label),
         Event::Ask { label, query } => prepend_ask(out, script, *label, *query)?,
         Event::Signal {
             from,
@@ -137,12 +152,10 @@ pub(crate) fn prepend_event(out: &mut Pen, script: &Script, event: &Event) -> Re
             to,
             target,
         } => prepend_signal(out, *from, *hold, *to, *target),
-        Event::Prepare { label, task, hold } => {
-            prepend_three(out, ("prepare h", *label), (" t", *task), (" h", *hold))
-        }
+        Event::Prepare { label, task, hold } => prepend_prepare(out, *label, *task, *hold),
         Event::Alter { label, change } => prepend_alter(out, script, *label, *change)?,
-        Event::Commit { label } => prepend_number(out, "commit h", *label),
-        Event::Abort { label } => prepend_number(out, "abort h", *label),
+        Event::Commit { label } => prepend_label(out, "commit h", *label),
+        Event::Abort { label } => prepend_label(out, "abort h", *label),
         Event::Override { task, label } => prepend_two(out, ("override t", *task), (" h", *label)),
         Event::Revert { task } => prepend_number(out, "revert t", *task),
         Event::Begin { task, call } => prepend_begin(out, *task, call)?,

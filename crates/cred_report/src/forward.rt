@@ -7,7 +7,11 @@ use cred_caps::CapSet;
 use cred_ids::NoMemory;
 use itoa::Buffer;
 
-/// Appends the word. After `NoMemory` nothing is said of what stands in the buffer.
+/// Appends the word.
+///
+/// # Errors
+///
+/// `NoMemory` if the buffer cannot grow: nothing is said of what it holds then.
 pub fn append_word(out: &mut Vec<u8>, word: &str) -> Result<(), NoMemory>
     ensures { OnOk result (out.new.items ≡ out.old.items ++ word.now) }
 {
@@ -15,6 +19,10 @@ pub fn append_word(out: &mut Vec<u8>, word: &str) -> Result<(), NoMemory>
 }
 
 /// Appends the word and the number, in decimal.
+///
+/// # Errors
+///
+/// `NoMemory` if the buffer cannot grow: nothing is said of what it holds then.
 pub fn append_number(out: &mut Vec<u8>, word: &str, number: u32) -> Result<(), NoMemory>
     ensures { OnOk result (out.new.items ≡ out.old.items ++ (word.now ++ decimal number)) }
 {
@@ -23,6 +31,10 @@ pub fn append_number(out: &mut Vec<u8>, word: &str, number: u32) -> Result<(), N
 }
 
 /// Appends a space, and the set in lower-case hexadecimal.
+///
+/// # Errors
+///
+/// `NoMemory` if the buffer cannot grow: nothing is said of what it holds then.
 pub fn append_set(out: &mut Vec<u8>, set: CapSet) -> Result<(), NoMemory>
     ensures { OnOk result (out.new.items ≡ out.old.items ++ set_text set) }
 {
@@ -33,6 +45,10 @@ pub fn append_set(out: &mut Vec<u8>, set: CapSet) -> Result<(), NoMemory>
 }
 
 /// Appends a space, and the flag as 0 or 1.
+///
+/// # Errors
+///
+/// `NoMemory` if the buffer cannot grow: nothing is said of what it holds then.
 pub fn append_flag(out: &mut Vec<u8>, flag: bool) -> Result<(), NoMemory>
     ensures { OnOk result (out.new.items ≡ out.old.items ++ flag_text flag) }
 {

@@ -1,7 +1,8 @@
 //! The text of a run's report: one line for each entry of the journal.
 //!
-//! `specs/` defines the text of an entry, case by case. `prepend` adds it to a buffer, so that one
-//! buffer serves a whole report, and `print` gives it alone.
+//! `specs/` defines the text of an entry, case by case. `prepend` adds it to a buffer, and
+//! `prepend_all` the text of many entries, so that one buffer serves a whole report; `print` gives
+//! the text of one alone.
 #![tactic(auto)]
 
 mod answers;
@@ -12,11 +13,12 @@ mod forward;
 mod numbers;
 mod pen;
 mod questions;
+mod tens;
 mod text;
 mod told;
 mod words;
 
-pub use entry::{prepend, print};
+pub use entry::{prepend, prepend_all, print};
 pub use forward::{append_flag, append_number, append_set, append_word};
 pub use pen::Pen;
 pub use text::Text;

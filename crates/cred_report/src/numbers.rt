@@ -23,7 +23,7 @@ fn digit_of(number: u64) -> u8
     }
 }
 
-/// Writes the number's hexadecimal digits to the end of the buffer, and tells where they begin.
+/// Writes the number's hexadecimal digits to the end of the buffer, and returns where they begin.
 pub(crate) fn write_digits(digits: &mut [u8; MAX_DIGITS], number: u64) -> usize
     ensures within { result < MAX_DIGITS }
     ensures digits { drop result digits.new ≡ hexadecimal number }

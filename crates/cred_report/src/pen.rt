@@ -1,6 +1,7 @@
 //! A text that is written from its end to its start.
 ghost use Rattle.std.specs.Prelude.{◌≡◌, ◌≤◌, ◌+◌, ◌++◌, [], OnOk, decimal, length};
 
+use crate::tens::Tens;
 use cred_ids::NoMemory;
 use itoa::write_digits;
 use std::alloc::Global;
@@ -8,6 +9,9 @@ use std::marker::Model;
 
 /// How many bytes the parts of one entry take at most, but for names and lists of ids.
 pub(crate) const PARTS: usize = 512;
+
+/// How many bytes a short word has at most.
+const SHORT: usize = 24;
 
 /// A text in a buffer that is filled from its end, so that the digits of a number come out in the
 /// order in which division gives them, and none is moved. Who writes makes room first, once for
@@ -17,6 +21,11 @@ pub struct Pen {
     alloc: Global,
     bytes: Vec<u8>,
     at: usize,
+    // What was written last of each kind.
+    line: Tens,
+    label: Tens,
+    cred: Tens,
+    slot: Tens,
 }
 
 impl Model for Pen {
@@ -39,6 +48,10 @@ impl Pen {
             alloc,
             bytes: Vec::new(alloc),
             at: 0,
+            line: Tens::new(),
+            label: Tens::new(),
+            cred: Tens::new(),
+            slot: Tens::new(),
         }
     }
 
@@ -68,7 +81,8 @@ impl Pen {
         Ok(())
     }
 
-    /// Moves the text to the end of a longer buffer, with this much room before it.
+    /// Moves the text to the end of a buffer of twice the length at least, with this much room
+    /// before it.
     #[cold]
     #[inline(never)]
     fn grow(&mut self, room: usize) -> Result<(), NoMemory>
@@ -76,7 +90,8 @@ impl Pen {
         ensures room { OnOk result (room ≤ self.new.room) }
     {
         let kept = self.bytes.len() - self.at;
-        let start = self.bytes.len().checked_add(room).ok_or(NoMemory)?;
+        let more = self.bytes.len().max(room);
+        let start = self.at.checked_add(more).ok_or(NoMemory)?;
         let size = start.checked_add(kept).ok_or(NoMemory)?;
         let mut longer = vec![in self.alloc; 0; size]?;
         longer[start..].copy_from_slice(&self.bytes[self.at..]);
@@ -97,6 +112,24 @@ impl Pen {
         self.at = start;
     }
 
+    /// Writes the word before the text. A short word is copied to an array of its own first, which
+    /// nothing overlaps: so the copy from there takes no test for that. Where the word is known,
+    /// nothing of the first copy is left in the program.
+    #[inline(always)]
+    pub(crate) fn word(&mut self, word: &str)
+        requires { length word.now ≤ self.old.room }
+        ensures text { self.new.text ≡ word.now ++ self.old.text }
+        ensures room { self.new.room + length word.now ≡ self.old.room }
+    {
+        let len = word.len();
+        if len > SHORT {
+            return self.piece(word.as_bytes());
+        }
+        let mut own = [0; SHORT];
+        own[..len].copy_from_slice(word.as_bytes());
+        self.piece(&own[..len]);
+    }
+
     /// Writes the number before the text, in decimal. Most numbers of a report have one digit,
     /// which needs no division and no call.
     #[inline(always)]
@@ -111,6 +144,49 @@ impl Pen {
         } else {
             self.digits(number)
         }
+    }
+
+    /// Writes the number of a line before the text.
+    #[inline(always)]
+    pub(crate) fn line(&mut self, number: u32)
+        requires { 20 ≤ self.old.room }
+        ensures text { self.new.text ≡ decimal number ++ self.old.text }
+        ensures room { self.old.room ≤ self.new.room + 20 }
+    {
+        self.at = self.line.write(number, &mut self.bytes, self.at);
+    }
+
+    /// Writes a label before the text.
+    #[inline(always)]
+    pub(crate) fn label(&mut self, number: u32)
+        requires { 20 ≤ self.old.room }
+        ensures text { self.new.text ≡ decimal number ++ self.old.text }
+        ensures room { self.old.room ≤ self.new.room + 20 }
+    {
+        self.at = self.label.write(number, &mut self.bytes, self.at);
+    }
+
+    /// Writes the number of a credential before the text.
+    #[inline(always)]
+    pub(crate) fn cred(&mut self, number: u64)
+        requires { 20 ≤ self.old.room }
+        ensures text { self.new.text ≡ decimal number ++ self.old.text }
+        ensures room { self.old.room ≤ self.new.room + 20 }
+    {
+        match u32::try_from(number) {
+            Ok(number) => self.at = self.cred.write(number, &mut self.bytes, self.at),
+            Err(_) => self.digits(number),
+        }
+    }
+
+    /// Writes the number of a slot before the text.
+    #[inline(always)]
+    pub(crate) fn slot(&mut self, number: u32)
+        requires { 20 ≤ self.old.room }
+        ensures text { self.new.text ≡ decimal number ++ self.old.text }
+        ensures room { self.old.room ≤ self.new.room + 20 }
+    {
+        self.at = self.slot.write(number, &mut self.bytes, self.at);
     }
 
     #[inline(never)]

@@ -29,7 +29,7 @@ fn prepend_name(out: &mut Pen, name: &str) -> Result<(), NoMemory>
 {
     let room = name.len().checked_add(PARTS).ok_or(NoMemory)?;
     out.reserve(room)?;
-    prepend_word(out, name);
+    out.piece(name.as_bytes());
     Ok(())
 }
 

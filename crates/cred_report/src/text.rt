@@ -20,7 +20,11 @@ impl Model for Text {
 }
 
 impl Text {
-    /// The text of these bytes. It is refused only for want of memory.
+    /// The text of these bytes.
+    ///
+    /// # Errors
+    ///
+    /// `NoMemory` if the allocation of the text fails.
     pub fn of(alloc: Global, items: &[u8]) -> Result<Text, NoMemory>
         ensures { IfOk result (λ t. t ≡ items.now) }
     {

@@ -10,7 +10,7 @@ pub(crate) fn prepend_word(out: &mut Pen, word: &str)
     ensures text { out.new.text ≡ word.now ++ out.old.text }
     ensures room { out.new.room + length word.now ≡ out.old.room }
 {
-    out.piece(word.as_bytes())
+    out.word(word)
 }
 
 /// Writes the word and the number, which may be one of a credential.
@@ -65,4 +65,15 @@ pub(crate) fn prepend_three(
 {
     prepend_number(out, third.0, third.1);
     prepend_two(out, first, second)
+}
+
+/// Writes the word and the label.
+#[inline(always)]
+pub(crate) fn prepend_label(out: &mut Pen, word: &str, label: u32)
+    requires { length word.now + 20 ≤ out.old.room }
+    ensures text { out.new.text ≡ (word.now ++ decimal label) ++ out.old.text }
+    ensures room { out.old.room ≤ out.new.room + (length word.now + 20) }
+{
+    out.label(label);
+    prepend_word(out, word)
 }

@@ -60,7 +60,7 @@ after_amb_raise c n =
     else if not (may_raise c n) then Err Perm
     else Ok (record c { amb = with c.amb n })
 
--- prctl(2), PR_CAP_AMBIENT_LOWER: the capability is ambient no more
+-- prctl(2), PR_CAP_AMBIENT_LOWER: the capability is no longer ambient
 unfoldable pub after_amb_lower : Credential → ℕ → Result Credential Denial
 after_amb_lower c n = if is_no_cap n then Err Invalid else Ok (record c { amb = without c.amb n })
 

@@ -2,10 +2,11 @@
 -- and what they spell (capabilities(7), "File capability extended attribute versioning";
 -- linux/capability.h, `struct vfs_cap_data` and `struct vfs_ns_cap_data`). What stands between the
 -- two is a relation, which says what each bit means: no way to read bytes, and none to write them.
-use Rattle.std.specs.Prelude.{◌≡◌, ◌⊎◌, ℕ, ◌+◌, ◌*◌, ◌^◌, ◌<◌, ◌==◌, ◌||◌, not, nat_lt, Bool, false, IsTrue, List, length, slice_index, if◌then◌else◌}
+-- It is a function too (`attribute_of`), by a law of `cred_filecap`.
+use Rattle.std.specs.Prelude.{◌≡◌, ◌⊎◌, ℕ, ◌+◌, ◌*◌, ◌%◌, ◌^◌, ◌<◌, ◌==◌, ◌&&◌, ◌||◌, not, nat_lt, Bool, false, IsTrue, List, Option, Some, None, length, slice_index, if◌then◌else◌}
 use Rattle.std.specs.Int.{bit_at}
 use Rattle.std.specs.List.{list_any}
-use Rattle.cred_caps.specs.Caps.{Caps, IsCap, IsCaps, has}
+use Rattle.cred_caps.specs.Caps.{Caps, IsCap, IsCaps, full, has, meet}
 use Rattle.cred_caps.specs.Numbers.{LAST}
 
 -- what an attribute says: its version, the file's permitted and inheritable sets and effective
@@ -89,6 +90,33 @@ pub record Spells (bytes : List ℕ) (a : Attribute) : Type 0 where
   pub effective : a.effective ≡ is_bit (magic bytes) 0
   pub perm : SpellsSet (perm_low bytes) (perm_high bytes) a.perm
   pub inh : SpellsSet (inh_low bytes) (inh_high bytes) a.inh
+
+-- the set that two words spell, as a number: the high word's bits above the low word's, and no bit
+-- above the last capability
+abbrev pub set_in : ℕ → ℕ → Caps
+set_in low high = meet (high * 2 ^ 32 + low % 2 ^ 32) full
+
+-- what bytes of this version say, with this root id
+abbrev pub said : List ℕ → ℕ → ℕ → Attribute
+said bytes version root = record {
+  version = version;
+  perm = set_in (perm_low bytes) (perm_high bytes);
+  inh = set_in (inh_low bytes) (inh_high bytes);
+  effective = is_bit (magic bytes) 0;
+  root = root;
+}
+
+-- so many bytes with this revision
+abbrev pub has_form : List ℕ → ℕ → ℕ → Bool
+has_form bytes size revision = (length bytes == size) && (revision_of bytes == revision)
+
+-- the attribute that the bytes spell, or none: `Spells` as a function, so that a rule can compute
+-- with it
+unfoldable pub attribute_of : List ℕ → Option Attribute
+attribute_of bytes =
+    if has_form bytes 20 2 then Some (said bytes 2 0)
+    else if has_form bytes 24 3 then Some (said bytes 3 (root_id bytes))
+    else None
 
 -- every bit that spells nothing is zero: in the first word those between the effective flag and the
 -- revision, and in the high words those above the last capability

@@ -15,7 +15,7 @@ has_root ids = (ids.real == ROOT) || (ids.effective == ROOT) || (ids.saved == RO
 abbrev pub loses_root : Ids4 → Ids4 → Bool
 loses_root old new = has_root old && not (has_root new)
 
--- the effective id was root and is no more
+-- the effective id was root and no longer is
 abbrev pub leaves_root : Ids4 → Ids4 → Bool
 leaves_root old new = (old.effective == ROOT) && not (new.effective == ROOT)
 

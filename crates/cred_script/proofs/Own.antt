@@ -31,9 +31,9 @@ use Rattle.cred_script.specs.declared.forms.Parsed.TheVariants.{Empty, File, Sta
 use Rattle.cred_script.specs.Changes.{change_of}
 use Rattle.cred_script.specs.Files.{FILES, place_of, has_room, file_of}
 use Rattle.cred_script.specs.IdCalls.{id_call_of}
-use Rattle.cred_script.specs.Forms.{query_of, query_named, take_of, event_of, call_of, content_of, parse_form}
+use Rattle.cred_script.specs.Forms.{query_of, query_named, take_of, ask_of, alter_of, begin_of, event_of, call_of, content_of, parse_form}
 use Rattle.cred_script.specs.Grammar.{parse_full, parse_words, parse_line}
-use Rattle.cred_script.specs.Reading.{Reading, has_namespaces, has_files, has_names, names_declared, form_at, in_order, setup_line}
+use Rattle.cred_script.specs.Reading.{Reading, has_namespaces, has_files, has_names, form_at, in_order, admits, setup_line}
 use Rattle.cred_script.specs.Sound.{event_labels, labels, IsSound, IsParsed}
 
 -- ---- what holds of a value, if there is one, through the steps that lead to it
@@ -65,7 +65,7 @@ tested false e = record { is = tt }
 -- ---- labels
 
 abbrev IsLabel : ℕ → Type 0
-IsLabel label = label ≤ 99999
+IsLabel label = label ≤ LAST_LABEL
 
 at_most : (a b : Bool) (n most : ℕ) → nat_le n most ≡ b → IfSome (cond (a && b) (Some n) None) (λ number. number ≤ most)
 at_most false b n most is = tt
@@ -79,7 +79,7 @@ small true least most (Some n) = at_most (nat_le least n) (nat_le n most) n most
 
 label_small : (word : List ℕ) → IfSome (label_of word) IsLabel
 label_small [] = tt
-label_small (first ∷ digits) = small (first == 104) 1 99999 (number_of digits)
+label_small (first ∷ digits) = small (first == letter (codes "h")) 1 LAST_LABEL (number_of digits)
 
 spelled_good : {A : Type 0} (P : A → Type 0) (o : Option A) → IfSome o P → Good P (ok_or o Word)
 spelled_good P None holds = record { is = tt }
@@ -143,29 +143,41 @@ own_take : (side : Side) (words : List (List ℕ)) → Good OwnEvent (take_of si
 unfolding take_of
 own_take side words = after (λ word. IsLabel word.0) OwnEvent _ _ (label_first task_of words) (λ word fits. of_label _ word.0 refl refl fits)
 
+own_ask : (files : List NamedFile) (words : List (List ℕ)) → Good OwnEvent (ask_of files words)
+unfolding ask_of
+own_ask files [] = record { is = tt }
+own_ask files (hold ∷ []) = record { is = tt }
+own_ask files (hold ∷ asked ∷ words) =
+    skip OwnEvent (query_named files asked words) _ (λ query. after IsLabel OwnEvent _ _ (label_good hold) (λ label fits. of_label _ label refl refl fits))
+
+own_alter : (words : List (List ℕ)) → Good OwnEvent (alter_of words)
+unfolding alter_of
+own_alter [] = record { is = tt }
+own_alter (prepared ∷ []) = record { is = tt }
+own_alter (prepared ∷ changed ∷ words) =
+    skip OwnEvent (ok_or (change_name changed) Word) _ (λ kind. after (λ made. is_built_change made ≡ true) OwnEvent _ _ (own_change kind words)
+    (λ made built. after IsLabel OwnEvent _ _ (label_good prepared) (λ label fits. of_label _ label refl built fits)))
+
+own_begin : (words : List (List ℕ)) → Good OwnEvent (begin_of words)
+unfolding begin_of
+own_begin [] = record { is = tt }
+own_begin (caller ∷ []) = record { is = tt }
+own_begin (caller ∷ called ∷ words) =
+    skip OwnEvent (ok_or (id_name called) Word) _ (λ kind. skip OwnEvent (id_call_of kind words) _ (λ made. skip OwnEvent (word_of task_of caller) _ (λ task. record { is = record { labels = none; built = refl } })))
+
 own_event : (files : List NamedFile) (event : EventName) (words : List (List ℕ)) → Good OwnEvent (event_of files event words)
 unfolding event_of
 own_event files name.Take words = own_take _ words
 own_event files name.TakeReal words = own_take _ words
 own_event files name.Release words = after IsLabel OwnEvent _ _ (one_label words) (λ label fits. of_label _ label refl refl fits)
-own_event files name.Ask [] = record { is = tt }
-own_event files name.Ask (hold ∷ []) = record { is = tt }
-own_event files name.Ask (hold ∷ asked ∷ words) =
-    skip OwnEvent (query_named files asked words) _ (λ query. after IsLabel OwnEvent _ _ (label_good hold) (λ label fits. of_label _ label refl refl fits))
+own_event files name.Ask words = own_ask files words
 own_event files name.Prepare words =
     after (λ word. IsLabel word.0 × IsLabel word.2) OwnEvent _ _ (label_first_and_last task_of words)
     (λ word fits. record { is = record { labels = All-cons IsLabel word.0 (word.2 ∷ []) fits.0 (one word.2 fits.1); built = refl } })
-own_event files name.Alter [] = record { is = tt }
-own_event files name.Alter (prepared ∷ []) = record { is = tt }
-own_event files name.Alter (prepared ∷ changed ∷ words) =
-    skip OwnEvent (ok_or (change_name changed) Word) _ (λ kind. after (λ made. is_built_change made ≡ true) OwnEvent _ _ (own_change kind words)
-    (λ made built. after IsLabel OwnEvent _ _ (label_good prepared) (λ label fits. of_label _ label refl built fits)))
+own_event files name.Alter words = own_alter words
 own_event files name.Commit words = after IsLabel OwnEvent _ _ (one_label words) (λ label fits. of_label _ label refl refl fits)
 own_event files name.Abort words = after IsLabel OwnEvent _ _ (one_label words) (λ label fits. of_label _ label refl refl fits)
-own_event files name.Begin [] = record { is = tt }
-own_event files name.Begin (caller ∷ []) = record { is = tt }
-own_event files name.Begin (caller ∷ called ∷ words) =
-    skip OwnEvent (ok_or (id_name called) Word) _ (λ kind. skip OwnEvent (id_call_of kind words) _ (λ made. skip OwnEvent (word_of task_of caller) _ (λ task. record { is = record { labels = none; built = refl } })))
+own_event files name.Begin words = own_begin words
 own_event files name.Sweep words = skip OwnEvent (no_words words) _ (λ end. record { is = record { labels = none; built = refl } })
 
 -- ---- lines
@@ -243,12 +255,14 @@ parsed declared (File file) own named = (own, no_place (place_of declared file.n
 parsed declared (Starts content) own named = sound declared content own named
 parsed declared (Holds content) own named = sound declared content own named
 
+admitted : (reading : Reading) (line : Parsed) → Good (λ _. has_names reading.files line ≡ true) (admits reading line)
+admitted reading line = skip _ (in_order reading line) _ (λ order. tested (has_names reading.files line) Name)
+
 full : (reading : Reading) (first : List ℕ) (words : List (List ℕ)) → Good (IsParsed reading.files) (parse_full reading first words)
 unfolding parse_full
 full reading first words =
     skip _ (form_at reading first) _ (λ named. after _ _ (parse_form reading.files named words) _ (own_form reading.files named words)
-    (λ line own. skip _ (in_order reading line) _ (λ order. after _ _ (names_declared reading.files line) _ (tested (has_names reading.files line) Name)
-    (λ end names. record { is = parsed reading.files line own names }))))
+    (λ line own. after _ _ (admits reading line) _ (admitted reading line) (λ end names. record { is = parsed reading.files line own names })))
 
 words_good : (reading : Reading) (words : List (List ℕ)) → Good (IsParsed reading.files) (parse_words reading words)
 words_good reading [] = record { is = tt }

@@ -6,7 +6,7 @@ use Rattle.cred_record.specs.declared.adj_call.AdjCall.TheVariants as call
 use Rattle.cred_spelling.specs.declared.names.ChangeName.{ChangeName}
 use Rattle.cred_spelling.specs.declared.names.ChangeName.TheVariants as name
 use Rattle.cred_spelling.specs.declared.reason.Reason.{Reason}
-use Rattle.cred_spelling.specs.Words.{◌>>=◌, no_words, one_of, three_of}
+use Rattle.cred_spelling.specs.Words.{◌>>=◌, bare, one_of, three_of}
 use Rattle.cred_spelling.specs.Spellings.{number_of, arg_of, cap_of, set_of}
 
 -- A change, by its name. The sets of `capset` are the permitted, the inheritable and the effective.
@@ -26,9 +26,7 @@ change_of name.AmbRaise words = do
 change_of name.AmbLower words = do
   cap ← one_of cap_of words
   Ok (Adjust (call.AmbLower cap))
-change_of name.AmbClear words = do
-  end ← no_words words
-  Ok (Adjust call.AmbClear)
+change_of name.AmbClear words = bare words (Adjust call.AmbClear)
 change_of name.Bits words = do
   number ← one_of number_of words
   Ok (Adjust (call.Bits number))

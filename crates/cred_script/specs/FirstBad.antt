@@ -1,5 +1,5 @@
 -- What is reported of a text that is no script: its first bad line.
-use Rattle.std.specs.Prelude.{◌≡◌, ℕ, ◌-◌, ◌≤◌, true, List, length, take, Result, Ok, Err}
+use Rattle.std.specs.Prelude.{◌≡◌, ℕ, ◌-◌, ◌≤◌, true, List, length, take, Result, Ok, Err, ⊤}
 use Rattle.std.specs.Result.{is_ok}
 use Rattle.cred_model.specs.Script.{Script}
 use Rattle.cred_spelling.specs.declared.reason.Reason.{Reason}
@@ -17,6 +17,6 @@ pub record IsFirstBad (texts : List (List ℕ)) (line : ℕ) (reason : Reason) :
 
 -- a line that is reported is the first bad one
 abbrev pub TellsFirstBad : List (List ℕ) → Result Script ScriptRefusal → Type 0
-TellsFirstBad texts (Ok script) = Unit {0}
+TellsFirstBad texts (Ok script) = ⊤
 TellsFirstBad texts (Err (Bad line reason)) = IsFirstBad texts line reason
-TellsFirstBad texts (Err Memory) = Unit {0}
+TellsFirstBad texts (Err Memory) = ⊤

@@ -23,7 +23,7 @@ use Rattle.cred_spelling.specs.declared.reason.Reason.{Reason}
 use Rattle.cred_spelling.specs.declared.reason.Reason.TheVariants.{Word, Count}
 use Rattle.cred_spelling.specs.Names as names
 use Rattle.cred_spelling.specs.Spellings.{id_of, cap_of, task_of, process_of, label_of, namespace_of, want_of}
-use Rattle.cred_spelling.specs.Words.{◌>>=◌, name_of, word_of, no_words, one_of, two_of, three_of, five_of}
+use Rattle.cred_spelling.specs.Words.{◌>>=◌, name_of, word_of, no_words, bare, one_of, two_of, three_of, five_of}
 use Rattle.cred_script.specs.declared.forms.Parsed.{Parsed}
 use Rattle.cred_script.specs.declared.forms.Parsed.TheVariants.{File, Starts, Holds}
 use Rattle.cred_script.specs.Files.{place_or_next, file_of}
@@ -32,18 +32,10 @@ use Rattle.cred_script.specs.Changes.{change_of}
 
 -- a question, by its name
 unfoldable pub query_of : List NamedFile → QueryName → List (List ℕ) → Result Query Reason
-query_of files query_name.Ids words = do
-  end ← no_words words
-  Ok query.Ids
-query_of files query_name.Caps words = do
-  end ← no_words words
-  Ok query.Caps
-query_of files query_name.Groups words = do
-  end ← no_words words
-  Ok query.Groups
-query_of files query_name.Bits words = do
-  end ← no_words words
-  Ok query.Bits
+query_of files query_name.Ids words = bare words query.Ids
+query_of files query_name.Caps words = bare words query.Caps
+query_of files query_name.Groups words = bare words query.Groups
+query_of files query_name.Bits words = bare words query.Bits
 query_of files query_name.Capable words = do
   cap ← one_of cap_of words
   Ok (query.Capable cap)
@@ -71,33 +63,45 @@ take_of side words = do
   word ← two_of label_of task_of words
   Ok (Take word.0 word.1 side)
 
+-- `ask H QUESTION`: the question is read before the label
+unfoldable pub ask_of : List NamedFile → List (List ℕ) → Result Event Reason
+ask_of files (hold ∷ asked ∷ words) = do
+  question ← query_named files asked words
+  label ← word_of label_of hold
+  Ok (Ask label question)
+ask_of files words = Err Count
+
+-- `change H CHANGE`: the change is read before the label
+unfoldable pub alter_of : List (List ℕ) → Result Event Reason
+alter_of (prepared ∷ changed ∷ words) = do
+  kind ← ok_or (names.change_name changed) Word
+  change ← change_of kind words
+  label ← word_of label_of prepared
+  Ok (Alter label change)
+alter_of words = Err Count
+
+-- `begin T CALL`: the call is read before the task
+unfoldable pub begin_of : List (List ℕ) → Result Event Reason
+begin_of (caller ∷ called ∷ words) = do
+  kind ← ok_or (names.id_name called) Word
+  made ← id_call_of kind words
+  task ← word_of task_of caller
+  Ok (Begin task made)
+begin_of words = Err Count
+
 -- An event, by its name. `prepare` has the new label, the task, and the hold that it is based on.
 unfoldable pub event_of : List NamedFile → EventName → List (List ℕ) → Result Event Reason
 event_of files name.Take words = take_of Subjective words
 event_of files name.TakeReal words = take_of Objective words
 event_of files name.Release words = one_of label_of words >>= λ label. Ok (Release label)
-event_of files name.Ask (hold ∷ asked ∷ words) = do
-  question ← query_named files asked words
-  label ← word_of label_of hold
-  Ok (Ask label question)
-event_of files name.Ask words = Err Count
+event_of files name.Ask words = ask_of files words
 event_of files name.Prepare words = do
   word ← three_of label_of task_of label_of words
   Ok (Prepare word.0 word.1 word.2)
-event_of files name.Alter (prepared ∷ changed ∷ words) = do
-  kind ← ok_or (names.change_name changed) Word
-  change ← change_of kind words
-  label ← word_of label_of prepared
-  Ok (Alter label change)
-event_of files name.Alter words = Err Count
+event_of files name.Alter words = alter_of words
 event_of files name.Commit words = one_of label_of words >>= λ label. Ok (Commit label)
 event_of files name.Abort words = one_of label_of words >>= λ label. Ok (Abort label)
-event_of files name.Begin (caller ∷ called ∷ words) = do
-  kind ← ok_or (names.id_name called) Word
-  made ← id_call_of kind words
-  task ← word_of task_of caller
-  Ok (Begin task made)
-event_of files name.Begin words = Err Count
+event_of files name.Begin words = begin_of words
 event_of files name.Sweep words = no_words words >>= λ end. Ok Sweep
 
 -- what the task does, by its name

@@ -9,15 +9,14 @@ use Rattle.cred_spelling.specs.Words.{◌>>=◌, words_of, is_comment}
 use Rattle.cred_script.specs.declared.forms.Parsed.{Parsed}
 use Rattle.cred_script.specs.declared.forms.Parsed.TheVariants.{Empty}
 use Rattle.cred_script.specs.Forms.{parse_form}
-use Rattle.cred_script.specs.Reading.{Reading, nothing, script, form_at, in_order, names_declared, keep}
+use Rattle.cred_script.specs.Reading.{Reading, nothing, script, form_at, admits, keep}
 
 -- A line that isn't empty. The tests stand in their order: the first that fails gives the reason.
 unfoldable pub parse_full : Reading → List ℕ → List (List ℕ) → Result Parsed Reason
 parse_full reading first words = do
   form ← form_at reading first
   line ← parse_form reading.files form words
-  order ← in_order reading line
-  names ← names_declared reading.files line
+  fits ← admits reading line
   Ok line
 
 -- A line without words, and a comment, declare nothing and hold nothing.

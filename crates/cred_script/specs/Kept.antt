@@ -6,6 +6,7 @@ use Rattle.std.specs.String.{string_eq}
 use Rattle.std.specs.declared.alloc.Global.{Global}
 use Rattle.cred_record.specs.File.{File}
 use Rattle.cred_model.specs.Script.{NamedFile}
+use Rattle.cred_script.specs.Files.{FILES}
 
 abbrev pub file_of : String Global × File → NamedFile
 file_of entry = record { name = string_bytes entry.0; info = entry.1 }
@@ -13,7 +14,7 @@ file_of entry = record { name = string_bytes entry.0; info = entry.1 }
 abbrev pub files_of : List (String Global × File) → List NamedFile
 files_of entries = map file_of entries
 
--- There are at most 256 files, and no two of them have one name.
+-- There are no more files than a script may declare, and no two of them have one name.
 pub record AreFew (entries : List (String Global × File)) : Type 0 where
-  pub few : length entries ≤ 256
+  pub few : length entries ≤ FILES
   pub apart : IsDistinct string_eq (keys_of entries)

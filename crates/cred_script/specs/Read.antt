@@ -1,5 +1,5 @@
 -- What reading a script may answer.
-use Rattle.std.specs.Prelude.{◌≡◌, ℕ, List, Result, Ok, Err}
+use Rattle.std.specs.Prelude.{◌≡◌, ℕ, List, Result, Ok, Err, ⊤}
 use Rattle.std.specs.Borrow.{Bor}
 use Rattle.cred_event.specs.declared.content.Content.{Content}
 use Rattle.cred_model.specs.Script.{Line}
@@ -15,13 +15,13 @@ abbrev pub Gives : {V A : Type 0} → (V → A) → Result V ScriptRefusal → R
     → Type 0
 Gives view (Ok v) given = given ≡ Ok (view v)
 Gives view (Err (Bad line reason)) given = given ≡ Err (line, reason)
-Gives view (Err Memory) given = Unit {0}
+Gives view (Err Memory) given = ⊤
 
 -- the same, of one line
 abbrev pub Tells : {V A : Type 0} → (V → A) → Result V LineRefusal → Result A Reason → Type 0
 Tells view (Ok v) given = given ≡ Ok (view v)
 Tells view (Err (line.Bad reason)) given = given ≡ Err reason
-Tells view (Err line.Memory) given = Unit {0}
+Tells view (Err line.Memory) given = ⊤
 
 -- five words, and those after them
 abbrev pub options_nows

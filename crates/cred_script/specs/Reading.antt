@@ -70,6 +70,12 @@ has_names declared (Holds content) = has_namespaces content && has_files declare
 abbrev pub names_declared : List NamedFile → Parsed → Result (Unit {0}) Reason
 names_declared declared line = if has_names declared line then Ok tt else Err Name
 
+-- what a line may declare or hold after what was read: first the order, then the names
+abbrev pub admits : Reading → Parsed → Result (Unit {0}) Reason
+admits reading line = do
+  order ← in_order reading line
+  names_declared reading.files line
+
 -- every line belongs to the setup
 abbrev pub setup_line : Content → Line
 setup_line content = record { lane = 0; content = content }

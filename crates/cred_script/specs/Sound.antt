@@ -1,14 +1,15 @@
 -- What is true of the lines of every script.
-use Rattle.std.specs.Prelude.{◌≡◌, ℕ, ◌≤◌, ◌<◌, List, [], ◌∷◌, length, All, AllPairs, None}
+use Rattle.std.specs.Prelude.{◌≡◌, ℕ, ◌≤◌, ◌<◌, List, [], ◌∷◌, length, All, AllPairs, None, ⊤}
 use Rattle.cred_event.specs.declared.event.Event.{Event}
 use Rattle.cred_event.specs.declared.event.Event.TheVariants.{Take, TakeFile, Release, Ask, Signal, Prepare, Alter, Commit, Abort, Override, OpenFile}
+use Rattle.cred_event.specs.declared.entry.TheConstants.{LINE_LIMIT}
 use Rattle.cred_event.specs.declared.content.Content.{Content}
 use Rattle.cred_event.specs.declared.content.Content.TheVariants.{One}
 use Rattle.cred_model.specs.Script.{Line, NamedFile, SetupBefore}
 use Rattle.cred_model.specs.Named.{IsContentOf}
 use Rattle.cred_script.specs.declared.forms.Parsed.{Parsed}
 use Rattle.cred_script.specs.declared.forms.Parsed.TheVariants.{Empty, File, Starts, Holds}
-use Rattle.cred_script.specs.Files.{place_of}
+use Rattle.cred_script.specs.Files.{FILES, place_of}
 use Rattle.cred_script.specs.Reading.{setup_line}
 
 -- the labels that an event names
@@ -31,31 +32,35 @@ abbrev pub labels : Content → List ℕ
 labels (One event) = event_labels event
 labels content = []
 
--- Greater labels than 99999 are those that a line takes for itself.
-abbrev pub NamesOwn : Content → Type 0
-NamesOwn content = All (λ label. label ≤ 99999) (labels content)
+-- The greatest label that a script may name. Greater ones are those that a line takes for itself.
+abbrev pub LAST_LABEL : ℕ
+LAST_LABEL = LAST_NUMBER
+
+-- the greatest number of a lane
+abbrev pub LAST_LANE : ℕ
+LAST_LANE = 16
 
 -- what is true of each line of a script that declares so many files
 pub record IsSound (count : ℕ) (line : Line) : Type 0 where
-  pub lane : line.lane ≤ 16
-  pub labels : All (λ label. label ≤ 99999) (labels line.content)
+  pub lane : line.lane ≤ LAST_LANE
+  pub labels : All (λ label. label ≤ LAST_LABEL) (labels line.content)
   pub content : IsContentOf count line.content
 
 -- what is true of a line that was parsed, where these files are declared before it
 abbrev pub IsParsed : List NamedFile → Parsed → Type 0
-IsParsed declared Empty = Unit {0}
-IsParsed declared (File file) = (length declared < 256) × (place_of declared file.name ≡ None)
+IsParsed declared Empty = ⊤
+IsParsed declared (File file) = (length declared < FILES) × (place_of declared file.name ≡ None)
 IsParsed declared (Starts content) = IsSound (length declared) (setup_line content)
 IsParsed declared (Holds content) = IsSound (length declared) (setup_line content)
 
 -- what is true of the lines that were read, where so many files are declared
 pub record IsReading (count : ℕ) (lines : List Line) : Type 0 where
-  pub few : length lines ≤ 20000
+  pub few : length lines ≤ LINE_LIMIT
   pub each : All (IsSound count) lines
   pub setup : All (λ line. line.lane ≡ 0) lines
 
 -- what is true of the lines of a script that declares so many files
 pub record IsSoundScript (count : ℕ) (lines : List Line) : Type 0 where
-  pub few : length lines ≤ 20000
+  pub few : length lines ≤ LINE_LIMIT
   pub each : All (IsSound count) lines
   pub first : AllPairs SetupBefore lines

@@ -6,7 +6,7 @@ use cred_caps::CapSet;
 use cred_event::Change;
 use cred_ids::Arg;
 use cred_record::AdjCall;
-use cred_spelling::{Cap, ChangeName, Number, Reason, no_words, one, three};
+use cred_spelling::{Cap, ChangeName, Number, Reason, bare, one, three};
 
 /// A change, by its name.
 #[tactic(auto, unfolding(crate::specs::Changes::change_of))]
@@ -22,10 +22,7 @@ pub(crate) fn change_of(name: ChangeName, words: &[&[u8]]) -> Result<Change, Rea
         ChangeName::BoundDrop => Ok(Change::Adjust(AdjCall::BoundDrop(one::<Cap>(words)?))),
         ChangeName::AmbRaise => Ok(Change::Adjust(AdjCall::AmbRaise(one::<Cap>(words)?))),
         ChangeName::AmbLower => Ok(Change::Adjust(AdjCall::AmbLower(one::<Cap>(words)?))),
-        ChangeName::AmbClear => {
-            no_words(words)?;
-            Ok(Change::Adjust(AdjCall::AmbClear))
-        }
+        ChangeName::AmbClear => bare(words, Change::Adjust(AdjCall::AmbClear)),
         ChangeName::Bits => Ok(Change::Adjust(AdjCall::Bits(one::<Number>(words)?))),
         ChangeName::KeepCaps => Ok(Change::Adjust(AdjCall::KeepCaps(one::<Number>(words)?))),
         ChangeName::NoNewPrivs => Ok(Change::Adjust(AdjCall::NoNewPrivs(one::<Number>(words)?))),

@@ -10,10 +10,10 @@ use std::alloc::Global;
 use std::marker::Model;
 
 /// How many files a script may declare.
-const FILES: usize = 256;
+pub(crate) const FILES: usize = 256;
 
 /// A file that a line declares.
-#[derive(Drop, Debug)]
+#[derive(Drop)]
 pub(crate) struct ScriptFile {
     pub(crate) name: String,
     pub(crate) info: FileInfo,
@@ -66,7 +66,7 @@ impl Files {
 
     /// Whether there are as many as there may be.
     pub(crate) fn is_full(&self) -> bool
-        ensures { result ≡ not (nat_lt (length self.now) 256) }
+        ensures { result ≡ not (nat_lt (length self.now) FILES) }
     {
         self.by_name.len() >= FILES
     }
@@ -74,7 +74,7 @@ impl Files {
     /// The place of the file of this name, or none.
     pub(crate) fn place_of(&self, name: &str) -> Option<u32>
         ensures place { result ≡ spec.place_of self.now name.now }
-        ensures few { IfSome result (λ place. place < 256) }
+        ensures few { IfSome result (λ place. place < FILES) }
     {
         Some(self.by_name.get_index_of(name)? as u32)
     }
@@ -111,7 +111,7 @@ impl Files {
 
     /// One more file. Without memory nothing changes.
     pub(crate) fn add(&mut self, file: ScriptFile) -> Result<(), NoMemory>
-        requires room { length self.old < 256 }
+        requires room { length self.old < FILES }
         requires new { spec.place_of self.old file.name ≡ None }
         ensures ok { OnOk result (self.new ≡ self.old ++ file ∷ []) }
         ensures err { OnErr result (self.new ≡ self.old) }

@@ -14,13 +14,13 @@ use cred_event::{Content, Event, Query, Side};
 use cred_ids::Id;
 use cred_record::Want;
 use cred_spelling::{
-    CallName, Cap, EventName, Form, Label, Namespace, Process, QueryName, Reason, Task, call_name,
-    change_name, five, id_name, name_of, no_words, one, query_name, three, two, word,
+    CallName, Cap, EventName, Form, Label, Namespace, Process, QueryName, Reason, Task, bare,
+    call_name, change_name, five, id_name, name_of, no_words, one, query_name, three, two, word,
 };
 use std::alloc::Global;
 
 /// A line that was parsed: what it declares or holds.
-#[derive(Drop, Debug)]
+#[derive(Drop)]
 pub(crate) enum Parsed {
     /// Nothing.
     Empty,
@@ -78,40 +78,19 @@ fn event_of(
         EventName::Release => Ok(Event::Release {
             label: one::<Label>(words)?,
         }),
-        EventName::Ask => {
-            let [label, name, words @ ..] = words else {
-                return Err(LineRefusal::Bad(Reason::Count));
-            };
-            let query = query_named(files, name, words)?;
-            let label = word::<Label>(label)?;
-            Ok(Event::Ask { label, query })
-        }
+        EventName::Ask => Ok(ask_of(files, words)?),
         EventName::Prepare => {
             let (label, task, hold) = three::<Label, Task, Label>(words)?;
             Ok(Event::Prepare { label, task, hold })
         }
-        EventName::Alter => {
-            let [label, name, words @ ..] = words else {
-                return Err(LineRefusal::Bad(Reason::Count));
-            };
-            let change = change_of(change_name(name).ok_or(Reason::Word)?, words)?;
-            let label = word::<Label>(label)?;
-            Ok(Event::Alter { label, change })
-        }
+        EventName::Alter => Ok(alter_of(words)?),
         EventName::Commit => Ok(Event::Commit {
             label: one::<Label>(words)?,
         }),
         EventName::Abort => Ok(Event::Abort {
             label: one::<Label>(words)?,
         }),
-        EventName::Begin => {
-            let [task, name, words @ ..] = words else {
-                return Err(LineRefusal::Bad(Reason::Count));
-            };
-            let call = id_call_of(alloc, id_name(name).ok_or(Reason::Word)?, words)?;
-            let task = word::<Task>(task)?;
-            Ok(Event::Begin { task, call })
-        }
+        EventName::Begin => begin_of(alloc, words),
         EventName::Sweep => {
             no_words(words)?;
             Ok(Event::Sweep)
@@ -126,6 +105,53 @@ fn take_of(side: Side, words: &[&[u8]]) -> Result<Event, Reason>
 {
     let (label, task) = two::<Label, Task>(words)?;
     Ok(Event::Take { label, task, side })
+}
+
+/// `ask H QUESTION`: the question is read before the label.
+#[tactic(auto, unfolding(crate::specs::Forms::ask_of))]
+fn ask_of(files: &Files, words: &[&[u8]]) -> Result<Event, Reason>
+    ensures { Says (λ event. event) result (spec.ask_of files.now (nows words.now)) }
+{
+    match words {
+        [label, name, words @ ..] => {
+            let query = query_named(files, name, words)?;
+            let label = word::<Label>(label)?;
+            Ok(Event::Ask { label, query })
+        }
+        _ => Err(Reason::Count),
+    }
+}
+
+/// `change H CHANGE`: the change is read before the label.
+#[tactic(auto, unfolding(crate::specs::Forms::alter_of))]
+fn alter_of(words: &[&[u8]]) -> Result<Event, Reason>
+    ensures { Says (λ event. event) result (spec.alter_of (nows words.now)) }
+{
+    match words {
+        [label, name, words @ ..] => {
+            let name = change_name(name).ok_or(Reason::Word)?;
+            let change = change_of(name, words)?;
+            let label = word::<Label>(label)?;
+            Ok(Event::Alter { label, change })
+        }
+        _ => Err(Reason::Count),
+    }
+}
+
+/// `begin T CALL`: the call is read before the task.
+#[tactic(auto, unfolding(crate::specs::Forms::begin_of))]
+fn begin_of(alloc: Global, words: &[&[u8]]) -> Result<Event, LineRefusal>
+    ensures { Tells (λ event. event) result (spec.begin_of (nows words.now)) }
+{
+    match words {
+        [task, name, words @ ..] => {
+            let name = id_name(name).ok_or(Reason::Word)?;
+            let call = id_call_of(alloc, name, words)?;
+            let task = word::<Task>(task)?;
+            Ok(Event::Begin { task, call })
+        }
+        _ => Err(LineRefusal::Bad(Reason::Count)),
+    }
 }
 
 /// A question, by the word that names it.
@@ -143,22 +169,10 @@ fn query_of(files: &Files, name: QueryName, words: &[&[u8]]) -> Result<Query, Re
     ensures { Says (λ query. query) result (spec.query_of files.now name (nows words.now)) }
 {
     match name {
-        QueryName::Ids => {
-            no_words(words)?;
-            Ok(Query::Ids)
-        }
-        QueryName::Caps => {
-            no_words(words)?;
-            Ok(Query::Caps)
-        }
-        QueryName::Groups => {
-            no_words(words)?;
-            Ok(Query::Groups)
-        }
-        QueryName::Bits => {
-            no_words(words)?;
-            Ok(Query::Bits)
-        }
+        QueryName::Ids => bare(words, Query::Ids),
+        QueryName::Caps => bare(words, Query::Caps),
+        QueryName::Groups => bare(words, Query::Groups),
+        QueryName::Bits => bare(words, Query::Bits),
         QueryName::Capable => Ok(Query::Capable(one::<Cap>(words)?)),
         QueryName::Bset => Ok(Query::Bset(one::<Cap>(words)?)),
         QueryName::AmbIs => Ok(Query::AmbIs(one::<Cap>(words)?)),

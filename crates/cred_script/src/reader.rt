@@ -9,6 +9,7 @@ ghost use Rattle.cred_script.specs.Read.{Gives};
 use crate::reading::Reading;
 use crate::refusal::ScriptRefusal;
 use crate::script::Script;
+use cred_event::LINE_LIMIT;
 use cred_spelling::first_line;
 use std::alloc::Global;
 
@@ -19,7 +20,7 @@ use std::alloc::Global;
 /// `Bad` with the first bad line and its reason, exactly where the bytes are no script; `Memory`
 /// if an allocation for its words or for what it keeps fails.
 pub fn read(alloc: Global, bytes: &[u8]) -> Result<Script, ScriptRefusal>
-    requires few { length (lines_of bytes.now) ≤ 20000 }
+    requires few { length (lines_of bytes.now) ≤ LINE_LIMIT }
     ensures given { Gives (λ script. script) result (script_of bytes.now) }
     ensures first { TellsFirstBad (lines_of bytes.now) result }
     ensures lines { IfOk result (λ script. length script.lines ≡ length (lines_of bytes.now)) }
@@ -30,7 +31,7 @@ pub fn read(alloc: Global, bytes: &[u8]) -> Result<Script, ScriptRefusal>
 
 /// The script that these bytes are.
 fn read_lines(alloc: Global, bytes: &[u8]) -> Result<Script, ScriptRefusal>
-    requires few { length (lines_of bytes.now) ≤ 20000 }
+    requires few { length (lines_of bytes.now) ≤ LINE_LIMIT }
     ensures given { Gives (λ script. script) result (script_of bytes.now) }
     ensures lines { IfOk result (λ script. length script.lines ≡ length (lines_of bytes.now)) }
     ensures setup { IfOk result (λ script. SetupFirst script) }

@@ -14,13 +14,13 @@ use crate::forms::{Parsed, parse_form};
 use crate::refusal::{LineRefusal, ScriptRefusal};
 use crate::script::{Script, ScriptLine};
 use crate::uses::{has_files, has_namespaces};
-use cred_event::Content;
+use cred_event::{Content, LINE_LIMIT};
 use cred_spelling::{Form, Reason, form_of, is_comment, split_into};
 use std::alloc::Global;
 use std::marker::Model;
 
 /// What was read of a script.
-#[derive(Drop, Debug)]
+#[derive(Drop)]
 pub(crate) struct Reading {
     files: Files,
     lines: Vec<ScriptLine>,
@@ -78,7 +78,7 @@ impl Reading {
         text: &'b [u8],
         printable: bool,
     ) -> Result<(), ScriptRefusal>
-        requires few { length self.old.lines < 20000 }
+        requires few { length self.old.lines < LINE_LIMIT }
         requires test { printable ≡ is_printable text.now }
         ensures { Gives (λ _. self.new) result
             (at_line (length self.old.lines + 1) (grammar.add_line self.old text.now)) }
@@ -103,7 +103,7 @@ impl Reading {
         text: &'b [u8],
         printable: bool,
     ) -> Result<(), LineRefusal>
-        requires few { length self.old.lines < 20000 }
+        requires few { length self.old.lines < LINE_LIMIT }
         requires test { printable ≡ is_printable text.now }
         ensures { Tells (λ _. self.new) result (grammar.add_line self.old text.now) }
     {
@@ -113,7 +113,7 @@ impl Reading {
 
     /// The reading, and what this line adds to it.
     fn keep(&mut self, line: Parsed) -> Result<(), LineRefusal>
-        requires few { length self.old.lines < 20000 }
+        requires few { length self.old.lines < LINE_LIMIT }
         requires sound { IsParsed self.old.files line }
         ensures ok { OnOk result (self.new ≡ spec.keep self.old line) }
         ensures err { IfErr result (λ e. e ≡ LineRefusal.Memory) }
@@ -126,21 +126,19 @@ impl Reading {
                 Ok(())
             }
             Parsed::Starts(content) => {
-                self.push(content)?;
                 self.has_task = true;
-                Ok(())
+                self.push(content)
             }
             Parsed::Holds(content) => {
-                self.push(content)?;
                 self.is_used = true;
-                Ok(())
+                self.push(content)
             }
         }
     }
 
     /// One more line, which holds this.
     fn push(&mut self, content: Content) -> Result<(), LineRefusal>
-        requires few { length self.old.lines < 20000 }
+        requires few { length self.old.lines < LINE_LIMIT }
         requires sound { IsSound (length self.old.files) (spec.setup_line content) }
         ensures ok { OnOk result (self.new ≡ spec.push self.old content) }
         ensures err { IfErr result (λ e. e ≡ LineRefusal.Memory) }
@@ -196,9 +194,16 @@ impl Reading {
     {
         let form = self.form_at(first)?;
         let line = parse_form(alloc, &self.files, form, words)?;
-        self.in_order(&line)?;
-        self.names_declared(&line)?;
+        self.admits(&line)?;
         Ok(line)
+    }
+
+    /// The line may stand here.
+    fn admits(&self, line: &Parsed) -> Result<(), Reason>
+        ensures { Says (λ x. x) result (spec.admits self.now line.now) }
+    {
+        self.in_order(line)?;
+        self.names_declared(line)
     }
 
     /// The form that the first word names.

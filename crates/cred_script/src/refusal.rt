@@ -1,6 +1,5 @@
 //! Why a text is no script.
 ghost use Rattle.std.specs.Prelude.{◌≡◌};
-ghost use Rattle.cred_script.specs.declared.refusal.ScriptRefusal.TheVariants as script;
 ghost use Rattle.cred_script.specs.declared.refusal.LineRefusal.TheVariants as line;
 
 use cred_ids::NoMemory;
@@ -16,32 +15,8 @@ pub enum ScriptRefusal {
     Memory,
 }
 
-impl From<AllocError> for ScriptRefusal {
-    ghost from_gives = { λ _ e. e ≡ script.Memory };
-
-    fn from(_: AllocError) -> Self {
-        ScriptRefusal::Memory
-    }
-}
-
-impl<T: Drop> From<AllocFailed<T>> for ScriptRefusal {
-    ghost from_gives = { λ _ e. e ≡ script.Memory };
-
-    fn from(_: AllocFailed<T>) -> Self {
-        ScriptRefusal::Memory
-    }
-}
-
-impl From<NoMemory> for ScriptRefusal {
-    ghost from_gives = { λ _ e. e ≡ script.Memory };
-
-    fn from(_: NoMemory) -> Self {
-        ScriptRefusal::Memory
-    }
-}
-
 /// Why a line holds nothing.
-#[derive(Clone, Copy, Debug)]
+#[derive(Clone, Copy)]
 pub(crate) enum LineRefusal {
     /// It is bad.
     Bad(Reason),

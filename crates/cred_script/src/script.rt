@@ -8,8 +8,8 @@ ghost use Rattle.cred_script.specs.Grammar.{line_at};
 ghost use Rattle.cred_script.specs.Read.{seen};
 ghost use Rattle.cred_script.specs.Sound.{IsSound};
 
-use crate::files::Files;
-use cred_event::Content;
+use crate::files::{FILES, Files};
+use cred_event::{Content, LINE_LIMIT};
 use cred_record::FileInfo;
 use std::marker::Model;
 
@@ -51,7 +51,7 @@ impl Script {
     /// How many lines there are.
     pub fn lines(&self) -> u32
         ensures count { result ≡ length self.now.lines }
-        ensures few { result ≤ 20000 }
+        ensures few { result ≤ LINE_LIMIT }
         ensures setup { SetupFirst self.now }
     {
         self.lines.len() as u32
@@ -78,7 +78,7 @@ impl Script {
     /// The place of the file of this name, from 0 to 255; none for a name that isn't declared.
     pub fn place_of(&self, name: &str) -> Option<u32>
         ensures place { result ≡ spec.place_of self.now.files name.now }
-        ensures few { IfSome result (λ place. place < 256) }
+        ensures few { IfSome result (λ place. place < FILES) }
     {
         self.files.place_of(name)
     }
@@ -86,7 +86,7 @@ impl Script {
     /// The lane and the content of the line of this number; none for 0 and past the last line.
     pub fn line(&self, number: u32) -> Option<(u32, &Content)>
         ensures found { option_map seen result ≡ line_at self.now number }
-        ensures few { IfSome result (λ _. number ≤ 20000) }
+        ensures few { IfSome result (λ _. number ≤ LINE_LIMIT) }
         ensures sound { IfSome result (λ found. IsSound (length self.now.files) (seen found)) }
         ensures kind { IfSome result
             (λ found. IsContentOf (length self.now.files) (seen found).content) }

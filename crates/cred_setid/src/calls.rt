@@ -15,10 +15,13 @@ use std::alloc::Global;
 /// effective id, and a change of user ids also changes the capability sets (capabilities(7)). All
 /// else is as in `cred`, which stays as it is.
 ///
-/// `Invalid` comes where setuid, seteuid, setgid or setegid is given no id, tested first, and where
-/// setgroups is given more than 32 groups, tested last. `Perm` comes where a caller without the
+/// # Errors
+///
+/// `Invalid` where setuid, seteuid, setgid or setegid is given no id, tested first, and where
+/// setgroups is given more than 32 groups, tested last. `Perm` where a caller without the
 /// capability, CAP_SETUID or CAP_SETGID, gives an id that the call lets it have only with it, and
-/// for setgroups where the caller is without it.
+/// for setgroups where the caller is without it. `Memory` if an allocation of the groups fails,
+/// where neither of the others comes.
 pub fn apply(alloc: Global, cred: &Cred, call: &IdCall) -> Result<Cred, Refusal>
     ensures { AnswersBy result (set_id cred.now call.now) }
 {

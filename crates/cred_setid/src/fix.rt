@@ -15,6 +15,10 @@ fn has_root(ids: &Ids4) -> bool
 }
 
 /// The credential with these user ids, and the sets that it then has.
+///
+/// # Errors
+///
+/// `NoMemory` if the groups could not be copied.
 #[tactic(auto, unfolding(cred_rules::specs::Fix::with_user_ids))]
 pub fn with_user_ids(cred: &Cred, ids: Ids4) -> Result<Cred, NoMemory>
     ensures { IfOk result (λ new. new ≡ with_user_ids cred.now ids) }

@@ -50,10 +50,14 @@ fn fs_effective(cred: &Cred, new: Id) -> CapSet
 /// The credential after setfsuid(2) or setfsgid(2), by the kind, and the filesystem id before. The
 /// id that is given becomes the filesystem id if the caller has CAP_SETUID (CAP_SETGID for groups),
 /// or if it is the real, effective, saved or filesystem id already; else nothing changes, and as on
-/// Linux nothing tells so. A filesystem user id that leaves or becomes root takes the capabilities
-/// on files out of the effective set or, where they are permitted, into it, unless NO_SETUID_FIXUP
-/// is set, which leaves the effective set alone (capabilities(7)). All else is as in `cred`, which
-/// stays as it is.
+/// Linux nothing reports it. A filesystem user id that leaves or becomes root takes the
+/// capabilities on files out of the effective set or, where they are permitted, into it, unless
+/// NO_SETUID_FIXUP is set, which leaves the effective set alone (capabilities(7)). All else is as
+/// in `cred`, which stays as it is.
+///
+/// # Errors
+///
+/// `NoMemory` if the groups could not be copied.
 #[tactic(auto, using(cred_caps::proofs::SetLaws::within))]
 pub fn setfs(cred: &Cred, kind: Kind, arg: Arg) -> Result<(Cred, Id), NoMemory>
     ensures new { IfOk result (λ r. r.0 ≡ set_fs cred.now kind arg) }

@@ -43,7 +43,12 @@ fn is_one_of(a: Arg, ids: &[Id]) -> bool
     }
 }
 
-/// setuid(2), setgid(2).
+/// The ids after setuid(2) or setgid(2), where `able` says whether the caller has the capability.
+///
+/// # Errors
+///
+/// `Invalid` where no id is given; then `Perm` where a caller without the capability gives an id
+/// that is neither its real nor its saved one.
 #[tactic(auto, unfolding(cred_rules::specs::SetId::after_setuid))]
 pub fn after_setuid(able: bool, ids: Ids4, a: Arg) -> Result<Ids4, Denial>
     ensures { result ≡ after_setuid able ids a }
@@ -64,7 +69,13 @@ pub fn after_setuid(able: bool, ids: Ids4, a: Arg) -> Result<Ids4, Denial>
     }
 }
 
-/// setreuid(2), setregid(2).
+/// The ids after setreuid(2) or setregid(2), where `able` says whether the caller has the
+/// capability.
+///
+/// # Errors
+///
+/// `Perm` where a caller without the capability gives a real id that is neither the real nor the
+/// effective one, or an effective id that is none of the three.
 #[tactic(auto, unfolding(cred_rules::specs::SetId::after_setreuid))]
 pub fn after_setreuid(able: bool, ids: Ids4, real: Arg, effective: Arg) -> Result<Ids4, Denial>
     ensures { result ≡ after_setreuid able ids real effective }
@@ -88,7 +99,12 @@ pub fn after_setreuid(able: bool, ids: Ids4, real: Arg, effective: Arg) -> Resul
     })
 }
 
-/// setresuid(2), setresgid(2).
+/// The ids after setresuid(2) or setresgid(2), where `able` says whether the caller has the
+/// capability.
+///
+/// # Errors
+///
+/// `Perm` where a caller without the capability gives an id that is none of the three.
 #[tactic(auto, unfolding(cred_rules::specs::SetId::after_setresuid))]
 pub fn after_setresuid(
     able: bool,
@@ -115,7 +131,11 @@ pub fn after_setresuid(
     })
 }
 
-/// seteuid(2), setegid(2).
+/// The ids after seteuid(2) or setegid(2), where `able` says whether the caller has the capability.
+///
+/// # Errors
+///
+/// `Invalid` where no id is given; then `Perm` as for setresuid(2).
 #[tactic(auto, unfolding(cred_rules::specs::SetId::after_seteuid))]
 pub fn after_seteuid(able: bool, ids: Ids4, a: Arg) -> Result<Ids4, Denial>
     ensures { result ≡ after_seteuid able ids a }

@@ -1,3 +1,4 @@
 pub mod Table
 pub mod Flags
 pub mod Rows
+pub mod Stack

@@ -5,7 +5,7 @@
 mod flags;
 mod row;
 pub mod slots;
-#[cfg(test)]
-mod tests;
+pub mod stack;
 
 pub use slots::Slots;
+pub use stack::{DEPTH, Stack};

@@ -54,7 +54,11 @@ impl Model for Slots {
 }
 
 impl Slots {
-    /// Nothing is sealed, kept or given up.
+    /// A table in which nothing is sealed, kept or given up.
+    ///
+    /// # Errors
+    ///
+    /// `NoMemory` if the allocation of the rows fails.
     pub fn new(alloc: Global) -> Result<Slots, NoMemory>
         ensures { IfOk result (λ slots. slots ≡ empty) }
     {
@@ -102,7 +106,7 @@ impl Slots {
         Some(slot)
     }
 
-    /// The slot is kept no more.
+    /// The slot is no longer kept.
     pub fn give_up(&mut self, slot: u32)
         requires { IsTrue (is_kept self.old slot) }
         ensures { self.new ≡ record self.old { kept = slice_set self.old.kept slot false } }
@@ -111,7 +115,11 @@ impl Slots {
     }
 
     /// Takes the memory for one `seal` or `add`, if it isn't there, and for the reference once it
-    /// is given up. Without memory nothing changes.
+    /// is given up.
+    ///
+    /// # Errors
+    ///
+    /// `NoMemory` if an allocation fails: the table is as it was.
     pub fn reserve(&mut self) -> Result<(), NoMemory>
         ensures ok { OnOk result (self.new ≡ record self.old { spare = max self.old.spare 1 }) }
         ensures err { OnErr result (self.new ≡ self.old) }
@@ -124,7 +132,7 @@ impl Slots {
         Ok(())
     }
 
-    /// The next number stands in the slot, which is kept no more, and has one reference.
+    /// The next number stands in the slot, which is no longer kept, and has one reference.
     pub fn seal(&mut self, slot: u32) -> u64
         requires kept { IsTrue (is_kept self.old slot) }
         requires spare { 0 < self.old.spare }
@@ -190,7 +198,7 @@ impl Slots {
         self.deferred.push_reserved(number);
     }
 
-    /// What was given up counts no more.
+    /// What was given up no longer counts.
     pub fn sweep(&mut self)
         ensures { self.new ≡ swept self.old }
     {
@@ -228,7 +236,7 @@ impl Slots {
         self.kept.union(&self.used).union(&self.late).first_unset()
     }
 
-    /// The least slot that isn't live once what was given up counts no more.
+    /// The least slot that isn't live once what was given up no longer counts.
     fn least_free_once_swept(&self) -> Option<u32>
         ensures { result ≡ least_free (swept self.now) }
     {

@@ -4,8 +4,8 @@ use Rattle.std.specs.List.{AllPairs}
 use Rattle.cred_model.specs.State.{State}
 use Rattle.cred_model.specs.Slots.{SLOTS, standing, kept}
 
--- The slot of each number that was sealed, the references that stand, those that were given up
--- since the last sweep, and the slots that are kept for credentials that are being prepared.
+-- The slot of each number that was sealed, the references in use, those that were given up since
+-- the last sweep, and the slots that are kept for credentials that are being prepared.
 pub record Ledger : Type 0 where
   pub slots : List ℕ
   pub standing : List ℕ

@@ -1,5 +1,5 @@
 -- What a word spells.
-use Rattle.std.specs.Prelude.{ℕ, ◌^◌, ◌+◌, ◌-◌, ◌*◌, Bool, true, false, ◌&&◌, ◌||◌, ◌==◌, nat_le, nat_lt, List, [], ◌∷◌, length, take, drop, position, codes, Some, None, if◌then◌else◌}
+use Rattle.std.specs.Prelude.{ℕ, ◌^◌, ◌+◌, ◌-◌, ◌*◌, Bool, true, false, ◌&&◌, ◌||◌, ◌==◌, nat_le, nat_lt, List, [], ◌∷◌, length, take, drop, position, slice_index, codes, Some, None, if◌then◌else◌}
 use Rattle.std.specs.declared.option.Option.{Option}
 use Rattle.std.specs.Option.{option_map, option_and_then, option_or}
 use Rattle.std.specs.List.{list_all}
@@ -9,6 +9,7 @@ use Rattle.std.specs.Str.{bytes_eq, all_ascii_digits}
 use Rattle.std.specs.Str.Parse.{digits_value}
 use Rattle.hex.specs.Hex.{decode_of}
 use Rattle.cred_caps.specs.Names.{cap_names}
+use Rattle.cred_ids.specs.Id.{NO_ID}
 use Rattle.cred_ids.specs.declared.arg.Arg.{Arg}
 use Rattle.cred_ids.specs.declared.arg.Arg.TheVariants.{Keep, Set}
 use Rattle.cred_record.specs.declared.file.FileKind.{FileKind}
@@ -33,10 +34,10 @@ number_of word =
     then Some (digits_value 10 word)
     else None
 
--- The number 4294967295 is no id.
+-- an id: one number is none
 abbrev pub id_of : List ℕ → Option ℕ
 id_of word =
-    option_and_then (λ number. if number == 4294967295 then None else Some number) (number_of word)
+    option_and_then (λ number. if number == NO_ID then None else Some number) (number_of word)
 
 -- `-1` lets the old id stay.
 abbrev pub arg_of : List ℕ → Option Arg
@@ -89,21 +90,34 @@ numbered letter least most [] = None
 numbered letter least most (first ∷ digits) =
     if first == letter then option_and_then (within least most) (number_of digits) else None
 
+-- the letter that a text is
+abbrev pub letter : List ℕ → ℕ
+letter text = slice_index text 0
+
+-- the last number of a task, a process or a label: greater labels are those that a line takes for
+-- itself
+abbrev pub LAST_NUMBER : ℕ
+LAST_NUMBER = 99999
+
+-- the last number of a namespace
+abbrev pub LAST_NAMESPACE : ℕ
+LAST_NAMESPACE = 15
+
 -- a task, as `t1`
 abbrev pub task_of : List ℕ → Option ℕ
-task_of word = numbered 116 1 99999 word
+task_of word = numbered (letter (codes "t")) 1 LAST_NUMBER word
 
 -- a process, as `p1`
 abbrev pub process_of : List ℕ → Option ℕ
-process_of word = numbered 112 1 99999 word
+process_of word = numbered (letter (codes "p")) 1 LAST_NUMBER word
 
 -- a label, as `h1`
 abbrev pub label_of : List ℕ → Option ℕ
-label_of word = numbered 104 1 99999 word
+label_of word = numbered (letter (codes "h")) 1 LAST_NUMBER word
 
 -- a namespace, as `n0`
 abbrev pub namespace_of : List ℕ → Option ℕ
-namespace_of word = numbered 110 0 15 word
+namespace_of word = numbered (letter (codes "n")) 0 LAST_NAMESPACE word
 
 -- a letter of either case
 abbrev pub is_letter : ℕ → Bool

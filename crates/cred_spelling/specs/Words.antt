@@ -34,6 +34,10 @@ abbrev pub no_words : List (List ℕ) → Result (Unit {0}) Reason
 no_words [] = Ok tt
 no_words words = Err Count
 
+-- a value, where no words follow
+abbrev pub bare : {A : Type 0} → List (List ℕ) → A → Result A Reason
+bare words value = no_words words >>= λ end. Ok value
+
 -- one word
 abbrev pub one_of : {A : Type 0} → (List ℕ → Option A) → List (List ℕ) → Result A Reason
 one_of spelled (a ∷ []) = word_of spelled a
@@ -58,15 +62,12 @@ three_of first second third (a ∷ b ∷ c ∷ []) = do
   Ok (x, y, z)
 three_of first second third words = Err Count
 
--- five words
+-- five words: two, and three more
 unfoldable pub five_of : {A B C D E : Type 0} → (List ℕ → Option A) → (List ℕ → Option B)
     → (List ℕ → Option C) → (List ℕ → Option D) → (List ℕ → Option E) → List (List ℕ)
     → Result (A × B × C × D × E) Reason
 five_of first second third fourth fifth (a ∷ b ∷ c ∷ d ∷ e ∷ []) = do
-  v ← word_of first a
-  w ← word_of second b
-  x ← word_of third c
-  y ← word_of fourth d
-  z ← word_of fifth e
-  Ok (v, w, x, y, z)
+  two ← two_of first second (a ∷ b ∷ [])
+  three ← three_of third fourth fifth (c ∷ d ∷ e ∷ [])
+  Ok (two.0, two.1, three.0, three.1, three.2)
 five_of first second third fourth fifth words = Err Count

@@ -2,8 +2,8 @@
 //! spells, and which words name something.
 //!
 //! `Lines` and `Words` split a text. `Spellings` says what one word may be, `Names` has the tables
-//! of keywords, and the trait `Spelling` gives each kind of word its spelling, so that a form's words
-//! are read by naming their kinds.
+//! of keywords, and the trait `Spelling` gives each kind of word its spelling, so that a form's
+//! words are read by naming their kinds.
 #![tactic(auto)]
 
 mod bytes;
@@ -26,4 +26,4 @@ pub use names::{
 };
 pub use reason::Reason;
 pub use spellings::{id_of, is, kind_of, mode_of, want_of};
-pub use words::{five, is_comment, no_words, one, split_into, three, two, word};
+pub use words::{bare, five, is_comment, no_words, one, split_into, three, two, word};

@@ -7,7 +7,7 @@ use crate::table::named;
 use cred_ids::Kind;
 
 /// What a line is.
-#[derive(Clone, Copy, Debug)]
+#[derive(Clone, Copy)]
 pub enum Form {
     /// A first task is created.
     Init,
@@ -20,7 +20,7 @@ pub enum Form {
 }
 
 /// The events that a line may name.
-#[derive(Clone, Copy, Debug)]
+#[derive(Clone, Copy)]
 pub enum EventName {
     /// A label takes hold of the credential that a task acts with.
     Take,
@@ -45,7 +45,7 @@ pub enum EventName {
 }
 
 /// The id calls that a line may name.
-#[derive(Clone, Copy, Debug)]
+#[derive(Clone, Copy)]
 pub enum IdName {
     SetUid,
     SetEuid,
@@ -59,7 +59,7 @@ pub enum IdName {
 }
 
 /// The changes of a credential that a line may name.
-#[derive(Clone, Copy, Debug)]
+#[derive(Clone, Copy)]
 pub enum ChangeName {
     SetFs(Kind),
     Capset,
@@ -73,7 +73,7 @@ pub enum ChangeName {
 }
 
 /// The questions that a line may name.
-#[derive(Clone, Copy, Debug)]
+#[derive(Clone, Copy)]
 pub enum QueryName {
     Ids,
     Caps,
@@ -86,7 +86,7 @@ pub enum QueryName {
 }
 
 /// What a task may do on a line of its own.
-#[derive(Clone, Copy, Debug)]
+#[derive(Clone, Copy)]
 pub enum CallName {
     Id(IdName),
     Change(ChangeName),

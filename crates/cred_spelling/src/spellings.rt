@@ -11,6 +11,13 @@ use cred_ids::{Arg, Id};
 use cred_record::{FileKind, Want};
 use std::str;
 
+/// The last number of a task, a process or a label. Greater labels are those that a line takes for
+/// itself.
+const LAST_NUMBER: u32 = 99999;
+
+/// The last number of a namespace.
+const LAST_NAMESPACE: u32 = 15;
+
 /// Whether the word is this text.
 pub fn is(word: &[u8], text: &str) -> bool
     ensures { result ≡ bytes_eq word.now text.now }
@@ -154,29 +161,29 @@ fn hexadecimal(word: &[u8]) -> Option<u64>
 pub(crate) fn task_of(word: &[u8]) -> Option<u32>
     ensures { result ≡ spec.task_of word.now }
 {
-    numbered(b't', 1, 99999, word)
+    numbered(b't', 1, LAST_NUMBER, word)
 }
 
 /// A process, as `p1`.
 pub(crate) fn process_of(word: &[u8]) -> Option<u32>
     ensures { result ≡ spec.process_of word.now }
 {
-    numbered(b'p', 1, 99999, word)
+    numbered(b'p', 1, LAST_NUMBER, word)
 }
 
 /// A label, as `h1`.
 pub(crate) fn label_of(word: &[u8]) -> Option<u32>
     ensures value { result ≡ spec.label_of word.now }
-    ensures own { IfSome result (λ label. label ≤ 99999) }
+    ensures own { IfSome result (λ label. label ≤ spec.LAST_NUMBER) }
 {
-    numbered(b'h', 1, 99999, word)
+    numbered(b'h', 1, LAST_NUMBER, word)
 }
 
 /// A namespace, as `n0`.
 pub(crate) fn namespace_of(word: &[u8]) -> Option<u32>
     ensures { result ≡ spec.namespace_of word.now }
 {
-    numbered(b'n', 0, 15, word)
+    numbered(b'n', 0, LAST_NAMESPACE, word)
 }
 
 /// A letter, and a number from the least to the most.

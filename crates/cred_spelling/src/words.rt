@@ -8,6 +8,10 @@ use crate::reason::Reason;
 use std::alloc::AllocError;
 
 /// Puts the words of a line, which stand apart by runs of spaces, in the place of others.
+///
+/// # Errors
+///
+/// `AllocError` if the list cannot grow: nothing is said of the words that it has then.
 pub fn split_into<'b>(words: &mut Vec<&'b [u8]>, line: &'b [u8]) -> Result<(), AllocError>
     ensures { OnOk result (nows words.new.items ≡ spec.words_of line.now) }
 {
@@ -51,6 +55,18 @@ pub fn no_words(words: &[&[u8]]) -> Result<(), Reason>
         [] => Ok(()),
         _ => Err(Reason::Count),
     }
+}
+
+/// The value, where no words follow.
+///
+/// # Errors
+///
+/// `Reason::Count` where there are some.
+pub fn bare<T: Copy>(words: &[&[u8]], value: T) -> Result<T, Reason>
+    ensures { Says (λ x. x) result (spec.bare (nows words.now) value) }
+{
+    no_words(words)?;
+    Ok(value)
 }
 
 /// What the only word spells.
@@ -113,13 +129,11 @@ pub fn five<A: Spelling, B: Spelling, C: Spelling, D: Spelling, E: Spelling>(
         (spec.five_of A.spelled B.spelled C.spelled D.spelled E.spelled (nows words.now)) }
 {
     match words {
-        [a, b, c, d, e] => Ok((
-            word::<A>(a)?,
-            word::<B>(b)?,
-            word::<C>(c)?,
-            word::<D>(d)?,
-            word::<E>(e)?,
-        )),
+        [a, b, c, d, e] => {
+            let (v, w) = two::<A, B>(&[*a, *b])?;
+            let (x, y, z) = three::<C, D, E>(&[*c, *d, *e])?;
+            Ok((v, w, x, y, z))
+        }
         _ => Err(Reason::Count),
     }
 }

@@ -1,5 +1,5 @@
 -- The rule of the shared words over plain lists.
-use Rattle.std.specs.Prelude.{◌≡◌, ◌≢◌, ℕ, zero, suc, ◌+◌, ◌<◌, List, [], ◌∷◌, length, Option, Some, None, Bool, true, false, ◌&&◌, ◌==◌, if◌then◌else◌, replicate, slice_get, slice_set, slice_index}
+use Rattle.std.specs.Prelude.{◌≡◌, ◌≢◌, ℕ, zero, suc, ◌+◌, ◌<◌, List, [], ◌∷◌, length, Option, Some, None, Bool, true, false, ◌&&◌, ◌==◌, if◌then◌else◌, replicate, slice_get, slice_set, slice_index, ⊤}
 use Rattle.std.specs.List.{AllByRecursion}
 use Rattle.cred_words.specs.Lists.{Has, IsTaken}
 use Rattle.cred_words.specs.Size.{width, count, total, place}
@@ -56,8 +56,8 @@ aside (Some t) = Lent t
 -- the view is not the master's
 abbrev pub IsNoMaster : View → Type 0
 IsNoMaster (Master d) = ⊥
-IsNoMaster (Lent t) = Unit {0}
-IsNoMaster Spent = Unit {0}
+IsNoMaster (Lent t) = ⊤
+IsNoMaster Spent = ⊤
 
 -- two entries have different tickets, and a writer's slot is its own
 pub record Apart (e f : Token) : Type 0 where
@@ -67,12 +67,12 @@ pub record Apart (e f : Token) : Type 0 where
 
 -- each two are apart
 abbrev pub AllApart : List Token → Type 0
-AllApart [] = Unit {0}
+AllApart [] = ⊤
 AllApart (e ∷ es) = AllByRecursion (Apart e) es × AllApart es
 
 -- no two have one ticket
 abbrev pub OwnTickets : List Token → Type 0
-OwnTickets [] = Unit {0}
+OwnTickets [] = ⊤
 OwnTickets (t ∷ ts) = AllByRecursion (λ u. u.ticket ≢ t.ticket) ts × OwnTickets ts
 
 -- the slot has these numbers as its words
@@ -156,7 +156,7 @@ words_at (x ∷ xs) (suc s) = words_at xs s
 abbrev pub lent_token : Ledger → ℕ → ℕ → Bool → Token
 lent_token d label slot writes = token d.next label slot writes (words_at d.slots slot)
 
--- the slots after a loan: a writer's is sealed no more
+-- the slots after a loan: a writer's is no longer sealed
 abbrev pub slots_after : List Slot → ℕ → Bool → List Slot
 slots_after slots slot true = slice_set slots slot (slot_of (words_at slots slot) false)
 slots_after slots slot false = slots
@@ -219,15 +219,15 @@ Learned put Spent w = w ≡ Spent
 
 -- what the load of a word reports
 abbrev pub ReadAt : ℕ → View → ℕ → Type 0
-ReadAt word (Master d) n = Unit {0}
+ReadAt word (Master d) n = ⊤
 ReadAt word (Lent t) n =
     (i : ℕ) → i < width → word ≡ place t.slot i → n ≡ slice_index t.words i
-ReadAt word Spent n = Unit {0}
+ReadAt word Spent n = ⊤
 
 -- what the store of a word does
 abbrev pub PutAt : ℕ → ℕ → View → View → Type 0
-PutAt word n (Master d) w = Unit {0}
+PutAt word n (Master d) w = ⊤
 PutAt word n (Lent t) w =
     (i : ℕ) → i < width → word ≡ place t.slot i →
     w ≡ Lent (put_words t (slice_set t.words i n))
-PutAt word n Spent w = Unit {0}
+PutAt word n Spent w = ⊤

@@ -132,7 +132,7 @@ impl Cells {
     ///
     /// # Errors
     ///
-    /// Memory ran out.
+    /// `AllocError` if the allocation of the table fails.
     pub fn make(alloc: Global) -> Result<(Cells, Master), AllocError>
         ensures { IfOk result (λ r. (r.1.id ≡ r.0) × (r.1.ledger ≡ ledger_of opened)) }
     {
@@ -172,8 +172,8 @@ impl Master {
         }
     }
 
-    /// Lends a writer on a slot on which no token is out. The slot is sealed no more; the new token
-    /// has the words that stand there.
+    /// Lends a writer on a slot on which no token is out. The slot is no longer sealed; the new
+    /// token has the words that stand there.
     pub fn lend_writer(&mut self, cells: &Cells, label: u32, slot: u32) -> Writer
         requires own { self.old.id ≡ cells.now }
         requires within { slot < count }

@@ -3,13 +3,10 @@
 
 use cred_io::{StdSink, StdSource};
 use cred_program::{Status, credtrace};
-use std::io::{BufWriter, ErrorKind};
+use std::io::ErrorKind;
 use std::process::ExitCode;
 use std::rt::Runtime;
 use std::{env, io};
-
-/// How many bytes of the report are gathered for one write to standard output.
-const GATHERED: usize = 64 * 1024;
 
 /// The words after the program's name. Words that are not all text are no command: they count as
 /// none.
@@ -25,11 +22,8 @@ fn run<R: Runtime + AllocGlobal>(rt: &R) -> Status {
     let Ok(words) = words(rt) else {
         return Status::Memory;
     };
-    let Ok(writer) = BufWriter::with_capacity(rt.alloc(), GATHERED, io::writer(rt)) else {
-        return Status::Memory;
-    };
     let mut source = StdSource::new(rt.reader());
-    let mut sink = StdSink::new(writer);
+    let mut sink = StdSink::new(io::writer(rt));
     credtrace(rt.alloc(), &words, &mut source, &mut sink)
 }
 

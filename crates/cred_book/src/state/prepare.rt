@@ -23,6 +23,11 @@ impl State {
     /// The label prepares a new credential for the task, based on the one that the hold has, and
     /// keeps the slot that the new one will stand in. `NoTask`, `NoHold`, `Exists` and `TooMany`
     /// leave the state; `TableFull` leaves it swept.
+    ///
+    /// # Errors
+    ///
+    /// `NoMemory` if an allocation of room for the label or for its reference fails: the state is
+    /// as it was.
     pub fn prepare(&mut self, label: u32, task: u32, hold: u32) -> Result<Answer, NoMemory>
         ensures ok { IfOk result (λ answer.
             settled self.old (by_prepare self.old label task hold)
@@ -66,6 +71,10 @@ impl State {
 
     /// What the label prepares is its base, changed so. `NoPrepared`, `Eperm` and `Einval` leave
     /// the state, and with it what an earlier change made of the base.
+    ///
+    /// # Errors
+    ///
+    /// `NoMemory` if the credential could not be copied: the state is as it was.
     pub fn alter(&mut self, script: &Script, label: u32, change: Change) -> Result<Answer, NoMemory>
         requires { is_built_change change ≡ true }
         ensures ok { IfOk result (λ answer.
@@ -99,6 +108,10 @@ impl State {
     /// current credential (Documentation/security/credentials.rst). `NoPrepared`, also where the
     /// label was never changed, and `NoTask` leave the state. `Stale` comes where the task's
     /// current credential isn't the base any more: then the label is given up.
+    ///
+    /// # Errors
+    ///
+    /// `NoMemory` if an allocation of room for the reference fails: the state is as it was.
     pub fn commit(&mut self, label: u32) -> Result<Answer, NoMemory>
         requires { IsSound self.old }
         ensures ok { IfOk result (λ answer.

@@ -9,6 +9,23 @@ use Rattle.cred_hold.specs.Tokens.{Entry, entry, entry_seen, slot_seen}
 use Rattle.cred_hold.proofs.Slots.{map-taken, map-set, writer-seen, put-seen, slot-there}
 use Rattle.cred_hold.proofs.master.Master.take_back.Goals as goal
 
+pub returns-clause-slot : goal.returns-clause-slot
+returns-clause-slot c =
+    let back = c.return_writer.ensures.1 in
+    let i = c.writer.invariant in
+    let t = c.writer.inside.inner.token in
+    let put = c.writer.inside.put in
+    let slots = c.self.inside.inner.ledger.slots in
+    let told = subst (λ (d : Ledger). IfSome d.kept (λ t. IsTaken d.entries (entry_of t) (without t.ticket d.entries) × EntryFits d.slots (entry_of t))) back c.load_after_return.ensures.entry in
+    let now = subst (λ (d : Ledger). IfSome d.kept (λ t. c.load_after_return.new.self.ledger ≡ after_back d t put)) back c.load_after_return.ensures.master.1 in
+    let there = slot-there slots t i.1 told.1 in
+    (λ k. slice_get (map slot_seen (now k).slots) (sym c.writer.view_is k).slot) ∙
+    ap (λ (b : Bool). slice_get (map slot_seen (slots_back slots t put b)) t.slot) i.1 ∙
+    slice_get-map slot_seen _ t.slot ∙
+    ap (option_map slot_seen) (get_set_here slots t.slot there.0 _ there.1) ∙
+    ap Some (put-seen put t.words i.3) ∙
+    ap (λ w. Some w.put) c.writer.view_is
+
 pub returns-clause-entry : goal.returns-clause-entry
 returns-clause-entry c =
     let back = c.return_writer.ensures.1 in
@@ -34,20 +51,3 @@ returns-clause-slots c =
     map-set slot_seen slots t.slot _ ∙
     ap (set (map slot_seen slots) t.slot) (put-seen put t.words i.3) ∙
     (λ k. set (c.self.view_is k).slots (c.writer.view_is k).slot (c.writer.view_is k).put)
-
-pub returns-clause-slot : goal.returns-clause-slot
-returns-clause-slot c =
-    let back = c.return_writer.ensures.1 in
-    let i = c.writer.invariant in
-    let t = c.writer.inside.inner.token in
-    let put = c.writer.inside.put in
-    let slots = c.self.inside.inner.ledger.slots in
-    let told = subst (λ (d : Ledger). IfSome d.kept (λ t. IsTaken d.entries (entry_of t) (without t.ticket d.entries) × EntryFits d.slots (entry_of t))) back c.load_after_return.ensures.entry in
-    let now = subst (λ (d : Ledger). IfSome d.kept (λ t. c.load_after_return.new.self.ledger ≡ after_back d t put)) back c.load_after_return.ensures.master.1 in
-    let there = slot-there slots t i.1 told.1 in
-    (λ k. slice_get (map slot_seen (now k).slots) (sym c.writer.view_is k).slot) ∙
-    ap (λ (b : Bool). slice_get (map slot_seen (slots_back slots t put b)) t.slot) i.1 ∙
-    slice_get-map slot_seen _ t.slot ∙
-    ap (option_map slot_seen) (get_set_here slots t.slot there.0 _ there.1) ∙
-    ap Some (put-seen put t.words i.3) ∙
-    ap (λ w. Some w.put) c.writer.view_is

@@ -1,0 +1,4 @@
+pub mod ExecLaws
+pub mod Parts
+pub mod Reading
+pub mod Valid

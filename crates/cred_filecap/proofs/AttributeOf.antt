@@ -1,0 +1,118 @@
+-- What bytes spell, as a relation and as a function.
+use Rattle.std.proofs.Common.{◌≡◌, ◌==◌, ◌&&◌, ◌⊎◌, inl, inr, ℕ, ◌+◌, ◌*◌, ◌/◌, ◌%◌, ◌^◌, ◌<◌, length, Bool, true, false, List, Some, None, if◌then◌else◌, refl, sym, ap, subst, ◌∙◌, arith}
+use Rattle.std.specs.Int.{bit_at}
+use Rattle.std.proofs.lemmas.Bool.{eqb-true}
+use Rattle.std.proofs.lemmas.Nat.Bits.{bit_at_cat_low}
+use Rattle.cred_rules.specs.Attribute.{Attribute, Spells, SpellsSet, IsVersion2, IsVersion3, set_in, said, attribute_of, revision_of, root_id}
+use Rattle.cred_filecap.specs.Laws.{AttributeOfIsSpelled}
+use Rattle.cred_filecap.proofs.SetLemmas.{set-spells}
+use Rattle.cred_filecap.proofs.AttributeLaws.{no_bytes_spell_two}
+
+-- ---- the function gives what is spelled
+
+-- the bits of a word are those of its lowest 32
+low-bits : (low n : ℕ) → n < 32 → bit_at (low % 2 ^ 32) n ≡ bit_at low n
+low-bits low n lt =
+    let parts : low ≡ low / 2 ^ 32 * 2 ^ 32 + low % 2 ^ 32 = omega arith in
+    sym (ap (λ x. bit_at x n) parts ∙ bit_at_cat_low (low / 2 ^ 32) 32 (low % 2 ^ 32) n lt)
+
+set_in-spells : (low high : ℕ) → SpellsSet low high (set_in low high)
+set_in-spells low high =
+    let small : low % 2 ^ 32 < 2 ^ 32 = omega arith in
+    let cut = set-spells (low % 2 ^ 32) high (high * 2 ^ 32 + low % 2 ^ 32) small refl in
+    record {
+      below = λ n lt. cut.below n lt ∙ ap (λ d. d == 1) (low-bits low n lt);
+      above = cut.above;
+      others = cut.others;
+    }
+
+said-spells :
+    (bytes : List ℕ) (version root : ℕ)
+    → IsVersion2 bytes (said bytes version root) ⊎ IsVersion3 bytes (said bytes version root)
+    → Spells bytes (said bytes version root)
+said-spells bytes version root is = record {
+  version = is;
+  effective = refl;
+  perm = set_in-spells _ _;
+  inh = set_in-spells _ _;
+}
+
+said-2 :
+    (bytes : List ℕ) → length bytes ≡ 20 → revision_of bytes ≡ 2 → Spells bytes (said bytes 2 0)
+said-2 bytes size revision =
+    said-spells bytes 2 0
+    (inl (record { size = size; revision = revision; version = refl; root = refl }))
+
+said-3 :
+    (bytes : List ℕ) → length bytes ≡ 24 → revision_of bytes ≡ 3
+    → Spells bytes (said bytes 3 (root_id bytes))
+said-3 bytes size revision =
+    said-spells bytes 3 (root_id bytes)
+    (inr (record { size = size; revision = revision; version = refl; root = refl }))
+
+-- ---- which of the two versions it gives
+
+both : (a b : Bool) → (a && b) ≡ true → (a ≡ true) × (b ≡ true)
+both true b is = (refl, is)
+both false b is = cc
+
+tests :
+    (bytes : List ℕ) (size revision : ℕ)
+    → ((length bytes == size) && (revision_of bytes == revision)) ≡ true
+    → (length bytes ≡ size) × (revision_of bytes ≡ revision)
+tests bytes size revision hold =
+    let each = both (length bytes == size) (revision_of bytes == revision) hold in
+    (eqb-true (length bytes) size each.0, eqb-true (revision_of bytes) revision each.1)
+
+chosen :
+    (first second : Bool) (x y a : Attribute)
+    → (if first then Some x else if second then Some y else None) ≡ Some a
+    → ((first ≡ true) × (x ≡ a)) ⊎ ((second ≡ true) × (y ≡ a))
+chosen true second x y a same = inl (refl, cc)
+chosen false true x y a same = inr (refl, cc)
+chosen false false x y a same = cc
+
+spelled : (bytes : List ℕ) (a : Attribute) → attribute_of bytes ≡ Some a → Spells bytes a
+unfolding attribute_of
+spelled bytes a same =
+    elim (chosen _ _ (said bytes 2 0) (said bytes 3 (root_id bytes)) a same) [
+      | inl two ↦
+          let hold = tests bytes 20 2 two.0 in
+          subst (Spells bytes) two.1 (said-2 bytes hold.0 hold.1)
+      | inr three ↦
+          let hold = tests bytes 24 3 three.0 in
+          subst (Spells bytes) three.1 (said-3 bytes hold.0 hold.1)
+    ]
+
+-- ---- what is spelled is what the function gives
+
+given-2 :
+    (bytes : List ℕ) → length bytes ≡ 20 → revision_of bytes ≡ 2
+    → attribute_of bytes ≡ Some (said bytes 2 0)
+unfolding attribute_of
+given-2 bytes size revision = rw (size, revision) refl
+
+given-3 :
+    (bytes : List ℕ) → length bytes ≡ 24 → revision_of bytes ≡ 3
+    → attribute_of bytes ≡ Some (said bytes 3 (root_id bytes))
+unfolding attribute_of
+given-3 bytes size revision = rw (size, revision) refl
+
+same-spelled :
+    (bytes : List ℕ) (a b : Attribute) → attribute_of bytes ≡ Some a → Spells bytes a
+    → Spells bytes b → attribute_of bytes ≡ Some b
+same-spelled bytes a b given one other = given ∙ ap Some (no_bytes_spell_two bytes a b one other)
+
+given : (bytes : List ℕ) (a : Attribute) → Spells bytes a → attribute_of bytes ≡ Some a
+given bytes a is =
+    elim is.version [
+      | inl v ↦
+          same-spelled bytes _ a (given-2 bytes v.size v.revision)
+          (said-2 bytes v.size v.revision) is
+      | inr v ↦
+          same-spelled bytes _ a (given-3 bytes v.size v.revision)
+          (said-3 bytes v.size v.revision) is
+    ]
+
+pub attribute_of_is_spelled : AttributeOfIsSpelled
+attribute_of_is_spelled bytes a = (spelled bytes a, given bytes a)

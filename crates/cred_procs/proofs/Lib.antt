@@ -1,0 +1,5 @@
+pub mod Entries
+pub mod Changes
+pub mod Writes
+pub mod Ends
+pub mod Many

@@ -1,0 +1,12 @@
+//! The tasks and the processes of the kernel. A task has the number of its current credential and
+//! those of its overrides. Tasks are found by their numbers, and the threads of a process by its
+//! own: neither is searched for.
+#![tactic(auto)]
+
+pub mod lists;
+mod processes;
+pub mod procs;
+mod thread;
+
+pub use lists::{Numbers, TaskList};
+pub use procs::{Ended, Procs};

@@ -1,0 +1,82 @@
+//! The threads of each process.
+ghost use Rattle.std.specs.Prelude.{◌≡◌, ℕ, ◌==◌, not, filter, [], ◌∷◌, ◌++◌, if◌then◌else◌, OnOk, OnErr};
+ghost use Rattle.cred_procs.specs.Kept.{threads_at};
+
+use cred_ids::NoMemory;
+use indexmap::IndexMap;
+use std::alloc::Global;
+
+/// The threads of each process that has some, in the order in which they were created.
+#[derive(Drop, Debug)]
+pub struct Processes {
+    threads: IndexMap<u32, Vec<u32>>,
+    alloc: Global,
+}
+
+impl Processes {
+    /// No process has a thread.
+    pub fn new(alloc: Global) -> Processes
+        ensures { (p : ℕ) → threads_at result p ≡ [] }
+    {
+        Processes {
+            threads: IndexMap::new(alloc),
+            alloc,
+        }
+    }
+
+    /// The threads of a process.
+    pub fn threads(&self, process: u32) -> &[u32]
+        ensures { result.now ≡ threads_at self.now process }
+    {
+        match self.threads.get(&process) {
+            Some(threads) => threads.as_slice(),
+            None => &[],
+        }
+    }
+
+    /// A task becomes the newest thread of a process. Without memory no threads change.
+    pub fn add(&mut self, process: u32, task: u32) -> Result<(), NoMemory>
+        ensures ok { OnOk result ((p : ℕ) → threads_at self.new p
+            ≡ (if p == process
+            then threads_at self.old p ++ task ∷ []
+            else threads_at self.old p)) }
+        ensures err { OnErr result ((p : ℕ) → threads_at self.new p ≡ threads_at self.old p) }
+    {
+        if let Some(threads) = self.threads.get_mut(&process) {
+            threads.push(task)?;
+            return Ok(());
+        }
+        let mut threads = Vec::new(self.alloc);
+        threads.push(task)?;
+        self.threads.insert(process, threads)?;
+        Ok(())
+    }
+
+    /// A task is no thread of the process any more.
+    pub fn remove(&mut self, process: u32, task: u32)
+        ensures { (p : ℕ) → threads_at self.new p ≡ (if p == process
+            then filter (λ n. not (n == task)) (threads_at self.old p)
+            else threads_at self.old p) }
+    {
+        if let Some(threads) = self.threads.get_mut(&process) {
+            take_off(threads, task);
+        }
+        self.forget_empty(process);
+    }
+
+    /// A process without threads is kept no longer.
+    fn forget_empty(&mut self, process: u32)
+        ensures { (p : ℕ) → threads_at self.new p ≡ threads_at self.old p }
+    {
+        if self.threads(process).is_empty() {
+            self.threads.swap_remove(&process);
+        }
+    }
+}
+
+/// The list is without a task.
+pub fn take_off(tasks: &mut Vec<u32>, task: u32)
+    ensures { tasks.new.items ≡ filter (λ n. not (n == task)) tasks.old.items }
+{
+    tasks.retain(|other| *other != task);
+}
