@@ -42,8 +42,8 @@ place-none test (x ∷ xs) each =
 
 -- `of` is the thing that a label and a value make, and `label_of` its label
 module _ {X Y : Type 0} (of : ℕ → X → Y) (label_of : Y → ℕ) (own : (label : ℕ) (x : X) → label_of (of label x) ≡ label) where
-  abbrev shown : List (ℕ × X) → List Y
-  shown es = map (λ e. of e.0 e.1) es
+  abbrev state_of : List (ℕ × X) → List Y
+  state_of es = map (λ e. of e.0 e.1) es
 
   test_own : (label : ℕ) (e : ℕ × X) → (label_of (of e.0 e.1) == label) ≡ (e.0 == label)
   test_own label e = ap (λ (l : ℕ). l == label) (own e.0 e.1)
@@ -53,51 +53,51 @@ module _ {X Y : Type 0} (of : ℕ → X → Y) (label_of : Y → ℕ) (own : (la
   found_at label e rest others true is same = ap (λ (l : ℕ). Some (of l e.1)) (eqb-true e.0 label is)
   found_at label e rest others false is same = same
 
-  pub find-shown : (label : ℕ) (es : List (ℕ × X)) → find (λ y. label_of y == label) (shown es) ≡ option_map (of label) (lookup (nat_eq label) es)
-  find-shown label [] = refl
-  find-shown label (e ∷ es) =
-      ap (λ (b : Bool). cond b (Some (of e.0 e.1)) (find (λ y. label_of y == label) (shown es))) (test_own label e)
-      ∙ found_at label e (lookup (nat_eq label) es) _ (e.0 == label) refl (find-shown label es)
+  pub find-state_of : (label : ℕ) (es : List (ℕ × X)) → find (λ y. label_of y == label) (state_of es) ≡ option_map (of label) (lookup (nat_eq label) es)
+  find-state_of label [] = refl
+  find-state_of label (e ∷ es) =
+      ap (λ (b : Bool). cond b (Some (of e.0 e.1)) (find (λ y. label_of y == label) (state_of es))) (test_own label e)
+      ∙ found_at label e (lookup (nat_eq label) es) _ (e.0 == label) refl (find-state_of label es)
       ∙ ap (λ (b : Bool). option_map (of label) (cond b (Some e.1) (lookup (nat_eq label) es))) (test_sym e.0 label)
 
   -- a label that isn't there
-  pub absent : (label : ℕ) (es : List (ℕ × X)) → lookup (nat_eq label) es ≡ None → position (λ y. label_of y == label) (shown es) ≡ None
+  pub absent : (label : ℕ) (es : List (ℕ × X)) → lookup (nat_eq label) es ≡ None → position (λ y. label_of y == label) (state_of es) ≡ None
   absent label es none =
-      place-none (λ y. label_of y == label) (shown es)
-      (found_none (λ y. label_of y == label) (shown es) (find-shown label es ∙ ap (option_map (of label)) none))
+      place-none (λ y. label_of y == label) (state_of es)
+      (found_none (λ y. label_of y == label) (state_of es) (find-state_of label es ∙ ap (option_map (of label)) none))
 
   -- how many stand before the first with the label
   abbrev before : ℕ → List (ℕ × X) → ℕ
-  before label es = prefix_len (λ y. not (label_of y == label)) (shown es)
+  before label es = prefix_len (λ y. not (label_of y == label)) (state_of es)
 
   left_by : (label : ℕ) (x : X) (e : ℕ × X) (es : List (ℕ × X)) (test : Bool) → cond test (Some e.1) (lookup (nat_eq label) es) ≡ Some x
-      → (lookup (nat_eq label) es ≡ Some x → shown (remove_entry (nat_eq label) es) ≡ remove (shown es) (before label es))
-      → shown (cond test es (e ∷ remove_entry (nat_eq label) es)) ≡ remove (shown (e ∷ es)) (cond (not test) (1 + before label es) 0)
+      → (lookup (nat_eq label) es ≡ Some x → state_of (remove_entry (nat_eq label) es) ≡ remove (state_of es) (before label es))
+      → state_of (cond test es (e ∷ remove_entry (nat_eq label) es)) ≡ remove (state_of (e ∷ es)) (cond (not test) (1 + before label es) 0)
   left_by label x e es true found rest = refl
   left_by label x e es false found rest =
       let next : suc (before label es) ≡ 1 + before label es = omega arith in
-      ap (λ (ys : List Y). of e.0 e.1 ∷ ys) (rest found) ∙ ap (remove (shown (e ∷ es))) next
+      ap (λ (ys : List Y). of e.0 e.1 ∷ ys) (rest found) ∙ ap (remove (state_of (e ∷ es))) next
 
   left_at : (label : ℕ) (x : X) (es : List (ℕ × X)) → lookup (nat_eq label) es ≡ Some x
-      → shown (remove_entry (nat_eq label) es) ≡ remove (shown es) (before label es)
+      → state_of (remove_entry (nat_eq label) es) ≡ remove (state_of es) (before label es)
   left_at label x [] found = cc
   left_at label x (e ∷ es) found =
       left_by label x e es (nat_eq label e.0) found (left_at label x es)
-      ∙ ap (λ (b : Bool). remove (shown (e ∷ es)) (cond (not b) (1 + before label es) 0)) (test_sym label e.0 ∙ sym (test_own label e))
+      ∙ ap (λ (b : Bool). remove (state_of (e ∷ es)) (cond (not b) (1 + before label es) 0)) (test_sym label e.0 ∙ sym (test_own label e))
 
   -- what a removed value was, and where it stood
   pub removed : (label : ℕ) (x : X) (es after : List (ℕ × X)) → lookup (nat_eq label) es ≡ Some x → after ≡ remove_entry (nat_eq label) es
-      → (place : ℕ) × (position (λ y. label_of y == label) (shown es) ≡ Some place) × (slice_get (shown es) place ≡ Some (of label x))
-      × (shown after ≡ remove (shown es) place)
+      → (place : ℕ) × (position (λ y. label_of y == label) (state_of es) ≡ Some place) × (slice_get (state_of es) place ≡ Some (of label x))
+      × (state_of after ≡ remove (state_of es) place)
   removed label x es after found left =
-      let here = find-shown label es ∙ ap (option_map (of label)) found in
-      let at = place-of_found (λ y. label_of y == label) (shown es) (of label x) here in
+      let here = find-state_of label es ∙ ap (option_map (of label)) found in
+      let at = place-of_found (λ y. label_of y == label) (state_of es) (of label x) here in
       let first : before label es ≡ at.0 = some_is _ _ _ at.1 in
-      (at.0, at.1, at.2, ap shown left ∙ left_at label x es found ∙ ap (remove (shown es)) first)
+      (at.0, at.1, at.2, ap state_of left ∙ left_at label x es found ∙ ap (remove (state_of es)) first)
 
   -- a new label goes last
-  pub added : (label : ℕ) (x : X) (es after : List (ℕ × X)) → after ≡ es ++ (label, x) ∷ [] → shown after ≡ shown es ++ of label x ∷ []
-  added label x es after is = ap shown is ∙ map-append (λ (e : ℕ × X). of e.0 e.1) es ((label, x) ∷ [])
+  pub added : (label : ℕ) (x : X) (es after : List (ℕ × X)) → after ≡ es ++ (label, x) ∷ [] → state_of after ≡ state_of es ++ of label x ∷ []
+  added label x es after is = ap state_of is ∙ map-append (λ (e : ℕ × X). of e.0 e.1) es ((label, x) ∷ [])
 
 -- ---- holds
 
@@ -109,7 +109,7 @@ pub lookup-holds : (label : ℕ) (es : List (ℕ × ℕ))
     → lookup (nat_eq label) es ≡ option_map (λ h. h.number) (find (λ h. h.label == label) (holds_of es))
 lookup-holds label es =
     number_is label (lookup (nat_eq label) es)
-    ∙ ap (option_map (λ (h : Hold). h.number)) (sym (find-shown (λ l n. hold_of (l, n)) (λ h. h.label) (λ l n. refl) label es))
+    ∙ ap (option_map (λ (h : Hold). h.number)) (sym (find-state_of (λ l n. hold_of (l, n)) (λ h. h.label) (λ l n. refl) label es))
 
 no_hold : (label : ℕ) (es : List (ℕ × ℕ)) → lookup (nat_eq label) es ≡ None → held.place_of (holds_of es) label ≡ None
 no_hold label es none = absent (λ l n. hold_of (l, n)) (λ h. h.label) (λ l n. refl) label es none
@@ -132,7 +132,7 @@ taken label number es after is = added (λ l n. hold_of (l, n)) (λ h. h.label) 
 -- ---- prepared labels
 
 pub find-prepared : (label : ℕ) (es : List (ℕ × Preparation)) → find (λ p. p.label == label) (all_prepared es) ≡ option_map (prepared_as label) (lookup (nat_eq label) es)
-find-prepared label es = find-shown prepared_as (λ p. p.label) (λ l x. refl) label es
+find-prepared label es = find-state_of prepared_as (λ p. p.label) (λ l x. refl) label es
 
 not_prepared : (label : ℕ) (es : List (ℕ × Preparation)) → lookup (nat_eq label) es ≡ None → prepared.place_of (all_prepared es) label ≡ None
 not_prepared label es none = absent prepared_as (λ p. p.label) (λ l x. refl) label es none

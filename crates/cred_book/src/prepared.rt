@@ -106,7 +106,11 @@ impl Preparing {
         })
     }
 
-    /// A label that wasn't prepared begins to prepare. Without memory nothing changes.
+    /// A label that wasn't prepared begins to prepare.
+    ///
+    /// # Errors
+    ///
+    /// `NoMemory` if an allocation fails: the labels are as they were.
     pub fn prepare(&mut self, label: u32, preparation: Preparation) -> Result<(), NoMemory>
         requires { find (λ p. p.label == label) self.old ≡ None }
         ensures ok { OnOk result (self.new ≡ self.old ++ prepared_as label preparation ∷ []) }
