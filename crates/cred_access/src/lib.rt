@@ -5,14 +5,8 @@
 mod class;
 mod file;
 mod mode;
-#[cfg(test)]
-mod permissions;
 mod real;
 mod rights;
-#[cfg(test)]
-mod signals;
-#[cfg(test)]
-mod tests;
 
 pub use file::may;
 pub use real::access_cred;

@@ -7,8 +7,6 @@ mod bits;
 mod bounding;
 mod calls;
 mod capset;
-#[cfg(test)]
-mod tests;
 
 pub use ambient::amb_is_set;
 pub use bounding::bset_read;

@@ -7,8 +7,6 @@ pub mod laws;
 pub mod names;
 pub mod secure;
 pub mod set;
-#[cfg(test)]
-mod tests;
 
 pub use cap::Cap;
 pub use names::{cap_name, cap_of_name};

@@ -4,7 +4,5 @@
 
 mod course;
 mod stages;
-#[cfg(test)]
-mod tests;
 
 pub use course::Course;

@@ -4,8 +4,6 @@
 
 mod changes;
 mod replies;
-#[cfg(test)]
-mod tests;
 
 pub use changes::{Made, change};
 pub use replies::reply;

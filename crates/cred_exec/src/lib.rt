@@ -8,13 +8,9 @@ mod calls;
 mod gained;
 mod ids;
 pub mod laws;
-#[cfg(test)]
-mod pages;
 pub mod refusal;
 mod root;
 mod sets;
-#[cfg(test)]
-mod tests;
 
 pub use calls::exec;
 pub use refusal::ExecRefusal;

@@ -8,8 +8,6 @@ pub mod laws;
 mod reading;
 pub mod refusal;
 mod sets;
-#[cfg(test)]
-mod tests;
 mod version;
 mod words;
 mod writing;

@@ -2,8 +2,6 @@
 #![tactic(auto)]
 
 pub mod master;
-#[cfg(test)]
-mod tests;
 pub mod tokens;
 mod words;
 

@@ -6,8 +6,6 @@ pub mod arg;
 pub mod groups;
 pub mod id;
 pub mod memory;
-#[cfg(test)]
-mod tests;
 
 pub use arg::Arg;
 pub use groups::{Groups, GroupsRefusal};

@@ -6,8 +6,6 @@
 pub mod lists;
 mod processes;
 pub mod procs;
-#[cfg(test)]
-mod tests;
 mod thread;
 
 pub use lists::{Numbers, TaskList};

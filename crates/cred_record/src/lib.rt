@@ -12,8 +12,6 @@ pub mod layout;
 pub mod list;
 mod reading;
 pub mod refusal;
-#[cfg(test)]
-mod tests;
 pub mod valid;
 pub mod want;
 pub mod word_laws;

@@ -7,10 +7,6 @@ mod fix;
 mod fs;
 mod ids;
 pub mod laws;
-#[cfg(test)]
-mod tests;
-#[cfg(test)]
-mod transitions;
 
 pub use calls::apply;
 pub use fs::setfs;

@@ -6,8 +6,6 @@ mod flags;
 mod row;
 pub mod slots;
 pub mod stack;
-#[cfg(test)]
-mod tests;
 
 pub use slots::Slots;
 pub use stack::{DEPTH, Stack};

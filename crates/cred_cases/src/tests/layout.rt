@@ -1,0 +1,99 @@
+//! A credential as words, and the words that are none.
+use crate::tests::parts::{ALL, id};
+use cred_caps::SecureBits;
+use cred_ids::{Groups, Id};
+use cred_record::layout::{AMBIENT, FLAGS, GROUPS, NAMESPACE, PERMITTED, SAVED_GROUP, SPARE, USER};
+use cred_record::{Cred, WORDS, first, of_words, to_words};
+use std::alloc::Global;
+use std::test::Fail;
+
+/// Root's first credential, with all parts of the layout set.
+fn with_groups(alloc: Global, groups: &[Id]) -> Result<Cred, Fail> {
+    let effective = id(1000)?;
+    let bits = SecureBits::new(0x2f).ok_or("no bits")?;
+    let groups = Groups::from_list(alloc, groups).map_err(|_| "no groups")?;
+    let mut cred = first(alloc, id(0)?, id(7)?, 3)?;
+    cred.uid.effective = effective;
+    cred.bits = bits;
+    cred.nnp = true;
+    cred.groups = groups;
+    Ok(cred)
+}
+
+/// The words of that credential with the groups 5, 4 and 9.
+const LAID_OUT: [u64; WORDS] = [
+    1000 << 32,
+    0,
+    0x7_0000_0007,
+    0x7_0000_0007,
+    ALL,
+    0,
+    ALL,
+    ALL,
+    0,
+    0x3_012f,
+    3,
+    0,
+    0x5_0000_0004,
+    9,
+    0,
+    0,
+    0,
+    0,
+    0,
+    0,
+    0,
+    0,
+    0,
+    0,
+    0,
+    0,
+    0,
+    0,
+];
+
+#[test]
+fn words_have_the_layout_and_are_read_again(rt: HostRuntime) -> Result<(), Fail> {
+    let cred = with_groups(rt.alloc(), &[id(5)?, id(4)?, id(9)?])?;
+    let words = to_words(&cred);
+    assert!(rt; words == LAID_OUT);
+    let again = of_words(rt.alloc(), &words)?.ok_or("no credential")?;
+    assert!(rt; to_words(&again) == LAID_OUT);
+    Ok(())
+}
+
+#[test]
+fn the_last_group_stands_in_the_last_word(rt: HostRuntime) -> Result<(), Fail> {
+    let most = to_words(&with_groups(rt.alloc(), &[id(8)?; 32])?);
+    assert_eq!(rt; most[27], 0x8_0000_0008);
+    assert!(rt; of_words(rt.alloc(), &most)?.is_some());
+    Ok(())
+}
+
+#[test]
+fn other_words_are_no_credential(rt: HostRuntime) -> Result<(), Fail> {
+    let words = to_words(&with_groups(rt.alloc(), &[id(4)?, id(5)?])?);
+    for (place, word) in [
+        (USER, 0xffff_ffff),
+        (SAVED_GROUP, 0xffff_ffff_0000_0000),
+        (PERMITTED, 0x3ff_ffff_ffff),
+        (PERMITTED, 0),
+        (AMBIENT, 1),
+        (FLAGS, 0x2_032f),
+        (FLAGS, 0x21_012f),
+        (NAMESPACE, 1 << 32),
+        (SPARE, 1),
+        (GROUPS, 0x4_0000_0005),
+        (GROUPS, 0xffff_ffff_0000_0004),
+        (GROUPS + 1, 1),
+    ] {
+        let mut other = words;
+        assert!(rt; place < WORDS);
+        other[place] = word;
+        let refused = of_words(rt.alloc(), &other)?.is_none();
+        assert!(rt; refused, "{word} at {place}");
+        other[place] = words[place];
+        assert!(rt; of_words(rt.alloc(), &other)?.is_some());
+    }
+    Ok(())
+}
