@@ -6,11 +6,11 @@ use Rattle.std.proofs.lemmas.Option.{slice_get-map}
 use Rattle.cred_event.specs.declared.entry.Entry.{Entry}
 use Rattle.cred_event.specs.Lists.{HoldsList}
 use Rattle.cred_model.specs.Script.{Script}
-use Rattle.cred_model.specs.State.{State, Sealing}
+use Rattle.cred_model.specs.State.{State, SealedCred}
 use Rattle.cred_model.specs.Slots.{refs, stands_in, uses}
 use Rattle.cred_model.specs.Step.{step}
 use Rattle.cred_model.specs.Journal.{replay, IsAnswered}
-use Rattle.cred_model.specs.Like.{IsLike, Does}
+use Rattle.cred_model.specs.Like.{IsLike, IsOutcomeLike}
 use Rattle.cred_model.proofs.Journals.{replay-push, IsAnswered-push}
 use Rattle.cred_model.proofs.Likes.{does_like, like_trans, refs_same}
 use Rattle.cred_sound.specs.Sound.{IsSound}
@@ -27,13 +27,13 @@ follows_sound script state journal follows = like_sound state (replay script jou
 
 -- what an event does after the journal
 pub replays : (script : Script) (before after : State) (journal : List Entry) (entry : Entry) → Follows script before journal
-    → Does (step script before entry.line entry.event) entry.answer after
-    → Does (step script (replay script journal) entry.line entry.event) entry.answer after
+    → IsOutcomeLike (step script before entry.line entry.event) entry.answer after
+    → IsOutcomeLike (step script (replay script journal) entry.line entry.event) entry.answer after
 replays script before after journal entry follows does =
     does_like script before (replay script journal) entry.line entry.event entry.answer after follows.0 does
 
 pub enters : (script : Script) (before after : State) (journal grown : List Entry) (entry : Entry) → Follows script before journal
-    → Does (step script before entry.line entry.event) entry.answer after → grown ≡ journal ++ entry ∷ [] → Follows script after grown
+    → IsOutcomeLike (step script before entry.line entry.event) entry.answer after → grown ≡ journal ++ entry ∷ [] → Follows script after grown
 enters script before after journal grown entry follows does is =
     let made = replays script before after journal entry follows does in
     rw is (
@@ -43,7 +43,7 @@ enters script before after journal grown entry follows does is =
 
 -- an event that is answered with a list is not entered where the list could not be copied
 pub left_out : (script : Script) (before after : State) (journal : List Entry) (entry : Entry) → Follows script before journal
-    → Does (step script before entry.line entry.event) entry.answer after → HoldsList entry.answer → Follows script after journal
+    → IsOutcomeLike (step script before entry.line entry.event) entry.answer after → HoldsList entry.answer → Follows script after journal
 left_out script before after journal entry follows does list = (
   like_trans after before (replay script journal) (list_stays script before after entry.line entry.event entry.answer does list) follows.0,
   follows.1,
@@ -51,7 +51,7 @@ left_out script before after journal entry follows does list = (
 
 -- ---- uses
 
-stands-slot : (slot : ℕ) (found : Option Sealing)
+stands-slot : (slot : ℕ) (found : Option SealedCred)
     → option_map_or (λ s. s.slot == slot) found false ≡ option_map_or (λ place. place == slot) (option_map (λ s. s.slot) found) false
 stands-slot slot None = refl
 stands-slot slot (Some s) = refl
@@ -60,8 +60,8 @@ stands_like : (a b : State) → IsLike a b → (slot n : ℕ) → stands_in a.cr
 stands_like a b like slot n =
     stands-slot slot (slice_get a.creds n)
     ∙ ap (λ o. option_map_or (λ place. place == slot) o false)
-    (sym (slice_get-map (λ (x : Sealing). x.slot) a.creds n) ∙ ap (λ (ss : List ℕ). slice_get ss n) like.slots
-    ∙ slice_get-map (λ (x : Sealing). x.slot) b.creds n)
+    (sym (slice_get-map (λ (x : SealedCred). x.slot) a.creds n) ∙ ap (λ (ss : List ℕ). slice_get ss n) like.slots
+    ∙ slice_get-map (λ (x : SealedCred). x.slot) b.creds n)
     ∙ sym (stands-slot slot (slice_get b.creds n))
 
 pub uses_like : (a b : State) (slot : ℕ) → IsLike a b → uses a slot ≡ uses b slot

@@ -4,9 +4,9 @@ use Rattle.std.specs.List.{list_any, count_by}
 use Rattle.std.specs.Option.{option_map, option_map_or}
 use Rattle.std.proofs.lemmas.List.Folds.{list_any-append}
 use Rattle.std.proofs.lemmas.Option.{slice_get-map}
-use Rattle.cred_model.specs.State.{State, Sealing}
+use Rattle.cred_model.specs.State.{State, SealedCred}
 use Rattle.cred_model.specs.Slots as model
-use Rattle.cred_model.specs.Slots.{standing, kept}
+use Rattle.cred_model.specs.Slots.{in_use, kept}
 use Rattle.cred_slots.specs.Table.{Table, is_kept, swept}
 use Rattle.cred_slots.specs.Table as table
 use Rattle.cred_slots.proofs.Counting.{count-append}
@@ -16,11 +16,11 @@ use Rattle.cred_book.proofs.Bags.{any-bag, any-same, find-same, count-same}
 
 -- The table counts what the state refers to and keeps, and has its slots and its deferred numbers.
 pub record IsTable (s : State) (t : Table) : Type 0 where
-  pub counted : IsCounted (standing s) (kept s) t
-  pub slots : map (λ sealing. sealing.slot) s.creds ≡ t.sealed
+  pub counted : IsCounted (in_use s) (kept s) t
+  pub slots : map (λ sealed. sealed.slot) s.creds ≡ t.sealed
   pub deferred : s.deferred ≡ t.deferred
 
-stands-or : (slot : ℕ) (found : Option Sealing)
+stands-or : (slot : ℕ) (found : Option SealedCred)
     → option_map_or (λ s. s.slot == slot) found false ≡ option_map_or (λ place. place == slot) (option_map (λ s. s.slot) found) false
 stands-or slot None = refl
 stands-or slot (Some s) = refl
@@ -29,19 +29,19 @@ stands-same : (s : State) (t : Table) → IsTable s t → (slot n : ℕ) → tab
 stands-same s t is slot n =
     sym (stands-or slot (slice_get s.creds n)
     ∙ ap (λ o. option_map_or (λ place. place == slot) o false)
-    (sym (slice_get-map (λ (x : Sealing). x.slot) s.creds n) ∙ ap (λ (ss : List ℕ). slice_get ss n) is.slots))
+    (sym (slice_get-map (λ (x : SealedCred). x.slot) s.creds n) ∙ ap (λ (ss : List ℕ). slice_get ss n) is.slots))
 
 live-same : (s : State) (t : Table) → IsTable s t → (slot : ℕ) → table.is_live t slot ≡ model.is_live s slot
 live-same s t is slot =
     let stands = table.stands_in t.sealed slot in
     let each = model.stands_in s.creds slot in
-    let same : list_any stands (t.held ++ t.deferred) ≡ list_any each (standing s ++ s.deferred)
+    let same : list_any stands (t.held ++ t.deferred) ≡ list_any each (in_use s ++ s.deferred)
     = list_any-append stands t.held t.deferred
-    ∙ ap (λ b. b || list_any stands t.deferred) (any-bag stands t.held (standing s) is.counted.counts)
-    ∙ ap (λ ds. list_any stands (standing s) || list_any stands ds) (sym is.deferred)
-    ∙ sym (list_any-append stands (standing s) s.deferred)
-    ∙ any-same stands each (standing s ++ s.deferred) (λ n. stands-same s t is slot n) in
-    ap (λ b. b || is_kept t slot) same ∙ ap (λ b. list_any each (standing s ++ s.deferred) || b) (is.counted.keeps slot)
+    ∙ ap (λ b. b || list_any stands t.deferred) (any-bag stands t.held (in_use s) is.counted.counts)
+    ∙ ap (λ ds. list_any stands (in_use s) || list_any stands ds) (sym is.deferred)
+    ∙ sym (list_any-append stands (in_use s) s.deferred)
+    ∙ any-same stands each (in_use s ++ s.deferred) (λ n. stands-same s t is slot n) in
+    ap (λ b. b || is_kept t slot) same ∙ ap (λ b. list_any each (in_use s ++ s.deferred) || b) (is.counted.keeps slot)
 
 same_slots : table.slots ≡ model.slots
 unfolding table.slots model.slots
@@ -87,6 +87,6 @@ uses-same s t is slot =
     let stands = table.stands_in t.sealed slot in
     count-append stands t.held t.deferred
     ∙ ap (λ n. n + count_by stands t.deferred) (is.counted.counts.counts stands)
-    ∙ ap (λ ds. count_by stands (standing s) + count_by stands ds) (sym is.deferred)
-    ∙ sym (count-append stands (standing s) s.deferred)
-    ∙ count-same stands (model.stands_in s.creds slot) (standing s ++ s.deferred) (λ n. stands-same s t is slot n)
+    ∙ ap (λ ds. count_by stands (in_use s) + count_by stands ds) (sym is.deferred)
+    ∙ sym (count-append stands (in_use s) s.deferred)
+    ∙ count-same stands (model.stands_in s.creds slot) (in_use s ++ s.deferred) (λ n. stands-same s t is slot n)

@@ -5,15 +5,15 @@ use Rattle.cred_record.specs.Credential.{Credential, first_credential}
 use Rattle.cred_event.specs.declared.answer.Answer.{Answer}
 use Rattle.cred_event.specs.declared.answer.Answer.TheVariants.{Sealed, TableFull}
 use Rattle.cred_model.specs.State.{State, Task, Hold, Prepared}
-use Rattle.cred_model.specs.Like.{Does}
-use Rattle.cred_model.specs.Step.{by_init, settled, in_slot, table_full, first_task, created}
+use Rattle.cred_model.specs.Like.{IsOutcomeLike}
+use Rattle.cred_model.specs.Step.{by_init, outcome, in_slot, table_full, first_task, created}
 use Rattle.cred_model.proofs.Likes.{does_same}
 use Rattle.cred_slots.specs.Table.{Table, SLOTS, IsAlone}
 use Rattle.cred_slots.specs.Table as table
-use Rattle.cred_book.specs.Kept.{AreFilled, shown, IsKept, Seals}
+use Rattle.cred_book.specs.Kept.{AreFilled, state_of, IsKept, Seals}
 use Rattle.cred_book.proofs.Bags.{bag-more}
 use Rattle.cred_book.proofs.Sealing.{roomy, in_free, in_none, keeps_same}
-use Rattle.cred_book.proofs.Standing.{standing-task}
+use Rattle.cred_book.proofs.InUse.{in_use-task}
 use Rattle.cred_book.proofs.Stored.{does_made, length-creds_in, filled-put, stored_like}
 
 init_does : (task process user group ns : ℕ) → State → ℕ → Answer × State
@@ -25,18 +25,18 @@ few_tasks : (n : ℕ) → n < 64 → nat_lt n 64 ≡ true
 few_tasks n few = grind (arith, nat_tests)
 
 init_tests : (s : State) (task process user group ns : ℕ) → find (λ t. t.number == task) s.tasks ≡ None → length s.tasks < 64
-    → settled s (by_init s task process user group ns) ≡ in_slot s table_full (init_does task process user group ns)
+    → outcome s (by_init s task process user group ns) ≡ in_slot s table_full (init_does task process user group ns)
 unfolding init_does
 init_tests s task process user group ns new few = rw (new, few_tasks (length s.tasks) few) refl
 
-module _ {tasks : List Task} {holds : List Hold} {prepared : List Prepared} {store : List (Option Credential)} {t : Table} (is : IsKept (shown tasks holds prepared store t) store t)
+module _ {tasks : List Task} {holds : List Hold} {prepared : List Prepared} {store : List (Option Credential)} {t : Table} (is : IsKept (state_of tasks holds prepared store t) store t)
     (after : Table) (task process user group ns : ℕ) where
   abbrev s : State
-  s = shown tasks holds prepared store t
+  s = state_of tasks holds prepared store t
 
   pub init_full : find (λ u. u.number == task) tasks ≡ None → length tasks < 64 → table.free t ≡ None
-      → shown tasks holds prepared store (table.room t) ≡ shown tasks holds prepared store after
-      → Does (settled s (by_init s task process user group ns)) TableFull (shown tasks holds prepared store after)
+      → state_of tasks holds prepared store (table.room t) ≡ state_of tasks holds prepared store after
+      → IsOutcomeLike (outcome s (by_init s task process user group ns)) TableFull (state_of tasks holds prepared store after)
   init_full new few none makes =
       does_same _ _ _ (init_tests s task process user group ns new few ∙ in_none is (init_does task process user group ns) after none makes)
 
@@ -47,10 +47,10 @@ module _ {tasks : List Task} {holds : List Hold} {prepared : List Prepared} {sto
     abbrev pub put : List (Option Credential)
     put = slice_set store slot (Some (first_credential user group ns))
 
-    pub init_kept : IsKept (shown first holds prepared put after) put after
+    pub init_kept : IsKept (state_of first holds prepared put after) put after
     init_kept = record {
       counted = record {
-        counts = bag-more is.counted.counts seals.held (standing-task s (first_task task process number) refl);
+        counts = bag-more is.counted.counts seals.held (in_use-task s (first_task task process number) refl);
         keeps = keeps_same t after _ is.counted.keeps seals.kept;
       };
       filled = subst (λ (ss : List ℕ). AreFilled put ss) (sym seals.sealed)
@@ -58,7 +58,7 @@ module _ {tasks : List Task} {holds : List Hold} {prepared : List Prepared} {sto
     }
 
     pub init_sealed : find (λ u. u.number == task) tasks ≡ None → length tasks < 64
-        → Does (settled s (by_init s task process user group ns)) (Sealed number slot) (shown first holds prepared put after)
+        → IsOutcomeLike (outcome s (by_init s task process user group ns)) (Sealed number slot) (state_of first holds prepared put after)
     unfolding init_does
     init_sealed new few =
         let c = first_credential user group ns in

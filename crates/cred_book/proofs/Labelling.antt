@@ -9,16 +9,16 @@ use Rattle.cred_record.specs.Credential.{Credential}
 use Rattle.cred_event.specs.declared.answer.Answer.{Answer}
 use Rattle.cred_event.specs.declared.answer.Answer.TheVariants.{Done, Kept, TableFull}
 use Rattle.cred_model.specs.State.{State, Task, Hold, Prepared, Changed, task_of, hold_of, prepared_of}
-use Rattle.cred_model.specs.Slots.{standing, kept}
+use Rattle.cred_model.specs.Slots.{in_use, kept}
 use Rattle.cred_model.specs.Step as step
-use Rattle.cred_model.specs.Step.{by_abort, by_prepare, settled, in_slot, table_full, with_change}
+use Rattle.cred_model.specs.Step.{by_abort, by_prepare, outcome, in_slot, table_full, with_change}
 use Rattle.cred_slots.specs.Table.{Table, IsSameBag, is_kept}
 use Rattle.cred_slots.specs.Table as table
-use Rattle.cred_book.specs.Kept.{AreFilled, creds_in, shown, IsCounted, IsKept}
+use Rattle.cred_book.specs.Kept.{AreFilled, creds_in, state_of, IsCounted, IsKept}
 use Rattle.cred_book.proofs.Bags.{bag-more, bag-less, bag-has, bag-at}
 use Rattle.cred_book.proofs.Keeps.{is_among, keeps-push, keeps-remove, among-at}
 use Rattle.cred_book.proofs.Sealing.{in_free, in_none}
-use Rattle.cred_book.proofs.Standing.{standing-label, standing-unlabel, standing-altered, kept-altered}
+use Rattle.cred_book.proofs.InUse.{in_use-label, in_use-unlabel, in_use-altered, kept-altered}
 
 remove-map : {X Y : Type 0} (f : X → Y) (xs : List X) (i : ℕ) → map f (remove xs i) ≡ remove (map f xs) i
 remove-map f xs i =
@@ -66,7 +66,7 @@ claims t r claimed after found m n base slot spared free is gives keeps held add
 -- ---- what the tests of an event lead to
 
 pub abort_tests : (s : State) (label place : ℕ) (p : Prepared) → position (λ q. q.label == label) s.prepared ≡ Some place → slice_get s.prepared place ≡ Some p
-    → settled s (by_abort s label) ≡ (Done, step.given_up s place p)
+    → outcome s (by_abort s label) ≡ (Done, step.given_up s place p)
 abort_tests s label place p at there = rw (at, there) refl
 
 prepare_does : (label task base : ℕ) → State → ℕ → Answer × State
@@ -87,28 +87,28 @@ pub record MayPrepare (s : State) (label task hold : ℕ) : Type 0 where
   pub few : length s.prepared < 64
 
 prepare_tests : (s : State) (label task hold : ℕ) (may : MayPrepare s label task hold)
-    → settled s (by_prepare s label task hold) ≡ in_slot s table_full (prepare_does label task may.base.number)
+    → outcome s (by_prepare s label task hold) ≡ in_slot s table_full (prepare_does label task may.base.number)
 unfolding prepare_does
 prepare_tests s label task hold may =
     rw (may.lives, may.has, may.new, may.unprepared, few_prepared (length s.prepared) may.few) refl
 
-module _ {tasks : List Task} {holds : List Hold} {prepared : List Prepared} {store : List (Option Credential)} {t : Table} (is : IsKept (shown tasks holds prepared store t) store t) where
+module _ {tasks : List Task} {holds : List Hold} {prepared : List Prepared} {store : List (Option Credential)} {t : Table} (is : IsKept (state_of tasks holds prepared store t) store t) where
   abbrev s : State
-  s = shown tasks holds prepared store t
+  s = state_of tasks holds prepared store t
 
   pub prepare_full : (after : Table) (label task hold : ℕ) → MayPrepare s label task hold → table.free t ≡ None
-      → shown tasks holds prepared store (table.room t) ≡ shown tasks holds prepared store after
-      → settled s (by_prepare s label task hold) ≡ (TableFull, shown tasks holds prepared store after)
+      → state_of tasks holds prepared store (table.room t) ≡ state_of tasks holds prepared store after
+      → outcome s (by_prepare s label task hold) ≡ (TableFull, state_of tasks holds prepared store after)
   prepare_full after label task hold may none makes =
       prepare_tests s label task hold may ∙ in_none is (prepare_does label task may.base.number) after none makes
 
   module _ (after : Table) (p : Prepared) (claim : Claims t after p.base p.slot) where
-    pub prepare_kept : IsKept (shown tasks holds (prepared ++ p ∷ []) store after) store after
+    pub prepare_kept : IsKept (state_of tasks holds (prepared ++ p ∷ []) store after) store after
     prepare_kept =
         let slots : kept (record s { prepared = prepared ++ p ∷ [] }) ≡ kept s ++ p.slot ∷ [] = map-append (λ (q : Prepared). q.slot) prepared (p ∷ []) in
         record {
           counted = record {
-            counts = bag-more is.counted.counts claim.held (standing-label s p);
+            counts = bag-more is.counted.counts claim.held (in_use-label s p);
             keeps = λ slot.
                 ap (λ ks. slice_index_or ks slot false) claim.kept
                 ∙ keeps-push t.kept (kept s) p.slot is.counted.keeps (sym (ap (λ ks. slice_index_or ks p.slot false) claim.kept) ∙ claim.here) slot
@@ -118,8 +118,8 @@ module _ {tasks : List Task} {holds : List Hold} {prepared : List Prepared} {sto
         }
 
   pub prepare_done : (after : Table) (label task hold slot : ℕ) (may : MayPrepare s label task hold) → Claims t after may.base.number slot
-      → settled s (by_prepare s label task hold)
-      ≡ (Kept slot, shown tasks holds (prepared ++ record { label = label; task = task; base = may.base.number; slot = slot; changed = None } ∷ []) store after)
+      → outcome s (by_prepare s label task hold)
+      ≡ (Kept slot, state_of tasks holds (prepared ++ record { label = label; task = task; base = may.base.number; slot = slot; changed = None } ∷ []) store after)
   unfolding prepare_does
   prepare_done after label task hold slot may claim =
       let p : Prepared = record { label = label; task = task; base = may.base.number; slot = slot; changed = None } in
@@ -129,10 +129,10 @@ module _ {tasks : List Task} {holds : List Hold} {prepared : List Prepared} {sto
 
   -- ---- a label changes what it prepares
 
-  pub alter_kept : (label : ℕ) (to : Changed) → IsKept (shown tasks holds (with_change prepared label to) store t) store t
+  pub alter_kept : (label : ℕ) (to : Changed) → IsKept (state_of tasks holds (with_change prepared label to) store t) store t
   alter_kept label to = record {
-    counted = subst (λ (ns : List ℕ). IsCounted ns (kept (record s { prepared = with_change prepared label to })) t) (sym (standing-altered s label to))
-        (subst (λ (ks : List ℕ). IsCounted (standing s) ks t) (sym (kept-altered s label to)) is.counted);
+    counted = subst (λ (ns : List ℕ). IsCounted ns (kept (record s { prepared = with_change prepared label to })) t) (sym (in_use-altered s label to))
+        (subst (λ (ks : List ℕ). IsCounted (in_use s) ks t) (sym (kept-altered s label to)) is.counted);
     filled = is.filled;
   }
 
@@ -147,7 +147,7 @@ module _ {tasks : List Task} {holds : List Hold} {prepared : List Prepared} {sto
     slot-kept = is.counted.keeps p.slot ∙ among-at (kept s) place p.slot kept-there
 
     pub base-held : 0 < count_by (λ m. m == p.base) t.held
-    base-held = bag-at p.base is.counted.counts (bag-has (standing-unlabel s place p there))
+    base-held = bag-at p.base is.counted.counts (bag-has (in_use-unlabel s place p there))
 
     -- which slots are kept once it is given up
     pub keeps-less : AllPairs (λ a b. a ≢ b) (kept s) → (slot : ℕ)
@@ -157,17 +157,17 @@ module _ {tasks : List Task} {holds : List Hold} {prepared : List Prepared} {sto
         ∙ ap (λ ks. is_among ks slot) (sym (remove-map (λ (q : Prepared). q.slot) prepared place))
 
     module _ (after : Table) (held : IsSameBag t.held (p.base ∷ after.held)) (sealed : after.sealed ≡ t.sealed) (deferred : after.deferred ≡ t.deferred ++ p.base ∷ []) where
-      pub abort_kept : AllPairs (λ a b. a ≢ b) (kept s) → after.kept ≡ slice_set t.kept p.slot false → IsKept (shown tasks holds (remove prepared place) store after) store after
+      pub abort_kept : AllPairs (λ a b. a ≢ b) (kept s) → after.kept ≡ slice_set t.kept p.slot false → IsKept (state_of tasks holds (remove prepared place) store after) store after
       abort_kept own frees = record {
         counted = record {
-          counts = bag-less is.counted.counts held (standing-unlabel s place p there);
+          counts = bag-less is.counted.counts held (in_use-unlabel s place p there);
           keeps = λ slot. ap (λ ks. slice_index_or ks slot false) frees ∙ keeps-less own slot;
         };
         filled = subst (λ (ss : List ℕ). AreFilled store ss) (sym sealed) is.filled;
       }
 
       pub abort_done : (label : ℕ) → position (λ q. q.label == label) prepared ≡ Some place
-          → settled s (by_abort s label) ≡ (Done, shown tasks holds (remove prepared place) store after)
+          → outcome s (by_abort s label) ≡ (Done, state_of tasks holds (remove prepared place) store after)
       abort_done label at =
           abort_tests s label place p at there
           ∙ ap (λ (ds : List ℕ). (Done, record s { prepared = remove prepared place; deferred = ds })) (sym deferred)

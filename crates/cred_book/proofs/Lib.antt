@@ -5,7 +5,7 @@ pub mod Labels
 pub mod Bags
 pub mod Keeps
 pub mod Free
-pub mod Standing
+pub mod InUse
 pub mod Stored
 pub mod Sealing
 pub mod Inits

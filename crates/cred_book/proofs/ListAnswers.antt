@@ -20,12 +20,12 @@ use Rattle.cred_model.specs.Named.{change_files}
 use Rattle.cred_model.specs.State.{State, Prepared, Changed, task_of, hold_of, prepared_of, numbered, current_of, held_by}
 use Rattle.cred_model.specs.Slots.{room, free}
 use Rattle.cred_model.specs.Change.{Made, made_by_rule, by_change, by_rule}
-use Rattle.cred_model.specs.Like.{IsLike, Does}
-use Rattle.cred_model.specs.Step.{TASKS, HOLDS, PREPARED, ◌>>=◌, none_or, fewer_or, table_full, first_task, created, replaced, preparing, altered, given_up, commit_answer, committed, done, settled, step}
+use Rattle.cred_model.specs.Like.{IsLike, IsOutcomeLike}
+use Rattle.cred_model.specs.Step.{TASKS, HOLDS, PREPARED, ◌>>=◌, none_or, fewer_or, table_full, first_task, created, replaced, preparing, altered, given_up, commit_answer, committed, done, outcome, step}
 
 -- the state is left where the answer holds a list
 record Leaves (s : State) (made : Result (Answer × State) Answer) : Type 0 where
-  leaves : HoldsList (settled s made).0 → (settled s made).1 ≡ s
+  leaves : HoldsList (outcome s made).0 → (outcome s made).1 ≡ s
 
 -- a test that refuses leaves the state
 tested : {A : Type 0} (s : State) (test : Result A Answer) (goes_on : A → Result (Answer × State) Answer)
@@ -57,10 +57,10 @@ alters file chain s label (Adjust call) base = adjusts s label (Adjust call) (ad
 alters file chain s label change base = record { leaves = λ list. refl }
 
 -- A commit is answered without a list.
-settles : (s : State) (place : ℕ) (p : Prepared) (current : ℕ) (last : Changed) (test : Bool)
+tries_commit : (s : State) (place : ℕ) (p : Prepared) (current : ℕ) (last : Changed) (test : Bool)
     → Leaves s (Ok (if test then (commit_answer last (length s.creds) p.slot, committed s place p current last.cred) else (Stale p.base current, given_up s place p)))
-settles s place p current last true = record { leaves = λ list. absurd list }
-settles s place p current last false = record { leaves = λ list. absurd list }
+tries_commit s place p current last true = record { leaves = λ list. absurd list }
+tries_commit s place p current last false = record { leaves = λ list. absurd list }
 
 by_event : (script : Script) (s : State) (line : ℕ) (event : Event) → Leaves s (done script s line event)
 unfolding altered_to
@@ -99,7 +99,7 @@ by_event script s line (Commit label) =
     (λ place. tested s (ok_or (slice_get s.prepared place) (NoPrepared label)) _
     (λ p. tested s (ok_or p.changed (NoPrepared label)) _
     (λ last. tested s (ok_or (current_of s p.task) (NoTask p.task)) _
-    (λ now. settles s place p now.number last (now.number == p.base)))))
+    (λ now. tries_commit s place p now.number last (now.number == p.base)))))
 by_event script s line (Abort label) =
     tested s (ok_or (position (λ p. p.label == label) s.prepared) (NoPrepared label)) _
     (λ place. tested s (ok_or (slice_get s.prepared place) (NoPrepared label)) _ (λ p. record { leaves = λ list. absurd list }))
@@ -115,7 +115,7 @@ pub list_leaves : (script : Script) (s : State) (line : ℕ) (event : Event) →
 list_leaves script s line event = (by_event script s line event).leaves
 
 -- What is so where the event was made: the state after it is like the one before.
-pub list_stays : (script : Script) (s after : State) (line : ℕ) (event : Event) (answer : Answer) → Does (step script s line event) answer after
+pub list_stays : (script : Script) (s after : State) (line : ℕ) (event : Event) (answer : Answer) → IsOutcomeLike (step script s line event) answer after
     → HoldsList answer → IsLike after s
 list_stays script s after line event answer does list =
     subst (IsLike after) (list_leaves script s line event (subst HoldsList (sym does.answers) list)) does.leads

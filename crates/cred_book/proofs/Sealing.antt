@@ -12,11 +12,11 @@ use Rattle.cred_slots.specs.Table.{Table, IsSameBag, IsAlone, is_kept, stands_in
 use Rattle.cred_slots.proofs.Counting.{count-cons, count-append}
 use Rattle.cred_slots.specs.Table as table
 use Rattle.cred_slots.proofs.Tables.{held_is_referred}
-use Rattle.cred_book.specs.Kept.{shown, IsKept, Seals}
+use Rattle.cred_book.specs.Kept.{state_of, IsKept, Seals}
 use Rattle.cred_book.proofs.Bags.{bag-at}
 use Rattle.cred_book.proofs.Free.{room-same, free-same}
 use Rattle.cred_book.proofs.Keeps.{is_among}
-use Rattle.cred_book.proofs.Standing.{current-stands}
+use Rattle.cred_book.proofs.InUse.{current-stands}
 use Rattle.cred_book.proofs.Stored.{is_table}
 
 -- ---- a table with more room to spare
@@ -53,30 +53,30 @@ finds_full : (s r : State) (does : State → ℕ → Answer × State) → model.
 finds_full s r does full makes =
     ap (λ o. option_map_or (does (model.room s)) o (table_full (model.room s))) full ∙ ap (λ (x : State). (TableFull, x)) makes
 
-module _ {tasks : List Task} {holds : List Hold} {prepared : List Prepared} {store : List (Option Credential)} {t : Table} (is : IsKept (shown tasks holds prepared store t) store t) where
+module _ {tasks : List Task} {holds : List Hold} {prepared : List Prepared} {store : List (Option Credential)} {t : Table} (is : IsKept (state_of tasks holds prepared store t) store t) where
   -- the state with the room that the table makes
   abbrev pub roomy : State
-  roomy = shown tasks holds prepared store (table.room t)
+  roomy = state_of tasks holds prepared store (table.room t)
 
   pub in_free : (does : State → ℕ → Answer × State) (slot : ℕ) → table.free t ≡ Some slot
-      → in_slot (shown tasks holds prepared store t) table_full does ≡ does roomy slot
+      → in_slot (state_of tasks holds prepared store t) table_full does ≡ does roomy slot
   in_free does slot takes =
-      let s = shown tasks holds prepared store t in
+      let s = state_of tasks holds prepared store t in
       takes_slot s roomy does slot (sym (free-same s t (is_table is)) ∙ takes) (room-same s t (is_table is))
 
   pub in_none : (does : State → ℕ → Answer × State) (after : Table) → table.free t ≡ None
-      → roomy ≡ shown tasks holds prepared store after
-      → in_slot (shown tasks holds prepared store t) table_full does ≡ (TableFull, shown tasks holds prepared store after)
+      → roomy ≡ state_of tasks holds prepared store after
+      → in_slot (state_of tasks holds prepared store t) table_full does ≡ (TableFull, state_of tasks holds prepared store after)
   in_none does after none makes =
-      let s = shown tasks holds prepared store t in
-      finds_full s (shown tasks holds prepared store after) does (sym (free-same s t (is_table is)) ∙ none)
+      let s = state_of tasks holds prepared store t in
+      finds_full s (state_of tasks holds prepared store after) does (sym (free-same s t (is_table is)) ∙ none)
       (room-same s t (is_table is) ∙ makes)
 
   -- a task's current credential is held
-  pub current-held : (task : ℕ) (old : Numbered) → current_of (shown tasks holds prepared store t) task ≡ Some old
+  pub current-held : (task : ℕ) (old : Numbered) → current_of (state_of tasks holds prepared store t) task ≡ Some old
       → 0 < count_by (λ m. m == old.number) t.held
   current-held task old has =
-      let s = shown tasks holds prepared store t in
+      let s = state_of tasks holds prepared store t in
       let u = current_is s task old has in
       subst (λ (n : ℕ). 0 < count_by (λ m. m == n) t.held) (sym u.number)
       (bag-at u.owner.current is.counted.counts (current-stands s task u.owner u.is))
@@ -84,9 +84,9 @@ module _ {tasks : List Task} {holds : List Hold} {prepared : List Prepared} {sto
 -- the room that was made is that of the table without the spare
 pub roomy_spare : (tasks : List Task) (holds : List Hold) (prepared : List Prepared) (store : List (Option Credential)) (t r after : Table) (m : ℕ)
     → r ≡ record t { spare = m } → after ≡ table.room r
-    → shown tasks holds prepared store (table.room t) ≡ shown tasks holds prepared store after
+    → state_of tasks holds prepared store (table.room t) ≡ state_of tasks holds prepared store after
 roomy_spare tasks holds prepared store t r after m is made =
-    sym (ap (λ (x : Table). shown tasks holds prepared store x) (subst (λ (x : Table). after ≡ table.room x) is made))
+    sym (ap (λ (x : Table). state_of tasks holds prepared store x) (subst (λ (x : Table). after ≡ table.room x) is made))
 
 -- the same slots are kept
 pub keeps_same : (t after : Table) (slots : List ℕ) → ((slot : ℕ) → is_kept t slot ≡ is_among slots slot) → after.kept ≡ t.kept

@@ -7,25 +7,25 @@ use Rattle.std.proofs.lemmas.List.Elements.{All-append, All-nil, All-cons}
 use Rattle.std.proofs.lemmas.Option.{slice_get_within, slice_get-map}
 use Rattle.cred_record.specs.Credential.{Credential}
 use Rattle.cred_event.specs.declared.answer.Answer.{Answer}
-use Rattle.cred_model.specs.State.{State, Task, Hold, Prepared, Sealing, numbered}
-use Rattle.cred_model.specs.Slots.{standing, refs}
-use Rattle.cred_model.specs.Like.{IsLike, Does}
+use Rattle.cred_model.specs.State.{State, Task, Hold, Prepared, SealedCred, numbered}
+use Rattle.cred_model.specs.Slots.{in_use, refs}
+use Rattle.cred_model.specs.Like.{IsLike, IsOutcomeLike}
 use Rattle.cred_model.proofs.Lists.{slice_get-left}
 use Rattle.cred_slots.specs.Table.{Table, SLOTS, IsAlone, stands_in, references_to}
 use Rattle.cred_slots.proofs.Counting.{count-append}
-use Rattle.cred_book.specs.Kept.{placed, creds_in, AreFilled, shown, IsKept}
+use Rattle.cred_book.specs.Kept.{placed, creds_in, AreFilled, state_of, IsKept}
 use Rattle.cred_book.proofs.Bags.{count-at}
 use Rattle.cred_book.proofs.Free.{IsTable}
 
 -- ---- what an event does
 
 -- where the event gives a state that this one is like
-pub does_made : {gives : Answer × State} {answer : Answer} {made after : State} → gives ≡ (answer, made) → IsLike after made → Does gives answer after
-does_made {answer = answer} {after = after} is like = subst (λ (g : Answer × State). Does g answer after) (sym is) (record { answers = refl; leads = like })
+pub does_made : {gives : Answer × State} {answer : Answer} {made after : State} → gives ≡ (answer, made) → IsLike after made → IsOutcomeLike gives answer after
+does_made {answer = answer} {after = after} is like = subst (λ (g : Answer × State). IsOutcomeLike g answer after) (sym is) (record { answers = refl; leads = like })
 
 -- ---- the state that is kept
 
-slots-creds_in : (store : List (Option Credential)) (slots : List ℕ) → map (λ sealing. sealing.slot) (creds_in store slots) ≡ slots
+slots-creds_in : (store : List (Option Credential)) (slots : List ℕ) → map (λ sealed. sealed.slot) (creds_in store slots) ≡ slots
 slots-creds_in store [] = refl
 slots-creds_in store (slot ∷ slots) = ap (λ (rest : List ℕ). slot ∷ rest) (slots-creds_in store slots)
 
@@ -36,13 +36,13 @@ length-creds_in store (slot ∷ slots) = ap suc (length-creds_in store slots)
 pub numbered-creds_in : (store : List (Option Credential)) (slots : List ℕ) (n slot : ℕ) (c : Credential) → slice_get slots n ≡ Some slot
     → get_or store slot None ≡ Some c → numbered (creds_in store slots) n ≡ Some (record { number = n; cred = c; slot = slot })
 numbered-creds_in store slots n slot c stands there =
-    ap (option_map (λ (x : Sealing). record { number = n; cred = x.cred; slot = x.slot }))
+    ap (option_map (λ (x : SealedCred). record { number = n; cred = x.cred; slot = x.slot }))
     (slice_get-map (λ (k : ℕ). record { cred = placed store k; slot = k }) slots n
     ∙ ap (option_map (λ (k : ℕ). record { cred = placed store k; slot = k })) stands
     ∙ ap (λ (o : Option Credential). Some (record { cred = option_map_or (λ (x : Credential). x) o (placed [] 0); slot = slot })) there)
 
 pub is_table : {tasks : List Task} {holds : List Hold} {prepared : List Prepared} {store : List (Option Credential)} {t : Table}
-    → IsKept (shown tasks holds prepared store t) store t → IsTable (shown tasks holds prepared store t) t
+    → IsKept (state_of tasks holds prepared store t) store t → IsTable (state_of tasks holds prepared store t) t
 is_table {store = store} {t = t} is = record { counted = is.counted; slots = slots-creds_in store t.sealed; deferred = refl }
 
 -- ---- a credential is put in its place
@@ -87,7 +87,7 @@ refs-counted {a = a} {t = t} is k d lt =
     let n : ℕ = get_or (refs a) k d in
     let test : ℕ → Bool = λ m. m == n in
     let some = count-at (refs a) k d lt in
-    let all = count-append test (standing a) a.deferred in
+    let all = count-append test (in_use a) a.deferred in
     let held = is.counted.counts.counts test in
     let late : count_by test a.deferred ≡ count_by test t.deferred = ap (λ ds. count_by test ds) is.deferred in
     let both = count-append test t.held t.deferred in
@@ -96,14 +96,14 @@ refs-counted {a = a} {t = t} is k d lt =
 -- The state in which the credential is put in the slot's place is like the one in which it is sealed, since nothing else
 -- that stood there is referred to any more.
 pub stored_like : {tasks : List Task} {holds : List Hold} {prepared : List Prepared} (store : List (Option Credential)) (t : Table) (before : List ℕ) (c : Credential) (slot : ℕ) (made : State)
-    → IsKept (shown tasks holds prepared (slice_set store slot (Some c)) t) (slice_set store slot (Some c)) t → t.sealed ≡ before ++ slot ∷ [] → length store ≡ SLOTS → slot < SLOTS
+    → IsKept (state_of tasks holds prepared (slice_set store slot (Some c)) t) (slice_set store slot (Some c)) t → t.sealed ≡ before ++ slot ∷ [] → length store ≡ SLOTS → slot < SLOTS
     → IsAlone t (length before) slot
     → tasks ≡ made.tasks → holds ≡ made.holds → prepared ≡ made.prepared → t.deferred ≡ made.deferred
     → creds_in store before ++ record { cred = c; slot = slot } ∷ [] ≡ made.creds
-    → IsLike (shown tasks holds prepared (slice_set store slot (Some c)) t) made
+    → IsLike (state_of tasks holds prepared (slice_set store slot (Some c)) t) made
 stored_like {tasks = tasks} {holds = holds} {prepared = prepared} store t before c slot made is sealed long in_table alone same_tasks same_holds same_prepared same_deferred creds =
     let put = slice_set store slot (Some c) in
-    let a : State = shown tasks holds prepared put t in
+    let a : State = state_of tasks holds prepared put t in
     let within : slot < length store = omega arith in
     let old : (n : ℕ) → 0 < references_to t n → slice_get before n ≡ Some slot → ⊥
     = λ n some at.
@@ -118,14 +118,14 @@ stored_like {tasks = tasks} {holds = holds} {prepared = prepared} store t before
       prepared = same_prepared;
       deferred = same_deferred;
       slots = slots-creds_in put t.sealed ∙ sealed
-          ∙ sym (ap (λ (cs : List Sealing). map (λ sealing. sealing.slot) cs) (sym creds) ∙ slots-push before);
+          ∙ sym (ap (λ (cs : List SealedCred). map (λ sealed. sealed.slot) cs) (sym creds) ∙ slots-push before);
       creds = λ k d lt.
           let n : ℕ = get_or (refs a) k d in
           ap (λ ss. slice_get (creds_in put ss) n) sealed
           ∙ same_at store slot c within before n (old n (refs-counted (is_table is) k d lt))
-          ∙ ap (λ (cs : List Sealing). slice_get cs n) creds;
+          ∙ ap (λ (cs : List SealedCred). slice_get cs n) creds;
     }
   where
-    slots-push : (ss : List ℕ) → map (λ sealing. sealing.slot) (creds_in store ss ++ record { cred = c; slot = slot } ∷ []) ≡ ss ++ slot ∷ []
+    slots-push : (ss : List ℕ) → map (λ sealed. sealed.slot) (creds_in store ss ++ record { cred = c; slot = slot } ∷ []) ≡ ss ++ slot ∷ []
     slots-push [] = refl
     slots-push (s ∷ ss) = ap (λ (rest : List ℕ). s ∷ rest) (slots-push ss)

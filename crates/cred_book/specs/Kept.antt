@@ -5,21 +5,21 @@ use Rattle.std.specs.declared.option.Option.{Option}
 use Rattle.std.specs.List.{All, list_any}
 use Rattle.std.specs.Option.{IsSome, option_map_or}
 use Rattle.cred_record.specs.Credential.{Credential, first_credential}
-use Rattle.cred_model.specs.State.{State, Task, Hold, Prepared, Sealing, Numbered}
-use Rattle.cred_model.specs.Slots.{standing, kept}
+use Rattle.cred_model.specs.State.{State, Task, Hold, Prepared, SealedCred, Numbered}
+use Rattle.cred_model.specs.Slots.{in_use, kept}
 use Rattle.cred_slots.specs.Table.{Table, SLOTS, IsSameBag, IsAlone, is_kept, room, free}
 use Rattle.cred_book.specs.declared.table.Numbered as table
 
 -- what stands for the credential of a place that has none
-unfoldable pub nobody : Credential
-nobody = first_credential 0 0 0
+unfoldable pub no_credential : Credential
+no_credential = first_credential 0 0 0
 
 -- the credential in a slot's place
 abbrev pub placed : List (Option Credential) → ℕ → Credential
-placed store slot = option_map_or (λ cred. cred) (slice_index_or store slot None) nobody
+placed store slot = option_map_or (λ cred. cred) (slice_index_or store slot None) no_credential
 
 -- what stands under each sealed number, where these are their slots
-abbrev pub creds_in : List (Option Credential) → List ℕ → List Sealing
+abbrev pub creds_in : List (Option Credential) → List ℕ → List SealedCred
 creds_in store slots = map (λ slot. record { cred = placed store slot; slot = slot }) slots
 
 -- a sealed credential with its number, wherever it lies
@@ -31,8 +31,9 @@ abbrev pub AreFilled : List (Option Credential) → List ℕ → Type 0
 AreFilled store slots = All (λ slot. IsSome (slice_index_or store slot None)) slots
 
 -- the state that is kept so
-abbrev pub shown : List Task → List Hold → List Prepared → List (Option Credential) → Table → State
-shown tasks holds prepared store table = record {
+abbrev pub state_of : List Task → List Hold → List Prepared → List (Option Credential) → Table
+    → State
+state_of tasks holds prepared store table = record {
   tasks = tasks;
   holds = holds;
   prepared = prepared;
@@ -41,14 +42,14 @@ shown tasks holds prepared store table = record {
 }
 
 -- The table counts just these references, and keeps just these slots.
-pub record IsCounted (standing kept : List ℕ) (table : Table) : Type 0 where
-  pub counts : IsSameBag table.held standing
+pub record IsCounted (in_use kept : List ℕ) (table : Table) : Type 0 where
+  pub counts : IsSameBag table.held in_use
   pub keeps : (slot : ℕ) → is_kept table slot ≡ list_any (λ kept. kept == slot) kept
 
 -- The table counts what the state refers to and keeps, and each sealed credential is in its slot's
 -- place, until another one is put there.
 pub record IsKept (s : State) (store : List (Option Credential)) (table : Table) : Type 0 where
-  pub counted : IsCounted (standing s) (kept s) table
+  pub counted : IsCounted (in_use s) (kept s) table
   pub filled : AreFilled store table.sealed
 
 -- The next number was sealed in the free slot, with one reference, after a sweep where one was

@@ -73,7 +73,11 @@ impl Holds {
         Some(self.all[place].number)
     }
 
-    /// A label takes hold of a number. Without memory nothing changes.
+    /// A label takes hold of a number.
+    ///
+    /// # Errors
+    ///
+    /// `NoMemory` if an allocation fails: the holds are as they were.
     pub fn take(&mut self, label: u32, number: u64) -> Result<(), NoMemory>
         requires { find (λ h. h.label == label) self.old ≡ None }
         ensures ok { OnOk result

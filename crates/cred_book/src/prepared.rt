@@ -123,7 +123,11 @@ impl Preparing {
         })
     }
 
-    /// A label that wasn't prepared begins to prepare. Without memory nothing changes.
+    /// A label that wasn't prepared begins to prepare.
+    ///
+    /// # Errors
+    ///
+    /// `NoMemory` if an allocation fails: the labels are as they were.
     pub fn prepare(&mut self, prepared: Prepared) -> Result<(), NoMemory>
         requires { find (λ p. p.label == prepared.label) self.old ≡ None }
         ensures ok { OnOk result (self.new ≡ self.old ++ prepared ∷ []) }

@@ -4,10 +4,11 @@ ghost use Rattle.std.specs.Prelude.{◌≡◌, ◌||◌, is_some, length, IfOk, 
 ghost use Rattle.std.specs.Option.{option_map};
 ghost use Rattle.cred_model.specs.State.{opening, hold_of, prepared_of, current_of, held_by};
 ghost use Rattle.cred_model.specs.Slots as model;
-ghost use Rattle.cred_model.specs.Step.{by_ask, by_begin, by_init, by_release, by_take, done, settled};
+ghost use Rattle.cred_model.specs.Step.{by_ask, by_begin, by_init, by_release, by_take, done};
 ghost use Rattle.cred_model.specs.Named.{IsEventOf};
-ghost use Rattle.cred_model.specs.Like.{Does};
+ghost use Rattle.cred_model.specs.Like.{Gives, GivesLike};
 ghost use Rattle.cred_sound.specs.Sound.{IsSound};
+ghost use Rattle.cred_book.specs.Kept.{seen_numbered};
 
 mod prepare;
 
@@ -47,14 +48,14 @@ pub struct State {
 
 impl Model for State {
     ghost use Rattle.cred_model.specs.State as model;
-    ghost use Rattle.cred_book.specs.Kept.{shown, IsKept};
+    ghost use Rattle.cred_book.specs.Kept.{state_of, IsKept};
 
     ghost Value = { model.State };
 
-    ghost view = { λ s. shown s.tasks.items s.holds s.prepared s.store s.slots };
+    ghost view = { λ s. state_of s.tasks.items s.holds s.prepared s.store s.slots };
 
     ghost invariant = { λ s.
-        IsKept (shown s.tasks.items s.holds s.prepared s.store s.slots) s.store s.slots };
+        IsKept (state_of s.tasks.items s.holds s.prepared s.store s.slots) s.store s.slots };
 }
 
 impl State {
@@ -86,7 +87,7 @@ impl State {
         requires kind { IsEventOf (length script.now.files) event.now }
         requires sound { IsSound self.old }
         ensures ok { IfOk result (λ answer.
-            Does (settled self.old (done script.now self.old line event.now)) answer self.new) }
+            GivesLike self.old (done script.now self.old line event.now) answer self.new) }
         ensures err { OnErr result (self.new ≡ self.old) }
     {
         match event {
@@ -124,8 +125,7 @@ impl State {
 
     /// The current credential of a task.
     fn current(&self, task: u32) -> Option<Numbered<'_>>
-        ensures { option_map (λ n. record { number = n.number; cred = n.cred.now; slot = n.slot })
-            result ≡ current_of self.now task }
+        ensures { option_map seen_numbered result ≡ current_of self.now task }
     {
         let task = task_among(&self.tasks, task)?;
         sealed_at(&self.store, &self.slots, task.current)
@@ -133,8 +133,7 @@ impl State {
 
     /// The credential that a label holds.
     fn held(&self, label: u32) -> Option<Numbered<'_>>
-        ensures { option_map (λ n. record { number = n.number; cred = n.cred.now; slot = n.slot })
-            result ≡ held_by self.now label }
+        ensures { option_map seen_numbered result ≡ held_by self.now label }
     {
         let number = self.holds.get(label)?;
         sealed_at(&self.store, &self.slots, number)
@@ -157,8 +156,7 @@ impl State {
         ns: u32,
     ) -> Result<Answer, NoMemory>
         ensures ok { IfOk result (λ answer.
-            Does (settled self.old (by_init self.old number process user group ns))
-            answer self.new) }
+            GivesLike self.old (by_init self.old number process user group ns) answer self.new) }
         ensures err { OnErr result (self.new ≡ self.old) }
     {
         if task_among(&self.tasks, number).is_some() {
@@ -190,7 +188,7 @@ impl State {
 
     fn take(&mut self, label: u32, task: u32, side: Side) -> Result<Answer, NoMemory>
         ensures ok { IfOk result (λ answer.
-            settled self.old (by_take self.old label task side) ≡ (answer, self.new)) }
+            Gives self.old (by_take self.old label task side) answer self.new) }
         ensures err { OnErr result (self.new ≡ self.old) }
     {
         let Some(Numbered { number, slot, .. }) = self.current(task) else {
@@ -212,7 +210,7 @@ impl State {
     }
 
     fn release(&mut self, label: u32) -> Answer
-        ensures { settled self.old (by_release self.old label) ≡ (result, self.new) }
+        ensures { Gives self.old (by_release self.old label) result self.new }
     {
         let Some(number) = self.holds.release(label) else {
             return Answer::NoHold(label);
@@ -223,7 +221,7 @@ impl State {
 
     fn ask(&self, script: &Script, label: u32, query: Query) -> Result<Answer, NoMemory>
         ensures { IfOk result (λ answer.
-            settled self.now (by_ask script.now self.now label query) ≡ (answer, self.now)) }
+            Gives self.now (by_ask script.now self.now label query) answer self.now) }
     {
         match self.held(label) {
             Some(held) => reply(self.alloc, asked_file(script, query), held.cred, query),
@@ -234,7 +232,7 @@ impl State {
     fn begin(&mut self, task: u32, call: &IdCall) -> Result<Answer, NoMemory>
         requires { IsSound self.old }
         ensures ok { IfOk result (λ answer.
-            Does (settled self.old (by_begin self.old task call.now)) answer self.new) }
+            GivesLike self.old (by_begin self.old task call.now) answer self.new) }
         ensures err { OnErr result (self.new ≡ self.old) }
     {
         let Some(

@@ -3,7 +3,7 @@ ghost use Rattle.std.specs.Prelude.{◌≡◌, ◌==◌, find};
 ghost use Rattle.std.specs.Option.{option_map};
 ghost use Rattle.cred_model.specs.State as model;
 ghost use Rattle.cred_model.specs.Step as spec;
-ghost use Rattle.cred_book.specs.Kept.{creds_in, AreFilled};
+ghost use Rattle.cred_book.specs.Kept.{creds_in, AreFilled, seen_numbered};
 
 use crate::store::Store;
 use cred_record::Cred;
@@ -48,8 +48,8 @@ pub struct Numbered<'a> {
 /// the number any more, a later credential may stand there.
 pub fn sealed_at<'a>(store: &'a Store, slots: &Slots, number: u64) -> Option<Numbered<'a>>
     requires { AreFilled store.now slots.now.sealed }
-    ensures { option_map (λ n. record { number = n.number; cred = n.cred.now; slot = n.slot })
-        result ≡ model.numbered (creds_in store.now slots.now.sealed) number }
+    ensures { option_map seen_numbered result
+        ≡ model.numbered (creds_in store.now slots.now.sealed) number }
 {
     if number >= slots.next_number() {
         return None;
@@ -60,8 +60,8 @@ pub fn sealed_at<'a>(store: &'a Store, slots: &Slots, number: u64) -> Option<Num
     Some(Numbered { number, cred, slot })
 }
 
-fn renewed(t: Task, task: u32, number: u64) -> Task
-    ensures { result ≡ spec.renewed task number t }
+fn updated(t: Task, task: u32, number: u64) -> Task
+    ensures { result ≡ spec.updated task number t }
 {
     if t.number == task {
         Task {
@@ -78,6 +78,6 @@ pub fn set_current(tasks: &mut [Task], task: u32, number: u64)
     ensures { tasks.new ≡ spec.with_current tasks.old task number }
 {
     for t in tasks.iter_mut() {
-        *t = renewed(*t, task, number);
+        *t = updated(*t, task, number);
     }
 }

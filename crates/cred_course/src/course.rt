@@ -5,7 +5,7 @@ ghost use Rattle.cred_model.specs.Course as spec;
 ghost use Rattle.cred_model.specs.Course.{Leads, after, event_at, is_bounded, left};
 ghost use Rattle.cred_model.specs.Named.{is_built_line};
 
-use crate::stages::{event_in, is_late, makes_events, next_stage};
+use crate::stages::{event_in, is_stale, makes_events, next_stage};
 use cred_event::{Answer, Content, Event, LINE_LIMIT, Stage};
 use cred_ids::NoMemory;
 use std::marker::Model;
@@ -112,8 +112,8 @@ impl Course {
     fn after(self, content: &Content, answer: &Answer) -> Course
         ensures { result ≡ after content.now self answer.now }
     {
-        if is_late(self.stage, answer) {
-            self.again()
+        if is_stale(self.stage, answer) {
+            self.next_try()
         } else {
             let stage = match self.stage {
                 Some(stage) => next_stage(content, stage, answer),
@@ -124,8 +124,8 @@ impl Course {
     }
 
     /// The course after a commit that came too late.
-    fn again(self) -> Course
-        ensures { result ≡ spec.again self }
+    fn next_try(self) -> Course
+        ensures { result ≡ spec.next_try self }
     {
         if self.tries < TRIES {
             Course {

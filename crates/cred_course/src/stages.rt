@@ -113,8 +113,8 @@ pub(crate) fn next_stage(content: &Content, stage: Stage, answer: &Answer) -> Op
 }
 
 /// Whether the commit came too late.
-pub(crate) fn is_late(stage: Option<Stage>, answer: &Answer) -> bool
-    ensures { result ≡ spec.is_late stage answer.now }
+pub(crate) fn is_stale(stage: Option<Stage>, answer: &Answer) -> bool
+    ensures { result ≡ spec.is_stale stage answer.now }
 {
     matches!(
         (stage, answer),

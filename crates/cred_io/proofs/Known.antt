@@ -22,9 +22,9 @@ pub appends_step : (a b c : Option (List ℕ)) (piece : List ℕ) (at n : ℕ) �
 appends_step a b c piece at n written more = rw take-add (appends_more a b c (take at piece) (take n (drop at piece)) written (rw take_rest at more))
 
 -- Bytes in memory are read into a buffer, as many as fit.
-pub read_front : (left old new after : List ℕ) (n : ℕ) → n ≡ min (length old) (length left) → new ≡ take n left ++ drop n old → after ≡ drop n left
+pub read_prefix : (left old new after : List ℕ) (n : ℕ) → n ≡ min (length old) (length left) → new ≡ take n left ++ drop n old → after ≡ drop n left
     → (left ≡ take n new ++ after) × (n ≡ 0 → 0 < length new → after ≡ [])
-read_front left old new after n fits copied rest =
+read_prefix left old new after n fits copied rest =
     let known : n ≤ length (take n left) = omega (arith, fits, length-take n left) in
     let front : take n new ≡ take n left =
     ap (take n) copied ∙ take-append-le n (take n left) (drop n old) known ∙ take-take n n left (omega arith) in

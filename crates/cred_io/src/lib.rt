@@ -2,7 +2,6 @@
 //! to the end within a limit, writing a whole text, and ends in memory and over std's streams.
 #![tactic(auto)]
 
-mod bytes;
 mod failed;
 mod memory_sink;
 mod memory_source;
@@ -11,7 +10,7 @@ mod source;
 mod standard;
 mod sure;
 
-pub use bytes::Bytes;
+pub use cred_ids::Bytes;
 pub use failed::Failed;
 pub use memory_sink::MemorySink;
 pub use memory_source::MemorySource;

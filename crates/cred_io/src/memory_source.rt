@@ -11,7 +11,7 @@ use std::alloc::Global;
 use std::marker::Model;
 
 /// Copies the first bytes to the beginning of the buffer, as many as fit, and returns how many.
-pub(crate) fn copy_front(bytes: &[u8], buf: &mut [u8]) -> usize
+pub(crate) fn copy_prefix(bytes: &[u8], buf: &mut [u8]) -> usize
     ensures count { result ≡ min (length buf.old) (length bytes.now) }
     ensures copied { buf.new ≡ take result bytes.now ++ drop result buf.old }
 {
@@ -100,7 +100,7 @@ impl Source for MemorySource {
             self.faults = self.faults.saturating_add(1);
             return Err(Failed);
         }
-        let count = copy_front(&self.bytes[self.at..], buf);
+        let count = copy_prefix(&self.bytes[self.at..], buf);
         self.at += count;
         Ok(count)
     }

@@ -10,10 +10,10 @@ use std::alloc::AllocError;
 
 /// Where bytes go.
 ///
-/// A real stream does not tell what was written to it. So that is optional, and the clauses on the
-/// bytes hold where it is told.
+/// A real stream does not report what was written to it. So that is optional, and the clauses on the
+/// bytes hold where it is reported.
 pub trait Sink {
-    /// The bytes that were written, where the sink tells them.
+    /// The bytes that were written, where the sink reports them.
     ghost written: { Self → Option (List ℕ) };
 
     /// All that was written is handed on: the sink was flushed, and nothing was written since.
@@ -25,6 +25,11 @@ pub trait Sink {
     /// Appends the first bytes of `piece`, and answers how many: one at least, unless it is empty.
     ///
     /// A refusal appends nothing. The count of faults rises for `Failed`, and for nothing else.
+    ///
+    /// # Errors
+    ///
+    /// `Failed` where the sink fails, and `Memory` where an allocation of its own does. Nothing is
+    /// appended then. The count of faults rises for `Failed`, and for nothing else.
     fn write(&mut self, piece: &[u8]) -> Result<usize, SinkRefusal>
         ensures bound { WritesAtMost result piece.now }
         ensures some { IfOk result (λ n. 0 < length piece.now → 0 < n) }
@@ -40,6 +45,11 @@ pub trait Sink {
     /// Hands on what a buffer below has kept back. What was written stays, also after a refusal.
     ///
     /// The count of faults rises for `Failed`, and for nothing else.
+    ///
+    /// # Errors
+    ///
+    /// `Failed` where the sink fails, and `Memory` where an allocation of its own does. What was
+    /// written stays. The count of faults rises for `Failed`, and for nothing else.
     fn flush(&mut self) -> Result<(), SinkRefusal>
         ensures bytes { Keeps (written self.old) (written self.new) }
         ensures handed_on { OnOk result (handed_on self.new ≡ true) }
@@ -51,7 +61,7 @@ pub trait Sink {
 pub enum SinkRefusal {
     /// The sink failed, and its count of faults rose.
     Failed,
-    /// The sink found no memory.
+    /// An allocation of the sink failed.
     Memory,
 }
 
@@ -67,6 +77,10 @@ impl From<AllocError> for SinkRefusal {
 /// piece was then written.
 ///
 /// Each turn of the loop writes a byte at least, or ends.
+///
+/// # Errors
+///
+/// The first refusal of the sink, which ends the writing: a prefix of the piece was written.
 pub fn write_all<K: Sink>(sink: &mut K, piece: &[u8]) -> Result<(), SinkRefusal>
     ensures ok { OnOk result (Appends (K.written sink.old) (K.written sink.new) piece.now) }
     ensures err { OnErr result

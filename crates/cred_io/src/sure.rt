@@ -4,7 +4,7 @@ ghost use Rattle.std.specs.Io.{ReadsAtMost, WritesAtMost};
 ghost use Rattle.std.specs.Io.KnownBytes.{ReadConsumes, WriteAppends, Keeps};
 ghost use Rattle.cred_io.specs.Causes.{CountsFaults};
 
-use crate::memory_source::copy_front;
+use crate::memory_source::copy_prefix;
 use crate::{Failed, Sink, SinkRefusal, Source};
 use cred_ids::NoMemory;
 use std::alloc::Global;
@@ -57,7 +57,7 @@ impl Source for SureSource {
         ensures copied { IfOk result (λ n. buf.new ≡ take n self.old ++ drop n buf.old) }
         ensures rest { IfOk result (λ n. self.new ≡ drop n self.old) }
     {
-        let count = copy_front(&self.bytes[self.at..], buf);
+        let count = copy_prefix(&self.bytes[self.at..], buf);
         self.at += count;
         Ok(count)
     }

@@ -9,7 +9,7 @@ use Rattle.cred_event.specs.declared.event.Event.{Event}
 use Rattle.cred_event.specs.declared.event.Event.TheVariants.{Release}
 use Rattle.cred_event.specs.declared.entry.Entry.{Entry}
 use Rattle.cred_model.specs.Script.{Script}
-use Rattle.cred_model.specs.State.{State, Sealing, Hold, Numbered, numbered, hold_of, held_by, opening}
+use Rattle.cred_model.specs.State.{State, SealedCred, Hold, Numbered, numbered, hold_of, held_by, opening}
 use Rattle.cred_model.specs.Step.{step}
 use Rattle.cred_model.specs.Journal.{replay}
 use Rattle.cred_laws.specs.Held.{SealedStays, HoldStays, HeldStays}
@@ -35,10 +35,10 @@ replay-append script journal more = goes_on-append script opening journal more
 -- ---- sealed credentials
 
 -- these credentials are the state's, and perhaps others after them
-abbrev pub Extends : State → List Sealing → Type 0
-Extends s creds = (more : List Sealing) × (creds ≡ s.creds ++ more)
+abbrev pub Extends : State → List SealedCred → Type 0
+Extends s creds = (more : List SealedCred) × (creds ≡ s.creds ++ more)
 
-same_creds : (s : State) (creds : List Sealing) → creds ≡ s.creds → Extends s creds
+same_creds : (s : State) (creds : List SealedCred) → creds ≡ s.creds → Extends s creds
 same_creds s creds kept = ([], kept ∙ sym (append-nil s.creds))
 
 extends : (s : State) (event : Event) (left : List ℕ) (t : State) → CredsChange s event left t → Extends s t.creds

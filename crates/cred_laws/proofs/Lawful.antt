@@ -8,7 +8,7 @@ use Rattle.std.proofs.lemmas.Bool.{cases_lt}
 use Rattle.cred_event.specs.declared.event.Event.TheVariants.{Release}
 use Rattle.cred_event.specs.declared.entry.Entry.{Entry}
 use Rattle.cred_model.specs.Script.{Script}
-use Rattle.cred_model.specs.State.{State, Sealing, Numbered, numbered, task_of, current_of, held_by}
+use Rattle.cred_model.specs.State.{State, SealedCred, Numbered, numbered, task_of, current_of, held_by}
 use Rattle.cred_model.specs.Step.{step}
 use Rattle.cred_model.specs.Journal.{replay, IsAnswered}
 use Rattle.cred_model.proofs.Journals.{replay-push}
@@ -83,7 +83,7 @@ keeps_sealed script journal k l number sealed within is =
     let grown = on_extends script (state_at script journal k) more in
     ap (λ (j : List Entry). numbered (replay script j).creds number) (take_between journal k l within)
     ∙ ap (λ (s : State). numbered s.creds number) (replay-append script (take k journal) more)
-    ∙ ap (λ (creds : List Sealing). numbered creds number) grown.1
+    ∙ ap (λ (creds : List SealedCred). numbered creds number) grown.1
     ∙ numbered_stays (state_at script journal k).creds grown.0 number sealed is
 
 pub keeps_held : (script : Script) (journal : List Entry) → KeepsHeld script journal

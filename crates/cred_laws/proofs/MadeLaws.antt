@@ -9,10 +9,10 @@ use Rattle.std.proofs.lemmas.Bool.{eqb-true}
 use Rattle.cred_event.specs.declared.event.Event.{Event}
 use Rattle.cred_event.specs.declared.entry.Entry.{Entry}
 use Rattle.cred_model.specs.Script.{Script}
-use Rattle.cred_model.specs.State.{State, Sealing, Prepared, numbered, prepared_of, opening}
+use Rattle.cred_model.specs.State.{State, SealedCred, Prepared, numbered, prepared_of, opening}
 use Rattle.cred_model.specs.Step.{changed, step}
 use Rattle.cred_model.proofs.Lists.{All-remove, alone, found}
-use Rattle.cred_model.proofs.Numbers.{changed_as, numbered_is, numbered_before, sealing_of}
+use Rattle.cred_model.proofs.Numbers.{changed_as, numbered_is, numbered_before, sealed_cred_of}
 use Rattle.cred_model.proofs.Referred.{each_ref}
 use Rattle.cred_sound.specs.Sound.{IsSound}
 use Rattle.cred_sound.proofs.Parts.{CredsChange, PreparedChange, SameCreds, Seals, SamePrepared, Prepares, Alters, Ends}
@@ -29,9 +29,9 @@ same_numbered s event left t (Seals c slot creds fits) n lt =
 
 bases_sealed : (s : State) → IsSound s → All (λ p. p.base < length s.creds) s.prepared
 bases_sealed s sound k d lt =
-    let slots = map (λ (x : Sealing). x.slot) s.creds in
+    let slots = map (λ (x : SealedCred). x.slot) s.creds in
     let below : (get_or s.prepared k d).base < length slots = (each_ref (λ n. n < length slots) s sound.slots.sealed).bases k d lt in
-    omega (arith, length-map s.creds (λ (x : Sealing). x.slot))
+    omega (arith, length-map s.creds (λ (x : SealedCred). x.slot))
 
 -- whoever has the label is the one that was found
 the_one : (s : State) (label : ℕ) (p : Prepared) → IsSound s → prepared_of s label ≡ Some p
@@ -50,7 +50,7 @@ all_made script s event left t sound creds (Prepares p prepared fresh unheld new
     (subst (λ o. IfSome o (IsMadeOf script (numbered t.creds p.base))) (sym fresh) tt))
 all_made script s event left t sound creds (Alters label to p base answer prepared is at so) made =
     let one = the_one s label p sound is in
-    let lt = slice_get_within s.creds p.base (sealing_of base) (numbered_is s.creds p.base base at).1 in
+    let lt = slice_get_within s.creds p.base (sealed_cred_of base) (numbered_is s.creds p.base base at).1 in
     let now = same_numbered s event left t creds p.base lt ∙ at in
     subst (All (IsMade script t.creds)) (sym prepared)
     (All-map (IsMade script t.creds) (changed label to) s.prepared (λ k d lt.

@@ -3,12 +3,12 @@ use Rattle.std.proofs.Common.{◌≡◌, ◌≢◌, ℕ, ◌≤◌, List, [], �
 use Rattle.std.proofs.lemmas.List.{length_push}
 use Rattle.std.proofs.lemmas.Option.{slice_get_within}
 use Rattle.cred_event.specs.declared.event.Event.{Event}
-use Rattle.cred_model.specs.State.{State, Sealing, Numbered, numbered}
-use Rattle.cred_model.specs.Slots.{standing}
+use Rattle.cred_model.specs.State.{State, SealedCred, Numbered, numbered}
+use Rattle.cred_model.specs.Slots.{in_use}
 use Rattle.cred_model.proofs.Lists.{All-left}
-use Rattle.cred_model.proofs.Numbers.{numbered_is, numbered_last, sealing_of}
+use Rattle.cred_model.proofs.Numbers.{numbered_is, numbered_last, sealed_cred_of}
 use Rattle.cred_sound.specs.Ledger.{ledger, IsOrderly}
-use Rattle.cred_sound.proofs.Parts.{CredsChange, SameCreds, Seals, sealing}
+use Rattle.cred_sound.proofs.Parts.{CredsChange, SameCreds, Seals, sealed_cred}
 use Rattle.cred_sound.proofs.Events.{changes}
 use Rattle.cred_laws.specs.Slots.{IsUnused, NoHeldSlotIsRewritten}
 
@@ -18,18 +18,18 @@ unused : (s : State) (event : Event) (left : List ℕ) (t : State) → CredsChan
     → (number : ℕ) (new : Numbered) → length s.creds ≤ number → numbered t.creds number ≡ Some new
     → IsUnused s event new.slot
 unused s event left t (SameCreds same) order number new past is =
-    let within = slice_get_within t.creds number (sealing_of new) (numbered_is t.creds number new is).1 in
-    let long = ap (λ (creds : List Sealing). length creds) same in absurd (omega arith)
+    let within = slice_get_within t.creds number (sealed_cred_of new) (numbered_is t.creds number new is).1 in
+    let long = ap (λ (creds : List SealedCred). length creds) same in absurd (omega arith)
 unused s event left t (Seals c slot creds fits) order number new past is =
-    let within = slice_get_within t.creds number (sealing_of new) (numbered_is t.creds number new is).1 in
-    let long = ap (λ (creds : List Sealing). length creds) creds in
-    let last : number ≡ length s.creds = omega (arith, length_push s.creds (sealing c slot)) in
+    let within = slice_get_within t.creds number (sealed_cred_of new) (numbered_is t.creds number new is).1 in
+    let long = ap (λ (creds : List SealedCred). length creds) creds in
+    let last : number ≡ length s.creds = omega (arith, length_push s.creds (sealed_cred c slot)) in
     let both : Some (record { number = length s.creds; cred = c; slot = slot }) ≡ Some new
-    = sym (ap (λ creds. numbered creds number) creds ∙ ap (numbered (s.creds ++ sealing c slot ∷ [])) last ∙ numbered_last s.creds (sealing c slot)) ∙ is in
+    = sym (ap (λ creds. numbered creds number) creds ∙ ap (numbered (s.creds ++ sealed_cred c slot ∷ [])) last ∙ numbered_last s.creds (sealed_cred c slot)) ∙ is in
     let one : record { number = length s.creds; cred = c; slot = slot } ≡ new = cc in
     let fit = fits order in
     subst (IsUnused s event) (ap (λ (n : Numbered). n.slot) one)
-    (record { clear = All-left (λ n. slice_get (ledger s).slots n ≢ Some slot) (standing s) left fit.clear; kept = fit.own })
+    (record { clear = All-left (λ n. slice_get (ledger s).slots n ≢ Some slot) (in_use s) left fit.clear; kept = fit.own })
 
 pub no_held_slot_is_rewritten : NoHeldSlotIsRewritten
 no_held_slot_is_rewritten script s line event number new sound =

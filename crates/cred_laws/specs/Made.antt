@@ -4,7 +4,7 @@ use Rattle.std.specs.declared.option.Option.{Option}
 use Rattle.cred_event.specs.declared.answer.Answer.{Answer}
 use Rattle.cred_event.specs.declared.entry.Entry.{Entry}
 use Rattle.cred_model.specs.Script.{Script, info_of, chain_of}
-use Rattle.cred_model.specs.State.{State, Sealing, Prepared, Changed, Numbered, numbered}
+use Rattle.cred_model.specs.State.{State, SealedCred, Prepared, Changed, Numbered, numbered}
 use Rattle.cred_model.specs.Named.{change_files}
 use Rattle.cred_model.specs.Change.{by_change}
 use Rattle.cred_model.specs.Journal.{replay}
@@ -19,7 +19,7 @@ IsMadeOf script found last =
     ≡ Ok (record { answer = answer; cred = last.cred; gains = last.gains })))
 
 -- so it is with a prepared credential, once it was changed
-abbrev pub IsMade : Script → List Sealing → Prepared → Type 0
+abbrev pub IsMade : Script → List SealedCred → Prepared → Type 0
 IsMade script creds p = IfSome p.changed (IsMadeOf script (numbered creds p.base))
 
 -- so it is with all that are prepared

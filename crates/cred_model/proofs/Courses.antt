@@ -11,7 +11,7 @@ use Rattle.cred_event.specs.declared.answer.Answer.TheVariants.{Stale}
 use Rattle.cred_event.specs.declared.content.Content.{Content}
 use Rattle.cred_event.specs.declared.content.Content.TheVariants.{One, Id, Question, Change}
 use Rattle.cred_model.specs.Answers.{is_ok}
-use Rattle.cred_model.specs.Course.{Course, TRIES, start, event_in, event_at, next_stage, is_late, again, after, most, left, leads, Leads}
+use Rattle.cred_model.specs.Course.{Course, TRIES, start, event_in, event_at, next_stage, is_stale, next_try, after, most, left, leads, Leads}
 
 -- ---- each event is followed by fewer
 
@@ -81,7 +81,7 @@ goes_on content course stage (Some to) here after = record {
 }
 
 begins_again : (content : Content) (course : Course) → course.stage ≡ Some Committing → IsStageOf content Committing
-    → Follows content course (again course)
+    → Follows content course (next_try course)
 begins_again (Change task change) course here is =
     elim (nat_lt course.tries TRIES) as (λ b. nat_lt course.tries TRIES ≡ b → Follows (Change task change) course (cond b (record course { stage = Some Retrying; tries = course.tries + 1 }) (record course { stage = Some Releasing }))) [
       | true ↦ λ test. record {
@@ -95,7 +95,7 @@ begins_again content course here is = cc
 
 follows-by : (content : Content) (course : Course) (stage : Stage) (answer : Answer) → course.stage ≡ Some stage → IsStageOf content stage
     → Follows content course
-    (cond (is_late (Some stage) answer) (again course) (record course { stage = next_stage content stage answer }))
+    (cond (is_stale (Some stage) answer) (next_try course) (record course { stage = next_stage content stage answer }))
 follows-by content course Committing (Stale base now) here is = begins_again content course here is
 follows-by content course stage answer here is =
     goes_on content course stage (next_stage content stage answer) here (next_falls content stage answer is)
@@ -103,7 +103,7 @@ follows-by content course stage answer here is =
 -- an answer leads no line to another
 pub after_line : (content : Content) (course : Course) (answer : Answer) → (after content course answer).line ≡ course.line
 after_line content course answer =
-    elim (is_late course.stage answer) as (λ b. (cond b (again course) (record course { stage = option_and_then (λ s. next_stage content s answer) course.stage })).line ≡ course.line) [
+    elim (is_stale course.stage answer) as (λ b. (cond b (next_try course) (record course { stage = option_and_then (λ s. next_stage content s answer) course.stage })).line ≡ course.line) [
       | true ↦ elim (nat_lt course.tries TRIES) as (λ b. (cond b (record course { stage = Some Retrying; tries = course.tries + 1 }) (record course { stage = Some Releasing })).line ≡ course.line) [
         | true ↦ refl
         | false ↦ refl
@@ -116,12 +116,12 @@ pub follows : (content : Content) (course : Course) (stage : Stage) (answer : An
     → Follows content course (after content course answer)
 follows content course stage answer here fits =
     let is : IsStageOf content stage = subst (λ o. IfSome o (IsStageOf content)) here fits in
-    subst (λ (o : Option Stage). Follows content course (cond (is_late o answer) (again course) (record course { stage = option_and_then (λ s. next_stage content s answer) o }))) (sym here)
+    subst (λ (o : Option Stage). Follows content course (cond (is_stale o answer) (next_try course) (record course { stage = option_and_then (λ s. next_stage content s answer) o }))) (sym here)
     (follows-by content course stage answer here is)
 
 ended_fits : (content : Content) (course : Course) (answer : Answer) → course.stage ≡ None → Fits content (after content course answer)
 ended_fits content course answer here =
-    subst (λ (o : Option Stage). Fits content (cond (is_late o answer) (again course) (record course { stage = option_and_then (λ s. next_stage content s answer) o }))) (sym here) tt
+    subst (λ (o : Option Stage). Fits content (cond (is_stale o answer) (next_try course) (record course { stage = option_and_then (λ s. next_stage content s answer) o }))) (sym here) tt
 
 after_fits : (content : Content) (course : Course) (answer : Answer) (o : Option Stage) → course.stage ≡ o → Fits content course
     → Fits content (after content course answer)

@@ -14,19 +14,19 @@ use Rattle.cred_event.specs.declared.event.Query.{Query}
 use Rattle.cred_event.specs.declared.event.Event.TheVariants.{Init, Take, Release, Ask, Prepare, Alter, Commit, Abort, Begin, Sweep}
 use Rattle.cred_model.specs.Script.{Script, info_of, chain_of}
 use Rattle.cred_model.specs.Named.{change_files}
-use Rattle.cred_model.specs.State.{State, Sealing, Task, Hold, Prepared, Changed, Numbered, task_of, hold_of, prepared_of}
+use Rattle.cred_model.specs.State.{State, SealedCred, Task, Hold, Prepared, Changed, Numbered, task_of, hold_of, prepared_of}
 use Rattle.cred_model.specs.Slots.{swept}
 use Rattle.cred_model.specs.Change.{by_change, by_rule}
-use Rattle.cred_model.specs.Step.{TASKS, HOLDS, PREPARED, none_or, fewer_or, settle, done, first_task, with_current, given_up, committed, altered, preparing, created, replaced, commit_answer}
+use Rattle.cred_model.specs.Step.{TASKS, HOLDS, PREPARED, none_or, fewer_or, try_commit, done, first_task, with_current, given_up, committed, altered, preparing, created, replaced, commit_answer}
 use Rattle.cred_model.specs.Like.{IsLike, AreAlike}
 use Rattle.cred_model.proofs.Lists.{All-remove, find_each, get_each}
-use Rattle.cred_model.proofs.Referred.{EachRef, each_renewed, each_changed, each_tasks, each_holds, each_prepared, each_deferred}
+use Rattle.cred_model.proofs.Referred.{EachRef, each_updated, each_changed, each_tasks, each_holds, each_prepared, each_deferred}
 use Rattle.cred_model.proofs.LikeReads.{with, Same, slots_of, each_same, same_numbered, same_current, same_held, current_by}
 use Rattle.cred_model.proofs.LikeTests.{BothAre, tested, read, found, like_with, like_sealed, same_next, gave, in_slots}
 
 -- ---- the events
 
-module _ (script : Script) (s : State) (cs : List Sealing) (line : ℕ) (like : IsLike s (with s cs)) where
+module _ (script : Script) (s : State) (cs : List SealedCred) (line : ℕ) (like : IsLike s (with s cs)) where
   -- both have the same at this number
   abbrev Here : ℕ → Type 0
   Here = Same s.creds cs
@@ -130,12 +130,12 @@ module _ (script : Script) (s : State) (cs : List Sealing) (line : ℕ) (like : 
       (λ n. record s { tasks = with_current s.tasks p.task n; prepared = remove s.prepared place; deferred = s.deferred ++ old ∷ p.base ∷ [] })
       s.creds cs (record { cred = last.cred; slot = p.slot }) like.slots
       (each_deferred
-      (each_prepared (each_renewed refs p.task (length s.creds) next) _ (All-remove OfBase s.prepared place refs.bases)) _
+      (each_prepared (each_updated refs p.task (length s.creds) next) _ (All-remove OfBase s.prepared place refs.bases)) _
       (All-append Here s.deferred _ refs.deferred (All-cons Here old (p.base ∷ []) now (All-cons Here p.base [] here (All-nil Here)))))
 
-  settle_like : (place : ℕ) (p : Prepared) (old : ℕ) (last : Changed) → Here p.base → Here old
-      → AreAlike (settle s place p old last) (settle (with s cs) place p old last)
-  settle_like place p old last here now =
+  try_commit_like : (place : ℕ) (p : Prepared) (old : ℕ) (last : Changed) → Here p.base → Here old
+      → AreAlike (try_commit s place p old last) (try_commit (with s cs) place p old last)
+  try_commit_like place p old last here now =
       elim (old == p.base) as (λ b. AreAlike (cond b (commit_answer last (length s.creds) p.slot, committed s place p old last.cred) (Stale p.base old, given_up s place p)) (cond b (commit_answer last (length cs) p.slot, committed (with s cs) place p old last.cred) (Stale p.base old, given_up (with s cs) place p))) [
         | true ↦ committed_like place p old last here now
         | false ↦ ended_like (Stale p.base old) place p here
@@ -147,7 +147,7 @@ module _ (script : Script) (s : State) (cs : List Sealing) (line : ℕ) (like : 
       (λ place. found OfBase _ _ (NoPrepared label) _ _ refl (get_each _ s.prepared place refs.bases)
       (λ p here. tested (ok_or p.changed (NoPrepared label)) _ _
       (λ last. found OfCred _ _ (NoTask p.task) _ _ (same_current s cs p.task like) (current_by s Here p.task refs)
-      (λ now is. settle_like place p now.number last here is))))
+      (λ now is. try_commit_like place p now.number last here is))))
 
   pub abort_like : (label : ℕ) → DoneAlike (Abort label)
   abort_like label =
@@ -163,7 +163,7 @@ module _ (script : Script) (s : State) (cs : List Sealing) (line : ℕ) (like : 
       (λ gone each slot. like_sealed (λ n. Began n slot 0)
       (λ n. record s { tasks = with_current s.tasks task n; deferred = gone ++ old.number ∷ [] })
       s.creds cs (record { cred = new; slot = slot }) like.slots
-      (each_deferred (each_renewed each task (length s.creds) next) _ (All-push Here gone old.number each.deferred here)))))
+      (each_deferred (each_updated each task (length s.creds) next) _ (All-push Here gone old.number each.deferred here)))))
 
   pub done_like : (event : Event) → DoneAlike event
   done_like (Init task process user group ns) = init_like task process user group ns

@@ -5,9 +5,9 @@ use Rattle.std.proofs.lemmas.List.{map-append}
 use Rattle.std.proofs.lemmas.List.Elements.{All-nil, All-weaker}
 use Rattle.std.proofs.lemmas.Option.{slice_get_past}
 use Rattle.cred_event.specs.declared.answer.Answer.{Answer}
-use Rattle.cred_model.specs.State.{State, Sealing}
+use Rattle.cred_model.specs.State.{State, SealedCred}
 use Rattle.cred_model.specs.Slots.{refs, least_free, swept}
-use Rattle.cred_model.specs.Step.{◌>>=◌, in_slot, table_full, settled}
+use Rattle.cred_model.specs.Step.{◌>>=◌, in_slot, table_full, outcome}
 use Rattle.cred_model.specs.Like.{IsLike, AreAlike}
 use Rattle.cred_model.proofs.Referred.{EachRef, refs_each, each_deferred}
 use Rattle.cred_model.proofs.LikeReads.{with, Same, slots_of, each_same, same_length, same_free, same_past}
@@ -19,12 +19,12 @@ BothAre (Ok a) (Ok b) = AreAlike a b
 BothAre (Err a) (Err b) = a ≡ b
 BothAre a b = ⊥
 
-pub settled_like : (s t : State) (p q : Result (Answer × State) Answer) → IsLike s t → BothAre p q
-    → AreAlike (settled s p) (settled t q)
-settled_like s t (Ok a) (Ok b) like both = both
-settled_like s t (Err a) (Err b) like both = record { answers = both; states = like }
-settled_like s t (Ok a) (Err b) like both = absurd both
-settled_like s t (Err a) (Ok b) like both = absurd both
+pub outcome_like : (s t : State) (p q : Result (Answer × State) Answer) → IsLike s t → BothAre p q
+    → AreAlike (outcome s p) (outcome t q)
+outcome_like s t (Ok a) (Ok b) like both = both
+outcome_like s t (Err a) (Err b) like both = record { answers = both; states = like }
+outcome_like s t (Ok a) (Err b) like both = absurd both
+outcome_like s t (Err a) (Ok b) like both = absurd both
 
 -- a test that goes by what is the same in both
 pub tested : {A : Type 0} (r : Result A Answer) (f g : A → Result (Answer × State) Answer)
@@ -52,7 +52,7 @@ found P o p answer f g same holds each =
 -- ---- what an event leaves
 
 -- a state that refers to nothing but what is the same in both
-pub like_with : (t : State) (cs : List Sealing) → slots_of t.creds ≡ slots_of cs → EachRef (Same t.creds cs) t
+pub like_with : (t : State) (cs : List SealedCred) → slots_of t.creds ≡ slots_of cs → EachRef (Same t.creds cs) t
     → IsLike t (with t cs)
 like_with t cs slots each = record {
   tasks = refl;
@@ -63,14 +63,14 @@ like_with t cs slots each = record {
   creds = refs_each (Same t.creds cs) t each;
 }
 
-slots_past : (bs cs : List Sealing) (x : Sealing) → slots_of bs ≡ slots_of cs → slots_of (bs ++ x ∷ []) ≡ slots_of (cs ++ x ∷ [])
+slots_past : (bs cs : List SealedCred) (x : SealedCred) → slots_of bs ≡ slots_of cs → slots_of (bs ++ x ∷ []) ≡ slots_of (cs ++ x ∷ [])
 slots_past bs cs x same =
-    map-append (λ (sealing : Sealing). sealing.slot) bs (x ∷ [])
+    map-append (λ (sealed : SealedCred). sealed.slot) bs (x ∷ [])
     ∙ ap (λ slots. slots ++ x.slot ∷ []) same
-    ∙ sym (map-append (λ sealing. sealing.slot) cs (x ∷ []))
+    ∙ sym (map-append (λ sealed. sealed.slot) cs (x ∷ []))
 
 -- a state in which one credential more is sealed
-pub like_sealed : (answer : ℕ → Answer) (t : ℕ → State) (bs cs : List Sealing) (x : Sealing) → slots_of bs ≡ slots_of cs
+pub like_sealed : (answer : ℕ → Answer) (t : ℕ → State) (bs cs : List SealedCred) (x : SealedCred) → slots_of bs ≡ slots_of cs
     → EachRef (Same bs cs) (t (length bs))
     → AreAlike (answer (length bs), with (t (length bs)) (bs ++ x ∷ [])) (answer (length cs), with (t (length cs)) (cs ++ x ∷ []))
 like_sealed answer t bs cs x same each =
@@ -90,7 +90,7 @@ like_sealed answer t bs cs x same each =
     })
 
 -- the number that is sealed next
-pub same_next : (bs cs : List Sealing) → slots_of bs ≡ slots_of cs → Same bs cs (length bs)
+pub same_next : (bs cs : List SealedCred) → slots_of bs ≡ slots_of cs → Same bs cs (length bs)
 same_next bs cs same =
     let long = same_length bs cs same in
     slice_get_past bs (length bs) (omega arith) ∙ sym (slice_get_past cs (length bs) (omega arith))
@@ -101,7 +101,7 @@ same_next bs cs same =
 abbrev pub gave : State → List ℕ → State
 gave s numbers = record s { deferred = numbers }
 
-one_slot : (s : State) (cs : List Sealing) (does : State → ℕ → Answer × State) → IsLike s (with s cs)
+one_slot : (s : State) (cs : List SealedCred) (does : State → ℕ → Answer × State) → IsLike s (with s cs)
     → ((slot : ℕ) → AreAlike (does s slot) (does (with s cs) slot))
     → AreAlike (option_map_or (does s) (least_free s) (table_full s)) (option_map_or (does (with s cs)) (least_free (with s cs)) (table_full (with s cs)))
 one_slot s cs does like each =
@@ -117,7 +117,7 @@ taken_from does s free =
     let now = cond (is_some free) s (swept s) in option_map_or (does now) (least_free now) (table_full now)
 
 -- it does the same whether or not there was a sweep
-pub in_slots : (s : State) (cs : List Sealing) (does : State → ℕ → Answer × State) → IsLike s (with s cs)
+pub in_slots : (s : State) (cs : List SealedCred) (does : State → ℕ → Answer × State) → IsLike s (with s cs)
     → ((numbers : List ℕ) → EachRef (Same s.creds cs) (gave s numbers) → (slot : ℕ)
     → AreAlike (does (gave s numbers) slot) (does (with (gave s numbers) cs) slot))
     → AreAlike (in_slot s table_full does) (in_slot (with s cs) table_full does)

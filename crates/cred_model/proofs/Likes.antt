@@ -7,8 +7,8 @@ use Rattle.cred_model.specs.Script.{Script}
 use Rattle.cred_model.specs.State.{State}
 use Rattle.cred_model.specs.Slots.{refs}
 use Rattle.cred_model.specs.Step.{step}
-use Rattle.cred_model.specs.Like.{IsLike, AreAlike, Does}
-use Rattle.cred_model.proofs.LikeTests.{settled_like}
+use Rattle.cred_model.specs.Like.{IsLike, AreAlike, IsOutcomeLike}
+use Rattle.cred_model.proofs.LikeTests.{outcome_like}
 use Rattle.cred_model.proofs.LikeEvents.{done_like}
 
 -- ---- likeness
@@ -60,17 +60,17 @@ like_step script a b line event like =
     let with_creds : IsLike a (record a { creds = b.creds })
     = record { tasks = refl; holds = refl; prepared = refl; deferred = refl; slots = like.slots; creds = like.creds } in
     subst (λ b. AreAlike (step script a line event) (step script b line event)) other
-    (settled_like a (record a { creds = b.creds }) _ _ with_creds (done_like script a b.creds line with_creds event))
+    (outcome_like a (record a { creds = b.creds }) _ _ with_creds (done_like script a b.creds line with_creds event))
 
 -- ---- what an event does
 
 -- what an equation says
-pub does_same : (gives : Answer × State) (answer : Answer) (after : State) → gives ≡ (answer, after) → Does gives answer after
+pub does_same : (gives : Answer × State) (answer : Answer) (after : State) → gives ≡ (answer, after) → IsOutcomeLike gives answer after
 does_same gives answer after is = rw is (record { answers = refl; leads = like_self after })
 
 -- in a state like the one before, it does the same
 pub does_like : (script : Script) (a b : State) (line : ℕ) (event : Event) (answer : Answer) (after : State) → IsLike a b
-    → Does (step script a line event) answer after → Does (step script b line event) answer after
+    → IsOutcomeLike (step script a line event) answer after → IsOutcomeLike (step script b line event) answer after
 does_like script a b line event answer after like does =
     let alike = like_step script a b line event like in
     record {

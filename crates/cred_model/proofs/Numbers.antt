@@ -4,41 +4,41 @@ use Rattle.std.specs.List.{find}
 use Rattle.std.specs.Option.{option_map, option_and_then}
 use Rattle.std.proofs.lemmas.Bool.Decides.{nat_tests}
 use Rattle.std.proofs.lemmas.Option.{slice_get_within}
-use Rattle.cred_model.specs.State.{State, Sealing, Task, Prepared, Changed, Numbered, numbered, task_of, current_of}
-use Rattle.cred_model.specs.Step.{renewed, with_current, changed}
+use Rattle.cred_model.specs.State.{State, SealedCred, Task, Prepared, Changed, Numbered, numbered, task_of, current_of}
+use Rattle.cred_model.specs.Step.{updated, with_current, changed}
 use Rattle.cred_model.proofs.Lists.{find-map, found, slice_get-left, slice_get-last}
 
-abbrev under : ℕ → Sealing → Numbered
-under n sealing = record { number = n; cred = sealing.cred; slot = sealing.slot }
+abbrev under : ℕ → SealedCred → Numbered
+under n sealed = record { number = n; cred = sealed.cred; slot = sealed.slot }
 
 -- a sealed credential, by its place in the list
-abbrev pub sealing_of : Numbered → Sealing
-sealing_of c = record { cred = c.cred; slot = c.slot }
+abbrev pub sealed_cred_of : Numbered → SealedCred
+sealed_cred_of c = record { cred = c.cred; slot = c.slot }
 
-sealed_at : (found : Option Sealing) (n : ℕ) (c : Numbered) → option_map (under n) found ≡ Some c
-    → (c.number ≡ n) × (found ≡ Some (sealing_of c))
+sealed_at : (found : Option SealedCred) (n : ℕ) (c : Numbered) → option_map (under n) found ≡ Some c
+    → (c.number ≡ n) × (found ≡ Some (sealed_cred_of c))
 sealed_at None n c is = cc
 sealed_at (Some x) n c is =
     let same : under n x ≡ c = cc in (
       sym (ap (λ (c : Numbered). c.number) same),
-      ap (λ (c : Numbered). Some (sealing_of c)) same,
+      ap (λ (c : Numbered). Some (sealed_cred_of c)) same,
     )
 
-pub numbered_is : (creds : List Sealing) (n : ℕ) (c : Numbered) → numbered creds n ≡ Some c
-    → (c.number ≡ n) × (slice_get creds n ≡ Some (sealing_of c))
+pub numbered_is : (creds : List SealedCred) (n : ℕ) (c : Numbered) → numbered creds n ≡ Some c
+    → (c.number ≡ n) × (slice_get creds n ≡ Some (sealed_cred_of c))
 numbered_is creds n c is = sealed_at (slice_get creds n) n c is
 
-pub numbered_before : (creds more : List Sealing) (n : ℕ) → n < length creds → numbered (creds ++ more) n ≡ numbered creds n
+pub numbered_before : (creds more : List SealedCred) (n : ℕ) → n < length creds → numbered (creds ++ more) n ≡ numbered creds n
 numbered_before creds more n lt = ap (option_map (under n)) (slice_get-left creds more n lt)
 
-pub numbered_stays : (creds more : List Sealing) (n : ℕ) (c : Numbered) → numbered creds n ≡ Some c
+pub numbered_stays : (creds more : List SealedCred) (n : ℕ) (c : Numbered) → numbered creds n ≡ Some c
     → numbered (creds ++ more) n ≡ Some c
 numbered_stays creds more n c is =
     let at = numbered_is creds n c is in
-    numbered_before creds more n (slice_get_within creds n (sealing_of c) at.1) ∙ is
+    numbered_before creds more n (slice_get_within creds n (sealed_cred_of c) at.1) ∙ is
 
 -- the credential that was sealed last
-pub numbered_last : (creds : List Sealing) (new : Sealing) → numbered (creds ++ new ∷ []) (length creds) ≡ Some (under (length creds) new)
+pub numbered_last : (creds : List SealedCred) (new : SealedCred) → numbered (creds ++ new ∷ []) (length creds) ≡ Some (under (length creds) new)
 numbered_last creds new = ap (option_map (under (length creds))) (slice_get-last creds new)
 
 -- ---- a task's current credential
@@ -47,7 +47,7 @@ pub record IsCurrent (s : State) (task : ℕ) (c : Numbered) : Type 0 where
   pub owner : Task
   pub is : task_of s task ≡ Some owner
   pub number : c.number ≡ owner.current
-  pub sealed : slice_get s.creds owner.current ≡ Some (sealing_of c)
+  pub sealed : slice_get s.creds owner.current ≡ Some (sealed_cred_of c)
 
 owned : (s : State) (task : ℕ) (c : Numbered) (found : Option Task) → task_of s task ≡ found
     → option_and_then (λ (t : Task). numbered s.creds t.current) found ≡ Some c → IsCurrent s task c
@@ -71,17 +71,17 @@ owner_number s task t is =
 
 -- ---- the tasks, where one has another current credential
 
-pub renewed_as : (P : Task → Type 0) (task n : ℕ) (t : Task) → P (record t { current = n }) → P t → P (renewed task n t)
-renewed_as P task n t new old =
+pub updated_as : (P : Task → Type 0) (task n : ℕ) (t : Task) → P (record t { current = n }) → P t → P (updated task n t)
+updated_as P task n t new old =
     elim (t.number == task) as (λ b. P (cond b (record t { current = n }) t)) [ true ↦ new | _ ↦ old ]
 
-pub renewed_number : (task n : ℕ) (t : Task) → (renewed task n t).number ≡ t.number
-renewed_number task n t = renewed_as (λ r. r.number ≡ t.number) task n t refl refl
+pub updated_number : (task n : ℕ) (t : Task) → (updated task n t).number ≡ t.number
+updated_number task n t = updated_as (λ r. r.number ≡ t.number) task n t refl refl
 
-pub renewed_task : (tasks : List Task) (acting n task : ℕ)
-    → find (λ t. t.number == task) (with_current tasks acting n) ≡ option_map (renewed acting n) (find (λ t. t.number == task) tasks)
-renewed_task tasks acting n task =
-    find-map (λ (t : Task). t.number == task) (renewed acting n) tasks (λ t. ap (λ n. n == task) (renewed_number acting n t))
+pub updated_task : (tasks : List Task) (acting n task : ℕ)
+    → find (λ t. t.number == task) (with_current tasks acting n) ≡ option_map (updated acting n) (find (λ t. t.number == task) tasks)
+updated_task tasks acting n task =
+    find-map (λ (t : Task). t.number == task) (updated acting n) tasks (λ t. ap (λ n. n == task) (updated_number acting n t))
 
 -- ---- the prepared labels, where one has another change
 

@@ -3,10 +3,10 @@ use Rattle.std.proofs.Common.{ℕ, ◌==◌, List, [], Some, true, false, cond, 
 use Rattle.std.specs.List.{All, AllByRecursion, concat}
 use Rattle.std.proofs.lemmas.List.Elements.{All-append, All-map, All-nil}
 use Rattle.cred_model.specs.State.{State, Task, Hold, Prepared, Changed}
-use Rattle.cred_model.specs.Slots.{places, standing, refs}
-use Rattle.cred_model.specs.Step.{renewed, with_current, changed, with_change}
+use Rattle.cred_model.specs.Slots.{places, in_use, refs}
+use Rattle.cred_model.specs.Step.{updated, with_current, changed, with_change}
 use Rattle.cred_model.proofs.Lists.{All-kept, All-left, All-right, All-unmap, All-flat_map, All-unflat_map}
-use Rattle.cred_model.proofs.Numbers.{renewed_as}
+use Rattle.cred_model.proofs.Numbers.{updated_as}
 
 pub record EachRef (P : ℕ → Type 0) (s : State) : Type 0 where
   pub currents : All (λ t. P t.current) s.tasks
@@ -31,18 +31,18 @@ refs_each P s each =
     let overrides = All-flat_map P (λ (t : Task). t.overrides) s.tasks each.overrides in
     let holds = All-map P (λ (h : Hold). h.number) s.holds each.holds in
     let bases = All-map P (λ (p : Prepared). p.base) s.prepared each.bases in
-    All-append P (standing s) s.deferred
+    All-append P (in_use s) s.deferred
     (concat_each P (places s) (currents, (overrides, (holds, (bases, tt))))) each.deferred
 
 pub each_ref : (P : ℕ → Type 0) (s : State) → All P (refs s) → EachRef P s
 each_ref P s each =
-    let at = each_concat P (places s) (All-left P (standing s) s.deferred each) in
+    let at = each_concat P (places s) (All-left P (in_use s) s.deferred each) in
     record {
       currents = All-unmap P (λ (t : Task). t.current) s.tasks at.0;
       overrides = All-unflat_map P (λ (t : Task). t.overrides) s.tasks at.1.0;
       holds = All-unmap P (λ (h : Hold). h.number) s.holds at.1.1.0;
       bases = All-unmap P (λ (p : Prepared). p.base) s.prepared at.1.1.1.0;
-      deferred = All-right P (standing s) s.deferred each;
+      deferred = All-right P (in_use s) s.deferred each;
     }
 
 -- ---- a state that differs in one kind
@@ -53,12 +53,12 @@ each_tasks each ts currents overrides =
     record { currents = currents; overrides = overrides; holds = each.holds; bases = each.bases; deferred = each.deferred }
 
 -- the task has another current credential
-pub each_renewed : {P : ℕ → Type 0} {s : State} → EachRef P s → (task n : ℕ) → P n
+pub each_updated : {P : ℕ → Type 0} {s : State} → EachRef P s → (task n : ℕ) → P n
     → EachRef P (record s { tasks = with_current s.tasks task n })
-each_renewed {P} {s} each task n new =
+each_updated {P} {s} each task n new =
     each_tasks each (with_current s.tasks task n)
-    (All-kept (λ (t : Task). P t.current) (renewed task n) s.tasks (λ t. renewed_as (λ r. P r.current) task n t new) each.currents)
-    (All-kept (λ (t : Task). All P t.overrides) (renewed task n) s.tasks (λ t old. renewed_as (λ r. All P r.overrides) task n t old old) each.overrides)
+    (All-kept (λ (t : Task). P t.current) (updated task n) s.tasks (λ t. updated_as (λ r. P r.current) task n t new) each.currents)
+    (All-kept (λ (t : Task). All P t.overrides) (updated task n) s.tasks (λ t old. updated_as (λ r. All P r.overrides) task n t old old) each.overrides)
 
 pub each_holds : {P : ℕ → Type 0} {s : State} → EachRef P s → (hs : List Hold) → All (λ h. P h.number) hs
     → EachRef P (record s { holds = hs })

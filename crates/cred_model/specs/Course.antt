@@ -88,13 +88,13 @@ next_stage (Change task change) Retrying answer = Some First
 next_stage content stage answer = None
 
 -- The commit came too late: the task has another credential by now, and what was prepared is gone.
-abbrev pub is_late : Option Stage → Answer → Bool
-is_late (Some Committing) (Stale base now) = true
-is_late stage answer = false
+abbrev pub is_stale : Option Stage → Answer → Bool
+is_stale (Some Committing) (Stale base now) = true
+is_stale stage answer = false
 
 -- The next try begins with the release of the hold. After the last one the line ends with it.
-abbrev pub again : Course → Course
-again course =
+abbrev pub next_try : Course → Course
+next_try course =
     if nat_lt course.tries TRIES
     then record course { stage = Some Retrying; tries = course.tries + 1 }
     else record course { stage = Some Releasing }
@@ -102,7 +102,7 @@ again course =
 -- how far the line has come after one more answer
 abbrev pub after : Content → Course → Answer → Course
 after content course answer =
-    if is_late course.stage answer then again course
+    if is_stale course.stage answer then next_try course
     else record course {
       stage = option_and_then (λ stage. next_stage content stage answer) course.stage;
     }

@@ -3,7 +3,7 @@ use Rattle.std.specs.Prelude.{ℕ, ◌==◌, Bool, false, not, ◌||◌, List, [
 use Rattle.std.specs.declared.option.Option.{Option}
 use Rattle.std.specs.List.{concat, flat_map, list_any, range_with_len}
 use Rattle.std.specs.Option.{option_map_or}
-use Rattle.cred_model.specs.State.{State, Sealing}
+use Rattle.cred_model.specs.State.{State, SealedCred}
 
 -- how many slots there are
 abbrev pub SLOTS : ℕ
@@ -19,21 +19,21 @@ places s =
     []
 
 -- all references in use: those that were not given up
-abbrev pub standing : State → List ℕ
-standing s = concat (places s)
+abbrev pub in_use : State → List ℕ
+in_use s = concat (places s)
 
 -- Every reference: those in use, and those that were given up since the last sweep.
 abbrev pub refs : State → List ℕ
-refs s = standing s ++ s.deferred
+refs s = in_use s ++ s.deferred
 
 -- the slots that prepared labels keep
 abbrev pub kept : State → List ℕ
 kept s = map (λ p. p.slot) s.prepared
 
 -- the credential of this number stands in the slot
-abbrev pub stands_in : List Sealing → ℕ → ℕ → Bool
+abbrev pub stands_in : List SealedCred → ℕ → ℕ → Bool
 stands_in creds slot number =
-    option_map_or (λ sealing. sealing.slot == slot) (slice_get creds number) false
+    option_map_or (λ sealed. sealed.slot == slot) (slice_get creds number) false
 
 -- how many references there are to credentials in the slot
 abbrev pub uses : State → ℕ → ℕ

@@ -37,7 +37,7 @@ pub record Prepared : Type 0 where
   pub changed : Option Changed
 
 -- A sealed credential stands in a slot.
-pub record Sealing : Type 0 where
+pub record SealedCred : Type 0 where
   pub cred : Credential
   pub slot : ℕ
 
@@ -49,7 +49,7 @@ pub record State : Type 0 where
   pub holds : List Hold
   pub prepared : List Prepared
   pub deferred : List ℕ
-  pub creds : List Sealing
+  pub creds : List SealedCred
 
 -- the state before the first event
 abbrev pub opening : State
@@ -70,9 +70,9 @@ pub record Numbered : Type 0 where
   pub cred : Credential
   pub slot : ℕ
 
-abbrev pub numbered : List Sealing → ℕ → Option Numbered
+abbrev pub numbered : List SealedCred → ℕ → Option Numbered
 numbered creds number =
-    option_map (λ sealing. record { number = number; cred = sealing.cred; slot = sealing.slot })
+    option_map (λ sealed. record { number = number; cred = sealed.cred; slot = sealed.slot })
     (slice_get creds number)
 
 -- the current credential of a task

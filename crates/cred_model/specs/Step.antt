@@ -60,11 +60,11 @@ abbrev pub sealed : State → Credential → ℕ → State
 sealed s c slot = record s { creds = s.creds ++ record { cred = c; slot = slot } ∷ [] }
 
 -- the tasks, where this one has another current credential
-abbrev pub renewed : ℕ → ℕ → Task → Task
-renewed task number t = if t.number == task then record t { current = number } else t
+abbrev pub updated : ℕ → ℕ → Task → Task
+updated task number t = if t.number == task then record t { current = number } else t
 
 abbrev pub with_current : List Task → ℕ → ℕ → List Task
-with_current tasks task number = map (renewed task number) tasks
+with_current tasks task number = map (updated task number) tasks
 
 -- a task that overrides nothing
 abbrev pub first_task : ℕ → ℕ → ℕ → Task
@@ -126,8 +126,8 @@ commit_answer last number slot = Sealed number slot
 
 -- Only a credential whose base is still the task's current one is committed. Another one is stale,
 -- and is given up.
-abbrev pub settle : State → ℕ → Prepared → ℕ → Changed → Answer × State
-settle s place p current last =
+abbrev pub try_commit : State → ℕ → Prepared → ℕ → Changed → Answer × State
+try_commit s place p current last =
     if current == p.base
     then (commit_answer last (length s.creds) p.slot, committed s place p current last.cred)
     else (Stale p.base current, given_up s place p)
@@ -206,7 +206,7 @@ by_commit s label = do
   p ← ok_or (slice_get s.prepared place) (NoPrepared label)
   last ← ok_or p.changed (NoPrepared label)
   now ← ok_or (current_of s p.task) (NoTask p.task)
-  Ok (settle s place p now.number last)
+  Ok (try_commit s place p now.number last)
 
 -- what a label prepared is given up
 abbrev pub by_abort : State → ℕ → Result (Answer × State) Answer
@@ -240,10 +240,10 @@ done script s line Sweep = Ok (Done, swept s)
 done script s line event = Err Einval
 
 -- A refusal leaves the state.
-abbrev pub settled : State → Result (Answer × State) Answer → Answer × State
-settled s (Ok after) = after
-settled s (Err answer) = (answer, s)
+abbrev pub outcome : State → Result (Answer × State) Answer → Answer × State
+outcome s (Ok after) = after
+outcome s (Err answer) = (answer, s)
 
 -- What a line's event answers in a state, and the state after it.
 abbrev pub step : Script → State → ℕ → Event → Answer × State
-step script s line event = settled s (done script s line event)
+step script s line event = outcome s (done script s line event)

@@ -19,7 +19,7 @@ pub record Shows (bytes : List ℕ) (before after : Option (List ℕ)) : Type 0 
   pub written : Appends before after (attr_text attribute)
 
 -- The bytes spell none, and it was written why.
-pub record Denies (bytes : List ℕ) (before after : Option (List ℕ)) : Type 0 where
+pub record ShowsFault (bytes : List ℕ) (before after : Option (List ℕ)) : Type 0 where
   pub none : ¬ IsAttribute bytes
   pub written : Appends before after (fault_text (fault bytes))
 
@@ -35,7 +35,7 @@ ShowsPrefix bytes before after =
     (text : List ℕ) × IsText bytes text × AppendsPrefix before after text
 
 -- The statuses that bytes may have: the bytes alone decide whether it is Done or Bad, and nothing
--- but a fault or want of memory takes their place.
+-- but a fault or lack of memory takes their place.
 abbrev pub SuitsBytes : List ℕ → Status → Type 0
 SuitsBytes bytes status.Done = IsAttribute bytes
 SuitsBytes bytes status.Bad = ¬ IsAttribute bytes

@@ -82,7 +82,7 @@ Begins before after input =
     (λ bad. AppendsPrefix before after (bad_text bad))
 
 -- The statuses that an input may have: which of Done, Bad and TooLarge it is, the input alone
--- decides, and nothing but a fault or want of memory takes their place. Only what is within the
+-- decides, and nothing but a fault or lack of memory takes their place. Only what is within the
 -- limits has a text that can fail to be written.
 abbrev pub Suits : List ℕ → Status → Type 0
 Suits input status.Done =

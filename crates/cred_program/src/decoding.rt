@@ -1,7 +1,7 @@
 //! What the bytes of a file's capability attribute say.
 ghost use Rattle.std.specs.Prelude.{◌≡◌, ◌⊎◌, true, IfOk, string_bytes};
 ghost use Rattle.cred_io.specs.Causes.{CountsFaults};
-ghost use Rattle.cred_program.specs.Decoding.{Denies, Shows, ShowsPrefix, SuitsBytes};
+ghost use Rattle.cred_program.specs.Decoding.{ShowsFault, Shows, ShowsPrefix, SuitsBytes};
 ghost use Rattle.cred_program.specs.Ends.{IsWhole};
 ghost use Rattle.cred_program.specs.Texts as spec;
 ghost use Rattle.cred_program.specs.Texts.{attr_text};
@@ -19,7 +19,7 @@ pub fn show<K: Sink>(alloc: Global, bytes: &[u8], sink: &mut K) -> Status
     ensures done { result ≡ Status.Done
         → Shows bytes.now (K.written sink.old) (K.written sink.new) }
     ensures bad { result ≡ Status.Bad
-        → Denies bytes.now (K.written sink.old) (K.written sink.new) }
+        → ShowsFault bytes.now (K.written sink.old) (K.written sink.new) }
     ensures suits { SuitsBytes bytes.now result }
     ensures handed_on { IsWhole result → K.handed_on sink.new ≡ true }
     ensures cause { CountsFaults (result ≡ Status.WriteFault)

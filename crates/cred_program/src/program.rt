@@ -5,7 +5,7 @@ ghost use Rattle.cred_io.specs.Causes.{CountsFaults};
 ghost use Rattle.cred_io.specs.Ends.{AppendsPrefix, ReadsUpTo};
 ghost use Rattle.cred_program.specs.Words.{command_of, texts};
 ghost use Rattle.cred_program.specs.Texts.{usage_text};
-ghost use Rattle.cred_program.specs.Decoding.{Denies, Shows, ShowsPrefix, SuitsBytes};
+ghost use Rattle.cred_program.specs.Decoding.{ShowsFault, Shows, ShowsPrefix, SuitsBytes};
 ghost use Rattle.cred_program.specs.Ends.{Begins, IsForNoCommand, IsWhole, Reads, ReadsTooMuch};
 ghost use Rattle.cred_program.specs.Ends.{ReadsWithin, Refuses, Reports, Suits};
 
@@ -71,7 +71,7 @@ pub fn credtrace<S: Source, K: Sink>(
         → Shows bytes (K.written sink.old) (K.written sink.new) }
     ensures decode_bad { (bytes : List ℕ)
         → command_of (texts words.now) ≡ Some (Command.Decode bytes) → result ≡ Status.Bad
-        → Denies bytes (K.written sink.old) (K.written sink.new) }
+        → ShowsFault bytes (K.written sink.old) (K.written sink.new) }
     ensures decode_suits { (bytes : List ℕ)
         → command_of (texts words.now) ≡ Some (Command.Decode bytes)
         → (source.new ≡ source.old) × SuitsBytes bytes result }

@@ -25,6 +25,11 @@ fn end_of(at: usize, count: usize, together: usize) -> usize
 }
 
 /// Writes the text of a journal through one buffer, as many entries in one write as the sink takes.
+///
+/// # Errors
+///
+/// The sink's refusal, and `Memory` if an allocation of the buffer fails: a prefix of the text was
+/// written.
 #[tactic(auto, using(crate::proofs::Prefixes::flushed_entries))]
 pub fn write_report<K: Sink>(
     alloc: Global,

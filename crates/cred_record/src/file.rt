@@ -1,6 +1,5 @@
 //! A file, as permission checks and execve see it.
-use crate::attr::Attr;
-use cred_ids::Id;
+use cred_ids::{Bytes as Attr, Id};
 use std::marker::Model;
 
 /// The kinds of files that the rules tell apart (inode(7)).

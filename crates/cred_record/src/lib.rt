@@ -3,7 +3,6 @@
 #![tactic(auto)]
 
 pub mod adj_call;
-pub mod attr;
 pub mod cred;
 pub mod file;
 pub mod gains;
@@ -18,8 +17,10 @@ pub mod word_laws;
 mod writing;
 
 pub use adj_call::AdjCall;
-pub use attr::Attr;
+/// The bytes of the extended attribute `security.capability` of a file (capabilities(7), "File
+/// capabilities"), as they stand there, whether or not they are well formed.
 pub use cred::{Cred, copy, first};
+pub use cred_ids::Bytes as Attr;
 pub use file::{FileInfo, FileKind};
 pub use gains::Gains;
 pub use id_call::IdCall;

@@ -5,10 +5,9 @@ ghost use Rattle.cred_report.specs.Text.{entry_text, text};
 use crate::answers::prepend_answer;
 use crate::events::prepend_event;
 use crate::pen::{PARTS, Pen};
-use crate::text::Text;
 use crate::words::prepend_word;
 use cred_event::Entry;
-use cred_ids::NoMemory;
+use cred_ids::{Bytes as Text, NoMemory};
 use cred_script::Script;
 use std::alloc::Global;
 

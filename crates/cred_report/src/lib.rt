@@ -14,11 +14,11 @@ mod numbers;
 mod pen;
 mod questions;
 mod tens;
-mod text;
 mod told;
 mod words;
 
 pub use entry::{prepend, prepend_all, print};
 pub use forward::{append_flag, append_number, append_set, append_word};
 pub use pen::Pen;
-pub use text::Text;
+/// A text, as its bytes.
+pub use cred_ids::Bytes as Text;

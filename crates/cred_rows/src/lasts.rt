@@ -8,7 +8,7 @@ use std::test::Fail;
 struct Long {
     /// How often the two pieces follow, with the numbers from 1 between them.
     count: u32,
-    front: &'static str,
+    prefix: &'static str,
     back: &'static str,
     /// What then ends it.
     end: &'static str,
@@ -21,7 +21,7 @@ const LONGS: [Long; 4] = [
     // is given up, the sweep that the next call makes frees the slot of the fifth credential.
     Long {
         count: 255,
-        front: "take h",
+        prefix: "take h",
         back: " t1\nt1 setresuid 0 0 0\n",
         end: "take h256 t1\nt1 setresuid 0 0 0\ndrop h5\nt1 setresuid 0 0 0\n",
         last: "512 take h256 t1 -> ok c255 s255\n\
@@ -32,7 +32,7 @@ const LONGS: [Long; 4] = [
     // 512 labels may hold. The first line is the task's, so line n + 1 takes label n.
     Long {
         count: 513,
-        front: "take h",
+        prefix: "take h",
         back: " t1\n",
         end: "t1 ids\n",
         last: "513 take h512 t1 -> ok c0 s0\n\
@@ -42,7 +42,7 @@ const LONGS: [Long; 4] = [
     // 64 labels may be prepared, each with a slot of its own.
     Long {
         count: 64,
-        front: "take h1000 t1\nprepare h",
+        prefix: "take h1000 t1\nprepare h",
         back: " t1 h1000\n",
         end: "prepare h65 t1 h1000\n",
         last: "128 take h1000 t1 -> exists h1000\n\
@@ -53,7 +53,7 @@ const LONGS: [Long; 4] = [
     // all but that of c255: c256 takes s0, and c257 s1. The calls stand on the even lines.
     Long {
         count: 256,
-        front: "t1 setresuid 0 0 0\n# ",
+        prefix: "t1 setresuid 0 0 0\n# ",
         back: "\n",
         end: "t1 setresuid 0 0 0\n",
         last: "510 begin t1 setresuid 0 0 0 -> ok c255 s255 left 0\n\
@@ -66,7 +66,7 @@ const LONGS: [Long; 4] = [
 fn script_of(alloc: Global, long: &Long) -> Result<String, Fail> {
     let mut script = String::from_str(alloc, "init t1 p1 0 0 n0\n")?;
     for number in 1..=long.count {
-        script.push_str(long.front)?;
+        script.push_str(long.prefix)?;
         write!(script, "{number}")?;
         script.push_str(long.back)?;
     }
@@ -77,7 +77,7 @@ fn script_of(alloc: Global, long: &Long) -> Result<String, Fail> {
 /// These are the last lines of the text.
 fn ends_in(text: &[u8], lines: &str) -> bool {
     match text.strip_suffix(lines.as_bytes()) {
-        Some(front) => front.ends_with(b"\n"),
+        Some(prefix) => prefix.ends_with(b"\n"),
         None => false,
     }
 }

@@ -28,7 +28,7 @@ fn inputs_above_the_limits_are_too_large(rt: HostRuntime) -> Result<(), Fail> {
 const INIT: &str = "init t1 p1 0 0 n0\n";
 
 /// What follows the first line, then a piece and how often it stands, the length of the whole
-/// script, and what the report ends in. Each is done, and no want of memory takes its place.
+/// script, and what the report ends in. Each is done, and no lack of memory takes its place.
 const DONE: [(&str, &str, usize, usize, &str); 4] = [
     (
         "",

@@ -304,7 +304,7 @@ fn names_what_refuses(rt: HostRuntime) -> Result<(), Fail> {
         target: 100031,
     };
     let overriding = Event::Override { task: 1, label: 1 };
-    let born = Event::Spawn { task: 1, child: 65 };
+    let spawned = Event::Spawn { task: 1, child: 65 };
     let entries = [
         entry(4, overriding, sealed(0, 0)),
         entry(5, Event::Exit { task: 1 }, Answer::Overridden(1)),
@@ -321,7 +321,7 @@ fn names_what_refuses(rt: HostRuntime) -> Result<(), Fail> {
         ),
         entry(7, objective, Answer::NoTask(9)),
         entry(3, signal, Answer::Eperm),
-        entry(65, born, Answer::TooMany(Counted::Tasks)),
+        entry(65, spawned, Answer::TooMany(Counted::Tasks)),
         entry(4, Event::Sweep, Answer::Done),
     ];
     let out = report(rt.alloc(), &entries)?;

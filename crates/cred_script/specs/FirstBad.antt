@@ -16,7 +16,7 @@ pub record IsFirstBad (texts : List (List ℕ)) (line : ℕ) (reason : Reason) :
   pub bad : add_lines nothing (take line texts) ≡ Err (line, reason)
 
 -- a line that is reported is the first bad one
-abbrev pub TellsFirstBad : List (List ℕ) → Result Script ScriptRefusal → Type 0
-TellsFirstBad texts (Ok script) = ⊤
-TellsFirstBad texts (Err (Bad line reason)) = IsFirstBad texts line reason
-TellsFirstBad texts (Err Memory) = ⊤
+abbrev pub ReportsFirstBad : List (List ℕ) → Result Script ScriptRefusal → Type 0
+ReportsFirstBad texts (Ok script) = ⊤
+ReportsFirstBad texts (Err (Bad line reason)) = IsFirstBad texts line reason
+ReportsFirstBad texts (Err Memory) = ⊤

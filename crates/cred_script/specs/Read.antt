@@ -18,10 +18,10 @@ Gives view (Err (Bad line reason)) given = given ≡ Err (line, reason)
 Gives view (Err Memory) given = ⊤
 
 -- the same, of one line
-abbrev pub Tells : {V A : Type 0} → (V → A) → Result V LineRefusal → Result A Reason → Type 0
-Tells view (Ok v) given = given ≡ Ok (view v)
-Tells view (Err (line.Bad reason)) given = given ≡ Err reason
-Tells view (Err line.Memory) given = ⊤
+abbrev pub GivesLine : {V A : Type 0} → (V → A) → Result V LineRefusal → Result A Reason → Type 0
+GivesLine view (Ok v) given = given ≡ Ok (view v)
+GivesLine view (Err (line.Bad reason)) given = given ≡ Err reason
+GivesLine view (Err line.Memory) given = ⊤
 
 -- five words, and those after them
 abbrev pub options_nows

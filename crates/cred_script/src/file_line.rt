@@ -1,7 +1,7 @@
 //! The lines that declare files.
 ghost use Rattle.cred_spelling.specs.Read.{Says, nows};
 ghost use Rattle.cred_script.specs.Files as spec;
-ghost use Rattle.cred_script.specs.Read.{Tells, options_nows};
+ghost use Rattle.cred_script.specs.Read.{GivesLine, options_nows};
 
 use crate::files::{Files, ScriptFile};
 use crate::refusal::LineRefusal;
@@ -43,7 +43,7 @@ fn five_and_options<'w, 'b>(words: &'w [&'b [u8]]) -> Result<FiveAndOptions<'w, 
 /// `caps HEX`
 #[tactic(auto, unfolding(crate::specs::Files::caps_of))]
 fn caps_of(alloc: Global, word: &[u8], digits: &[u8]) -> Result<Attr, LineRefusal>
-    ensures { Tells (λ attr. attr) result (spec.caps_of word.now digits.now) }
+    ensures { GivesLine (λ attr. attr) result (spec.caps_of word.now digits.now) }
 {
     only(word, "caps")?;
     let bytes = bytes_of(alloc, digits)?.ok_or(Reason::Word)?;
@@ -53,7 +53,7 @@ fn caps_of(alloc: Global, word: &[u8], digits: &[u8]) -> Result<Attr, LineRefusa
 /// What may follow: `nosuid`, and then `caps HEX`.
 #[tactic(auto, unfolding(crate::specs::Files::options_of))]
 fn options_of(alloc: Global, words: &[&[u8]]) -> Result<(bool, Option<Attr>), LineRefusal>
-    ensures { Tells (λ options. options) result (spec.options_of (nows words.now)) }
+    ensures { GivesLine (λ options. options) result (spec.options_of (nows words.now)) }
 {
     match words {
         [] => Ok((false, None)),
@@ -77,7 +77,7 @@ pub(crate) fn file_of(
     files: &Files,
     words: &[&[u8]],
 ) -> Result<ScriptFile, LineRefusal>
-    ensures { Tells (λ file. file) result (spec.file_of files.now (nows words.now)) }
+    ensures { GivesLine (λ file. file) result (spec.file_of files.now (nows words.now)) }
 {
     if files.is_full() {
         return Err(LineRefusal::Bad(Reason::Count));

@@ -3,7 +3,7 @@
 //! spell.
 ghost use Rattle.cred_spelling.specs.Read.{Says, nows};
 ghost use Rattle.cred_script.specs.Forms as spec;
-ghost use Rattle.cred_script.specs.Read.{Tells};
+ghost use Rattle.cred_script.specs.Read.{GivesLine};
 
 use crate::changes::change_of;
 use crate::file_line::file_of;
@@ -40,7 +40,7 @@ pub(crate) fn parse_form(
     form: Form,
     words: &[&[u8]],
 ) -> Result<Parsed, LineRefusal>
-    ensures { Tells (λ line. line) result (spec.parse_form files.now form (nows words.now)) }
+    ensures { GivesLine (λ line. line) result (spec.parse_form files.now form (nows words.now)) }
 {
     match form {
         Form::Init => {
@@ -70,7 +70,7 @@ fn event_of(
     name: EventName,
     words: &[&[u8]],
 ) -> Result<Event, LineRefusal>
-    ensures { Tells (λ event. event) result (spec.event_of files.now name (nows words.now)) }
+    ensures { GivesLine (λ event. event) result (spec.event_of files.now name (nows words.now)) }
 {
     match name {
         EventName::Take => Ok(take_of(Side::Subjective, words)?),
@@ -141,7 +141,7 @@ fn alter_of(words: &[&[u8]]) -> Result<Event, Reason>
 /// `begin T CALL`: the call is read before the task.
 #[tactic(auto, unfolding(crate::specs::Forms::begin_of))]
 fn begin_of(alloc: Global, words: &[&[u8]]) -> Result<Event, LineRefusal>
-    ensures { Tells (λ event. event) result (spec.begin_of (nows words.now)) }
+    ensures { GivesLine (λ event. event) result (spec.begin_of (nows words.now)) }
 {
     match words {
         [task, name, words @ ..] => {
@@ -195,7 +195,7 @@ fn content_of(
     task: u32,
     words: &[&[u8]],
 ) -> Result<Content, LineRefusal>
-    ensures { Tells (λ content. content) result
+    ensures { GivesLine (λ content. content) result
         (spec.content_of files.now task (nows words.now)) }
 {
     match words {
@@ -216,7 +216,7 @@ fn call_of(
     name: CallName,
     words: &[&[u8]],
 ) -> Result<Content, LineRefusal>
-    ensures { Tells (λ made. made) result
+    ensures { GivesLine (λ made. made) result
         (spec.call_of files.now task name (nows words.now)) }
 {
     match name {

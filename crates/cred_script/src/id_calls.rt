@@ -1,7 +1,7 @@
 //! The id calls of a line: their arguments.
 ghost use Rattle.cred_spelling.specs.Read.{nows};
 ghost use Rattle.cred_script.specs.IdCalls as spec;
-ghost use Rattle.cred_script.specs.Read.{Tells};
+ghost use Rattle.cred_script.specs.Read.{GivesLine};
 
 use crate::refusal::LineRefusal;
 use cred_ids::{Arg, Id};
@@ -11,7 +11,7 @@ use std::alloc::Global;
 
 /// Any number of ids.
 fn ids(alloc: Global, words: &[&[u8]]) -> Result<Vec<Id>, LineRefusal>
-    ensures { Tells (λ v. v.items) result (spec.ids (nows words.now)) }
+    ensures { GivesLine (λ v. v.items) result (spec.ids (nows words.now)) }
 {
     let mut ids = Vec::with_capacity(alloc, words.len())?;
     for text in words {
@@ -27,7 +27,7 @@ pub(crate) fn id_call_of(
     name: IdName,
     words: &[&[u8]],
 ) -> Result<IdCall, LineRefusal>
-    ensures { Tells (λ call. call) result (spec.id_call_of name (nows words.now)) }
+    ensures { GivesLine (λ call. call) result (spec.id_call_of name (nows words.now)) }
 {
     match name {
         IdName::SetUid => Ok(IdCall::SetUid(one::<Arg>(words)?)),

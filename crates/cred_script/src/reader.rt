@@ -2,7 +2,7 @@
 ghost use Rattle.std.specs.Prelude.{◌≡◌, ◌≤◌, IfOk, length};
 ghost use Rattle.cred_model.specs.Script.{SetupFirst};
 ghost use Rattle.cred_spelling.specs.Lines.{lines_of};
-ghost use Rattle.cred_script.specs.FirstBad.{TellsFirstBad};
+ghost use Rattle.cred_script.specs.FirstBad.{ReportsFirstBad};
 ghost use Rattle.cred_script.specs.Grammar.{script_of};
 ghost use Rattle.cred_script.specs.Read.{Gives};
 
@@ -22,7 +22,7 @@ use std::alloc::Global;
 pub fn read(alloc: Global, bytes: &[u8]) -> Result<Script, ScriptRefusal>
     requires few { length (lines_of bytes.now) ≤ LINE_LIMIT }
     ensures given { Gives (λ script. script) result (script_of bytes.now) }
-    ensures first { TellsFirstBad (lines_of bytes.now) result }
+    ensures first { ReportsFirstBad (lines_of bytes.now) result }
     ensures lines { IfOk result (λ script. length script.lines ≡ length (lines_of bytes.now)) }
     ensures setup { IfOk result (λ script. SetupFirst script) }
 {

@@ -5,7 +5,7 @@ ghost use Rattle.cred_spelling.specs.Lines.{is_printable};
 ghost use Rattle.cred_spelling.specs.Read.{Says, nows};
 ghost use Rattle.cred_script.specs.Grammar as grammar;
 ghost use Rattle.cred_script.specs.Grammar.{at_line};
-ghost use Rattle.cred_script.specs.Read.{Gives, Tells};
+ghost use Rattle.cred_script.specs.Read.{Gives, GivesLine};
 ghost use Rattle.cred_script.specs.Reading as spec;
 ghost use Rattle.cred_script.specs.Sound.{IsParsed, IsSound};
 
@@ -105,7 +105,7 @@ impl Reading {
     ) -> Result<(), LineRefusal>
         requires few { length self.old.lines < LINE_LIMIT }
         requires test { printable ≡ is_printable text.now }
-        ensures { Tells (λ _. self.new) result (grammar.add_line self.old text.now) }
+        ensures { GivesLine (λ _. self.new) result (grammar.add_line self.old text.now) }
     {
         let line = self.parse_line(alloc, words, text, printable)?;
         self.keep(line)
@@ -156,7 +156,7 @@ impl Reading {
         printable: bool,
     ) -> Result<Parsed, LineRefusal>
         requires { printable ≡ is_printable text.now }
-        ensures { Tells (λ line. line) result (grammar.parse_line self.now text.now) }
+        ensures { GivesLine (λ line. line) result (grammar.parse_line self.now text.now) }
     {
         if !printable {
             return Err(LineRefusal::Bad(Reason::Byte));
@@ -167,7 +167,7 @@ impl Reading {
 
     /// A line without words, and a comment, declare nothing and hold nothing.
     fn parse_words(&self, alloc: Global, words: &[&[u8]]) -> Result<Parsed, LineRefusal>
-        ensures { Tells (λ line. line) result (grammar.parse_words self.now (nows words.now)) }
+        ensures { GivesLine (λ line. line) result (grammar.parse_words self.now (nows words.now)) }
     {
         match words {
             [] => Ok(Parsed::Empty),
@@ -189,7 +189,7 @@ impl Reading {
         first: &[u8],
         words: &[&[u8]],
     ) -> Result<Parsed, LineRefusal>
-        ensures { Tells (λ line. line) result
+        ensures { GivesLine (λ line. line) result
             (grammar.parse_full self.now first.now (nows words.now)) }
     {
         let form = self.form_at(first)?;

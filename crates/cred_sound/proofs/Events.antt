@@ -18,13 +18,13 @@ use Rattle.cred_model.specs.State.{State, Task, Hold, Prepared, Changed, Numbere
 use Rattle.cred_model.specs.Slots.{SLOTS, refs, kept, free}
 use Rattle.cred_model.specs.Named.{change_files}
 use Rattle.cred_model.specs.Change.{by_change}
-use Rattle.cred_model.specs.Step.{TASKS, HOLDS, PREPARED, table_full, with_change, with_current, first_task, created, replaced, preparing, committed, given_up, commit_answer, settle, step}
+use Rattle.cred_model.specs.Step.{TASKS, HOLDS, PREPARED, table_full, with_change, with_current, first_task, created, replaced, preparing, committed, given_up, commit_answer, try_commit, step}
 use Rattle.cred_model.proofs.Lists.{All-at, All-unmap, AllPairs-unmap, alone, at_place, others_differ}
 use Rattle.cred_sound.specs.Ledger.{IsClear, IsOrderly, ledger}
 use Rattle.cred_sound.proofs.Moves.{Apart}
 use Rattle.cred_sound.proofs.References.{IsFree, own_refs, current_stands, found_stands, held_stands, base_stands}
-use Rattle.cred_sound.proofs.Tests.{settles, if_some, if_none, if_fewer, if_rule, if_ok, in_slots}
-use Rattle.cred_sound.proofs.Parts.{with_left, sealing, Fits, Changes, TasksChange, HoldsChange, PreparedChange, SameCreds, Seals, ByCall, ByCommit, SameTasks, Creates, Renews, SameHolds, Takes, Releases, SamePrepared, Prepares, Alters, Ends}
+use Rattle.cred_sound.proofs.Tests.{outcome_has, if_some, if_none, if_fewer, if_rule, if_ok, in_slots}
+use Rattle.cred_sound.proofs.Parts.{with_left, sealed_cred, Fits, Changes, TasksChange, HoldsChange, PreparedChange, SameCreds, Seals, ByCall, ByCommit, SameTasks, Creates, Renews, SameHolds, Takes, Releases, SamePrepared, Prepares, Alters, Ends}
 
 -- ---- the references that are left
 
@@ -89,11 +89,11 @@ refused script s event answer = still script s event answer s.deferred (All-cont
 -- a task is created, or has another credential, which is sealed in a free slot
 with_tasks : (script : Script) (s : State) (event : Event) (answer : Answer) (left : List ℕ) (tasks : List Task) (c : Credential)
     (slot : ℕ) (deferred : List ℕ)
-    → let t = record s { tasks = tasks; deferred = deferred; creds = s.creds ++ sealing c slot ∷ [] } in
+    → let t = record s { tasks = tasks; deferred = deferred; creds = s.creds ++ sealed_cred c slot ∷ [] } in
     All (Contains s.deferred) left → IsFree (with_left s left) slot → TasksChange s event (answer, t)
     → All (Contains (refs (with_left s left))) deferred → Changes script s event (answer, t)
 with_tasks script s event answer left tasks c slot deferred fewer free change refer =
-    let t : State = record s { tasks = tasks; deferred = deferred; creds = s.creds ++ sealing c slot ∷ [] } in
+    let t : State = record s { tasks = tasks; deferred = deferred; creds = s.creds ++ sealed_cred c slot ∷ [] } in
     record {
       left = left;
       fewer = fewer;
@@ -141,7 +141,7 @@ init_changes script s line task process user group ns =
     let Q = Changes script s event in
     let first = first_task task process (length s.creds) in
     let c = first_credential user group ns in
-    settles Q s _ (refused script s event)
+    outcome_has Q s _ (refused script s event)
     (if_none Q (task_of s task) _ _
     (λ new. if_fewer Q (length s.tasks) TASKS _ _
     (in_slots Q s table_full (λ s slot. (Sealed (length s.creds) slot, created s (first_task task process (length s.creds)) c slot))
@@ -155,7 +155,7 @@ take_changes : (script : Script) (s : State) (line label task : ℕ) (side : Sid
 take_changes script s line label task side =
     let event = Take label task side in
     let Q = Changes script s event in
-    settles Q s _ (refused script s event)
+    outcome_has Q s _ (refused script s event)
     (if_some Q (current_of s task) _ _
     (λ taken is. if_none Q (hold_of s label) _ _
     (λ new. if_none Q (prepared_of s label) _ _
@@ -168,7 +168,7 @@ release_changes : (script : Script) (s : State) (line label : ℕ) → Changes s
 release_changes script s line label =
     let event = Release label in
     let Q = Changes script s event in
-    settles Q s _ (refused script s event)
+    outcome_has Q s _ (refused script s event)
     (if_some Q (position (λ h. h.label == label) s.holds) _ _
     (λ place at. if_some Q (slice_get s.holds place) _ _
     (λ hold is.
@@ -182,7 +182,7 @@ prepare_changes script s line label task hold =
     let Q = Changes script s event in
     let new_label : ℕ → ℕ → Prepared
     = λ slot base. record { label = label; task = task; base = base; slot = slot; changed = None } in
-    settles Q s _ (refused script s event)
+    outcome_has Q s _ (refused script s event)
     (if_some Q (task_of s task) _ _
     (λ owner is. if_some Q (hold_of s hold) _ _
     (λ base held. if_none Q (hold_of s label) _ _
@@ -200,7 +200,7 @@ alter_changes : (script : Script) (s : State) (line label : ℕ) (change : Chang
 alter_changes script s line label change =
     let event = Alter label change in
     let Q = Changes script s event in
-    settles Q s _ (refused script s event)
+    outcome_has Q s _ (refused script s event)
     (if_some Q (prepared_of s label) _ _
     (λ p is. if_some Q (numbered s.creds p.base) _ _
     (λ base at. if_ok Q (by_change (info_of script (change_files change)) (chain_of script base.cred.ns) base.cred change) _
@@ -235,11 +235,11 @@ commit_fresh script s label place p last now at is changed current same =
           (All-cons Stays p.base [] (base_stands s place p is) (All-nil Stays)));
     }
 
-settle_changes : (script : Script) (s : State) (label place : ℕ) (p : Prepared) (last : Changed) (now : Numbered)
+try_commit_changes : (script : Script) (s : State) (label place : ℕ) (p : Prepared) (last : Changed) (now : Numbered)
     → position (λ p. p.label == label) s.prepared ≡ Some place → slice_get s.prepared place ≡ Some p
     → p.changed ≡ Some last → current_of s p.task ≡ Some now
-    → Changes script s (Commit label) (settle s place p now.number last)
-settle_changes script s label place p last now at is changed current =
+    → Changes script s (Commit label) (try_commit s place p now.number last)
+try_commit_changes script s label place p last now at is changed current =
     elim (now.number == p.base) as (λ b. (b ≡ true → now.number ≡ p.base) → Changes script s (Commit label) (cond {A = Answer × State} b (commit_answer last (length s.creds) p.slot, committed s place p now.number last.cred) (Stale p.base now.number, given_up s place p))) [
       | true ↦ λ same. commit_fresh script s label place p last now at is changed current (same refl)
       | false ↦ λ same. gives_up_prepared script s (Commit label) (Stale p.base now.number) label place p (inl refl) at is
@@ -248,17 +248,17 @@ settle_changes script s label place p last now at is changed current =
 commit_changes : (script : Script) (s : State) (line label : ℕ) → Changes script s (Commit label) (step script s line (Commit label))
 commit_changes script s line label =
     let Q = Changes script s (Commit label) in
-    settles Q s _ (refused script s (Commit label))
+    outcome_has Q s _ (refused script s (Commit label))
     (if_some Q (position (λ p. p.label == label) s.prepared) _ _
     (λ place at. if_some Q (slice_get s.prepared place) _ _
     (λ p is. if_some Q p.changed _ _
     (λ last changed. if_some Q (current_of s p.task) _ _
-    (λ now current. settle_changes script s label place p last now at is changed current)))))
+    (λ now current. try_commit_changes script s label place p last now at is changed current)))))
 
 abort_changes : (script : Script) (s : State) (line label : ℕ) → Changes script s (Abort label) (step script s line (Abort label))
 abort_changes script s line label =
     let Q = Changes script s (Abort label) in
-    settles Q s _ (refused script s (Abort label))
+    outcome_has Q s _ (refused script s (Abort label))
     (if_some Q (position (λ p. p.label == label) s.prepared) _ _
     (λ place at. if_some Q (slice_get s.prepared place) _ _
     (λ p is. gives_up_prepared script s (Abort label) Done label place p (inr refl) at is)))
@@ -268,7 +268,7 @@ begin_changes : (script : Script) (s : State) (line task : ℕ) (call : IdCall)
 begin_changes script s line task call =
     let event = Begin task call in
     let Q = Changes script s event in
-    settles Q s _ (refused script s event)
+    outcome_has Q s _ (refused script s event)
     (if_some Q (current_of s task) _ _
     (λ old is. if_rule Q (set_id old.cred call) _
     (λ new ruled. in_slots Q s table_full (λ s slot. (Began (length s.creds) slot 0, replaced s task old.number new slot))
@@ -284,7 +284,7 @@ changes script s line (Init task process user group ns) = init_changes script s 
 changes script s line (Take label task side) = take_changes script s line label task side
 changes script s line (Release label) = release_changes script s line label
 changes script s line (Ask label query) =
-    settles (Changes script s (Ask label query)) s _ (refused script s (Ask label query))
+    outcome_has (Changes script s (Ask label query)) s _ (refused script s (Ask label query))
     (if_some _ (held_by s label) _ _ (λ held is. refused script s (Ask label query) _))
 changes script s line (Prepare label task hold) = prepare_changes script s line label task hold
 changes script s line (Alter label change) = alter_changes script s line label change

@@ -19,12 +19,12 @@ clear_fewer slots slot xs ys clear among =
     All-weaker (Contains xs) (λ n. slice_get slots n ≢ Some slot)
     (λ n has. All-contains (λ n. slice_get slots n ≢ Some slot) xs n clear has) ys among
 
-pub fewer : (l : Ledger) (standing deferred kept : List ℕ) → All (Contains (referred l)) (standing ++ deferred)
+pub fewer : (l : Ledger) (in_use deferred kept : List ℕ) → All (Contains (referred l)) (in_use ++ deferred)
     → All (Contains l.kept) kept → AllPairs Apart kept → IsOrderly l
-    → IsOrderly (record { slots = l.slots; standing = standing; deferred = deferred; kept = kept })
-fewer l standing deferred kept among within own order =
+    → IsOrderly (record { slots = l.slots; in_use = in_use; deferred = deferred; kept = kept })
+fewer l in_use deferred kept among within own order =
     let xs = referred l in
-    let ys = standing ++ deferred in
+    let ys = in_use ++ deferred in
     record {
       sealed = All-weaker (Contains xs) (λ n. n < length l.slots) (λ n has. All-contains (λ n. n < length l.slots) xs n order.sealed has) ys among;
       slotted = order.slotted;
@@ -93,12 +93,12 @@ clear_more slots xs ys new slot sealed differ clear among =
     ])
     ys among
 
-pub seals : (l : Ledger) (slot : ℕ) (standing deferred : List ℕ) → slot < SLOTS → IsClear l.slots slot (referred l)
-    → All (λ k. k ≢ slot) l.kept → All (OldOrNew l.slots (referred l)) (standing ++ deferred) → IsOrderly l
-    → IsOrderly (record { slots = l.slots ++ slot ∷ []; standing = standing; deferred = deferred; kept = l.kept })
-seals l slot standing deferred below clear unkept among order =
+pub seals : (l : Ledger) (slot : ℕ) (in_use deferred : List ℕ) → slot < SLOTS → IsClear l.slots slot (referred l)
+    → All (λ k. k ≢ slot) l.kept → All (OldOrNew l.slots (referred l)) (in_use ++ deferred) → IsOrderly l
+    → IsOrderly (record { slots = l.slots ++ slot ∷ []; in_use = in_use; deferred = deferred; kept = l.kept })
+seals l slot in_use deferred below clear unkept among order =
     let xs = referred l in
-    let ys = standing ++ deferred in
+    let ys = in_use ++ deferred in
     record {
       sealed = All-weaker (OldOrNew l.slots xs) (λ n. n < length (l.slots ++ slot ∷ []))
           (λ n has. sealed_more l.slots xs slot n order.sealed has) ys among;

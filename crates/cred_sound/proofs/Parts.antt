@@ -9,7 +9,7 @@ use Rattle.cred_event.specs.declared.event.Event.{Event}
 use Rattle.cred_event.specs.declared.event.Event.TheVariants.{Init, Release, Commit, Abort}
 use Rattle.cred_event.specs.declared.answer.Answer.{Answer}
 use Rattle.cred_model.specs.Script.{Script, info_of, chain_of}
-use Rattle.cred_model.specs.State.{State, Sealing, Hold, Prepared, Changed, Numbered, numbered, task_of, hold_of, prepared_of, current_of}
+use Rattle.cred_model.specs.State.{State, SealedCred, Hold, Prepared, Changed, Numbered, numbered, task_of, hold_of, prepared_of, current_of}
 use Rattle.cred_model.specs.Slots.{SLOTS, refs, kept}
 use Rattle.cred_model.specs.Named.{change_files}
 use Rattle.cred_model.specs.Change.{by_change, gained}
@@ -22,8 +22,8 @@ use Rattle.cred_sound.proofs.References.{IsFree}
 abbrev pub with_left : State → List ℕ → State
 with_left s left = record s { deferred = left }
 
-abbrev pub sealing : Credential → ℕ → Sealing
-sealing c slot = record { cred = c; slot = slot }
+abbrev pub sealed_cred : Credential → ℕ → SealedCred
+sealed_cred c slot = record { cred = c; slot = slot }
 
 -- Nothing that is referred to stands in the slot, and no label keeps it: before the event none but
 -- the one that it commits, and none after it.
@@ -36,7 +36,7 @@ pub record Fits (s : State) (event : Event) (left : List ℕ) (t : State) (slot 
 -- The sealed credentials: as they were, or one more.
 pub data CredsChange (s : State) (event : Event) (left : List ℕ) (t : State) : Type 0 where
   SameCreds : t.creds ≡ s.creds → CredsChange s event left t
-  Seals : (c : Credential) (slot : ℕ) → t.creds ≡ s.creds ++ sealing c slot ∷ []
+  Seals : (c : Credential) (slot : ℕ) → t.creds ≡ s.creds ++ sealed_cred c slot ∷ []
       → (IsOrderly (ledger s) → Fits s event left t slot) → CredsChange s event left t
 
 -- Why a task's new credential comes in the place of its old one: it is what a call makes of that,
@@ -51,10 +51,10 @@ pub data TasksChange (s : State) (event : Event) (made : Answer × State) : Type
   SameTasks : made.1.tasks ≡ s.tasks → TasksChange s event made
   Creates : (task process user group ns slot : ℕ) → event ≡ Init task process user group ns
       → made.1.tasks ≡ s.tasks ++ first_task task process (length s.creds) ∷ []
-      → made.1.creds ≡ s.creds ++ sealing (first_credential user group ns) slot ∷ [] → task_of s task ≡ None
+      → made.1.creds ≡ s.creds ++ sealed_cred (first_credential user group ns) slot ∷ [] → task_of s task ≡ None
       → TasksChange s event made
   Renews : (task slot : ℕ) (old : Numbered) (c : Credential) → made.1.tasks ≡ with_current s.tasks task (length s.creds)
-      → made.1.creds ≡ s.creds ++ sealing c slot ∷ [] → current_of s task ≡ Some old → Cause s event old c made.0
+      → made.1.creds ≡ s.creds ++ sealed_cred c slot ∷ [] → current_of s task ≡ Some old → Cause s event old c made.0
       → TasksChange s event made
 
 -- The holds: as they were, one more, or one less.

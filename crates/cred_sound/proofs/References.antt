@@ -6,7 +6,7 @@ use Rattle.std.proofs.lemmas.List.Elements.{All-contains_itself, All-weaker}
 use Rattle.std.proofs.lemmas.List.FromFn.{get_or-range_with_len, length-range_with_len}
 use Rattle.std.proofs.lemmas.Bool.{eqb-false}
 use Rattle.std.proofs.lemmas.Option.{slice_get-map}
-use Rattle.cred_model.specs.State.{State, Sealing, Hold, Prepared, Numbered, current_of, hold_of}
+use Rattle.cred_model.specs.State.{State, SealedCred, Hold, Prepared, Numbered, current_of, hold_of}
 use Rattle.cred_model.specs.Slots.{SLOTS, refs, kept, stands_in, is_live, is_kept, slots, least_free}
 use Rattle.cred_model.proofs.Referred.{EachRef, each_ref}
 use Rattle.cred_model.proofs.LikeReads.{current_by}
@@ -46,14 +46,14 @@ not_true : (b : Bool) → not b ≡ true → b ≡ false
 not_true true is = cc
 not_true false is = refl
 
-other_slot : (o : Option Sealing) (slot : ℕ) → option_map_or (λ (x : Sealing). x.slot == slot) o false ≡ false
-    → option_map (λ (x : Sealing). x.slot) o ≢ Some slot
+other_slot : (o : Option SealedCred) (slot : ℕ) → option_map_or (λ (x : SealedCred). x.slot == slot) o false ≡ false
+    → option_map (λ (x : SealedCred). x.slot) o ≢ Some slot
 other_slot None slot fails is = cc
 other_slot (Some x) slot fails is = eqb-false x.slot slot fails (let same : x.slot ≡ slot = cc in same)
 
 pub clear_of : (s : State) (slot n : ℕ) → stands_in s.creds slot n ≡ false → slice_get (ledger s).slots n ≢ Some slot
 clear_of s slot n fails is =
-    other_slot (slice_get s.creds n) slot fails (sym (slice_get-map (λ (x : Sealing). x.slot) s.creds n) ∙ is)
+    other_slot (slice_get s.creds n) slot fails (sym (slice_get-map (λ (x : SealedCred). x.slot) s.creds n) ∙ is)
 
 -- nothing that is referred to stands in the slot, and it isn't kept
 pub record IsFree (s : State) (slot : ℕ) : Type 0 where

@@ -9,12 +9,12 @@ use Rattle.cred_event.specs.declared.event.Event.{Event}
 use Rattle.cred_event.specs.declared.answer.Answer.{Answer}
 use Rattle.cred_event.specs.declared.entry.Entry.{Entry}
 use Rattle.cred_model.specs.Script.{Script}
-use Rattle.cred_model.specs.State.{State, Sealing, Task, Prepared, opening}
-use Rattle.cred_model.specs.Slots.{standing, refs, kept}
+use Rattle.cred_model.specs.State.{State, SealedCred, Task, Prepared, opening}
+use Rattle.cred_model.specs.Slots.{in_use, refs, kept}
 use Rattle.cred_model.specs.Like.{IsLike}
-use Rattle.cred_model.specs.Step.{renewed, changed, step}
+use Rattle.cred_model.specs.Step.{updated, changed, step}
 use Rattle.cred_model.proofs.Lists.{All-kept, All-remove, All-unmap, AllPairs-map, AllPairs-unmap, map_same}
-use Rattle.cred_model.proofs.Numbers.{renewed_as, changed_as}
+use Rattle.cred_model.proofs.Numbers.{updated_as, changed_as}
 use Rattle.cred_sound.specs.Ledger.{Ledger, ledger, referred, IsOrderly}
 use Rattle.cred_sound.specs.Sound.{IsSound, StatesAreSound}
 use Rattle.cred_sound.proofs.Moves.{Apart, fewer, keeps, seals}
@@ -36,9 +36,9 @@ IsNew s t n = (n ≡ length s.creds) × (length s.creds < length t.creds)
 abbrev OldOrNew : State → List ℕ → State → ℕ → Type 0
 OldOrNew s left t n = Old s left n ⊎ IsNew s t n
 
-grows : (s t : State) (new : Sealing) → t.creds ≡ s.creds ++ new ∷ [] → IsNew s t (length s.creds)
+grows : (s t : State) (new : SealedCred) → t.creds ≡ s.creds ++ new ∷ [] → IsNew s t (length s.creds)
 grows s t new creds =
-    let long = ap (λ (xs : List Sealing). length xs) creds in (refl, omega (arith, length_push s.creds new))
+    let long = ap (λ (xs : List SealedCred). length xs) creds in (refl, omega (arith, length_push s.creds new))
 
 -- P holds of what the task refers to
 record Refers (P : ℕ → Type 0) (t : Task) : Type 0 where
@@ -55,8 +55,8 @@ tasks_refer s event left made (Creates task process user group ns slot is tasks 
 tasks_refer s event left made (Renews task slot before c tasks creds current cause) old =
     let P = Refers (OldOrNew s left made.1) in
     subst (All P) (sym tasks)
-    (All-kept P (renewed task (length s.creds)) s.tasks
-    (λ t one. renewed_as P task (length s.creds) t (record { current = inr (grows s made.1 _ creds); overrides = one.overrides }) one) old)
+    (All-kept P (updated task (length s.creds)) s.tasks
+    (λ t one. updated_as P task (length s.creds) t (record { current = inr (grows s made.1 _ creds); overrides = one.overrides }) one) old)
 
 holds_refer : (s : State) (event : Event) (left : List ℕ) (t : State) → HoldsChange s event left t
     → All (λ h. Old s left h.number) s.holds → All (λ h. Old s left h.number) t.holds
@@ -103,7 +103,7 @@ all_refer script s event made c =
 -- first the sweep, if there is one
 swept_orderly : (s : State) (left : List ℕ) → All (Contains s.deferred) left → IsOrderly (ledger s) → IsOrderly (ledger (with_left s left))
 swept_orderly s left among order =
-    fewer (ledger s) (standing s) left (kept s)
+    fewer (ledger s) (in_use s) left (kept s)
     (refs_each (Contains (refs s)) (with_left s left)
     (each_deferred (own_refs s) left (All-weaker (Contains s.deferred) (Contains (refs s)) (λ n has. All-contains (Contains (refs s)) s.deferred n (own_refs s).deferred has) left among)))
     (All-contains_itself (kept s)) order.own order
@@ -131,7 +131,7 @@ kept_orderly script s event left t (Ends label place p ends prepared at is) orde
     let now = ledger (with_left s left) in
     let rest = remove s.prepared place in
     subst (λ k. IsOrderly (with_kept now k)) (ap (map slot_of) (sym prepared))
-    (fewer now (standing s) left (map slot_of rest) (All-contains_itself (referred now))
+    (fewer now (in_use s) left (map slot_of rest) (All-contains_itself (referred now))
     (All-map (Contains (kept s)) slot_of rest
     (All-remove (λ p. Contains (kept s) p.slot) s.prepared place (All-unmap (Contains (kept s)) slot_of s.prepared (All-contains_itself (kept s)))))
     (AllPairs-map Apart slot_of rest
@@ -143,27 +143,27 @@ kept_orderly script s event left t (Ends label place p ends prepared at is) orde
 not_new : (s t : State) (left : List ℕ) (n : ℕ) → t.creds ≡ s.creds → OldOrNew s left t n → Old s left n
 not_new s t left n same (inl has) = has
 not_new s t left n same (inr new) =
-    let long = ap (λ (xs : List Sealing). length xs) same in
+    let long = ap (λ (xs : List SealedCred). length xs) same in
     let more = new.1 in absurd (omega arith)
 
 old_or_new : (s t : State) (left : List ℕ) (n : ℕ) → OldOrNew s left t n → Old s left n ⊎ (n ≡ length (ledger s).slots)
 old_or_new s t left n (inl has) = inl has
-old_or_new s t left n (inr new) = inr (new.0 ∙ sym (length-map s.creds (λ (x : Sealing). x.slot)))
+old_or_new s t left n (inr new) = inr (new.0 ∙ sym (length-map s.creds (λ (x : SealedCred). x.slot)))
 
 creds_orderly : (s : State) (event : Event) (left : List ℕ) (t : State) → CredsChange s event left t → IsOrderly (ledger s)
     → All (OldOrNew s left t) (refs t) → IsOrderly (with_kept (ledger (with_left s left)) (kept t)) → IsOrderly (ledger t)
 creds_orderly s event left t (SameCreds same) before refer order =
     let now = with_kept (ledger (with_left s left)) (kept t) in
-    subst (λ slots. IsOrderly (record (ledger t) { slots = slots })) (ap (map (λ (x : Sealing). x.slot)) (sym same))
-    (fewer now (standing t) t.deferred (kept t)
+    subst (λ slots. IsOrderly (record (ledger t) { slots = slots })) (ap (map (λ (x : SealedCred). x.slot)) (sym same))
+    (fewer now (in_use t) t.deferred (kept t)
     (All-weaker (OldOrNew s left t) (Old s left) (λ n has. not_new s t left n same has) (refs t) refer)
     (All-contains_itself (kept t)) order.own order)
 creds_orderly s event left t (Seals c slot creds fits) before refer order =
     let now = with_kept (ledger (with_left s left)) (kept t) in
     let fit = fits before in
     subst (λ slots. IsOrderly (record (ledger t) { slots = slots }))
-    (sym (ap (map (λ (x : Sealing). x.slot)) creds ∙ map_push (λ (x : Sealing). x.slot) s.creds _))
-    (seals now slot (standing t) t.deferred fit.below fit.clear fit.unkept
+    (sym (ap (map (λ (x : SealedCred). x.slot)) creds ∙ map_push (λ (x : SealedCred). x.slot) s.creds _))
+    (seals now slot (in_use t) t.deferred fit.below fit.clear fit.unkept
     (All-weaker (OldOrNew s left t) (λ n. Old s left n ⊎ (n ≡ length now.slots)) (λ n has. old_or_new s t left n has) (refs t) refer)
     order)
 

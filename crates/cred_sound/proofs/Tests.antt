@@ -9,48 +9,48 @@ use Rattle.cred_event.specs.declared.answer.Answer.{Answer}
 use Rattle.cred_model.specs.State.{State}
 use Rattle.cred_model.specs.Slots.{least_free, swept}
 use Rattle.cred_model.specs.Change.{by_rule}
-use Rattle.cred_model.specs.Step.{◌>>=◌, none_or, fewer_or, in_slot, settled}
+use Rattle.cred_model.specs.Step.{◌>>=◌, none_or, fewer_or, in_slot, outcome}
 use Rattle.cred_sound.proofs.References.{IsFree, free_slot}
 use Rattle.cred_sound.proofs.Parts.{with_left}
 
 -- ---- an event's tests
 
 -- Q holds of what an event does, where it isn't refused
-abbrev pub Does : (Answer × State → Type 0) → Result (Answer × State) Answer → Type 0
-Does Q (Ok made) = Q made
-Does Q (Err answer) = Unit {0}
+abbrev pub IfAllowed : (Answer × State → Type 0) → Result (Answer × State) Answer → Type 0
+IfAllowed Q (Ok made) = Q made
+IfAllowed Q (Err answer) = Unit {0}
 
-pub settles : (Q : Answer × State → Type 0) (s : State) (r : Result (Answer × State) Answer) → ((answer : Answer) → Q (answer, s))
-    → Does Q r → Q (settled s r)
-settles Q s (Ok made) refused does = does
-settles Q s (Err answer) refused does = refused answer
+pub outcome_has : (Q : Answer × State → Type 0) (s : State) (r : Result (Answer × State) Answer) → ((answer : Answer) → Q (answer, s))
+    → IfAllowed Q r → Q (outcome s r)
+outcome_has Q s (Ok made) refused does = does
+outcome_has Q s (Err answer) refused does = refused answer
 
 pub if_some : {A : Type 0} (Q : Answer × State → Type 0) (found : Option A) (answer : Answer) (f : A → Result (Answer × State) Answer)
-    → ((x : A) → found ≡ Some x → Does Q (f x)) → Does Q (ok_or found answer >>= f)
+    → ((x : A) → found ≡ Some x → IfAllowed Q (f x)) → IfAllowed Q (ok_or found answer >>= f)
 if_some Q None answer f each = tt
 if_some Q (Some x) answer f each = each x refl
 
 pub if_none : {A : Type 0} (Q : Answer × State → Type 0) (found : Option A) (answer : Answer)
-    (f : Unit {0} → Result (Answer × State) Answer) → (found ≡ None → Does Q (f tt)) → Does Q (none_or found answer >>= f)
+    (f : Unit {0} → Result (Answer × State) Answer) → (found ≡ None → IfAllowed Q (f tt)) → IfAllowed Q (none_or found answer >>= f)
 if_none Q None answer f each = each refl
 if_none Q (Some x) answer f each = tt
 
 passed : (Q : Answer × State → Type 0) (test : Bool) (answer : Answer) (f : Unit {0} → Result (Answer × State) Answer)
-    → Does Q (f tt) → Does Q (cond test (Ok tt) (Err answer) >>= f)
+    → IfAllowed Q (f tt) → IfAllowed Q (cond test (Ok tt) (Err answer) >>= f)
 passed Q true answer f does = does
 passed Q false answer f does = tt
 
 pub if_fewer : (Q : Answer × State → Type 0) (count limit : ℕ) (answer : Answer) (f : Unit {0} → Result (Answer × State) Answer)
-    → Does Q (f tt) → Does Q (fewer_or count limit answer >>= f)
+    → IfAllowed Q (f tt) → IfAllowed Q (fewer_or count limit answer >>= f)
 if_fewer Q count limit answer f does = passed Q (nat_lt count limit) answer f does
 
 pub if_rule : (Q : Answer × State → Type 0) (r : Result Credential Denial) (f : Credential → Result (Answer × State) Answer)
-    → ((c : Credential) → r ≡ Ok c → Does Q (f c)) → Does Q (by_rule r >>= f)
+    → ((c : Credential) → r ≡ Ok c → IfAllowed Q (f c)) → IfAllowed Q (by_rule r >>= f)
 if_rule Q (Ok c) f each = each c refl
 if_rule Q (Err denial) f each = tt
 
 pub if_ok : {A : Type 0} (Q : Answer × State → Type 0) (r : Result A Answer) (f : A → Result (Answer × State) Answer)
-    → ((x : A) → r ≡ Ok x → Does Q (f x)) → Does Q (r >>= f)
+    → ((x : A) → r ≡ Ok x → IfAllowed Q (f x)) → IfAllowed Q (r >>= f)
 if_ok Q (Ok x) f each = each x refl
 if_ok Q (Err answer) f each = tt
 

@@ -12,9 +12,9 @@ use Rattle.cred_event.specs.declared.event.Event.{Event}
 use Rattle.cred_event.specs.declared.answer.Answer.{Answer}
 use Rattle.cred_model.specs.Script.{Script}
 use Rattle.cred_model.specs.State.{State, Task, Hold, Prepared}
-use Rattle.cred_model.specs.Step.{renewed, changed, first_task}
+use Rattle.cred_model.specs.Step.{updated, changed, first_task}
 use Rattle.cred_model.proofs.Lists.{All-kept, All-remove, AllPairs-map, AllPairs-weaker, Differ, found_none, none_found}
-use Rattle.cred_model.proofs.Numbers.{renewed_number, changed_as, changed_label}
+use Rattle.cred_model.proofs.Numbers.{updated_number, changed_as, changed_label}
 use Rattle.cred_sound.proofs.Parts.{TasksChange, HoldsChange, PreparedChange, SameTasks, Creates, Renews, SameHolds, Takes, Releases, SamePrepared, Prepares, Alters, Ends}
 
 -- where none is found of a number, each has another
@@ -45,7 +45,7 @@ tasks_differ s event made (Creates task process user group ns slot is tasks cred
     (all_pairs_push (Differ number_of) s.tasks (first_task task process _) differ (none_has number_of s.tasks task new))
 tasks_differ s event made (Renews task slot old c tasks creds current cause) differ =
     subst (AllPairs (Differ number_of)) (sym tasks)
-    (differ-map number_of (renewed task _) s.tasks (renewed_number task _) differ)
+    (differ-map number_of (updated task _) s.tasks (updated_number task _) differ)
 
 pub holds_differ : (s : State) (event : Event) (left : List ℕ) (t : State) → HoldsChange s event left t → AllPairs (Differ held_as) s.holds
     → AllPairs (Differ held_as) t.holds

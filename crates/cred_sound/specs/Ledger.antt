@@ -2,27 +2,27 @@
 use Rattle.std.specs.Prelude.{◌≡◌, ◌≢◌, ℕ, ◌<◌, List, ◌++◌, length, map, slice_get, Some, All, Contains}
 use Rattle.std.specs.List.{AllPairs}
 use Rattle.cred_model.specs.State.{State}
-use Rattle.cred_model.specs.Slots.{SLOTS, standing, kept}
+use Rattle.cred_model.specs.Slots.{SLOTS, in_use, kept}
 
 -- The slot of each number that was sealed, the references in use, those that were given up since
 -- the last sweep, and the slots that are kept for credentials that are being prepared.
 pub record Ledger : Type 0 where
   pub slots : List ℕ
-  pub standing : List ℕ
+  pub in_use : List ℕ
   pub deferred : List ℕ
   pub kept : List ℕ
 
 abbrev pub ledger : State → Ledger
 ledger s = record {
-  slots = map (λ sealing. sealing.slot) s.creds;
-  standing = standing s;
+  slots = map (λ sealed. sealed.slot) s.creds;
+  in_use = in_use s;
   deferred = s.deferred;
   kept = kept s;
 }
 
 -- all references
 abbrev pub referred : Ledger → List ℕ
-referred l = l.standing ++ l.deferred
+referred l = l.in_use ++ l.deferred
 
 -- the credential of this number stands in the slot
 abbrev pub StandsIn : List ℕ → ℕ → ℕ → Type 0

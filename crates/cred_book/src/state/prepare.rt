@@ -3,9 +3,10 @@ ghost use Rattle.std.specs.Prelude.{◌≡◌, true, IfOk, OnErr};
 ghost use Rattle.std.specs.Option.{option_map, option_and_then};
 ghost use Rattle.cred_model.specs.State.{prepared_of, numbered};
 ghost use Rattle.cred_model.specs.Named.{is_built_change};
-ghost use Rattle.cred_model.specs.Like.{Does};
+ghost use Rattle.cred_model.specs.Like.{Gives, GivesLike};
 ghost use Rattle.cred_sound.specs.Sound.{IsSound};
-ghost use Rattle.cred_model.specs.Step.{by_abort, by_alter, by_commit, by_prepare, settled};
+ghost use Rattle.cred_model.specs.Step.{by_abort, by_alter, by_commit, by_prepare};
+ghost use Rattle.cred_book.specs.Kept.{seen_numbered};
 
 use crate::files::{executed_file, initial_chain};
 use crate::prepared::{Changed, Ended, Prepared, Ready};
@@ -30,8 +31,7 @@ impl State {
     /// as it was.
     pub fn prepare(&mut self, label: u32, task: u32, hold: u32) -> Result<Answer, NoMemory>
         ensures ok { IfOk result (λ answer.
-            settled self.old (by_prepare self.old label task hold)
-            ≡ (answer, self.new)) }
+            Gives self.old (by_prepare self.old label task hold) answer self.new) }
         ensures err { OnErr result (self.new ≡ self.old) }
     {
         if task_among(&self.tasks, task).is_none() {
@@ -76,7 +76,7 @@ impl State {
     pub fn alter(&mut self, script: &Script, label: u32, change: Change) -> Result<Answer, NoMemory>
         requires { is_built_change change ≡ true }
         ensures ok { IfOk result (λ answer.
-            settled self.old (by_alter script.now self.old label change) ≡ (answer, self.new)) }
+            Gives self.old (by_alter script.now self.old label change) answer self.new) }
         ensures err { OnErr result (self.new ≡ self.old) }
     {
         let Some(base) = self.base(label) else {
@@ -113,7 +113,7 @@ impl State {
     pub fn commit(&mut self, label: u32) -> Result<Answer, NoMemory>
         requires { IsSound self.old }
         ensures ok { IfOk result (λ answer.
-            Does (settled self.old (by_commit self.old label)) answer self.new) }
+            GivesLike self.old (by_commit self.old label) answer self.new) }
         ensures err { OnErr result (self.new ≡ self.old) }
     {
         let Some(Ready { task, base }) = self.prepared.ready(label) else {
@@ -140,7 +140,7 @@ impl State {
     /// `NoPrepared` leaves the state.
     pub fn abort(&mut self, label: u32) -> Answer
         requires { IsSound self.old }
-        ensures { settled self.old (by_abort self.old label) ≡ (result, self.new) }
+        ensures { Gives self.old (by_abort self.old label) result self.new }
     {
         let Some(Ended { base, slot }) = self.prepared.give_up(label) else {
             return Answer::NoPrepared(label);
@@ -152,8 +152,8 @@ impl State {
 
     /// The base of a label. `None` where the label isn't prepared.
     fn base(&self, label: u32) -> Option<Numbered<'_>>
-        ensures { option_map (λ n. record { number = n.number; cred = n.cred.now; slot = n.slot })
-            result ≡ option_and_then (λ p. numbered self.now.creds p.base)
+        ensures { option_map seen_numbered result
+            ≡ option_and_then (λ p. numbered self.now.creds p.base)
             (prepared_of self.now label) }
     {
         let prepared = self.prepared.get(label)?;

@@ -188,7 +188,7 @@ fn keeps_what_files_and_checks_hold(rt: HostRuntime) -> Result<(), Fail> {
     }
     let files = [
         "FileInfo { kind: Regular, owner: Id(1), group: Id(2), mode: 2536, nosuid: true, \
-         attr: Some(Attr { bytes: [0, 255] }) }",
+         attr: Some(Bytes { items: [0, 255] }) }",
         "FileInfo { kind: Directory, owner: Id(3), group: Id(4), mode: 1, nosuid: false, \
          attr: None }",
     ];

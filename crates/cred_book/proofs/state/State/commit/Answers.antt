@@ -4,7 +4,7 @@ use Rattle.std.specs.Vec.{with_items}
 use Rattle.cred_model.specs.State.{current_of, Changed}
 use Rattle.cred_model.specs.Step.{with_current}
 use Rattle.cred_slots.specs.Table.{Table, IsSameBag, is_kept}
-use Rattle.cred_book.specs.Kept.{shown}
+use Rattle.cred_book.specs.Kept.{state_of}
 use Rattle.cred_book.proofs.Bags.{bag-keeps}
 use Rattle.cred_book.proofs.Commits.{seals_kept, commit_none, commit_no_task, commit_stale, base-held_still, commit_kept, commit_sealed}
 use Rattle.cred_book.proofs.Labelling.{slot-kept}
@@ -47,7 +47,7 @@ drop_later-requires-2 c =
     let gives = c.commit-slot.ensures in
     let same = same_label t.prepared c.commit-slot.new.self c.args.label c.in-Some.field-0.task c.in-Some.field-0.base c.commit-slot.result.0 c.commit-slot.result.1 c.in-Some.ensures gives in
     let has = rw (← c.self.view_is) at c.in-Some-current.ensures in
-    let lives = ap (λ (n : ℕ). current_of (shown t.tasks.items t.holds t.prepared t.store t.slots) n) same.0 ∙ sym has in
+    let lives = ap (λ (n : ℕ). current_of (state_of t.tasks.items t.holds t.prepared t.store t.slots) n) same.0 ∙ sym has in
     let sealed = subst (λ (x : Table). IsSameBag c.seal-number.new.self.held (c.seal-number.result ∷ x.held)) c.in_ok-reserve.ensures.ok c.seal-number.ensures.held in
     subst (λ (n : ℕ). 0 < count_by (λ m. m == n) c.drop_later.new.self.held) same.1
     (base-held_still c.self.invariant gives.gives.place _ gives.gives.there _ lives c.seal-number.new.self c.drop_later.new.self _ (c.if-now-base.false ∙ sym same.1) sealed c.drop_later.ensures.held)
@@ -59,7 +59,7 @@ invariant_of-self-2 c =
     let gives = c.commit-slot.ensures in
     let same = same_label t.prepared c.commit-slot.new.self c.args.label task c.in-Some.field-0.base c.commit-slot.result.0 c.commit-slot.result.1 c.in-Some.ensures gives in
     let has = rw (← c.self.view_is) at c.in-Some-current.ensures in
-    let lives = ap (λ (n : ℕ). current_of (shown t.tasks.items t.holds t.prepared t.store t.slots) n) same.0 ∙ sym has in
+    let lives = ap (λ (n : ℕ). current_of (state_of t.tasks.items t.holds t.prepared t.store t.slots) n) same.0 ∙ sym has in
     let sound = rw (← c.self.view_is) at c.requires in
     let refill : (with_items t.tasks c.set_current.new.tasks).items ≡ c.set_current.new.tasks = grind (arith, common_steps) in
     let tasks : c.set_current.new.tasks ≡ with_current t.tasks.items task c.seal-number.result = grind (arith, common_steps) in
@@ -80,7 +80,7 @@ returns-clause-ok c =
     let gives = c.commit-slot.ensures in
     let same = same_label t.prepared c.commit-slot.new.self c.args.label task c.in-Some.field-0.base c.commit-slot.result.0 c.commit-slot.result.1 c.in-Some.ensures gives in
     let has = rw (← c.self.view_is) at c.in-Some-current.ensures in
-    let lives = ap (λ (n : ℕ). current_of (shown t.tasks.items t.holds t.prepared t.store t.slots) n) same.0 ∙ sym has in
+    let lives = ap (λ (n : ℕ). current_of (state_of t.tasks.items t.holds t.prepared t.store t.slots) n) same.0 ∙ sym has in
     let sound = rw (← c.self.view_is) at c.requires in
     let refill : (with_items t.tasks c.set_current.new.tasks).items ≡ c.set_current.new.tasks = grind (arith, common_steps) in
     let tasks : c.set_current.new.tasks ≡ with_current t.tasks.items task c.seal-number.result = grind (arith, common_steps) in

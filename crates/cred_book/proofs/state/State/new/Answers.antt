@@ -3,7 +3,7 @@ use Rattle.std.specs.List.{range_with_len}
 use Rattle.cred_record.specs.Credential.{Credential}
 use Rattle.cred_slots.specs.Table.{SLOTS, empty}
 use Rattle.cred_model.specs.State.{opening}
-use Rattle.cred_book.specs.Kept.{IsKept, shown}
+use Rattle.cred_book.specs.Kept.{IsKept, state_of}
 use Rattle.cred_book.proofs.state.State.new.Goals as goal
 
 none_set : (xs : List ℕ) (slot : ℕ) → slice_index_or (map (λ _. false) xs) slot false ≡ false
@@ -11,19 +11,19 @@ none_set [] slot = refl
 none_set (x ∷ xs) zero = refl
 none_set (x ∷ xs) (suc slot) = none_set xs slot
 
-nothing-kept : (store : List (Option Credential)) → IsKept (shown [] [] [] store empty) store empty
+nothing-kept : (store : List (Option Credential)) → IsKept (state_of [] [] [] store empty) store empty
 unfolding empty
 nothing-kept store = record {
   counted = record { counts = record { counts = λ test. refl }; keeps = none_set (range_with_len 0 SLOTS) };
   filled = λ k d lt. absurd (omega arith);
 }
 
-nothing-shown : (store : List (Option Credential)) → shown [] [] [] store empty ≡ opening
+nothing-state_of : (store : List (Option Credential)) → state_of [] [] [] store empty ≡ opening
 unfolding empty
-nothing-shown store = refl
+nothing-state_of store = refl
 
 pub invariant_of-result : goal.invariant_of-result
 invariant_of-result c = rw (c.new.ensures.items, c.new-2.ensures, c.new-3.ensures, c.in_ok-new-2.ensures) (nothing-kept c.in_ok-new.field-0)
 
 pub returns : goal.returns
-returns c = rw (c.new.ensures.items, c.new-2.ensures, c.new-3.ensures, c.in_ok-new-2.ensures) (nothing-shown c.in_ok-new.field-0)
+returns c = rw (c.new.ensures.items, c.new-2.ensures, c.new-3.ensures, c.in_ok-new-2.ensures) (nothing-state_of c.in_ok-new.field-0)

@@ -7,8 +7,8 @@ use Rattle.std.proofs.lemmas.Grind.{flat_map-append}
 use Rattle.std.proofs.lemmas.List.{map-append}
 use Rattle.std.proofs.lemmas.List.Elements.{All-head, All-tail}
 use Rattle.cred_model.specs.State.{State, Task, Hold, Prepared, Changed}
-use Rattle.cred_model.specs.Step.{renewed, with_current, changed, with_change}
-use Rattle.cred_model.specs.Slots.{standing, kept}
+use Rattle.cred_model.specs.Step.{updated, with_current, changed, with_change}
+use Rattle.cred_model.specs.Slots.{in_use, kept}
 use Rattle.cred_slots.specs.Table.{IsSameBag}
 use Rattle.cred_slots.proofs.Counting.{count-cons, count-append}
 use Rattle.cred_book.proofs.Bags.{one_if, counts_itself}
@@ -26,10 +26,10 @@ abbrev pub bases : List Prepared → List ℕ
 bases prepared = map (λ p. p.base) prepared
 
 -- each kind of thing that refers is counted by itself
-pub count-standing : (test : ℕ → Bool) (s : State)
-    → count_by test (standing s)
+pub count-in_use : (test : ℕ → Bool) (s : State)
+    → count_by test (in_use s)
     ≡ count_by test (currents s.tasks) + count_by test (overrides s.tasks) + count_by test (numbers s.holds) + count_by test (bases s.prepared)
-count-standing test s =
+count-in_use test s =
     let first = count-append test (currents s.tasks) (overrides s.tasks ++ (numbers s.holds ++ (bases s.prepared ++ []))) in
     let second = count-append test (overrides s.tasks) (numbers s.holds ++ (bases s.prepared ++ [])) in
     let third = count-append test (numbers s.holds) (bases s.prepared ++ []) in
@@ -60,52 +60,52 @@ count-remove f test (y ∷ ys) (suc place) x there =
     omega (arith, all, left, rest)
 
 -- a first task overrides nothing
-pub standing-task : (s : State) (t : Task) → t.overrides ≡ []
-    → IsSameBag (standing (record s { tasks = s.tasks ++ t ∷ [] })) (t.current ∷ standing s)
-standing-task s t none = record {
+pub in_use-task : (s : State) (t : Task) → t.overrides ≡ []
+    → IsSameBag (in_use (record s { tasks = s.tasks ++ t ∷ [] })) (t.current ∷ in_use s)
+in_use-task s t none = record {
   counts = λ test.
-      let after = count-standing test (record s { tasks = s.tasks ++ t ∷ [] }) in
-      let before = count-standing test s in
+      let after = count-in_use test (record s { tasks = s.tasks ++ t ∷ [] }) in
+      let before = count-in_use test s in
       let more = count-push (λ (u : Task). u.current) test s.tasks t in
       let same : count_by test (overrides (s.tasks ++ t ∷ [])) ≡ count_by test (overrides s.tasks)
       = ap (λ ns. count_by test ns) (flat_map-append (λ (u : Task). u.overrides) s.tasks (t ∷ []))
       ∙ count-append test (overrides s.tasks) (overrides (t ∷ []))
       ∙ ap (λ (ns : List ℕ). count_by test (overrides s.tasks) + count_by test (ns ++ [])) none ∙ omega arith in
-      let one = count-cons test t.current (standing s) in
+      let one = count-cons test t.current (in_use s) in
       omega (arith, after, before, more, same, one);
 }
 
-pub standing-unhold : (s : State) (place : ℕ) (h : Hold) → slice_get s.holds place ≡ Some h
-    → IsSameBag (standing s) (h.number ∷ standing (record s { holds = remove s.holds place }))
-standing-unhold s place h there = record {
+pub in_use-unhold : (s : State) (place : ℕ) (h : Hold) → slice_get s.holds place ≡ Some h
+    → IsSameBag (in_use s) (h.number ∷ in_use (record s { holds = remove s.holds place }))
+in_use-unhold s place h there = record {
   counts = λ test.
       let left = record s { holds = remove s.holds place } in
-      let after = count-standing test left in
-      let before = count-standing test s in
+      let after = count-in_use test left in
+      let before = count-in_use test s in
       let less = count-remove (λ (g : Hold). g.number) test s.holds place h there in
-      let one = count-cons test h.number (standing left) in
+      let one = count-cons test h.number (in_use left) in
       omega (arith, after, before, less, one);
 }
 
-pub standing-label : (s : State) (p : Prepared) → IsSameBag (standing (record s { prepared = s.prepared ++ p ∷ [] })) (p.base ∷ standing s)
-standing-label s p = record {
+pub in_use-label : (s : State) (p : Prepared) → IsSameBag (in_use (record s { prepared = s.prepared ++ p ∷ [] })) (p.base ∷ in_use s)
+in_use-label s p = record {
   counts = λ test.
-      let after = count-standing test (record s { prepared = s.prepared ++ p ∷ [] }) in
-      let before = count-standing test s in
+      let after = count-in_use test (record s { prepared = s.prepared ++ p ∷ [] }) in
+      let before = count-in_use test s in
       let more = count-push (λ (q : Prepared). q.base) test s.prepared p in
-      let one = count-cons test p.base (standing s) in
+      let one = count-cons test p.base (in_use s) in
       omega (arith, after, before, more, one);
 }
 
-pub standing-unlabel : (s : State) (place : ℕ) (p : Prepared) → slice_get s.prepared place ≡ Some p
-    → IsSameBag (standing s) (p.base ∷ standing (record s { prepared = remove s.prepared place }))
-standing-unlabel s place p there = record {
+pub in_use-unlabel : (s : State) (place : ℕ) (p : Prepared) → slice_get s.prepared place ≡ Some p
+    → IsSameBag (in_use s) (p.base ∷ in_use (record s { prepared = remove s.prepared place }))
+in_use-unlabel s place p there = record {
   counts = λ test.
       let left = record s { prepared = remove s.prepared place } in
-      let after = count-standing test left in
-      let before = count-standing test s in
+      let after = count-in_use test left in
+      let before = count-in_use test s in
       let less = count-remove (λ (q : Prepared). q.base) test s.prepared place p there in
-      let one = count-cons test p.base (standing left) in
+      let one = count-cons test p.base (in_use left) in
       omega (arith, after, before, less, one);
 }
 
@@ -120,8 +120,8 @@ with_current-others (t ∷ ts) task number differ =
     ap (λ b. cond b (record t { current = number }) t ∷ with_current ts task number) other
     ∙ ap (λ us. t ∷ us) (with_current-others ts task number (All-tail (λ (u : Task). task ≢ u.number) t ts differ))
 
-overrides-renewed : (t : Task) (task number : ℕ) → (renewed task number t).overrides ≡ t.overrides
-overrides-renewed t task number = by (t.number == task)
+overrides-updated : (t : Task) (task number : ℕ) → (updated task number t).overrides ≡ t.overrides
+overrides-updated t task number = by (t.number == task)
   where
     by : (test : Bool) → (cond test (record t { current = number }) t).overrides ≡ t.overrides
     by true = refl
@@ -130,7 +130,7 @@ overrides-renewed t task number = by (t.number == task)
 overrides-with_current : (ts : List Task) (task number : ℕ) → overrides (with_current ts task number) ≡ overrides ts
 overrides-with_current [] task number = refl
 overrides-with_current (t ∷ ts) task number =
-    ap (λ (ns : List ℕ). ns ++ overrides (with_current ts task number)) (overrides-renewed t task number)
+    ap (λ (ns : List ℕ). ns ++ overrides (with_current ts task number)) (overrides-updated t task number)
     ∙ ap (λ (ns : List ℕ). t.overrides ++ ns) (overrides-with_current ts task number)
 
 -- no two tasks have one number
@@ -168,18 +168,18 @@ currents-with_current test (t ∷ ts) task number u differ found =
     currents-at test (t.number == task) t u ts task number refl differ found
     (λ there. currents-with_current test ts task number u (λ i j d lt h. differ (suc i) (suc j) d (omega arith) (omega arith)) there)
 
-pub standing-renewed : (s : State) (task number : ℕ) (u : Task) → Differ s.tasks → find (λ t. t.number == task) s.tasks ≡ Some u
-    → IsSameBag (u.current ∷ standing (record s { tasks = with_current s.tasks task number })) (number ∷ standing s)
-standing-renewed s task number u differ found = record {
+pub in_use-updated : (s : State) (task number : ℕ) (u : Task) → Differ s.tasks → find (λ t. t.number == task) s.tasks ≡ Some u
+    → IsSameBag (u.current ∷ in_use (record s { tasks = with_current s.tasks task number })) (number ∷ in_use s)
+in_use-updated s task number u differ found = record {
   counts = λ test.
       let new = record s { tasks = with_current s.tasks task number } in
-      let after = count-standing test new in
-      let before = count-standing test s in
+      let after = count-in_use test new in
+      let before = count-in_use test s in
       let change = currents-with_current test s.tasks task number u differ found in
       let same : count_by test (overrides new.tasks) ≡ count_by test (overrides s.tasks)
       = ap (λ ns. count_by test ns) (overrides-with_current s.tasks task number) in
-      let gone = count-cons test u.current (standing new) in
-      let one = count-cons test number (standing s) in
+      let gone = count-cons test u.current (in_use new) in
+      let one = count-cons test number (in_use s) in
       omega (arith, after, before, change, same, gone, one);
 }
 
@@ -192,8 +192,8 @@ with_change-field f (p ∷ ps) label to same =
     ap (λ (n : ℕ). n ∷ map f (with_change ps label to)) (same p)
     ∙ ap (λ (ns : List ℕ). f p ∷ ns) (with_change-field f ps label to same)
 
-pub standing-altered : (s : State) (label : ℕ) (to : Changed) → standing (record s { prepared = with_change s.prepared label to }) ≡ standing s
-standing-altered s label to =
+pub in_use-altered : (s : State) (label : ℕ) (to : Changed) → in_use (record s { prepared = with_change s.prepared label to }) ≡ in_use s
+in_use-altered s label to =
     ap (λ (ns : List ℕ). currents s.tasks ++ (overrides s.tasks ++ (numbers s.holds ++ (ns ++ []))))
     (with_change-field (λ (p : Prepared). p.base) s.prepared label to (λ p. by p (p.label == label)))
   where
@@ -230,18 +230,18 @@ current-counted n (t ∷ ts) task u found is = at (t.number == task) found (λ t
         omega (arith, all, rest)
 
 pub current-stands : (s : State) (task : ℕ) (u : Task) → find (λ v. v.number == task) s.tasks ≡ Some u
-    → 0 < count_by (λ m. m == u.current) (standing s)
+    → 0 < count_by (λ m. m == u.current) (in_use s)
 current-stands s task u found =
-    let all = count-standing (λ m. m == u.current) s in
+    let all = count-in_use (λ m. m == u.current) s in
     let some = current-counted u.current s.tasks task u found refl in
     omega (arith, all, some)
 
 -- The base of a prepared label that is also its task's current credential is referred to twice.
 pub base-stands_twice : (s : State) (place : ℕ) (p : Prepared) (u : Task) → slice_get s.prepared place ≡ Some p
     → find (λ v. v.number == p.task) s.tasks ≡ Some u → u.current ≡ p.base
-    → 1 < count_by (λ m. m == p.base) (standing s)
+    → 1 < count_by (λ m. m == p.base) (in_use s)
 base-stands_twice s place p u there found current =
-    let all = count-standing (λ m. m == p.base) s in
+    let all = count-in_use (λ m. m == p.base) s in
     let less = count-remove (λ (q : Prepared). q.base) (λ m. m == p.base) s.prepared place p there in
     let one = counts_itself p.base in
     let some = current-counted p.base s.tasks p.task u found current in

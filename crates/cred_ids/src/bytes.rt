@@ -1,10 +1,11 @@
+//! A list of bytes.
 ghost use Rattle.std.specs.Prelude.{◌≡◌, IfOk};
 
-use cred_ids::NoMemory;
+use crate::memory::NoMemory;
 use std::alloc::Global;
 use std::marker::Model;
 
-/// A list of bytes, of any length.
+/// A list of bytes, of any length. Contracts see the list.
 #[derive(Drop, Debug)]
 pub struct Bytes {
     items: Vec<u8>,
@@ -51,5 +52,18 @@ impl Bytes {
         ensures { result.now ≡ self.now }
     {
         &self.items
+    }
+
+    /// Equal bytes in memory of their own.
+    ///
+    /// # Errors
+    ///
+    /// `NoMemory` if the allocation of the copy fails.
+    pub fn copy(&self) -> Result<Bytes, NoMemory>
+        ensures { IfOk result (λ b. b ≡ self.now) }
+    {
+        Ok(Bytes {
+            items: self.items.clone()?,
+        })
     }
 }
