@@ -1,29 +1,7 @@
 //! Worked examples of the whole program, as tests of its top call over ends in memory; the edges of
-//! the grammar, as tests of its reader; and the texts of entries, as tests of their printer. There is
-//! no code here beside the tests: a crate with tests is proved twice.
+//! the grammar, as tests of its reader; and the texts of entries, as tests of their printer. There
+//! is no code here beside the tests: a crate with tests is proved twice.
 #![tactic(auto)]
 
 #[cfg(test)]
-mod changes;
-#[cfg(test)]
-mod checks;
-#[cfg(test)]
-mod copies;
-#[cfg(test)]
-mod decoding;
-#[cfg(test)]
-mod ends;
-#[cfg(test)]
-mod grammar;
-#[cfg(test)]
-mod lasts;
-#[cfg(test)]
-mod refused;
-#[cfg(test)]
-mod rows;
-#[cfg(test)]
-mod runs;
-#[cfg(test)]
-mod sizes;
-#[cfg(test)]
-mod texts;
+mod tests;
