@@ -1,5 +1,6 @@
 pub mod Numbers
 pub mod Page
+pub mod Room
 pub mod Questions
 pub mod Calls
 pub mod Events

@@ -3,6 +3,7 @@ ghost use Rattle.std.specs.Prelude.{◌≡◌, ◌≤◌, ◌+◌, ◌++◌, OnO
 ghost use Rattle.cred_report.specs.Answers.{exists_text, too_many_text, cause_text};
 ghost use Rattle.cred_report.specs.Numbers.{set_text};
 ghost use Rattle.cred_report.specs.Answers.{answer_text};
+ghost use Rattle.cred_report.specs.Room.{WORD, SEALED, GAINS, ANSWER, BEFORE_ANSWER};
 
 use crate::numbers::prepend_sets;
 use crate::pen::Pen;
@@ -15,7 +16,7 @@ use cred_record::Gains;
 /// The words before the number of a thing that stands already.
 fn exists_word(what: Named) -> &'static str
     ensures text { result.now ≡ exists_text what }
-    ensures short { length result.now ≤ 16 }
+    ensures short { length result.now ≤ WORD }
 {
     match what {
         Named::Task => "exists t",
@@ -29,7 +30,7 @@ fn exists_word(what: Named) -> &'static str
 /// What there are too many of, in words.
 fn too_many_words(counted: Counted) -> &'static str
     ensures text { result.now ≡ too_many_text counted }
-    ensures short { length result.now ≤ 20 }
+    ensures short { length result.now ≤ WORD }
 {
     match counted {
         Counted::Tasks => "too many tasks",
@@ -42,7 +43,7 @@ fn too_many_words(counted: Counted) -> &'static str
 /// Why a thread could not follow, in a word.
 fn cause_word(cause: AbortCause) -> &'static str
     ensures text { result.now ≡ cause_text cause }
-    ensures short { length result.now ≤ 16 }
+    ensures short { length result.now ≤ WORD }
 {
     match cause {
         AbortCause::Perm => " eperm",
@@ -53,10 +54,10 @@ fn cause_word(cause: AbortCause) -> &'static str
 /// Writes the word, the number of a sealed credential and its slot.
 #[inline(always)]
 fn prepend_sealed(out: &mut Pen, word: &str, cred: u64, slot: u32)
-    requires { length word.now + 44 ≤ out.old.room }
+    requires { length word.now + SEALED ≤ out.old.room }
     ensures text { out.new.text
         ≡ (word.now ++ decimal cred ++ codes " s" ++ decimal slot) ++ out.old.text }
-    ensures room { out.old.room ≤ out.new.room + (length word.now + 44) }
+    ensures room { out.old.room ≤ out.new.room + (length word.now + SEALED) }
 {
     out.slot(slot);
     prepend_word(out, " s");
@@ -66,9 +67,9 @@ fn prepend_sealed(out: &mut Pen, word: &str, cred: u64, slot: u32)
 
 /// Writes the answer to a preparation.
 fn prepend_kept(out: &mut Pen, slot: u32)
-    requires { 192 ≤ out.old.room }
+    requires { ANSWER ≤ out.old.room }
     ensures text { out.new.text ≡ answer_text (Answer.Kept slot) ++ out.old.text }
-    ensures room { out.old.room ≤ out.new.room + 192 }
+    ensures room { out.old.room ≤ out.new.room + ANSWER }
 {
     out.slot(slot);
     prepend_word(out, "ok s")
@@ -76,12 +77,12 @@ fn prepend_kept(out: &mut Pen, slot: u32)
 
 /// Writes how many threads ended, and what the file's attribute, inheritance and root gained.
 fn prepend_gains(out: &mut Pen, ended: u32, gains: Gains)
-    requires { 92 ≤ out.old.room }
+    requires { GAINS ≤ out.old.room }
     ensures text { out.new.text
         ≡ (codes " ended " ++ decimal ended ++ codes " gain"
         ++ set_text gains.file ++ set_text gains.inherit ++ set_text gains.root)
         ++ out.old.text }
-    ensures room { out.old.room ≤ out.new.room + 92 }
+    ensures room { out.old.room ≤ out.new.room + GAINS }
 {
     prepend_sets(out, gains.file, gains.inherit, gains.root);
     prepend_word(out, " gain");
@@ -90,10 +91,10 @@ fn prepend_gains(out: &mut Pen, ended: u32, gains: Gains)
 
 /// Writes the answer to the commit of an exec.
 fn prepend_executed(out: &mut Pen, cred: u64, slot: u32, ended: u32, gains: Gains)
-    requires { 192 ≤ out.old.room }
+    requires { ANSWER ≤ out.old.room }
     ensures text { out.new.text
         ≡ answer_text (Answer.Executed cred slot ended gains) ++ out.old.text }
-    ensures room { out.old.room ≤ out.new.room + 192 }
+    ensures room { out.old.room ≤ out.new.room + ANSWER }
 {
     prepend_gains(out, ended, gains);
     prepend_sealed(out, "ok c", cred, slot)
@@ -101,9 +102,9 @@ fn prepend_executed(out: &mut Pen, cred: u64, slot: u32, ended: u32, gains: Gain
 
 /// Writes the answer to an id call.
 fn prepend_began(out: &mut Pen, cred: u64, slot: u32, left: u32)
-    requires { 192 ≤ out.old.room }
+    requires { ANSWER ≤ out.old.room }
     ensures text { out.new.text ≡ answer_text (Answer.Began cred slot left) ++ out.old.text }
-    ensures room { out.old.room ≤ out.new.room + 192 }
+    ensures room { out.old.room ≤ out.new.room + ANSWER }
 {
     prepend_number(out, " left ", left);
     prepend_sealed(out, "ok c", cred, slot)
@@ -111,9 +112,9 @@ fn prepend_began(out: &mut Pen, cred: u64, slot: u32, left: u32)
 
 /// Writes the answer of a thread that followed a broadcast.
 fn prepend_acted(out: &mut Pen, task: u32, cred: u64, slot: u32, left: u32)
-    requires { 192 ≤ out.old.room }
+    requires { ANSWER ≤ out.old.room }
     ensures text { out.new.text ≡ answer_text (Answer.Acted task cred slot left) ++ out.old.text }
-    ensures room { out.old.room ≤ out.new.room + 192 }
+    ensures room { out.old.room ≤ out.new.room + ANSWER }
 {
     prepend_number(out, " left ", left);
     prepend_sealed(out, " c", cred, slot);
@@ -122,9 +123,9 @@ fn prepend_acted(out: &mut Pen, task: u32, cred: u64, slot: u32, left: u32)
 
 /// Writes the answer to a commit on another base than the task's current credential.
 fn prepend_stale(out: &mut Pen, base: u64, now: u64)
-    requires { 192 ≤ out.old.room }
+    requires { ANSWER ≤ out.old.room }
     ensures text { out.new.text ≡ answer_text (Answer.Stale base now) ++ out.old.text }
-    ensures room { out.old.room ≤ out.new.room + 192 }
+    ensures room { out.old.room ≤ out.new.room + ANSWER }
 {
     prepend_long(out, " c", now);
     prepend_long(out, "stale c", base)
@@ -132,9 +133,9 @@ fn prepend_stale(out: &mut Pen, base: u64, now: u64)
 
 /// Writes the answer of a thread that could not follow a broadcast.
 fn prepend_aborted(out: &mut Pen, task: u32, cause: AbortCause)
-    requires { 192 ≤ out.old.room }
+    requires { ANSWER ≤ out.old.room }
     ensures text { out.new.text ≡ answer_text (Answer.Aborted task cause) ++ out.old.text }
-    ensures room { out.old.room ≤ out.new.room + 192 }
+    ensures room { out.old.room ≤ out.new.room + ANSWER }
 {
     prepend_word(out, cause_word(cause));
     prepend_number(out, "aborted t", task)
@@ -142,9 +143,9 @@ fn prepend_aborted(out: &mut Pen, task: u32, cause: AbortCause)
 
 /// Writes the answer.
 pub(crate) fn prepend_answer(out: &mut Pen, answer: &Answer) -> Result<(), NoMemory>
-    requires { 400 ≤ out.old.room }
+    requires { BEFORE_ANSWER + ANSWER ≤ out.old.room }
     ensures text { OnOk result (out.new.text ≡ answer_text answer.now ++ out.old.text) }
-    ensures room { OnOk result (200 ≤ out.new.room) }
+    ensures room { OnOk result (BEFORE_ANSWER ≤ out.new.room) }
 {
     match answer {
         Answer::Done => prepend_word(out, "ok"),

@@ -1,7 +1,8 @@
 //! The calls that set ids, and the changes of a prepared credential.
-ghost use Rattle.std.specs.Prelude.{◌≡◌, ◌≤◌, ◌+◌, ◌++◌, OnOk, length};
+ghost use Rattle.std.specs.Prelude.{◌≡◌, ◌≤◌, ◌+◌, ◌*◌, ◌++◌, OnOk, length};
 ghost use Rattle.cred_report.specs.Numbers.{arg_text};
 ghost use Rattle.cred_report.specs.Calls.{call_text, adjust_text, change_text};
+ghost use Rattle.cred_report.specs.Room.{ARG, CALL, BEFORE_CALL};
 
 use crate::numbers::{prepend_arg, prepend_ids, prepend_sets};
 use crate::pen::Pen;
@@ -15,9 +16,9 @@ use cred_script::Script;
 /// Writes a call of one argument.
 #[inline(always)]
 fn prepend_one(out: &mut Pen, word: &str, id: Arg)
-    requires { length word.now + 21 ≤ out.old.room }
+    requires { length word.now + ARG ≤ out.old.room }
     ensures text { out.new.text ≡ (word.now ++ arg_text id) ++ out.old.text }
-    ensures room { out.old.room ≤ out.new.room + (length word.now + 21) }
+    ensures room { out.old.room ≤ out.new.room + (length word.now + ARG) }
 {
     prepend_arg(out, id);
     prepend_word(out, word)
@@ -26,10 +27,10 @@ fn prepend_one(out: &mut Pen, word: &str, id: Arg)
 /// Writes a call of two arguments.
 #[inline(always)]
 fn prepend_two(out: &mut Pen, word: &str, real: Arg, effective: Arg)
-    requires { length word.now + 42 ≤ out.old.room }
+    requires { length word.now + 2 * ARG ≤ out.old.room }
     ensures text { out.new.text
         ≡ (word.now ++ arg_text real ++ arg_text effective) ++ out.old.text }
-    ensures room { out.old.room ≤ out.new.room + (length word.now + 42) }
+    ensures room { out.old.room ≤ out.new.room + (length word.now + 2 * ARG) }
 {
     prepend_arg(out, effective);
     prepend_one(out, word, real)
@@ -38,10 +39,10 @@ fn prepend_two(out: &mut Pen, word: &str, real: Arg, effective: Arg)
 /// Writes a call of three arguments.
 #[inline(always)]
 fn prepend_three(out: &mut Pen, word: &str, real: Arg, effective: Arg, saved: Arg)
-    requires { length word.now + 63 ≤ out.old.room }
+    requires { length word.now + 3 * ARG ≤ out.old.room }
     ensures text { out.new.text
         ≡ (word.now ++ arg_text real ++ arg_text effective ++ arg_text saved) ++ out.old.text }
-    ensures room { out.old.room ≤ out.new.room + (length word.now + 63) }
+    ensures room { out.old.room ≤ out.new.room + (length word.now + 3 * ARG) }
 {
     prepend_arg(out, saved);
     prepend_two(out, word, real, effective)
@@ -49,9 +50,9 @@ fn prepend_three(out: &mut Pen, word: &str, real: Arg, effective: Arg, saved: Ar
 
 /// Writes the id call.
 pub(crate) fn prepend_call(out: &mut Pen, call: &IdCall) -> Result<(), NoMemory>
-    requires { 160 ≤ out.old.room }
+    requires { BEFORE_CALL + CALL ≤ out.old.room }
     ensures text { OnOk result (out.new.text ≡ call_text call.now ++ out.old.text) }
-    ensures room { OnOk result (80 ≤ out.new.room) }
+    ensures room { OnOk result (BEFORE_CALL ≤ out.new.room) }
 {
     match call {
         IdCall::SetUid(id) => prepend_one(out, "setuid", *id),
@@ -76,9 +77,9 @@ pub(crate) fn prepend_call(out: &mut Pen, call: &IdCall) -> Result<(), NoMemory>
 
 /// Writes the change of sets or securebits.
 fn prepend_adjust(out: &mut Pen, call: AdjCall)
-    requires { 72 ≤ out.old.room }
+    requires { CALL ≤ out.old.room }
     ensures text { out.new.text ≡ adjust_text call ++ out.old.text }
-    ensures room { out.old.room ≤ out.new.room + 72 }
+    ensures room { out.old.room ≤ out.new.room + CALL }
 {
     match call {
         AdjCall::Capset { perm, inh, eff } => {
@@ -97,9 +98,9 @@ fn prepend_adjust(out: &mut Pen, call: AdjCall)
 
 /// Writes the change.
 pub(crate) fn prepend_change(out: &mut Pen, script: &Script, change: Change) -> Result<(), NoMemory>
-    requires { 160 ≤ out.old.room }
+    requires { BEFORE_CALL + CALL ≤ out.old.room }
     ensures text { OnOk result (out.new.text ≡ change_text script.now change ++ out.old.text) }
-    ensures room { OnOk result (80 ≤ out.new.room) }
+    ensures room { OnOk result (BEFORE_CALL ≤ out.new.room) }
 {
     match change {
         Change::SetFs(Kind::User, id) => prepend_one(out, "setfsuid", id),

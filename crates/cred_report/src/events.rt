@@ -2,6 +2,7 @@
 ghost use Rattle.std.specs.Prelude.{◌≡◌, ◌≤◌, ◌+◌, ◌++◌, OnOk, codes, decimal, length};
 ghost use Rattle.cred_report.specs.Calls.{call_text};
 ghost use Rattle.cred_report.specs.Events.{take_text, event_text};
+ghost use Rattle.cred_report.specs.Room.{EVENT, BEFORE_EVENT};
 
 use crate::calls::{prepend_call, prepend_change};
 use crate::pen::Pen;
@@ -14,12 +15,12 @@ use cred_script::Script;
 
 /// Writes the creation of a first task.
 fn prepend_init(out: &mut Pen, task: u32, process: u32, user: Id, group: Id, ns: u32)
-    requires { 120 ≤ out.old.room }
+    requires { EVENT ≤ out.old.room }
     ensures text { out.new.text
         ≡ (codes "init t" ++ decimal task ++ codes " p" ++ decimal process
         ++ codes " " ++ decimal user ++ codes " " ++ decimal group ++ codes " n" ++ decimal ns)
         ++ out.old.text }
-    ensures room { out.old.room ≤ out.new.room + 120 }
+    ensures room { out.old.room ≤ out.new.room + EVENT }
 {
     prepend_three(out, (" ", user.number()), (" ", group.number()), (" n", ns));
     prepend_two(out, ("init t", task), (" p", process))
@@ -28,10 +29,10 @@ fn prepend_init(out: &mut Pen, task: u32, process: u32, user: Id, group: Id, ns:
 /// Writes the taking of a credential of a task. Each word is written in an arm of its own, where
 /// its length is known, and needs no call.
 fn prepend_take(out: &mut Pen, label: u32, task: u32, side: Side)
-    requires { 120 ≤ out.old.room }
+    requires { EVENT ≤ out.old.room }
     ensures text { out.new.text
         ≡ (take_text side ++ decimal label ++ codes " t" ++ decimal task) ++ out.old.text }
-    ensures room { out.old.room ≤ out.new.room + 120 }
+    ensures room { out.old.room ≤ out.new.room + EVENT }
 {
     prepend_number(out, " t", task);
     prepend_label(out, "", label);
@@ -43,10 +44,10 @@ fn prepend_take(out: &mut Pen, label: u32, task: u32, side: Side)
 
 /// Writes the question on a label's credential.
 fn prepend_ask(out: &mut Pen, script: &Script, label: u32, query: Query) -> Result<(), NoMemory>
-    requires { 160 ≤ out.old.room }
+    requires { BEFORE_EVENT + EVENT ≤ out.old.room }
     ensures text { OnOk result (out.new.text
         ≡ event_text script.now (Event.Ask label query) ++ out.old.text) }
-    ensures room { OnOk result (40 ≤ out.new.room) }
+    ensures room { OnOk result (BEFORE_EVENT ≤ out.new.room) }
 {
     prepend_query(out, script, query)?;
     prepend_word(out, " ");
@@ -56,11 +57,11 @@ fn prepend_ask(out: &mut Pen, script: &Script, label: u32, query: Query) -> Resu
 
 /// Writes the signal, each task followed by the label that holds its credential.
 fn prepend_signal(out: &mut Pen, from: u32, hold: u32, to: u32, target: u32)
-    requires { 120 ≤ out.old.room }
+    requires { EVENT ≤ out.old.room }
     ensures text { out.new.text
         ≡ (codes "signal t" ++ decimal from ++ codes " h" ++ decimal hold
         ++ codes " t" ++ decimal to ++ codes " h" ++ decimal target) ++ out.old.text }
-    ensures room { out.old.room ≤ out.new.room + 120 }
+    ensures room { out.old.room ≤ out.new.room + EVENT }
 {
     prepend_two(out, (" t", to), (" h", target));
     prepend_two(out, ("signal t", from), (" h", hold))
@@ -68,11 +69,11 @@ fn prepend_signal(out: &mut Pen, from: u32, hold: u32, to: u32, target: u32)
 
 /// Writes the preparation of a new credential for a task.
 fn prepend_prepare(out: &mut Pen, label: u32, task: u32, hold: u32)
-    requires { 120 ≤ out.old.room }
+    requires { EVENT ≤ out.old.room }
     ensures text { out.new.text
         ≡ (codes "prepare h" ++ decimal label ++ codes " t" ++ decimal task
         ++ codes " h" ++ decimal hold) ++ out.old.text }
-    ensures room { out.old.room ≤ out.new.room + 120 }
+    ensures room { out.old.room ≤ out.new.room + EVENT }
 {
     prepend_label(out, " h", hold);
     prepend_number(out, " t", task);
@@ -81,10 +82,10 @@ fn prepend_prepare(out: &mut Pen, label: u32, task: u32, hold: u32)
 
 /// Writes the change of a prepared credential.
 fn prepend_alter(out: &mut Pen, script: &Script, label: u32, change: Change) -> Result<(), NoMemory>
-    requires { 160 ≤ out.old.room }
+    requires { BEFORE_EVENT + EVENT ≤ out.old.room }
     ensures text { OnOk result (out.new.text
         ≡ event_text script.now (Event.Alter label change) ++ out.old.text) }
-    ensures room { OnOk result (40 ≤ out.new.room) }
+    ensures room { OnOk result (BEFORE_EVENT ≤ out.new.room) }
 {
     prepend_change(out, script, change)?;
     prepend_word(out, " ");
@@ -94,10 +95,10 @@ fn prepend_alter(out: &mut Pen, script: &Script, label: u32, change: Change) -> 
 
 /// Writes the id call of a task.
 fn prepend_begin(out: &mut Pen, task: u32, call: &IdCall) -> Result<(), NoMemory>
-    requires { 160 ≤ out.old.room }
+    requires { BEFORE_EVENT + EVENT ≤ out.old.room }
     ensures text { OnOk result (out.new.text
         ≡ (codes "begin t" ++ decimal task ++ codes " " ++ call_text call.now) ++ out.old.text) }
-    ensures room { OnOk result (40 ≤ out.new.room) }
+    ensures room { OnOk result (BEFORE_EVENT ≤ out.new.room) }
 {
     prepend_call(out, call)?;
     prepend_word(out, " ");
@@ -114,10 +115,10 @@ fn prepend_open(
     want: Want,
     fd: u32,
 ) -> Result<(), NoMemory>
-    requires { 160 ≤ out.old.room }
+    requires { BEFORE_EVENT + EVENT ≤ out.old.room }
     ensures text { OnOk result (out.new.text
         ≡ event_text script.now (Event.OpenFile hold file want fd) ++ out.old.text) }
-    ensures room { OnOk result (40 ≤ out.new.room) }
+    ensures room { OnOk result (BEFORE_EVENT ≤ out.new.room) }
 {
     prepend_number(out, " f", fd);
     prepend_letters(out, want);
@@ -130,9 +131,9 @@ fn prepend_open(
 
 /// Writes the event.
 pub(crate) fn prepend_event(out: &mut Pen, script: &Script, event: &Event) -> Result<(), NoMemory>
-    requires { 160 ≤ out.old.room }
+    requires { BEFORE_EVENT + EVENT ≤ out.old.room }
     ensures text { OnOk result (out.new.text ≡ event_text script.now event.now ++ out.old.text) }
-    ensures room { OnOk result (40 ≤ out.new.room) }
+    ensures room { OnOk result (BEFORE_EVENT ≤ out.new.room) }
 {
     match event {
         Event::Init {

@@ -2,6 +2,7 @@
 ghost use Rattle.std.specs.Prelude.{◌≡◌, ◌<◌, ◌≤◌, ◌+◌, ◌++◌, drop, false, OnOk};
 ghost use Rattle.std.specs.Fmt.{digit_glyph};
 ghost use Rattle.cred_report.specs.Numbers.{hexadecimal, set_text, ids_text, arg_text, flag_text};
+ghost use Rattle.cred_report.specs.Room.{ARG, SET, SETS, FLAG};
 
 use crate::pen::{PARTS, Pen};
 use crate::words::{prepend_number, prepend_word};
@@ -42,9 +43,9 @@ pub(crate) fn write_digits(digits: &mut [u8; MAX_DIGITS], number: u64) -> usize
 /// Writes a space, and the set in lower-case hexadecimal. Most sets of a report are empty or full:
 /// those are words, which take no division.
 pub(crate) fn prepend_set(out: &mut Pen, set: CapSet)
-    requires { 20 ≤ out.old.room }
+    requires { SET ≤ out.old.room }
     ensures text { out.new.text ≡ set_text set ++ out.old.text }
-    ensures room { out.old.room ≤ out.new.room + 20 }
+    ensures room { out.old.room ≤ out.new.room + SET }
 {
     match set.bits() {
         0 => prepend_word(out, " 0"),
@@ -55,9 +56,9 @@ pub(crate) fn prepend_set(out: &mut Pen, set: CapSet)
 
 /// Writes a space, and the number in lower-case hexadecimal.
 fn prepend_bits(out: &mut Pen, bits: u64)
-    requires { 20 ≤ out.old.room }
+    requires { SET ≤ out.old.room }
     ensures text { out.new.text ≡ set_text bits ++ out.old.text }
-    ensures room { out.old.room ≤ out.new.room + 20 }
+    ensures room { out.old.room ≤ out.new.room + SET }
 {
     let mut digits = [0; MAX_DIGITS];
     let first = write_digits(&mut digits, bits);
@@ -67,10 +68,10 @@ fn prepend_bits(out: &mut Pen, bits: u64)
 
 /// Writes three sets.
 pub(crate) fn prepend_sets(out: &mut Pen, first: CapSet, second: CapSet, third: CapSet)
-    requires { 60 ≤ out.old.room }
+    requires { SETS ≤ out.old.room }
     ensures text { out.new.text
         ≡ (set_text first ++ set_text second ++ set_text third) ++ out.old.text }
-    ensures room { out.old.room ≤ out.new.room + 60 }
+    ensures room { out.old.room ≤ out.new.room + SETS }
 {
     prepend_set(out, third);
     prepend_set(out, second);
@@ -80,7 +81,7 @@ pub(crate) fn prepend_sets(out: &mut Pen, first: CapSet, second: CapSet, third: 
 /// Writes the ids in their order, and makes room for the entry's other parts.
 pub(crate) fn prepend_ids(out: &mut Pen, ids: &[Id]) -> Result<(), NoMemory>
     ensures text { OnOk result (out.new.text ≡ ids_text ids.now ++ out.old.text) }
-    ensures room { OnOk result (512 ≤ out.new.room) }
+    ensures room { OnOk result (PARTS ≤ out.new.room) }
 {
     out.reserve(PARTS)?;
     let mut at = ids.len();
@@ -94,9 +95,9 @@ pub(crate) fn prepend_ids(out: &mut Pen, ids: &[Id]) -> Result<(), NoMemory>
 
 /// Writes the argument of an id call.
 pub(crate) fn prepend_arg(out: &mut Pen, arg: Arg)
-    requires { 21 ≤ out.old.room }
+    requires { ARG ≤ out.old.room }
     ensures text { out.new.text ≡ arg_text arg ++ out.old.text }
-    ensures room { out.old.room ≤ out.new.room + 21 }
+    ensures room { out.old.room ≤ out.new.room + ARG }
 {
     match arg {
         Arg::Keep => prepend_word(out, " -1"),
@@ -106,9 +107,9 @@ pub(crate) fn prepend_arg(out: &mut Pen, arg: Arg)
 
 /// Writes a space, and the flag as 0 or 1.
 pub(crate) fn prepend_flag(out: &mut Pen, flag: bool)
-    requires { 2 ≤ out.old.room }
+    requires { FLAG ≤ out.old.room }
     ensures text { out.new.text ≡ flag_text flag ++ out.old.text }
-    ensures room { out.old.room ≤ out.new.room + 2 }
+    ensures room { out.old.room ≤ out.new.room + FLAG }
 {
     if flag {
         prepend_word(out, " 1")

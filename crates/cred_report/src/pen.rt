@@ -1,5 +1,6 @@
 //! A text that is written from its end to its start.
 ghost use Rattle.std.specs.Prelude.{◌≡◌, ◌≤◌, ◌+◌, ◌++◌, [], OnOk, decimal, length};
+ghost use Rattle.cred_report.specs.Room.{NUMBER};
 
 use crate::tens::Tens;
 use cred_ids::NoMemory;
@@ -7,7 +8,8 @@ use itoa::write_digits;
 use std::alloc::Global;
 use std::marker::Model;
 
-/// How many bytes the parts of one entry take at most, but for names and lists of ids.
+/// Room for the parts of one entry, but for names and lists of ids. It is more than they take, which
+/// `specs/Room.antt` adds up.
 pub(crate) const PARTS: usize = 512;
 
 /// How many bytes a short word has at most.
@@ -135,9 +137,9 @@ impl Pen {
     #[inline(always)]
     #[tactic(auto, using(std::proofs::lemmas::Fmt::decimal_digit))]
     pub(crate) fn number(&mut self, number: u64)
-        requires { 20 ≤ self.old.room }
+        requires { NUMBER ≤ self.old.room }
         ensures text { self.new.text ≡ decimal number ++ self.old.text }
-        ensures room { self.old.room ≤ self.new.room + 20 }
+        ensures room { self.old.room ≤ self.new.room + NUMBER }
     {
         if number < 10 {
             self.piece(&[b'0' + number as u8])
@@ -149,9 +151,9 @@ impl Pen {
     /// Writes the number of a line before the text.
     #[inline(always)]
     pub(crate) fn line(&mut self, number: u32)
-        requires { 20 ≤ self.old.room }
+        requires { NUMBER ≤ self.old.room }
         ensures text { self.new.text ≡ decimal number ++ self.old.text }
-        ensures room { self.old.room ≤ self.new.room + 20 }
+        ensures room { self.old.room ≤ self.new.room + NUMBER }
     {
         self.at = self.line.write(number, &mut self.bytes, self.at);
     }
@@ -159,9 +161,9 @@ impl Pen {
     /// Writes a label before the text.
     #[inline(always)]
     pub(crate) fn label(&mut self, number: u32)
-        requires { 20 ≤ self.old.room }
+        requires { NUMBER ≤ self.old.room }
         ensures text { self.new.text ≡ decimal number ++ self.old.text }
-        ensures room { self.old.room ≤ self.new.room + 20 }
+        ensures room { self.old.room ≤ self.new.room + NUMBER }
     {
         self.at = self.label.write(number, &mut self.bytes, self.at);
     }
@@ -169,9 +171,9 @@ impl Pen {
     /// Writes the number of a credential before the text.
     #[inline(always)]
     pub(crate) fn cred(&mut self, number: u64)
-        requires { 20 ≤ self.old.room }
+        requires { NUMBER ≤ self.old.room }
         ensures text { self.new.text ≡ decimal number ++ self.old.text }
-        ensures room { self.old.room ≤ self.new.room + 20 }
+        ensures room { self.old.room ≤ self.new.room + NUMBER }
     {
         match u32::try_from(number) {
             Ok(number) => self.at = self.cred.write(number, &mut self.bytes, self.at),
@@ -182,18 +184,18 @@ impl Pen {
     /// Writes the number of a slot before the text.
     #[inline(always)]
     pub(crate) fn slot(&mut self, number: u32)
-        requires { 20 ≤ self.old.room }
+        requires { NUMBER ≤ self.old.room }
         ensures text { self.new.text ≡ decimal number ++ self.old.text }
-        ensures room { self.old.room ≤ self.new.room + 20 }
+        ensures room { self.old.room ≤ self.new.room + NUMBER }
     {
         self.at = self.slot.write(number, &mut self.bytes, self.at);
     }
 
     #[inline(never)]
     fn digits(&mut self, number: u64)
-        requires { 20 ≤ self.old.room }
+        requires { NUMBER ≤ self.old.room }
         ensures text { self.new.text ≡ decimal number ++ self.old.text }
-        ensures room { self.old.room ≤ self.new.room + 20 }
+        ensures room { self.old.room ≤ self.new.room + NUMBER }
     {
         self.at = write_digits(number, &mut self.bytes, self.at);
     }

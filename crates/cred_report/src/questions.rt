@@ -1,6 +1,7 @@
 //! Questions about a credential, and the files and permissions that they name.
 ghost use Rattle.std.specs.Prelude.{◌≡◌, ◌≤◌, ◌+◌, ◌++◌, OnOk};
 ghost use Rattle.cred_report.specs.Questions.{file_text, want_text, query_text};
+ghost use Rattle.cred_report.specs.Room.{LETTERS, CALL, BEFORE_CALL, BEFORE_FILE};
 
 use crate::pen::{PARTS, Pen};
 use crate::words::{prepend_number, prepend_word};
@@ -12,9 +13,9 @@ use cred_script::Script;
 /// Writes the name of the file at this place among the script's files, and makes room for the
 /// entry's other parts.
 pub(crate) fn prepend_file(out: &mut Pen, script: &Script, place: u32) -> Result<(), NoMemory>
-    requires { 100 ≤ out.old.room }
+    requires { BEFORE_FILE ≤ out.old.room }
     ensures text { OnOk result (out.new.text ≡ file_text script.now place ++ out.old.text) }
-    ensures room { OnOk result (100 ≤ out.new.room) }
+    ensures room { OnOk result (BEFORE_FILE ≤ out.new.room) }
 {
     match script.name(place) {
         Some(name) => prepend_name(out, name),
@@ -25,7 +26,7 @@ pub(crate) fn prepend_file(out: &mut Pen, script: &Script, place: u32) -> Result
 /// Writes the name, which may be of any length.
 fn prepend_name(out: &mut Pen, name: &str) -> Result<(), NoMemory>
     ensures text { OnOk result (out.new.text ≡ name.now ++ out.old.text) }
-    ensures room { OnOk result (100 ≤ out.new.room) }
+    ensures room { OnOk result (BEFORE_FILE ≤ out.new.room) }
 {
     let room = name.len().checked_add(PARTS).ok_or(NoMemory)?;
     out.reserve(room)?;
@@ -35,9 +36,9 @@ fn prepend_name(out: &mut Pen, name: &str) -> Result<(), NoMemory>
 
 /// Writes the letters of what is wanted.
 pub(crate) fn prepend_letters(out: &mut Pen, want: Want)
-    requires { 3 ≤ out.old.room }
+    requires { LETTERS ≤ out.old.room }
     ensures text { out.new.text ≡ want_text want ++ out.old.text }
-    ensures room { out.old.room ≤ out.new.room + 3 }
+    ensures room { out.old.room ≤ out.new.room + LETTERS }
 {
     if want.x {
         prepend_word(out, "x");
@@ -52,9 +53,9 @@ pub(crate) fn prepend_letters(out: &mut Pen, want: Want)
 
 /// Writes the question.
 pub(crate) fn prepend_query(out: &mut Pen, script: &Script, query: Query) -> Result<(), NoMemory>
-    requires { 160 ≤ out.old.room }
+    requires { BEFORE_CALL + CALL ≤ out.old.room }
     ensures text { OnOk result (out.new.text ≡ query_text script.now query ++ out.old.text) }
-    ensures room { OnOk result (80 ≤ out.new.room) }
+    ensures room { OnOk result (BEFORE_CALL ≤ out.new.room) }
 {
     match query {
         Query::Ids => prepend_word(out, "ids"),

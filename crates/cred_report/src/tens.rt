@@ -1,5 +1,6 @@
 //! The digits that numbers which are written one after another have in common.
 ghost use Rattle.std.specs.Prelude.{◌≡◌, ◌≤◌, ◌+◌, ◌++◌, decimal, drop, length};
+ghost use Rattle.cred_report.specs.Room.{NUMBER};
 
 use itoa::write_digits;
 use std::marker::Model;
@@ -70,8 +71,8 @@ impl Tens {
     /// Writes the number so that it ends at `end`, and returns where it starts.
     #[inline(always)]
     pub(crate) fn write(&mut self, number: u32, buf: &mut [u8], end: usize) -> usize
-        requires { (20 ≤ end) × (end ≤ length buf.old) }
-        ensures within { (result ≤ end) × (end ≤ result + 20) }
+        requires { (NUMBER ≤ end) × (end ≤ length buf.old) }
+        ensures within { (result ≤ end) × (end ≤ result + NUMBER) }
         ensures length { length buf.new ≡ length buf.old }
         ensures written { drop result buf.new ≡ decimal number ++ drop end buf.old }
     {

@@ -1,6 +1,7 @@
 //! What a question is told.
-ghost use Rattle.std.specs.Prelude.{◌≡◌, ◌≤◌, ◌+◌, ◌++◌, OnOk, codes};
+ghost use Rattle.std.specs.Prelude.{◌≡◌, ◌≤◌, ◌+◌, ◌++◌, OnOk, codes, length};
 ghost use Rattle.cred_report.specs.Told.{ids4_text, told_text};
+ghost use Rattle.cred_report.specs.Room.{IDS, ANSWER, BEFORE_ANSWER};
 
 use crate::numbers::{prepend_flag, prepend_ids, prepend_set, prepend_sets};
 use crate::pen::Pen;
@@ -10,9 +11,9 @@ use cred_ids::{Ids4, NoMemory};
 
 /// Writes the four ids of a kind.
 fn prepend_ids4(out: &mut Pen, ids: Ids4)
-    requires { 84 ≤ out.old.room }
+    requires { IDS ≤ out.old.room }
     ensures text { out.new.text ≡ ids4_text ids ++ out.old.text }
-    ensures room { out.old.room ≤ out.new.room + 84 }
+    ensures room { out.old.room ≤ out.new.room + IDS }
 {
     prepend_two(out, (" ", ids.saved.number()), (" ", ids.fs.number()));
     prepend_two(out, (" ", ids.real.number()), (" ", ids.effective.number()))
@@ -20,10 +21,10 @@ fn prepend_ids4(out: &mut Pen, ids: Ids4)
 
 /// Writes what is told, after `ok`.
 pub(crate) fn prepend_told(out: &mut Pen, told: &Told) -> Result<(), NoMemory>
-    requires { 400 ≤ out.old.room }
+    requires { BEFORE_ANSWER + ANSWER ≤ out.old.room }
     ensures text { OnOk result (out.new.text
         ≡ (codes "ok" ++ told_text told.now) ++ out.old.text) }
-    ensures room { OnOk result (200 ≤ out.new.room) }
+    ensures room { OnOk result (BEFORE_ANSWER ≤ out.new.room) }
 {
     prepend_values(out, told)?;
     prepend_word(out, "ok");
@@ -32,9 +33,9 @@ pub(crate) fn prepend_told(out: &mut Pen, told: &Told) -> Result<(), NoMemory>
 
 /// Writes what is told.
 fn prepend_values(out: &mut Pen, told: &Told) -> Result<(), NoMemory>
-    requires { 400 ≤ out.old.room }
+    requires { BEFORE_ANSWER + ANSWER ≤ out.old.room }
     ensures text { OnOk result (out.new.text ≡ told_text told.now ++ out.old.text) }
-    ensures room { OnOk result (202 ≤ out.new.room) }
+    ensures room { OnOk result (BEFORE_ANSWER + length (codes "ok") ≤ out.new.room) }
 {
     match told {
         Told::Ids { uid, gid } => {

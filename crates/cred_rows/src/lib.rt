@@ -4,26 +4,4 @@
 #![tactic(auto)]
 
 #[cfg(test)]
-mod changes;
-#[cfg(test)]
-mod checks;
-#[cfg(test)]
-mod copies;
-#[cfg(test)]
-mod decoding;
-#[cfg(test)]
-mod ends;
-#[cfg(test)]
-mod grammar;
-#[cfg(test)]
-mod lasts;
-#[cfg(test)]
-mod refused;
-#[cfg(test)]
-mod rows;
-#[cfg(test)]
-mod runs;
-#[cfg(test)]
-mod sizes;
-#[cfg(test)]
-mod texts;
+mod tests;

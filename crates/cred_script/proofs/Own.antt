@@ -1,6 +1,6 @@
 -- What is true of each line that the grammar gives: its labels are small, it is of a kind that is
 -- built, and what it names is declared.
-use Rattle.std.proofs.Common.{◌≡◌, ℕ, ◌≤◌, ◌<◌, Bool, true, false, not, ◌&&◌, ◌==◌, nat_le, nat_lt, cond, List, [], ◌∷◌, length, Option, Some, None, is_some, Result, Ok, Err, ok_or, refl, subst, arith}
+use Rattle.std.proofs.Common.{◌≡◌, ℕ, ◌≤◌, ◌<◌, Bool, true, false, not, ◌&&◌, ◌==◌, nat_le, nat_lt, cond, List, [], ◌∷◌, length, Option, Some, None, is_some, Result, Ok, Err, ok_or, codes, refl, subst, arith}
 use Rattle.std.specs.List.{All, list_all}
 use Rattle.std.specs.Option.{IfSome, option_and_then}
 use Rattle.std.specs.Result.{IfOk}
@@ -24,7 +24,7 @@ use Rattle.cred_spelling.specs.declared.reason.Reason.{Reason}
 use Rattle.cred_spelling.specs.declared.reason.Reason.TheVariants.{Word, Name, Byte}
 use Rattle.cred_spelling.specs.Lines.{is_printable}
 use Rattle.cred_spelling.specs.Names.{id_name, change_name, call_name}
-use Rattle.cred_spelling.specs.Spellings.{number_of, within, id_of, arg_of, cap_of, set_of, label_of, task_of, process_of, namespace_of}
+use Rattle.cred_spelling.specs.Spellings.{letter, number_of, within, id_of, arg_of, cap_of, set_of, label_of, task_of, process_of, namespace_of}
 use Rattle.cred_spelling.specs.Words.{◌>>=◌, words_of, is_comment, word_of, no_words, one_of, two_of, three_of, five_of}
 use Rattle.cred_script.specs.declared.forms.Parsed.{Parsed}
 use Rattle.cred_script.specs.declared.forms.Parsed.TheVariants.{Empty, File, Starts, Holds}
@@ -34,7 +34,7 @@ use Rattle.cred_script.specs.IdCalls.{id_call_of}
 use Rattle.cred_script.specs.Forms.{query_of, query_named, take_of, ask_of, alter_of, begin_of, event_of, call_of, content_of, parse_form}
 use Rattle.cred_script.specs.Grammar.{parse_full, parse_words, parse_line}
 use Rattle.cred_script.specs.Reading.{Reading, has_namespaces, has_files, has_names, form_at, in_order, admits, setup_line}
-use Rattle.cred_script.specs.Sound.{event_labels, labels, IsSound, IsParsed}
+use Rattle.cred_script.specs.Sound.{LAST_LABEL, event_labels, labels, IsSound, IsParsed}
 
 -- ---- what holds of a value, if there is one, through the steps that lead to it
 

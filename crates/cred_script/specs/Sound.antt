@@ -7,6 +7,7 @@ use Rattle.cred_event.specs.declared.content.Content.{Content}
 use Rattle.cred_event.specs.declared.content.Content.TheVariants.{One}
 use Rattle.cred_model.specs.Script.{Line, NamedFile, SetupBefore}
 use Rattle.cred_model.specs.Named.{IsContentOf}
+use Rattle.cred_spelling.specs.Spellings.{LAST_NUMBER}
 use Rattle.cred_script.specs.declared.forms.Parsed.{Parsed}
 use Rattle.cred_script.specs.declared.forms.Parsed.TheVariants.{Empty, File, Starts, Holds}
 use Rattle.cred_script.specs.Files.{FILES, place_of}

@@ -40,14 +40,14 @@ fn sealed(cred: u64, slot: u32) -> Answer {
     Answer::Sealed { cred, slot }
 }
 
-/// The text of the entries, one after another in one buffer.
-fn report(alloc: Global, entries: &[Entry]) -> Result<Vec<u8>, Fail> {
+/// Whether this is the text of the entries, one after another in one buffer.
+fn is_report(alloc: Global, entries: &[Entry], text: &str) -> Result<bool, Fail> {
     let script = script(alloc)?;
     let mut out = Pen::new(alloc);
     for entry in entries.iter().rev() {
         prepend(&mut out, &script, entry)?;
     }
-    Ok(out.items().to_vec(alloc)?)
+    Ok(out.items() == text.as_bytes())
 }
 
 fn drop_label(line: u32, label: u32) -> Entry {
@@ -76,28 +76,24 @@ fn began(cred: u64, slot: u32, left: u32) -> Answer {
 
 #[test]
 fn prints_one_entry(rt: HostRuntime) -> Result<(), Fail> {
+    let root = id(0)?;
+    let script = script(rt.alloc())?;
     let init = Event::Init {
         task: 1,
         process: 1,
-        user: id(0)?,
-        group: id(0)?,
+        user: root,
+        group: root,
         ns: 0,
     };
-    let text = print(
-        rt.alloc(),
-        &script(rt.alloc())?,
-        &entry(1, init, sealed(0, 0)),
-    )?;
-    assert_eq!(rt;
-        text.items(),
-        b"1 init t1 p1 0 0 n0 -> ok c0 s0\n".as_slice()
-    );
+    let text = print(rt.alloc(), &script, &entry(1, init, sealed(0, 0)))?;
+    assert!(rt; text.items() == b"1 init t1 p1 0 0 n0 -> ok c0 s0\n".as_slice());
     Ok(())
 }
 
 /// A task of root becomes a user and looks at itself.
 #[test]
 fn root_becomes_a_user(rt: HostRuntime) -> Result<(), Fail> {
+    let (user, root) = (id(1000)?, id(0)?);
     let told = Told::Caps {
         perm: CapSet::empty(),
         inh: CapSet::empty(),
@@ -106,8 +102,8 @@ fn root_becomes_a_user(rt: HostRuntime) -> Result<(), Fail> {
         amb: CapSet::empty(),
     };
     let ids = Told::Ids {
-        uid: Ids4::all(id(1000)?),
-        gid: Ids4::all(id(0)?),
+        uid: Ids4::all(user),
+        gid: Ids4::all(root),
     };
     let entries = [
         begin(2, 1, resuid(1000, 1000, 1000), began(1, 1, 0)),
@@ -118,7 +114,6 @@ fn root_becomes_a_user(rt: HostRuntime) -> Result<(), Fail> {
         ask(4, 100040, Query::Ids, ids),
         drop_label(4, 100040),
     ];
-    let out = report(rt.alloc(), &entries)?;
     let want = "2 begin t1 setresuid 1000 1000 1000 -> ok c1 s1 left 0\n\
         3 take h100030 t1 -> ok c1 s1\n\
         3 ask h100030 caps -> ok 0 0 0 1ffffffffff 0\n\
@@ -126,17 +121,18 @@ fn root_becomes_a_user(rt: HostRuntime) -> Result<(), Fail> {
         4 take h100040 t1 -> ok c1 s1\n\
         4 ask h100040 ids -> ok 1000 1000 1000 1000 0 0 0 0\n\
         4 drop h100040 -> ok\n";
-    assert_eq!(rt; out.as_slice(), want.as_bytes());
+    assert!(rt; is_report(rt.alloc(), &entries, want)?);
     Ok(())
 }
 
 /// Changes of a prepared credential, and their commit.
 #[test]
 fn changes_and_commits(rt: HostRuntime) -> Result<(), Fail> {
+    let (raw, previous) = (caps(0x2000)?, id(1000)?);
     let keep = Change::Adjust(AdjCall::KeepCaps(1));
     let capset = Change::Adjust(AdjCall::Capset {
         perm: CapSet::full(),
-        inh: caps(0x2000)?,
+        inh: raw,
         eff: CapSet::full(),
     });
     let prepare = Event::Prepare {
@@ -149,7 +145,7 @@ fn changes_and_commits(rt: HostRuntime) -> Result<(), Fail> {
         slot: 3,
         ended: 0,
         gains: Gains {
-            file: caps(0x2000)?,
+            file: raw,
             inherit: CapSet::empty(),
             root: CapSet::empty(),
         },
@@ -162,9 +158,7 @@ fn changes_and_commits(rt: HostRuntime) -> Result<(), Fail> {
             4,
             100041,
             Change::SetFs(Kind::User, Arg::Keep),
-            Answer::Was {
-                previous: id(1000)?,
-            },
+            Answer::Was { previous },
         ),
         alter(
             2,
@@ -188,7 +182,6 @@ fn changes_and_commits(rt: HostRuntime) -> Result<(), Fail> {
         ),
         entry(7, Event::Commit { label: 100071 }, executed),
     ];
-    let out = report(rt.alloc(), &entries)?;
     let want = "3 prepare h100031 t1 h100030 -> ok s1\n\
         3 change h100031 keepcaps 1 -> ok\n\
         3 commit h100031 -> ok c1 s1\n\
@@ -199,27 +192,30 @@ fn changes_and_commits(rt: HostRuntime) -> Result<(), Fail> {
         8 change h100081 ambraise 10 -> ok\n\
         9 change h100091 nonewprivs 1 -> ok\n\
         7 commit h100071 -> ok c3 s3 ended 0 gain 2000 0 0\n";
-    assert_eq!(rt; out.as_slice(), want.as_bytes());
+    assert!(rt; is_report(rt.alloc(), &entries, want)?);
     Ok(())
 }
 
 /// The answers to questions: the ids after an exec of a set-user-ID file, and the rest.
 #[test]
 fn tells_what_is_asked(rt: HostRuntime) -> Result<(), Fail> {
-    let root = id(0)?;
+    let (user, root) = (id(1000)?, id(0)?);
+    let without_files = caps(0x1fef7fffde0)?;
+    let list = [id(10)?, id(20)?, id(30)?];
+    let groups = IdList::of(rt.alloc(), &list)?;
     let ids = Told::Ids {
         uid: Ids4 {
-            real: id(1000)?,
+            real: user,
             effective: root,
             saved: root,
             fs: root,
         },
-        gid: Ids4::all(id(1000)?),
+        gid: Ids4::all(user),
     };
     let sets = Told::Caps {
         perm: CapSet::full(),
         inh: CapSet::empty(),
-        eff: caps(0x1fef7fffde0)?,
+        eff: without_files,
         bound: CapSet::full(),
         amb: CapSet::empty(),
     };
@@ -227,7 +223,6 @@ fn tells_what_is_asked(rt: HostRuntime) -> Result<(), Fail> {
         bits: SecureBits::none(),
         nnp: false,
     };
-    let groups = IdList::of(rt.alloc(), &[id(10)?, id(20)?, id(30)?])?;
     let entries = [
         ask(4, 100040, Query::Ids, ids),
         ask(3, 100030, Query::Caps, sets),
@@ -235,13 +230,12 @@ fn tells_what_is_asked(rt: HostRuntime) -> Result<(), Fail> {
         ask(12, 100120, Query::Groups, Told::Groups(groups)),
         ask(7, 100070, Query::Capable(21), Told::Flag(true)),
     ];
-    let out = report(rt.alloc(), &entries)?;
     let want = "4 ask h100040 ids -> ok 1000 0 0 0 1000 1000 1000 1000\n\
         3 ask h100030 caps -> ok 1ffffffffff 0 1fef7fffde0 1ffffffffff 0\n\
         8 ask h100080 bits -> ok 0 0\n\
         12 ask h100120 groups -> ok 10 20 30\n\
         7 ask h100070 capable 21 -> ok 1\n";
-    assert_eq!(rt; out.as_slice(), want.as_bytes());
+    assert!(rt; is_report(rt.alloc(), &entries, want)?);
     Ok(())
 }
 
@@ -271,7 +265,6 @@ fn follows_a_broadcast(rt: HostRuntime) -> Result<(), Fail> {
         begin(17, 1, IdCall::SetUid(Arg::Keep), Answer::Einval),
         begin(513, 1, resuid(0, 0, 0), Answer::TableFull),
     ];
-    let out = report(rt.alloc(), &entries)?;
     let want = "2 spawn t1 t2 -> ok c0 s0\n\
         4 begin t1 setresuid 5 5 5 -> ok c1 s1 left 2\n\
         6 act 4 -> ok t2 c2 s2 left 2\n\
@@ -281,7 +274,7 @@ fn follows_a_broadcast(rt: HostRuntime) -> Result<(), Fail> {
         13 begin t2 setuid 7 -> busy 12\n\
         17 begin t1 setuid -1 -> einval\n\
         513 begin t1 setresuid 0 0 0 -> table full\n";
-    assert_eq!(rt; out.as_slice(), want.as_bytes());
+    assert!(rt; is_report(rt.alloc(), &entries, want)?);
     Ok(())
 }
 
@@ -324,7 +317,6 @@ fn names_what_refuses(rt: HostRuntime) -> Result<(), Fail> {
         entry(65, spawned, Answer::TooMany(Counted::Tasks)),
         entry(4, Event::Sweep, Answer::Done),
     ];
-    let out = report(rt.alloc(), &entries)?;
     let want = "4 override t1 h1 -> ok c0 s0\n\
         5 exit t1 -> overridden 1\n\
         7 revert t1 -> not overridden\n\
@@ -338,6 +330,6 @@ fn names_what_refuses(rt: HostRuntime) -> Result<(), Fail> {
         3 signal t2 h100030 t1 h100031 -> eperm\n\
         65 spawn t1 t65 -> too many tasks\n\
         4 sweep -> ok\n";
-    assert_eq!(rt; out.as_slice(), want.as_bytes());
+    assert!(rt; is_report(rt.alloc(), &entries, want)?);
     Ok(())
 }

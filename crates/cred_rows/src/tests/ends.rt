@@ -1,5 +1,5 @@
 //! What the program does where its words, its input or its ends are not as they should be.
-use crate::runs::{ran, words_of};
+use crate::tests::runs::{ran, words_of};
 use cred_io::{MemorySink, MemorySource, StdSink, SureSource};
 use cred_program::{Status, credtrace};
 use std::alloc::Global;
@@ -38,8 +38,7 @@ fn other_words_get_the_usage_line(rt: HostRuntime) -> Result<(), Fail> {
     ];
     for texts in table {
         let (status, sink) = ran(rt.alloc(), texts, SCRIPT.as_bytes())?;
-        assert!(rt; status == Status::Usage);
-        assert!(rt; sink.bytes() == USAGE.as_bytes());
+        assert!(rt; status == Status::Usage && sink.bytes() == USAGE.as_bytes());
     }
     Ok(())
 }
@@ -58,8 +57,7 @@ fn failing(alloc: Global, reads: &[u64], writes: &[u64]) -> Result<(Status, Memo
 fn a_failed_read_leaves_nothing_written(rt: HostRuntime) -> Result<(), Fail> {
     for read in [1, 2] {
         let (status, sink) = failing(rt.alloc(), &[read], &[])?;
-        assert!(rt; status == Status::ReadFault);
-        assert!(rt; sink.bytes().is_empty());
+        assert!(rt; status == Status::ReadFault && sink.bytes().is_empty());
     }
     Ok(())
 }
@@ -69,13 +67,15 @@ fn a_failed_write_leaves_the_entries_before(rt: HostRuntime) -> Result<(), Fail>
     let mut written = String::new(rt.alloc());
     for (done, entry) in ENTRIES.iter().enumerate() {
         let (status, sink) = failing(rt.alloc(), &[], &[done as u64 + 1])?;
-        assert!(rt; status == Status::WriteFault);
-        assert!(rt; sink.bytes() == written.as_bytes());
+        let is_kept = sink.bytes() == written.as_bytes();
+        assert!(rt;
+            status == Status::WriteFault && is_kept,
+            "after {done} entries"
+        );
         written.push_str(entry)?;
     }
     let (status, sink) = failing(rt.alloc(), &[], &[9])?;
-    assert!(rt; status == Status::Done);
-    assert!(rt; sink.bytes() == written.as_bytes());
+    assert!(rt; status == Status::Done && sink.bytes() == written.as_bytes());
     Ok(())
 }
 

@@ -1,6 +1,7 @@
 //! Inputs at the limits of bytes and of lines, and others that may seem to want much memory.
-use crate::runs::{ran, repeated};
+use crate::tests::runs::{ran, repeated};
 use cred_program::Status;
+use std::alloc::Global;
 use std::test::Fail;
 
 /// Pieces, how often they stand one after another, and how the program must end on that.
@@ -18,8 +19,8 @@ fn inputs_above_the_limits_are_too_large(rt: HostRuntime) -> Result<(), Fail> {
     for (piece, count, status) in SIZES {
         let input = repeated(rt.alloc(), piece, count)?;
         let (answer, sink) = ran(rt.alloc(), &["run"], &input)?;
-        assert!(rt; answer == status, "{piece} {count}");
-        assert!(rt; sink.bytes().is_empty(), "{piece} {count}");
+        let is_well = answer == status && sink.bytes().is_empty();
+        assert!(rt; is_well, "{piece} {count}");
     }
     Ok(())
 }
@@ -63,16 +64,21 @@ const DONE: [(&str, &str, usize, usize, &str); 4] = [
     ),
 ];
 
+/// The first line, the start, and the piece so many times.
+fn script_of(alloc: Global, start: &str, piece: &str, count: usize) -> Result<Vec<u8>, Fail> {
+    let mut input = INIT.as_bytes().to_vec(alloc)?;
+    input.extend_from_slice(start.as_bytes())?;
+    input.extend_from_slice(&repeated(alloc, piece, count)?)?;
+    Ok(input)
+}
+
 #[test]
 fn large_scripts_are_done(rt: HostRuntime) -> Result<(), Fail> {
     for (start, piece, count, len, end) in DONE {
-        let mut input = INIT.as_bytes().to_vec(rt.alloc())?;
-        input.extend_from_slice(start.as_bytes())?;
-        input.extend_from_slice(&repeated(rt.alloc(), piece, count)?)?;
-        assert_eq!(rt; input.len(), len);
+        let input = script_of(rt.alloc(), start, piece, count)?;
         let (answer, sink) = ran(rt.alloc(), &["run"], &input)?;
-        assert!(rt; answer == Status::Done, "{end}");
-        assert!(rt; sink.bytes().ends_with(end.as_bytes()), "{end}");
+        let is_done = answer == Status::Done && sink.bytes().ends_with(end.as_bytes());
+        assert!(rt; input.len() == len && is_done, "{end}");
     }
     Ok(())
 }

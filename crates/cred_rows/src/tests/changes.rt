@@ -1,5 +1,5 @@
 //! Scripts that change a credential, with the report that they must get.
-use crate::rows::{Row, first_other};
+use crate::tests::rows::{Row, first_other};
 use cred_program::Status;
 use std::test::Fail;
 

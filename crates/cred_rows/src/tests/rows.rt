@@ -1,5 +1,5 @@
 //! Scripts with the report that they must get.
-use crate::runs::ran;
+use crate::tests::runs::ran;
 use cred_program::Status;
 use std::alloc::Global;
 use std::test::Fail;

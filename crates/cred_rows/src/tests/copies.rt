@@ -30,8 +30,7 @@ fn a_copied_event_has_its_list(rt: HostRuntime) -> Result<(), Fail> {
             task,
             call: IdCall::SetGroups(list),
         } => {
-            assert_eq!(rt; task, 7);
-            assert!(rt; list.items() == ids.as_slice());
+            assert!(rt; task == 7 && list.items() == ids.as_slice());
         }
         _ => return Err(Fail::from("another event")),
     }

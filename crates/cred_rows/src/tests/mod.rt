@@ -1,0 +1,13 @@
+//! The examples, a module for each kind.
+mod changes;
+mod checks;
+mod copies;
+mod decoding;
+mod ends;
+mod grammar;
+mod lasts;
+mod refused;
+mod rows;
+mod runs;
+mod sizes;
+mod texts;
