@@ -183,20 +183,6 @@ reaches_due script from course going at = record {
   falls = at.falls;
 }
 
--- ---- before the first event
-
-pub starts : (script : Script) (line : Line) → line_at script 1 ≡ Some line → StandsOn script [] (start 1 line.content)
-starts script line is = record {
-  in_order = λ k lt. absurd (omega arith);
-  place = 0;
-  number = refl;
-  line = line;
-  here = sym (line_at-place script 0) ∙ is;
-  ended = λ k lt. absurd (omega arith);
-  later = λ k lt. refl;
-  stands = refl;
-}
-
 -- ---- an answer
 
 -- the next event in order is that of the course's line

@@ -84,10 +84,8 @@ pub(crate) fn prepend_ids(out: &mut Pen, ids: &[Id]) -> Result<(), NoMemory>
     ensures room { OnOk result (PARTS ≤ out.new.room) }
 {
     out.reserve(PARTS)?;
-    let mut at = ids.len();
-    while at > 0 {
-        at -= 1;
-        prepend_number(out, " ", ids[at].number());
+    for id in ids.iter().rev() {
+        prepend_number(out, " ", id.number());
         out.reserve(PARTS)?;
     }
     Ok(())

@@ -66,7 +66,8 @@ impl Pen {
 
     /// Drops the text, and keeps the memory.
     pub fn clear(&mut self)
-        ensures { self.new.text ≡ [] }
+        ensures text { self.new.text ≡ [] }
+        ensures room { self.new.room ≡ self.old.room + length self.old.text }
     {
         self.at = self.bytes.len();
     }

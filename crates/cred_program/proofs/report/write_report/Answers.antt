@@ -16,7 +16,7 @@ returns-in_err-write_all-clause-err g c =
     let script = c.args.script.now in
     let journal = c.args.journal.now in
     let more = text script (slice_range journal c.loop-at.at c.end_of-end.result) in
-    let piece = c.items.ensures ∙ c.in-Ok.ensures ∙ ap (λ (bs : List ℕ). more ++ bs) c.clear.ensures ∙ append-nil more in
+    let piece = c.items.ensures ∙ c.in-Ok.ensures ∙ ap (λ (bs : List ℕ). more ++ bs) c.clear.ensures.text ∙ append-nil more in
     let onward : c.loop-at.at ≤ c.end_of-end.result = omega (arith, c.end_of-end.ensures.more) in
     let p = err_from_is_err_and c.from_residual.result c.from_residual.ensures.1 in
     rw p.1
@@ -27,7 +27,7 @@ loop-at-preserved g c =
     let script = c.args.script.now in
     let journal = c.args.journal.now in
     let more = text script (slice_range journal c.loop-at.at c.end_of-end.result) in
-    let piece = c.items.ensures ∙ c.in-Ok.ensures ∙ ap (λ (bs : List ℕ). more ++ bs) c.clear.ensures ∙ append-nil more in
+    let piece = c.items.ensures ∙ c.in-Ok.ensures ∙ ap (λ (bs : List ℕ). more ++ bs) c.clear.ensures.text ∙ append-nil more in
     let onward : c.loop-at.at ≤ c.end_of-end.result = omega (arith, c.end_of-end.ensures.more) in
     record {
       within = c.end_of-end.ensures.within;
