@@ -1,9 +1,9 @@
 -- What the status after a text says of the writing of the text.
-use Rattle.std.proofs.Common.{◌≡◌, ℕ, Result, Ok, Err}
+use Rattle.std.proofs.Common.{◌≡◌, ℕ, List, Result, Ok, Err, OnOk, sym, subst, ◌∙◌}
 use Rattle.cred_io.specs.Causes.{CountsFaults}
 use Rattle.cred_io.specs.declared.sink.SinkRefusal.{SinkRefusal}
 use Rattle.cred_io.specs.declared.sink.SinkRefusal.TheVariants as sink
-use Rattle.cred_program.specs.Ends.{finished}
+use Rattle.cred_program.specs.Ends.{finished, IsWhole, Suits}
 use Rattle.cred_program.specs.declared.status.Status.{Status}
 use Rattle.cred_program.specs.declared.status.Status.TheVariants as status
 
@@ -25,3 +25,21 @@ finished_counts (Err sink.Memory) answer result before now other is counts = rec
   stayed = λ no_fault. counts.stayed (λ failed. cc);
   later = counts.later;
 }
+
+-- a status that is neither the answer nor that of a text which wasn't written
+pub finished_apart : (r : Result (Unit {0}) SinkRefusal) (answer result other : Status) → (answer ≡ other → ⊥) → (status.WriteFault ≡ other → ⊥) → (status.Memory ≡ other → ⊥)
+    → result ≡ finished r answer → result ≡ other → ⊥
+finished_apart (Ok done) answer result other apart fault memory is same = apart (sym is ∙ same)
+finished_apart (Err sink.Failed) answer result other apart fault memory is same = fault (sym is ∙ same)
+finished_apart (Err sink.Memory) answer result other apart fault memory is same = memory (sym is ∙ same)
+
+pub finished_suits : (input : List ℕ) (r : Result (Unit {0}) SinkRefusal) (result : Status) → Suits input status.Done
+    → result ≡ finished r status.Done → Suits input result
+finished_suits input (Ok done) result suits is = subst (Suits input) (sym is) suits
+finished_suits input (Err sink.Failed) result suits is = subst (Suits input) (sym is) suits.0
+finished_suits input (Err sink.Memory) result suits is = subst (Suits input) (sym is) tt
+
+pub finished_whole : {P : Type 0} (r : Result (Unit {0}) SinkRefusal) (answer result : Status) → OnOk r P → result ≡ finished r answer → IsWhole result → P
+finished_whole (Ok done) answer result handed is whole = handed
+finished_whole (Err sink.Failed) answer result handed is whole = absurd (subst IsWhole is whole)
+finished_whole (Err sink.Memory) answer result handed is whole = absurd (subst IsWhole is whole)

@@ -1,8 +1,8 @@
 use Rattle.std.proofs.Common.{◌∙◌, sym, inr, arith}
 use Rattle.cred_report.specs.Text.{text}
 use Rattle.cred_program.specs.Texts.{bad_text}
-use Rattle.cred_program.specs.declared.status.Status.TheVariants.{Done}
-use Rattle.cred_program.proofs.Finished.{finished_counts}
+use Rattle.cred_program.specs.declared.status.Status.TheVariants.{Done, Bad, TooLarge, ReadFault}
+use Rattle.cred_program.proofs.Finished.{finished_apart, finished_counts, finished_suits, finished_whole}
 use Rattle.cred_program.proofs.Prefixes.{prefix_either, reported}
 use Rattle.cred_program.proofs.script.run_script.Goals as goal
 
@@ -37,3 +37,24 @@ returns-in-Err-Bad-clause-prefix g c =
 pub returns-in-Ok-run-clause-cause : goal.returns-in-Ok-run-clause-cause
 returns-in-Ok-run-clause-cause g c =
     finished_counts c.write_report.result Done c.finish-in-Ok-run.result _ _ (λ fault. cc) c.finish-in-Ok-run.ensures c.write_report.ensures.cause
+
+pub returns-in-Ok-run-clause-bad : goal.returns-in-Ok-run-clause-bad
+returns-in-Ok-run-clause-bad g c = λ bad.
+    absurd (finished_apart c.write_report.result Done c.finish-in-Ok-run.result Bad (λ same. cc) (λ same. cc) (λ same. cc) c.finish-in-Ok-run.ensures bad)
+
+pub returns-in-Ok-run-clause-too_large : goal.returns-in-Ok-run-clause-too_large
+returns-in-Ok-run-clause-too_large g c = λ large.
+    absurd (finished_apart c.write_report.result Done c.finish-in-Ok-run.result TooLarge (λ same. cc) (λ same. cc) (λ same. cc) c.finish-in-Ok-run.ensures large)
+
+pub returns-in-Ok-run-clause-no_read_fault : goal.returns-in-Ok-run-clause-no_read_fault
+returns-in-Ok-run-clause-no_read_fault g c =
+    finished_apart c.write_report.result Done c.finish-in-Ok-run.result ReadFault (λ same. cc) (λ same. cc) (λ same. cc) c.finish-in-Ok-run.ensures
+
+pub returns-in-Ok-run-clause-suits : goal.returns-in-Ok-run-clause-suits
+returns-in-Ok-run-clause-suits g c =
+    finished_suits c.args.bytes.now c.write_report.result c.finish-in-Ok-run.result
+    (record { bytes = omega arith; lines = omega arith }, rw c.in-Ok.ensures.given tt) c.finish-in-Ok-run.ensures
+
+pub returns-in-Ok-run-clause-handed_on : goal.returns-in-Ok-run-clause-handed_on
+returns-in-Ok-run-clause-handed_on g c =
+    finished_whole c.write_report.result Done c.finish-in-Ok-run.result c.write_report.ensures.handed_on c.finish-in-Ok-run.ensures
