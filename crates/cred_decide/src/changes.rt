@@ -2,11 +2,13 @@
 ghost use Rattle.std.specs.Prelude.{◌≡◌, true, IfOk};
 ghost use Rattle.std.specs.Option.{option_map};
 ghost use Rattle.cred_model.specs.Change as spec;
+ghost use Rattle.cred_rules.specs.Exec.{exec};
 ghost use Rattle.cred_model.specs.Named.{is_built_change};
 
 use cred_adjust::apply;
 use cred_caps::CapSet;
 use cred_event::{Answer, Change};
+use cred_exec::{ExecRefusal, exec};
 use cred_ids::{Id, NoMemory};
 use cred_record::{Cred, FileInfo, Gains, Refusal};
 use cred_setid::setfs;
@@ -45,11 +47,29 @@ fn without_gains(answer: Answer, cred: Cred) -> Made
     }
 }
 
+/// What the execve of a file makes of a credential, and what that gains.
+fn executed(cred: &Cred, file: &FileInfo, chain: &[Id]) -> Result<Result<Made, Answer>, NoMemory>
+    ensures { IfOk result (λ made. made ≡ spec.made_by_exec (exec cred.now file.now chain.now)) }
+{
+    match exec(cred, file, chain) {
+        Ok((cred, gains)) => Ok(Ok(Made {
+            answer: Answer::Done,
+            cred,
+            gains,
+        })),
+        Err(ExecRefusal::Access) => Ok(Err(Answer::Eacces)),
+        Err(ExecRefusal::BadAttribute) => Ok(Err(Answer::Einval)),
+        Err(ExecRefusal::Perm) => Ok(Err(Answer::Eperm)),
+        Err(ExecRefusal::Memory) => Err(NoMemory),
+    }
+}
+
 /// What a change makes of a credential, which stays as it is, or the answer of its refusal: `Eperm`
 /// and `Einval` where `cred_adjust::apply` refuses by `Perm` and `Invalid`. setfsuid(2) and
-/// setfsgid(2) are never refused, and answer the filesystem id before.
+/// setfsgid(2) are never refused, and answer the filesystem id before. execve(2) is refused by
+/// `Eacces`, `Einval` and `Eperm` where `cred_exec::exec` refuses by `Access`, `BadAttribute` and `Perm`.
 ///
-/// `file` is the file that the change names, if it names one, and `chain` has the root ids of the
+/// `file` is the file that the change names, if it names one (without it an execve is `Eacces`), and `chain` has the root ids of the
 /// credential's user namespace and of that one's ancestors, the nearest first (user_namespaces(7)).
 ///
 /// # Errors
@@ -76,6 +96,10 @@ pub fn change(
             Err(Refusal::Invalid) => Ok(Err(Answer::Einval)),
             Err(Refusal::Memory) => Err(NoMemory),
         },
-        Change::Exec { .. } | Change::Access => unreachable!(),
+        Change::Exec { .. } => match file {
+            Some(file) => executed(cred, file, chain),
+            None => Ok(Err(Answer::Eacces)),
+        },
+        Change::Access => unreachable!(),
     }
 }

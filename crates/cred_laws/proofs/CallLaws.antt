@@ -1,5 +1,5 @@
 -- The laws of the calls on a credential: first what each call gives, then each law by cases on it.
-use Rattle.std.proofs.Common.{◌≡◌, ℕ, ◌==◌, ◌&&◌, ◌||◌, not, nat_lt, Bool, true, false, List, length, Result, Ok, Err, if◌then◌else◌, refl, sym, ap, subst, ◌∙◌, arith}
+use Rattle.std.proofs.Common.{◌≡◌, ℕ, ◌==◌, ◌&&◌, ◌||◌, not, nat_lt, Bool, true, false, List, length, Option, Some, Result, Ok, Err, if◌then◌else◌, refl, sym, ap, subst, ◌∙◌, arith}
 use Rattle.std.specs.List.{list_all}
 use Rattle.std.proofs.lemmas.Bool.{eqb-true}
 use Rattle.cred_ids.specs.declared.arg.Arg.{Arg}
@@ -12,6 +12,7 @@ use Rattle.cred_caps.specs.declared.secure.Flag.{Flag}
 use Rattle.cred_caps.specs.declared.secure.Flag.TheVariants.{NoRoot, NoSetuidFixup, KeepCaps, NoAmbientRaise}
 use Rattle.cred_caps.specs.Caps.{Caps, empty, meet, less, IsWithin}
 use Rattle.cred_caps.specs.Numbers.{SETGID, SETPCAP}
+use Rattle.cred_caps.specs.Flags.{SetsFlag}
 use Rattle.cred_caps.specs.Secure.{is_set, is_locked, with_flag}
 use Rattle.cred_caps.proofs.FlagLaws.{sets_flag}
 use Rattle.cred_caps.proofs.SetLaws.{within_itself, meet-left, less-within}
@@ -22,15 +23,18 @@ use Rattle.cred_record.specs.declared.id_call.IdCall.TheVariants.{SetUid, SetEui
 use Rattle.cred_record.specs.declared.refusal.Denial.{Denial}
 use Rattle.cred_record.specs.declared.refusal.Denial.TheVariants.{Perm, Invalid}
 use Rattle.cred_record.specs.Credential.{Credential, has_cap}
+use Rattle.cred_record.specs.File.{File}
 use Rattle.cred_rules.specs.Adjust.{is_no_cap, may_capset, may_raise, may_set_bits, after_capset, after_bound_drop, after_amb_raise, after_amb_lower, FLAGS, keeps_lock, after_bits, after_keep_caps, after_no_new_privs, adjust}
+use Rattle.cred_rules.specs.Exec.{Executed, NoExec, exec}
 use Rattle.cred_rules.specs.Fix.{fixed, with_user_ids}
 use Rattle.cred_rules.specs.SetFs.{set_fs, old_fs}
 use Rattle.cred_rules.specs.SetId.{after_setgroups, for_users, for_groups, set_id}
 use Rattle.cred_setid.proofs.SetIdLaws as setid
+use Rattle.cred_exec.proofs.ExecLaws.{gains_are_what_is_gained, inheritable_and_bounding_stay, other_securebits_stay, real_ids_and_groups_stay}
 use Rattle.cred_event.specs.declared.answer.Answer.TheVariants as answer
-use Rattle.cred_event.specs.declared.event.Change.TheVariants.{SetFs, Adjust}
-use Rattle.cred_model.specs.Change.{Made, made, made_by_rule}
-use Rattle.cred_laws.specs.Calls.{Call, SetIds, Changes, after, added, KeepsLocked, LocksStaySet, BoundingNeverGrows, PermittedGrowsByExecve, NoNewPrivsStays}
+use Rattle.cred_event.specs.declared.event.Change.TheVariants.{SetFs, Adjust, Exec}
+use Rattle.cred_model.specs.Change.{Made, made, made_by_rule, made_by_exec}
+use Rattle.cred_laws.specs.Calls.{Call, SetIds, Changes, after, added, clears, KeepsLocked, LocksStaySet, BoundingNeverGrows, PermittedGrowsByExecve, NoNewPrivsStays}
 
 -- ---- the calls that set ids leave all that the laws speak of but the permitted set
 
@@ -98,19 +102,24 @@ set_fs-perm c Group a = within_itself c.perm
 
 -- ---- what a call on the sets and the bits gives
 
+-- nothing that is locked changes
+record StaysLocked (old new : ℕ) : Type 0 where
+  lock : (f : Flag) → is_locked old f ≡ true → is_locked new f ≡ true
+  flag : (f : Flag) → is_locked old f ≡ true → is_set new f ≡ is_set old f
+
 -- all that the laws speak of, from one credential to the next
 record Follows (c d : Credential) : Type 0 where
-  locked : KeepsLocked c.bits d.bits
+  locked : StaysLocked c.bits d.bits
   bound : IsWithin d.bound c.bound
   perm : IsWithin d.perm c.perm
   nnp : c.nnp ≡ true → d.nnp ≡ true
 
-KeepsLocked-itself : (bits : ℕ) → KeepsLocked bits bits
-KeepsLocked-itself bits = record { lock = λ f set. set; flag = λ f set. refl }
+StaysLocked-itself : (bits : ℕ) → StaysLocked bits bits
+StaysLocked-itself bits = record { lock = λ f set. set; flag = λ f set. refl }
 
 Leaves-follows : (c d : Credential) → Leaves c d → IsWithin d.perm c.perm → Follows c d
 Leaves-follows c d leaves perm = record {
-  locked = subst (KeepsLocked c.bits) (sym leaves.bits) (KeepsLocked-itself c.bits);
+  locked = subst (StaysLocked c.bits) (sym leaves.bits) (StaysLocked-itself c.bits);
   bound = subst (λ s. IsWithin s c.bound) (sym leaves.bound) (within_itself c.bound);
   perm = perm;
   nnp = λ set. leaves.nnp ∙ set;
@@ -140,7 +149,7 @@ unfolding after_bound_drop
 bound_drop-follows c d n same =
     two-tests (Follows c) (not (has_cap c SETPCAP)) (is_no_cap n) Perm Invalid _ d
     (λ _. record {
-      locked = KeepsLocked-itself c.bits;
+      locked = StaysLocked-itself c.bits;
       bound = meet-left c.bound _;
       perm = within_itself c.perm;
       nnp = λ set. set;
@@ -173,14 +182,14 @@ of-lock : (locked : Bool) (b : Bool) → (not locked || b) ≡ true → locked �
 of-lock true b test is = test
 of-lock false b test is = cc
 
-KeepsLocked-from_test : (old new : ℕ) → ((f : Flag) → keeps_lock old new f ≡ true) → KeepsLocked old new
-KeepsLocked-from_test old new keeps = record {
+StaysLocked-from_test : (old new : ℕ) → ((f : Flag) → keeps_lock old new f ≡ true) → StaysLocked old new
+StaysLocked-from_test old new keeps = record {
   lock = λ f set. and-left _ _ (of-lock _ _ (keeps f) set);
   flag = λ f set. ap (λ d. d == 1) (sym (eqb-true _ _ (and-right _ _ (of-lock _ _ (keeps f) set))));
 }
 
 -- where the securebits alone change, what is locked has to stay
-bits-follow : (c : Credential) (new : ℕ) → KeepsLocked c.bits new → Follows c (record c { bits = new })
+bits-follow : (c : Credential) (new : ℕ) → StaysLocked c.bits new → Follows c (record c { bits = new })
 bits-follow c new locked = record {
   locked = locked;
   bound = within_itself c.bound;
@@ -192,7 +201,7 @@ bits-follows : (c d : Credential) (n : ℕ) → after_bits c n ≡ Ok d → Foll
 unfolding after_bits
 bits-follows c d n same =
     one-test (Follows c) (not (may_set_bits c n)) Perm _ d
-    (λ may. bits-follow c n (KeepsLocked-from_test c.bits n (λ f. all-flags (keeps_lock c.bits n) f (and-right _ _ (not-false (may_set_bits c n) may)))))
+    (λ may. bits-follow c n (StaysLocked-from_test c.bits n (λ f. all-flags (keeps_lock c.bits n) f (and-right _ _ (not-false (may_set_bits c n) may)))))
     same
 
 -- KEEP_CAPS may change where it is not locked, and no other flag does
@@ -217,7 +226,7 @@ unfolding after_no_new_privs
 no_new_privs-follows c d n same =
     one-test (Follows c) (not (n == 1)) Invalid (record c { nnp = true }) d
     (λ _. record {
-      locked = KeepsLocked-itself c.bits;
+      locked = StaysLocked-itself c.bits;
       bound = within_itself c.bound;
       perm = within_itself c.perm;
       nnp = λ set. refl;
@@ -238,14 +247,14 @@ adjust-follows c d (adj.NoNewPrivs n) same = no_new_privs-follows c d n same
 
 -- all that the laws speak of, over one call
 record Keeps (c : Credential) (call : Call) (next : Made) : Type 0 where
-  locked : KeepsLocked c.bits next.cred.bits
+  locked : KeepsLocked call c.bits next.cred.bits
   bound : IsWithin next.cred.bound c.bound
   perm : less next.cred.perm c.perm ≡ added call next
   nnp : c.nnp ≡ true → next.cred.nnp ≡ true
 
 adds_nothing : (c : Credential) (call : Call) (next : Made) → added call next ≡ empty → Follows c next.cred → Keeps c call next
 adds_nothing c call next none follows = record {
-  locked = follows.locked;
+  locked = record { lock = follows.locked.lock; flag = λ f set stays. follows.locked.flag f set };
   bound = follows.bound;
   perm = less-within next.cred.perm c.perm follows.perm ∙ sym none;
   nnp = follows.nnp;
@@ -263,6 +272,31 @@ set_id-follows c d call same = Leaves-follows c d (set_id-leaves c d call same) 
 set_fs-follows : (c : Credential) (kind : Kind) (a : Arg) → Follows c (set_fs c kind a)
 set_fs-follows c kind a = Leaves-follows c _ (set_fs-leaves c kind a) (set_fs-perm c kind a)
 
+-- execve clears KEEP_CAPS, and leaves each other flag and every lock
+exec-flags : (old new : ℕ) (call : Call) (f : Flag) → SetsFlag old new KeepCaps false → clears call KeepCaps ≡ true
+    → clears call f ≡ false → is_set new f ≡ is_set old f
+exec-flags old new call NoRoot sets clear stays = ap (λ d. d == 1) (sets.others 0 (omega arith) (λ same. omega (arith, same)))
+exec-flags old new call NoSetuidFixup sets clear stays = ap (λ d. d == 1) (sets.others 2 (omega arith) (λ same. omega (arith, same)))
+exec-flags old new call KeepCaps sets clear stays = let both = sym clear ∙ stays in cc
+exec-flags old new call NoAmbientRaise sets clear stays = ap (λ d. d == 1) (sets.others 6 (omega arith) (λ same. omega (arith, same)))
+
+by_exec : (c : Credential) (next : Made) (found : Option File) (file : File) (chain : List ℕ) (place : ℕ) (r : Result Executed NoExec)
+    → exec c file chain ≡ r → made_by_exec r ≡ Ok next → Keeps c (Changes found chain (Exec place)) next
+by_exec c next found file chain place (Err why) is made = cc
+by_exec c next found file chain place (Ok e) is made =
+    let call = Changes found chain (Exec place) in
+    let same : record { answer = answer.Done; cred = e.cred; gains = e.gains } ≡ next = cc in
+    let sets = other_securebits_stay c file chain e is in
+    subst (Keeps c call) same (record {
+      locked = record {
+        lock = λ f set. sets.locks f ∙ set;
+        flag = λ f set stays. exec-flags c.bits e.cred.bits call f sets refl stays;
+      };
+      bound = subst (λ s. IsWithin s c.bound) (sym (inheritable_and_bounding_stay c file chain e is).bounding) (within_itself c.bound);
+      perm = sym (gains_are_what_is_gained c file chain e is).all;
+      nnp = λ set. (real_ids_and_groups_stay c file chain e is).no_new_privs ∙ set;
+    })
+
 keeps : (c : Credential) (next : Made) (call : Call) → after c call ≡ Ok next → Keeps c call next
 keeps c next (SetIds call) is =
     adds_nothing c (SetIds call) next refl (by_rule (Follows c) next (set_id c call) (λ d. set_id-follows c d call) is)
@@ -271,12 +305,13 @@ keeps c next (Changes file chain (SetFs kind a)) is =
     adds_nothing c (Changes file chain (SetFs kind a)) next refl (subst (λ (m : Made). Follows c m.cred) same (set_fs-follows c kind a))
 keeps c next (Changes file chain (Adjust call)) is =
     adds_nothing c (Changes file chain (Adjust call)) next refl (by_rule (Follows c) next (adjust c call) (λ d. adjust-follows c d call) is)
+keeps c next (Changes (Some file) chain (Exec place)) is = by_exec c next (Some file) file chain place (exec c file chain) refl is
 keeps c next call is = cc
 
 -- ---- the laws
 
 pub locks_stay_set : LocksStaySet
-locks_stay_set c next is = (keeps c next is.call is.made).locked
+locks_stay_set c next call is = (keeps c next call is).locked
 
 pub bounding_never_grows : BoundingNeverGrows
 bounding_never_grows c next is = (keeps c next is.call is.made).bound

@@ -4,7 +4,7 @@ use Rattle.cred_caps.specs.Caps.{less}
 use Rattle.cred_record.specs.Credential.{Credential}
 use Rattle.cred_record.specs.File.{File}
 use Rattle.cred_event.specs.declared.event.Change.{Change}
-use Rattle.cred_event.specs.declared.event.Change.TheVariants.{SetFs, Adjust}
+use Rattle.cred_event.specs.declared.event.Change.TheVariants.{SetFs, Adjust, Exec}
 use Rattle.cred_model.specs.State.{Changed}
 use Rattle.cred_model.specs.Change.{Made, by_change, gained}
 use Rattle.cred_model.specs.Step.{commit_answer}
@@ -14,11 +14,13 @@ use Rattle.cred_laws.proofs.CallLaws.{permitted_grows_by_execve}
 abbrev committed_as : Change → Made → Changed
 committed_as change made = record { change = change; cred = made.cred; gains = made.gains }
 
-pub change_gains : (file : Option File) (chain : List ℕ) (c : Credential) (change : Change) (to : Made) (number slot : ℕ)
+pub change_gains : (file : Option File) (chain : List ℕ) (c : Credential) (change : Change) (to : Made) (number slot count : ℕ)
     → by_change file chain c change ≡ Ok to
-    → less to.cred.perm c.perm ≡ gained (commit_answer (committed_as change to) number slot)
-change_gains file chain c (SetFs kind id) to number slot is =
+    → less to.cred.perm c.perm ≡ gained (commit_answer (committed_as change to) number slot count)
+change_gains file chain c (SetFs kind id) to number slot count is =
     permitted_grows_by_execve c to (Changes file chain (SetFs kind id)) is
-change_gains file chain c (Adjust adj) to number slot is =
+change_gains file chain c (Adjust adj) to number slot count is =
     permitted_grows_by_execve c to (Changes file chain (Adjust adj)) is
-change_gains file chain c change to number slot is = cc
+change_gains file chain c (Exec place) to number slot count is =
+    permitted_grows_by_execve c to (Changes file chain (Exec place)) is
+change_gains file chain c change to number slot count is = cc

@@ -5,6 +5,8 @@ use Rattle.std.specs.Option.{IfSome}
 use Rattle.std.proofs.lemmas.List.{take_more, take-take, take-append-drop, get_or-drop, get_or-take, length-drop, length-take}
 use Rattle.std.proofs.lemmas.Option.{get_or_from_slice_get, slice_get-get_or, slice_get_past, slice_get_within}
 use Rattle.std.proofs.lemmas.Bool.{cases_lt}
+use Rattle.cred_record.specs.declared.gains.Gains.{Gains}
+use Rattle.cred_event.specs.declared.answer.Answer.TheVariants.{Executed}
 use Rattle.cred_event.specs.declared.event.Event.TheVariants.{Release}
 use Rattle.cred_event.specs.declared.entry.Entry.{Entry}
 use Rattle.cred_model.specs.Script.{Script}
@@ -17,12 +19,15 @@ use Rattle.cred_laws.specs.Slots.{IsUnused}
 use Rattle.cred_sound.proofs.Sound.{sound_after}
 use Rattle.cred_laws.specs.Slots.{IsUnused}
 use Rattle.cred_laws.specs.Held.{prepared_as, ends}
-use Rattle.cred_laws.specs.Permitted.{Gains, IsCreatedWith}
-use Rattle.cred_laws.specs.Journals.{state_at, IsAlwaysSound, IsAlwaysMade, WritesUnusedSlots, KeepsSealed, KeepsHeld, KeepsPrepared, GainsAsAnswered, CreatesTasks, JournalsAreLawful}
+use Rattle.cred_laws.specs.Permitted.{IsCreatedWith}
+use Rattle.cred_laws.specs.Permitted as permitted
+use Rattle.cred_laws.specs.Execve.{IsExecve}
+use Rattle.cred_laws.specs.Journals.{state_at, IsAlwaysSound, IsAlwaysMade, WritesUnusedSlots, KeepsSealed, KeepsHeld, KeepsPrepared, ExecvesByTheRule, GainsAsAnswered, CreatesTasks, JournalsAreLawful}
 use Rattle.cred_laws.proofs.Unused.{no_held_slot_is_rewritten}
 use Rattle.cred_laws.proofs.HeldLaws.{held_stays, on_extends, replay-append}
 use Rattle.cred_laws.proofs.PreparedLaws.{prepared_goes_on}
 use Rattle.cred_laws.proofs.MadeLaws.{made_after}
+use Rattle.cred_laws.proofs.ExecveLaws.{execves_are_by_the_rule}
 use Rattle.cred_laws.proofs.PermittedLaws.{permitted_gains, new_tasks_are_created}
 
 -- ---- the states of a journal
@@ -105,10 +110,10 @@ gains_by : (script : Script) (journal : List Entry) (k task : ℕ) (before after
     → IfSome o (λ entry. entry.answer ≡ (step script (state_at script journal k) entry.line entry.event).0)
     → current_of (state_at script journal k) task ≡ Some before
     → current_of (state_at script journal (k + 1)) task ≡ Some after
-    → IfSome o (λ entry. Gains entry.answer before after)
+    → IfSome o (λ entry. permitted.Gains entry.answer before after)
 gains_by script journal k task before after (Some entry) is answered was now =
-    subst (λ answer. Gains answer before after) (sym answered)
-    (permitted_gains script (state_at script journal k) entry.line entry.event task before after (always_made script journal k) was
+    subst (λ answer. permitted.Gains answer before after) (sym answered)
+    (permitted_gains script (state_at script journal k) entry.line entry.event task before after (always_sound script journal k) (always_made script journal k) was
     (ap (λ (s : State). current_of s task) (sym (step_at script journal k entry is)) ∙ now))
 gains_by script journal k task before after None is answered was now = tt
 
@@ -121,6 +126,21 @@ answered_at script journal answered k =
       | inr past ↦ subst (λ (o : Option Entry). IfSome o (λ entry. entry.answer ≡ (step script (state_at script journal k) entry.line entry.event).0))
           (sym (slice_get_past journal k past)) tt
     ]
+
+executed_by : (script : Script) (journal : List Entry) (k number slot ended : ℕ) (gains : Gains) (o : Option Entry)
+    → slice_get journal k ≡ o
+    → IfSome o (λ entry. entry.answer ≡ (step script (state_at script journal k) entry.line entry.event).0)
+    → IfSome o (λ entry. entry.answer ≡ Executed number slot ended gains → IsExecve script (state_at script journal k) entry.event number slot gains (state_at script journal (k + 1)))
+executed_by script journal k number slot ended gains (Some entry) is answered =
+    λ executed.
+    subst (IsExecve script (state_at script journal k) entry.event number slot gains) (sym (step_at script journal k entry is))
+    (execves_are_by_the_rule script (state_at script journal k) entry.line entry.event number slot ended gains (always_sound script journal k)
+    (always_made script journal k) (sym answered ∙ executed))
+executed_by script journal k number slot ended gains None is answered = tt
+
+pub execves_by_the_rule : (script : Script) (journal : List Entry) → IsAnswered script journal → ExecvesByTheRule script journal
+execves_by_the_rule script journal answered k number slot ended gains =
+    executed_by script journal k number slot ended gains (slice_get journal k) refl (answered_at script journal answered k)
 
 pub gains_as_answered : (script : Script) (journal : List Entry) → IsAnswered script journal → GainsAsAnswered script journal
 gains_as_answered script journal answered k task before after =
@@ -147,6 +167,7 @@ lawful script journal answered = record {
   sealed = keeps_sealed script journal;
   held = keeps_held script journal;
   prepared = keeps_prepared script journal;
+  execves = execves_by_the_rule script journal answered;
   gains = gains_as_answered script journal answered;
   created = creates_tasks script journal;
 }

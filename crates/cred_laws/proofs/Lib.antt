@@ -8,3 +8,5 @@ pub mod PermittedLaws
 pub mod OrderLaws
 pub mod AnsweredLaws
 pub mod Lawful
+pub mod Unexecuted
+pub mod ExecveLaws

@@ -27,7 +27,7 @@ same_numbered s event left t (SameCreds same) n lt = ap (λ creds. numbered cred
 same_numbered s event left t (Seals c slot creds fits) n lt =
     ap (λ creds. numbered creds n) creds ∙ numbered_before s.creds _ n lt
 
-bases_sealed : (s : State) → IsSound s → All (λ p. p.base < length s.creds) s.prepared
+pub bases_sealed : (s : State) → IsSound s → All (λ p. p.base < length s.creds) s.prepared
 bases_sealed s sound k d lt =
     let slots = map (λ (x : SealedCred). x.slot) s.creds in
     let below : (get_or s.prepared k d).base < length slots = (each_ref (λ n. n < length slots) s sound.slots.sealed).bases k d lt in

@@ -10,16 +10,19 @@ use Rattle.cred_caps.proofs.SetLaws.{less-within}
 use Rattle.cred_record.specs.Credential.{Credential, first_credential}
 use Rattle.cred_setid.proofs.SetIdLaws as setid
 use Rattle.cred_event.specs.declared.event.Event.{Event}
-use Rattle.cred_event.specs.declared.event.Event.TheVariants.{Init}
+use Rattle.cred_event.specs.declared.event.Event.TheVariants.{Init, Fork}
 use Rattle.cred_event.specs.declared.answer.Answer.{Answer}
 use Rattle.cred_model.specs.Script.{Script, info_of, chain_of}
 use Rattle.cred_model.specs.State.{State, SealedCred, Task, Numbered, numbered, task_of, current_of}
 use Rattle.cred_model.specs.Named.{change_files}
 use Rattle.cred_model.specs.Change.{gained}
+use Rattle.cred_model.specs.Ends.{is_task, survivors}
 use Rattle.cred_model.specs.Step.{updated, first_task}
 use Rattle.cred_model.proofs.Lists.{All-at}
 use Rattle.cred_model.proofs.Numbers.{current_is, at_owner, owner_number, numbered_stays, numbered_last, updated_task, sealed_cred_of}
-use Rattle.cred_sound.proofs.Parts.{sealed_cred, Cause, CredsChange, TasksChange, SameCreds, Seals, ByCall, ByCommit, SameTasks, Creates, Renews}
+use Rattle.cred_sound.specs.Sound.{IsSound}
+use Rattle.cred_sound.proofs.Survivors.{find_survivor, find_no_survivor}
+use Rattle.cred_sound.proofs.Parts.{sealed_cred, Cause, CredsChange, TasksChange, SameCreds, Seals, ByCall, ByCommit, SameTasks, Creates, Forks, Renews, Exits}
 use Rattle.cred_sound.proofs.Events.{changes}
 use Rattle.cred_laws.specs.Made.{IsMadeOf, IsMade, AreMade}
 use Rattle.cred_laws.specs.Permitted.{Gains, PermittedGains, IsCreatedWith, NewTasksAreCreated}
@@ -62,6 +65,19 @@ still_before s more creds task c is =
       | Some t ↦ λ some. some
     ] is
 
+-- ---- a task that goes on, while others end
+
+-- what is found, and what it leads to
+found_then : {A B : Type 0} (f : A → Option B) (o : Option A) (y : B) → option_and_then f o ≡ Some y
+    → (x : A) × (o ≡ Some x) × (f x ≡ Some y)
+found_then f None y is = cc
+found_then f (Some x) y is = (x, refl, is)
+
+then_map : {A B C : Type 0} (f : B → Option C) (g : A → B) (o : Option A)
+    → option_and_then f (option_map g o) ≡ option_and_then (λ x. f (g x)) o
+then_map f g None = refl
+then_map f g (Some x) = refl
+
 -- ---- a task with a new credential
 
 -- the credential under the number of a task's current one is that one
@@ -70,71 +86,109 @@ under_number s task c is =
     let at = current_is s task c is in ap (numbered s.creds) at.number ∙ at_owner s task c at is
 
 caused_gains : (script : Script) (s : State) (event : Event) (task : ℕ) (old : Numbered) (c : Credential) (answer : Answer)
-    → AreMade script s → current_of s task ≡ Some old → Cause s event old c answer
+    → AreMade script s → current_of s task ≡ Some old → Cause s event task old.number c answer
     → less c.perm old.cred.perm ≡ gained answer
-caused_gains script s event task old c answer made current (ByCall call ruled none) =
-    less-within c.perm old.cred.perm (setid.permitted_never_grows old.cred c call ruled) ∙ sym none
-caused_gains script s event task old c answer made current (ByCommit place slot p last is changed same cred answered) =
+caused_gains script s event task old c answer made current (ByCall call before is number ruled none) =
+    let both : Some before ≡ Some old = sym is ∙ current in
+    let same : before ≡ old = cc in
+    ap (λ (n : Numbered). less c.perm n.cred.perm) (sym same)
+    ∙ less-within c.perm before.cred.perm (setid.permitted_never_grows before.cred c call ruled) ∙ sym none
+caused_gains script s event task old c answer made current (ByCommit place slot count p last is changed same cred answered) =
     let one = All-at (IsMade script s.creds) s.prepared place p is made in
     let so = subst (λ o. IfSome o (IsMadeOf script (numbered s.creds p.base))) changed one in
     let base : numbered s.creds p.base ≡ Some old = ap (numbered s.creds) (sym same) ∙ under_number s task old current in
     let by = subst (λ found. IsMadeOf script found last) base so in
     ap (λ (c : Credential). less c.perm old.cred.perm) cred
-    ∙ change_gains (info_of script (change_files last.change)) (chain_of script old.cred.ns) old.cred last.change (record { answer = by.0; cred = last.cred; gains = last.gains }) (length s.creds) slot by.1
+    ∙ change_gains (info_of script (change_files last.change)) (chain_of script old.cred.ns) old.cred last.change (record { answer = by.0; cred = last.cred; gains = last.gains }) (length s.creds) slot count by.1
     ∙ ap gained (sym answered)
 
-updated_gains : (s : State) (acting task slot : ℕ) (old before after : Numbered) (c : Credential) (answer : Answer) (t : Task) (b : Bool)
-    → (t.number == acting) ≡ b → t.number ≡ task → current_of s acting ≡ Some old → less c.perm old.cred.perm ≡ gained answer
+updated_gains : (s : State) (acting task slot : ℕ) (owner : Task) (before after : Numbered) (c : Credential) (answer : Answer) (t : Task) (b : Bool)
+    → (t.number == acting) ≡ b → t.number ≡ task → task_of s acting ≡ Some owner
+    → ((old : Numbered) → current_of s acting ≡ Some old → less c.perm old.cred.perm ≡ gained answer)
     → current_of s task ≡ Some before → numbered s.creds t.current ≡ Some before
     → numbered (s.creds ++ sealed_cred c slot ∷ []) (cond b (record t { current = length s.creds }) t).current ≡ Some after
     → Gains answer before after
-updated_gains s acting task slot old before after c answer t true test owner acts gains is at now =
-    let actor : t.number ≡ acting = grind (arith, nat_tests) in
-    let both : Some old ≡ Some before = sym acts ∙ ap (current_of s) (sym actor ∙ owner) ∙ is in
-    let same : old ≡ before = cc in
+updated_gains s acting task slot owner before after c answer t true test number acts gains is at now =
+    let actor : acting ≡ task = grind (arith, nat_tests) in
     let last = numbered_last s.creds (sealed_cred c slot) in
     let news : Some (record { number = length s.creds; cred = c; slot = slot }) ≡ Some after = sym last ∙ now in
     let new : record { number = length s.creds; cred = c; slot = slot } ≡ after = cc in
     let here = current_is s task before is in
     let below = slice_get_within s.creds here.owner.current (sealed_cred_of before) here.sealed in
     record {
-      same = λ number.
+      same = λ same_number.
           let number_is = ap (λ (n : Numbered). n.number) new in
           let there = here.number in absurd (omega arith);
       other = λ differ.
           ap (λ (n : Numbered). less n.cred.perm before.cred.perm) (sym new)
-          ∙ ap (λ (n : Numbered). less c.perm n.cred.perm) (sym same) ∙ gains;
+          ∙ gains before (ap (current_of s) actor ∙ is);
     }
-updated_gains s acting task slot old before after c answer t false test owner acts gains is at now =
+updated_gains s acting task slot owner before after c answer t false test number acts gains is at now =
     let both : Some before ≡ Some after = sym (numbered_stays s.creds (sealed_cred c slot ∷ []) t.current before at) ∙ now in
     let same : after ≡ before = cc in
-    record { same = λ number. same; other = λ differ. absurd (differ (ap (λ (c : Numbered). c.number) same)) }
+    record { same = λ same_number. same; other = λ differ. absurd (differ (ap (λ (c : Numbered). c.number) same)) }
+
+-- the number of the acting task's old credential, as its owner has it and as it is found
+by_owner : (s : State) (event : Event) (acting : ℕ) (owner : Task) (old : Numbered) (c : Credential) (answer : Answer)
+    → task_of s acting ≡ Some owner → current_of s acting ≡ Some old → Cause s event acting owner.current c answer
+    → Cause s event acting old.number c answer
+by_owner s event acting owner old c answer found current cause =
+    let at = current_is s acting old current in
+    let both : Some at.owner ≡ Some owner = sym at.is ∙ found in
+    let one : at.owner ≡ owner = cc in
+    subst (λ n. Cause s event acting n c answer) (sym (at.number ∙ ap (λ (t : Task). t.current) one)) cause
 
 gains_by : (script : Script) (s : State) (event : Event) (left : List ℕ) (made : Answer × State) (task : ℕ) (before after : Numbered)
-    → AreMade script s → CredsChange s event left made.1 → TasksChange s event made → current_of s task ≡ Some before
+    → IsSound s → AreMade script s → CredsChange s event left made.1 → TasksChange s event made → current_of s task ≡ Some before
     → current_of made.1 task ≡ Some after → Gains made.0 before after
-gains_by script s event left made task before after are creds (SameTasks same) is now =
+gains_by script s event left made task before after sound are creds (SameTasks same) is now =
     unchanged made.1 task made.0 before after
     (ap (λ tasks. current_in tasks made.1.creds task) same ∙ still_with s event left made.1 task before creds is) now
-gains_by script s event left made task before after are creds (Creates new process user group ns slot by tasks sealed fresh) is now =
+gains_by script s event left made task before after sound are creds (Creates new process user group ns slot by tasks sealed fresh) is now =
     unchanged made.1 task made.0 before after
     (ap (λ tasks. current_in tasks made.1.creds task) tasks
     ∙ still_before s _ made.1.creds task before (still_with s event left made.1 task before creds is)) now
-gains_by script s event left made task before after are creds (Renews acting slot old c tasks sealed current cause) is now =
+gains_by script s event left made task before after sound are creds (Forks parent child process shared by tasks sealed current fresh) is now =
+    unchanged made.1 task made.0 before after
+    (ap (λ tasks. current_in tasks made.1.creds task) tasks
+    ∙ still_before s _ made.1.creds task before (still_with s event left made.1 task before creds is)) now
+gains_by script s event left made task before after sound are creds (Renews acting slot owner c ends tasks sealed found cause) is now =
+    let creds_after = s.creds ++ sealed_cred c slot ∷ [] in
     let at = current_is s task before is in
-    let owner = ap (find (λ (t : Task). t.number == task)) tasks ∙ updated_task s.tasks acting (length s.creds) task
-    ∙ ap (option_map (updated acting (length s.creds))) at.is in
-    updated_gains s acting task slot old before after c made.0 at.owner (at.owner.number == acting) refl
-    (owner_number s task at.owner at.is) current (caused_gains script s event acting old c made.0 are current cause) is (at_owner s task before at is)
-    (sym (ap (λ creds. current_in made.1.tasks creds task) sealed
-    ∙ ap (option_and_then (λ (t : Task). numbered (s.creds ++ sealed_cred c slot ∷ []) t.current)) owner) ∙ now)
+    let rest = survivors ends s.tasks in
+    let seen : option_and_then (λ (t : Task). numbered creds_after t.current) (option_map (updated acting (length s.creds)) (find (λ (t : Task). t.number == task) rest)) ≡ Some after
+    = sym (ap (λ creds. current_in made.1.tasks creds task) sealed
+    ∙ ap (λ ts. current_in ts creds_after task) tasks
+    ∙ ap (option_and_then (λ (t : Task). numbered creds_after t.current)) (updated_task rest acting (length s.creds) task)) ∙ now in
+    let alive = found_then (λ (t : Task). numbered creds_after (updated acting (length s.creds) t).current) (find (λ (t : Task). t.number == task) rest) after
+    (sym (then_map (λ (t : Task). numbered creds_after t.current) (updated acting (length s.creds)) (find (λ (t : Task). t.number == task) rest)) ∙ seen) in
+    let t : Task = alive.0 in
+    let here : task_of s task ≡ Some t = find_survivor ends s.tasks task t sound.tasks alive.1 in
+    let both : Some at.owner ≡ Some t = sym at.is ∙ here in
+    let one : at.owner ≡ t = cc in
+    updated_gains s acting task slot owner before after c made.0 t (t.number == acting) refl
+    (owner_number s task t here) found (λ old current. caused_gains script s event acting old c made.0 are current (by_owner s event acting owner old c made.0 found current cause)) is
+    (ap (λ (t : Task). numbered s.creds t.current) (sym one) ∙ at_owner s task before at is)
+    alive.2
+gains_by script s event left made task before after sound are creds (Exits gone by tasks sealed) is now =
+    let at = current_is s task before is in
+    let rest = survivors (is_task gone) s.tasks in
+    let seen : option_and_then (λ (t : Task). numbered s.creds t.current) (find (λ (t : Task). t.number == task) rest) ≡ Some after
+    = sym (ap (λ creds. current_in made.1.tasks creds task) sealed ∙ ap (λ ts. current_in ts s.creds task) tasks) ∙ now in
+    let alive = found_then (λ (t : Task). numbered s.creds t.current) (find (λ (t : Task). t.number == task) rest) after seen in
+    let t : Task = alive.0 in
+    let here : task_of s task ≡ Some t = find_survivor (is_task gone) s.tasks task t sound.tasks alive.1 in
+    let both : Some at.owner ≡ Some t = sym at.is ∙ here in
+    let one : at.owner ≡ t = cc in
+    let stays : current_of s task ≡ Some after = ap (option_and_then (λ (t : Task). numbered s.creds t.current)) here ∙ alive.2 in
+    unchanged s task made.0 before after is stays
 
 pub permitted_gains : PermittedGains
-permitted_gains script s line event task before after are =
+permitted_gains script s line event task before after sound are =
     let c = changes script s line event in
-    gains_by script s event c.left _ task before after are c.creds c.tasks
+    gains_by script s event c.left _ task before after sound are c.creds c.tasks
 
--- ---- a task that comes to live
+-- ---- a task that is created
 
 nobody : (tasks : List Task) (creds : List SealedCred) (task : ℕ) (c : Numbered) → find (λ t. t.number == task) tasks ≡ None
     → current_in tasks creds task ≡ Some c → ⊥
@@ -151,6 +205,17 @@ first_at s number process task user group ns slot c true test now =
     (same, ap (λ (n : Numbered). n.number) (sym one), ap (λ (n : Numbered). n.cred) (sym one))
 first_at s number process task user group ns slot c false test now = cc
 
+child_at : (s : State) (parent child process task : ℕ) (shared c : Numbered) (b : Bool) → (child == task) ≡ b
+    → current_of s parent ≡ Some shared
+    → option_and_then (λ (t : Task). numbered s.creds t.current) (cond b (Some (first_task child process shared.number)) None) ≡ Some c
+    → IsCreatedWith s (Fork parent child process) task c
+child_at s parent child process task shared c true test current now =
+    let same : child ≡ task = grind (arith, nat_tests) in
+    let both : Some shared ≡ Some c = sym (under_number s parent shared current) ∙ now in
+    let one : shared ≡ c = cc in
+    (same, current ∙ ap Some one)
+child_at s parent child process task shared c false test current now = cc
+
 created_by : (s : State) (event : Event) (made : Answer × State) (task : ℕ) (after : Numbered) → TasksChange s event made
     → task_of s task ≡ None → current_of made.1 task ≡ Some after → IsCreatedWith s event task after
 created_by s event made task after (SameTasks same) none now =
@@ -164,10 +229,22 @@ created_by s event made task after (Creates number process user group ns slot by
     (sym (ap (λ tasks. current_in tasks made.1.creds task) tasks
     ∙ ap (λ creds. current_in (s.tasks ++ first ∷ []) creds task) creds
     ∙ ap (option_and_then (λ (t : Task). numbered (s.creds ++ sealed_cred (first_credential user group ns) slot ∷ []) t.current)) owner) ∙ now))
-created_by s event made task after (Renews acting slot old c tasks creds current cause) none now =
+created_by s event made task after (Forks parent child process shared by tasks creds current fresh) none now =
+    let first = first_task child process shared.number in
+    let owner = find-append (λ (t : Task). t.number == task) s.tasks (first ∷ [])
+    ∙ ap (λ o. option_or o (find (λ (t : Task). t.number == task) (first ∷ []))) none in
+    subst (λ e. IsCreatedWith s e task after) (sym by)
+    (child_at s parent child process task shared after (child == task) refl current
+    (sym (ap (λ tasks. current_in tasks made.1.creds task) tasks
+    ∙ ap (λ creds. current_in (s.tasks ++ first ∷ []) creds task) creds
+    ∙ ap (option_and_then (λ (t : Task). numbered s.creds t.current)) owner) ∙ now))
+created_by s event made task after (Renews acting slot owner c ends tasks creds found cause) none now =
     absurd (nobody made.1.tasks made.1.creds task after
-    (ap (find (λ (t : Task). t.number == task)) tasks ∙ updated_task s.tasks acting (length s.creds) task
-    ∙ ap (option_map (updated acting (length s.creds))) none) now)
+    (ap (find (λ (t : Task). t.number == task)) tasks ∙ updated_task (survivors ends s.tasks) acting (length s.creds) task
+    ∙ ap (option_map (updated acting (length s.creds))) (find_no_survivor ends s.tasks task none)) now)
+created_by s event made task after (Exits gone by tasks creds) none now =
+    absurd (nobody made.1.tasks made.1.creds task after
+    (ap (find (λ (t : Task). t.number == task)) tasks ∙ find_no_survivor (is_task gone) s.tasks task none) now)
 
 pub new_tasks_are_created : NewTasksAreCreated
 new_tasks_are_created script s line event task after =

@@ -1,8 +1,9 @@
 -- What no call on a credential undoes (capabilities(7), prctl(2)), and which of them adds to what
 -- is permitted.
-use Rattle.std.specs.Prelude.{◌≡◌, ℕ, true, List, Result, Ok}
+use Rattle.std.specs.Prelude.{◌≡◌, ℕ, Bool, true, false, List, Result, Ok}
 use Rattle.std.specs.declared.option.Option.{Option}
 use Rattle.cred_caps.specs.declared.secure.Flag.{Flag}
+use Rattle.cred_caps.specs.declared.secure.Flag.TheVariants.{KeepCaps}
 use Rattle.cred_caps.specs.Caps.{Caps, IsWithin, empty, less, union}
 use Rattle.cred_caps.specs.Secure.{is_set, is_locked}
 use Rattle.cred_record.specs.declared.id_call.IdCall.{IdCall}
@@ -31,15 +32,23 @@ pub record IsNext (c : Credential) (next : Made) : Type 0 where
   pub call : Call
   pub made : after c call ≡ Ok next
 
--- from the old to the new securebits, a lock that is set stays set, and then its flag stays as it
--- is
-pub record KeepsLocked (old new : ℕ) : Type 0 where
-  pub lock : (f : Flag) → is_locked old f ≡ true → is_locked new f ≡ true
-  pub flag : (f : Flag) → is_locked old f ≡ true → is_set new f ≡ is_set old f
+-- an execve clears KEEP_CAPS, locked or not ("The securebits flags")
+abbrev pub clears : Call → Flag → Bool
+clears (Changes file chain (Exec place)) KeepCaps = true
+clears call f = false
 
--- no lock is undone, and nothing that is locked changes
+-- from the old to the new securebits, a lock that is set stays set, and then its flag stays as it
+-- is, unless the call clears it
+pub record KeepsLocked (call : Call) (old new : ℕ) : Type 0 where
+  pub lock : (f : Flag) → is_locked old f ≡ true → is_locked new f ≡ true
+  pub flag : (f : Flag) → is_locked old f ≡ true → clears call f ≡ false
+      → is_set new f ≡ is_set old f
+
+-- no lock is undone, and nothing that is locked changes but what an execve clears
 abbrev pub LocksStaySet : Type 0
-LocksStaySet = (c : Credential) (next : Made) → IsNext c next → KeepsLocked c.bits next.cred.bits
+LocksStaySet =
+    (c : Credential) (next : Made) (call : Call)
+    → after c call ≡ Ok next → KeepsLocked call c.bits next.cred.bits
 
 -- nothing is added to the bounding set
 abbrev pub BoundingNeverGrows : Type 0

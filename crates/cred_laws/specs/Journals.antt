@@ -1,5 +1,7 @@
 -- The laws, of the states that one journal leads through.
 use Rattle.std.specs.Prelude.{◌≡◌, ◌≢◌, ℕ, false, ◌+◌, ◌<◌, ◌≤◌, List, length, take, slice_get, Some, None, IfSome}
+use Rattle.cred_record.specs.declared.gains.Gains as answer
+use Rattle.cred_event.specs.declared.answer.Answer.TheVariants.{Executed}
 use Rattle.cred_event.specs.declared.event.Event.TheVariants.{Release}
 use Rattle.cred_event.specs.declared.entry.Entry.{Entry}
 use Rattle.cred_model.specs.Script.{Script}
@@ -9,6 +11,7 @@ use Rattle.cred_sound.specs.Sound.{IsSound}
 use Rattle.cred_laws.specs.Slots.{IsUnused}
 use Rattle.cred_laws.specs.Held.{prepared_as, ends}
 use Rattle.cred_laws.specs.Made.{AreMade}
+use Rattle.cred_laws.specs.Execve.{IsExecve}
 use Rattle.cred_laws.specs.Permitted.{Gains, IsCreatedWith}
 
 -- the state after the first k entries
@@ -66,6 +69,16 @@ GainsAsAnswered script journal =
     → current_of (state_at script journal (k + 1)) task ≡ Some after
     → IfSome (slice_get journal k) (λ entry. Gains entry.answer before after)
 
+-- An entry which answers that an execve is completed commits what the rule of execve makes of the
+-- task's credential and of the file, with the gains that it answers.
+abbrev pub ExecvesByTheRule : Script → List Entry → Type 0
+ExecvesByTheRule script journal =
+    (k number slot ended : ℕ) (gains : answer.Gains)
+    → IfSome (slice_get journal k) (λ entry.
+    entry.answer ≡ Executed number slot ended gains
+    → IsExecve script (state_at script journal k) entry.event number slot gains
+    (state_at script journal (k + 1)))
+
 -- A task lives from the entry on that creates it, with the credential that this one gives it.
 abbrev pub CreatesTasks : Script → List Entry → Type 0
 CreatesTasks script journal =
@@ -82,6 +95,7 @@ pub record IsLawful (script : Script) (journal : List Entry) : Type 0 where
   pub sealed : KeepsSealed script journal
   pub held : KeepsHeld script journal
   pub prepared : KeepsPrepared script journal
+  pub execves : ExecvesByTheRule script journal
   pub gains : GainsAsAnswered script journal
   pub created : CreatesTasks script journal
 

@@ -2,6 +2,7 @@ pub mod Order
 pub mod Slots
 pub mod Held
 pub mod Made
+pub mod Execve
 pub mod Permitted
 pub mod Journals
 pub mod Answered

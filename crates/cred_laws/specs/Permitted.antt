@@ -4,11 +4,12 @@ use Rattle.cred_caps.specs.Caps.{less}
 use Rattle.cred_record.specs.Credential.{first_credential}
 use Rattle.cred_event.specs.declared.answer.Answer.{Answer}
 use Rattle.cred_event.specs.declared.event.Event.{Event}
-use Rattle.cred_event.specs.declared.event.Event.TheVariants.{Init}
+use Rattle.cred_event.specs.declared.event.Event.TheVariants.{Init, Fork}
 use Rattle.cred_model.specs.Script.{Script}
 use Rattle.cred_model.specs.State.{State, Numbered, task_of, current_of}
 use Rattle.cred_model.specs.Change.{gained}
 use Rattle.cred_model.specs.Step.{step}
+use Rattle.cred_sound.specs.Sound.{IsSound}
 use Rattle.cred_laws.specs.Made.{AreMade}
 
 -- From a task's current credential before an event that answers so to the one after it: where that
@@ -19,20 +20,22 @@ pub record Gains (answer : Answer) (before after : Numbered) : Type 0 where
   pub other : after.number ≢ before.number
       → less after.cred.perm before.cred.perm ≡ gained answer
 
--- So it is with each task that is alive before and after an event, where each prepared credential
--- is what its change makes of its base.
+-- So it is with each task that is alive before and after an event, in a sound state where each
+-- prepared credential is what its change makes of its base.
 abbrev pub PermittedGains : Type 0
 PermittedGains =
     (script : Script) (s : State) (line : ℕ) (event : Event) (task : ℕ) (before after : Numbered)
-    → AreMade script s → current_of s task ≡ Some before
+    → IsSound s → AreMade script s → current_of s task ≡ Some before
     → current_of (step script s line event).1 task ≡ Some after
     → Gains (step script s line event).0 before after
 
 -- In this state the event creates the task, with this current credential: a first task has a new
--- one, that of the ids and the namespace which the event names.
+-- one, that of the ids and the namespace which the event names, and a child shares its parent's.
 abbrev pub IsCreatedWith : State → Event → ℕ → Numbered → Type 0
 IsCreatedWith s (Init number process user group ns) task c =
     (number ≡ task) × (c.number ≡ length s.creds) × (c.cred ≡ first_credential user group ns)
+IsCreatedWith s (Fork parent child process) task c =
+    (child ≡ task) × (current_of s parent ≡ Some c)
 IsCreatedWith s event task c = ⊥
 
 -- A task that was not alive before an event, and is after it, was created by it.

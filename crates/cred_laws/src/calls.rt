@@ -2,7 +2,8 @@
 ghost use Rattle.cred_laws.specs.Calls.{LocksStaySet, BoundingNeverGrows, PermittedGrowsByExecve, NoNewPrivsStays};
 
 /// A lock of the securebits that is set stays set over every call, and so the flag that it locks
-/// stays as it is (capabilities(7): locking is irreversible).
+/// stays as it is (capabilities(7): locking is irreversible). Only KEEP_CAPS is cleared by every
+/// execve, locked or not.
 #[tactic(auto, using(crate::proofs::CallLaws::locks_stay_set))]
 pub fn locks_stay_set()
     ensures { LocksStaySet }

@@ -7,6 +7,7 @@
 
 pub mod answered;
 pub mod calls;
+pub mod execve;
 pub mod held;
 pub mod journals;
 pub mod order;

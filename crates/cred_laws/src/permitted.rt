@@ -12,15 +12,15 @@ pub fn prepared_are_made()
 /// old one did not is just what the event's answer says was gained, which is nothing but for an
 /// execve (capabilities(7)). Where it has the same number, it has the same credential.
 ///
-/// It asks that each prepared credential is what its change makes of its base, as it is after every
-/// journal: one is committed only while its base is its task's current one. The law does not say
-/// that the effective set is within the permitted one.
+/// It asks for a sound state in which each prepared credential is what its change makes of its base,
+/// as every journal leads to: one is committed only while its base is its task's current one. The
+/// law does not say that the effective set is within the permitted one.
 pub fn permitted_gains()
     ensures { PermittedGains }
 {}
 
-/// A task that an event adds is created by it: a first task with a new credential, that of
-/// the ids and the namespace which the event names.
+/// A task that an event adds is created by it: a first task with a new credential, that of the ids
+/// and the namespace which the event names, and a child with its parent's (fork(2)).
 pub fn new_tasks_are_created()
     ensures { NewTasksAreCreated }
 {}

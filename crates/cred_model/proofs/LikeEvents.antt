@@ -1,6 +1,6 @@
 -- Each event does the same in two states that are alike.
 use Rattle.std.proofs.Common.{◌≡◌, ◌==◌, ℕ, List, [], ◌∷◌, ◌++◌, length, position, None, ok_or, true, false, cond, refl, sym, ap, ◌∙◌, subst}
-use Rattle.std.specs.List.{All, remove}
+use Rattle.std.specs.List.{All, count_by, find, remove}
 use Rattle.std.proofs.lemmas.List.Elements.{All-append, All-cons, All-push, All-nil}
 use Rattle.cred_record.specs.Credential.{first_credential}
 use Rattle.cred_record.specs.declared.id_call.IdCall.{IdCall}
@@ -11,16 +11,17 @@ use Rattle.cred_event.specs.declared.event.Change.{Change}
 use Rattle.cred_event.specs.declared.event.Event.{Event}
 use Rattle.cred_event.specs.declared.event.Side.{Side}
 use Rattle.cred_event.specs.declared.event.Query.{Query}
-use Rattle.cred_event.specs.declared.event.Event.TheVariants.{Init, Take, Release, Ask, Prepare, Alter, Commit, Abort, Begin, Sweep}
+use Rattle.cred_event.specs.declared.event.Event.TheVariants.{Init, Take, Release, Ask, Prepare, Alter, Commit, Abort, Begin, Fork, Exit, Sweep}
 use Rattle.cred_model.specs.Script.{Script, info_of, chain_of}
 use Rattle.cred_model.specs.Named.{change_files}
 use Rattle.cred_model.specs.State.{State, SealedCred, Task, Hold, Prepared, Changed, Numbered, task_of, hold_of, prepared_of}
 use Rattle.cred_model.specs.Slots.{swept}
 use Rattle.cred_model.specs.Change.{by_change, by_rule}
-use Rattle.cred_model.specs.Step.{TASKS, HOLDS, PREPARED, none_or, fewer_or, try_commit, done, first_task, with_current, given_up, committed, altered, preparing, created, replaced, commit_answer}
+use Rattle.cred_model.specs.Ends.{is_task, is_thread_of, ended}
+use Rattle.cred_model.specs.Step.{TASKS, HOLDS, PREPARED, none_or, fewer_or, try_commit, done, first_task, with_current, given_up, committed, altered, preparing, created, replaced, ends_with, commit_answer}
 use Rattle.cred_model.specs.Like.{IsLike, AreAlike}
 use Rattle.cred_model.proofs.Lists.{All-remove, find_each, get_each}
-use Rattle.cred_model.proofs.Referred.{EachRef, each_updated, each_changed, each_tasks, each_holds, each_prepared, each_deferred}
+use Rattle.cred_model.proofs.Referred.{EachRef, each_updated, each_changed, each_tasks, each_holds, each_prepared, each_deferred, each_ended}
 use Rattle.cred_model.proofs.LikeReads.{with, Same, slots_of, each_same, same_numbered, same_current, same_held, current_by}
 use Rattle.cred_model.proofs.LikeTests.{BothAre, tested, read, found, like_with, like_sealed, same_next, gave, in_slots}
 
@@ -36,6 +37,9 @@ module _ (script : Script) (s : State) (cs : List SealedCred) (line : ℕ) (like
 
   abbrev OfBase : Prepared → Type 0
   OfBase p = Here p.base
+
+  abbrev OfTask : Task → Type 0
+  OfTask t = Here t.current
 
   abbrev OfCred : Numbered → Type 0
   OfCred c = Here c.number
@@ -122,23 +126,31 @@ module _ (script : Script) (s : State) (cs : List SealedCred) (line : ℕ) (like
       (each_deferred (each_prepared refs _ (All-remove OfBase s.prepared place refs.bases)) _
       (All-push Here s.deferred p.base refs.deferred here))
 
-  committed_like : (place : ℕ) (p : Prepared) (old : ℕ) (last : Changed) → Here p.base → Here old
-      → AreAlike (commit_answer last (length s.creds) p.slot, committed s place p old last.cred)
-      (commit_answer last (length cs) p.slot, committed (with s cs) place p old last.cred)
-  committed_like place p old last here now =
-      like_sealed (λ n. commit_answer last n p.slot)
-      (λ n. record s { tasks = with_current s.tasks p.task n; prepared = remove s.prepared place; deferred = s.deferred ++ old ∷ p.base ∷ [] })
+  committed_like : (place : ℕ) (p : Prepared) (owner : Task) (last : Changed) → Here p.base → Here owner.current
+      → let ends = ends_with last.change owner in
+      let count = count_by ends s.tasks in
+      AreAlike (commit_answer last (length s.creds) p.slot count, committed (ended ends s) place p owner.current last.cred)
+      (commit_answer last (length cs) p.slot count, committed (ended ends (with s cs)) place p owner.current last.cred)
+  committed_like place p owner last here now =
+      let ends = ends_with last.change owner in
+      let on = ended ends s in
+      let each = each_ended refs ends in
+      like_sealed (λ n. commit_answer last n p.slot (count_by ends s.tasks))
+      (λ n. record on { tasks = with_current on.tasks p.task n; prepared = remove s.prepared place; deferred = on.deferred ++ owner.current ∷ p.base ∷ [] })
       s.creds cs (record { cred = last.cred; slot = p.slot }) like.slots
       (each_deferred
-      (each_prepared (each_updated refs p.task (length s.creds) next) _ (All-remove OfBase s.prepared place refs.bases)) _
-      (All-append Here s.deferred _ refs.deferred (All-cons Here old (p.base ∷ []) now (All-cons Here p.base [] here (All-nil Here)))))
+      (each_prepared (each_updated each p.task (length s.creds) next) _ (All-remove OfBase s.prepared place refs.bases)) _
+      (All-append Here on.deferred _ each.deferred (All-cons Here owner.current (p.base ∷ []) now (All-cons Here p.base [] here (All-nil Here)))))
 
-  try_commit_like : (place : ℕ) (p : Prepared) (old : ℕ) (last : Changed) → Here p.base → Here old
-      → AreAlike (try_commit s place p old last) (try_commit (with s cs) place p old last)
-  try_commit_like place p old last here now =
-      elim (old == p.base) as (λ b. AreAlike (cond b (commit_answer last (length s.creds) p.slot, committed s place p old last.cred) (Stale p.base old, given_up s place p)) (cond b (commit_answer last (length cs) p.slot, committed (with s cs) place p old last.cred) (Stale p.base old, given_up (with s cs) place p))) [
-        | true ↦ committed_like place p old last here now
-        | false ↦ ended_like (Stale p.base old) place p here
+  try_commit_like : (place : ℕ) (p : Prepared) (owner : Task) (last : Changed) → Here p.base → Here owner.current
+      → AreAlike (try_commit s place p owner last) (try_commit (with s cs) place p owner last)
+  try_commit_like place p owner last here now =
+      let ends = ends_with last.change owner in
+      let count = count_by ends s.tasks in
+      let stale = Stale p.base owner.current in
+      elim (owner.current == p.base) as (λ b. AreAlike (cond b (commit_answer last (length s.creds) p.slot count, committed (ended ends s) place p owner.current last.cred) (stale, given_up s place p)) (cond b (commit_answer last (length cs) p.slot count, committed (ended ends (with s cs)) place p owner.current last.cred) (stale, given_up (with s cs) place p))) [
+        | true ↦ committed_like place p owner last here now
+        | false ↦ ended_like stale place p here
       ]
 
   pub commit_like : (label : ℕ) → DoneAlike (Commit label)
@@ -146,8 +158,8 @@ module _ (script : Script) (s : State) (cs : List SealedCred) (line : ℕ) (like
       tested (ok_or (position (λ p. p.label == label) s.prepared) (NoPrepared label)) _ _
       (λ place. found OfBase _ _ (NoPrepared label) _ _ refl (get_each _ s.prepared place refs.bases)
       (λ p here. tested (ok_or p.changed (NoPrepared label)) _ _
-      (λ last. found OfCred _ _ (NoTask p.task) _ _ (same_current s cs p.task like) (current_by s Here p.task refs)
-      (λ now is. try_commit_like place p now.number last here is))))
+      (λ last. found OfTask _ _ (NoTask p.task) _ _ refl (find_each OfTask (λ t. t.number == p.task) s.tasks refs.currents)
+      (λ owner now. try_commit_like place p owner last here now))))
 
   pub abort_like : (label : ℕ) → DoneAlike (Abort label)
   abort_like label =
@@ -165,6 +177,21 @@ module _ (script : Script) (s : State) (cs : List SealedCred) (line : ℕ) (like
       s.creds cs (record { cred = new; slot = slot }) like.slots
       (each_deferred (each_updated each task (length s.creds) next) _ (All-push Here gone old.number each.deferred here)))))
 
+  pub fork_like : (task child process : ℕ) → DoneAlike (Fork task child process)
+  fork_like task child process =
+      found OfCred _ _ (NoTask task) _ _ (same_current s cs task like) (current_by s Here task refs)
+      (λ parent here. tested (none_or (task_of s child) _) _ _
+      (λ new. tested (none_or (find (is_thread_of process) s.tasks) _) _ _
+      (λ unused. tested (fewer_or (length s.tasks) TASKS _) _ _
+      (λ few. leaves _ (record s { tasks = s.tasks ++ first_task child process parent.number ∷ [] }) refl
+      (each_tasks refs _ (All-push OfTask s.tasks _ refs.currents here)
+      (All-push (λ (t : Task). All Here t.overrides) s.tasks _ refs.overrides (All-nil Here)))))))
+
+  pub exit_like : (task : ℕ) → DoneAlike (Exit task)
+  exit_like task =
+      tested (ok_or (task_of s task) _) _ _
+      (λ owner. leaves Done (ended (is_task task) s) refl (each_ended refs (is_task task)))
+
   pub done_like : (event : Event) → DoneAlike event
   done_like (Init task process user group ns) = init_like task process user group ns
   done_like (Take label task side) = take_like label task side
@@ -175,5 +202,7 @@ module _ (script : Script) (s : State) (cs : List SealedCred) (line : ℕ) (like
   done_like (Commit label) = commit_like label
   done_like (Abort label) = abort_like label
   done_like (Begin task call) = begin_like task call
+  done_like (Fork task child process) = fork_like task child process
+  done_like (Exit task) = exit_like task
   done_like Sweep = leaves Done (swept s) refl (each_deferred refs _ (All-nil Here))
   done_like event = refl

@@ -1,9 +1,10 @@
 -- What holds of each reference, by the kinds of things that refer.
-use Rattle.std.proofs.Common.{ℕ, ◌==◌, List, [], Some, true, false, cond, ◌∷◌}
-use Rattle.std.specs.List.{All, AllByRecursion, concat}
-use Rattle.std.proofs.lemmas.List.Elements.{All-append, All-map, All-nil}
+use Rattle.std.proofs.Common.{◌≡◌, refl, ap, ℕ, ◌==◌, not, Bool, List, [], Some, true, false, cond, ◌∷◌}
+use Rattle.std.specs.List.{All, AllByRecursion, concat, filter}
+use Rattle.std.proofs.lemmas.List.Elements.{All-append, All-cons, All-filter, All-map, All-nil}
 use Rattle.cred_model.specs.State.{State, Task, Hold, Prepared, Changed}
 use Rattle.cred_model.specs.Slots.{places, in_use, refs}
+use Rattle.cred_model.specs.Ends.{numbers_of, survivors, left_by, ended}
 use Rattle.cred_model.specs.Step.{updated, with_current, changed, with_change}
 use Rattle.cred_model.proofs.Lists.{All-kept, All-left, All-right, All-unmap, All-flat_map, All-unflat_map}
 use Rattle.cred_model.proofs.Numbers.{updated_as}
@@ -82,3 +83,25 @@ pub each_deferred : {P : ℕ → Type 0} {s : State} → EachRef P s → (number
     → EachRef P (record s { deferred = numbers })
 each_deferred each numbers deferred =
     record { currents = each.currents; overrides = each.overrides; holds = each.holds; bases = each.bases; deferred = deferred }
+
+-- ---- tasks that end
+
+-- where none ends, all go on
+pub all_survive : (tasks : List Task) → survivors (λ t. false) tasks ≡ tasks
+all_survive [] = refl
+all_survive (t ∷ tasks) = ap (λ ts. t ∷ ts) (all_survive tasks)
+
+-- what holds of all that a task refers to
+abbrev OfTask : (ℕ → Type 0) → Task → Type 0
+OfTask P t = All P (numbers_of t)
+
+pub each_ended : {P : ℕ → Type 0} {s : State} → EachRef P s → (ends : Task → Bool) → EachRef P (ended ends s)
+each_ended {P} {s} each ends =
+    let go_on : Task → Bool = λ t. not (ends t) in
+    let left = All-filter ends (OfTask P) s.tasks
+    (λ k d lt. All-cons P _ _ (each.currents k d lt) (each.overrides k d lt)) in
+    each_deferred
+    (each_tasks each (survivors ends s.tasks)
+    (All-filter go_on (λ (t : Task). P t.current) s.tasks each.currents)
+    (All-filter go_on (λ (t : Task). All P t.overrides) s.tasks each.overrides)) _
+    (All-append P s.deferred (left_by ends s.tasks) each.deferred (All-flat_map P numbers_of (filter ends s.tasks) left))

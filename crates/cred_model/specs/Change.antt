@@ -1,5 +1,5 @@
 -- What a change makes of a credential, and what that gains.
-use Rattle.std.specs.Prelude.{ℕ, List, Result, Ok, Err}
+use Rattle.std.specs.Prelude.{ℕ, List, Some, None, Result, Ok, Err}
 use Rattle.std.specs.declared.option.Option.{Option}
 use Rattle.cred_caps.specs.Caps.{Caps, empty, union}
 use Rattle.cred_record.specs.Credential.{Credential}
@@ -8,8 +8,10 @@ use Rattle.cred_record.specs.declared.gains.Gains.{Gains}
 use Rattle.cred_record.specs.declared.refusal.Denial.{Denial}
 use Rattle.cred_rules.specs.SetFs.{set_fs, old_fs}
 use Rattle.cred_rules.specs.Adjust.{adjust}
+use Rattle.cred_rules.specs.Exec.{Executed, NoExec, exec}
+use Rattle.cred_rules.specs.Exec.NoExec.{MayNotExecute, SpellsNothing, GivesTooLittle}
 use Rattle.cred_event.specs.declared.event.Change.{Change}
-use Rattle.cred_event.specs.declared.event.Change.TheVariants.{SetFs, Adjust}
+use Rattle.cred_event.specs.declared.event.Change.TheVariants.{SetFs, Adjust, Exec}
 use Rattle.cred_event.specs.declared.answer.Answer.{Answer}
 use Rattle.cred_event.specs.declared.answer.Answer.TheVariants as answer
 use Rattle.cred_model.specs.Answers.{refusal}
@@ -37,12 +39,28 @@ abbrev pub made_by_rule : Result Credential Denial → Result Made Answer
 made_by_rule (Ok c) = Ok (made answer.Done c)
 made_by_rule (Err denial) = Err (refusal denial)
 
+-- the manual's error for a refused execve
+abbrev pub exec_refusal : NoExec → Answer
+exec_refusal MayNotExecute = answer.Eacces
+exec_refusal SpellsNothing = answer.Einval
+exec_refusal GivesTooLittle = answer.Eperm
+
+abbrev pub made_by_exec : Result Executed NoExec → Result Made Answer
+made_by_exec (Ok e) = Ok (record { answer = answer.Done; cred = e.cred; gains = e.gains })
+made_by_exec (Err why) = Err (exec_refusal why)
+
+-- what the execve of a file makes; there always is one, since a change names a declared file
+abbrev pub executed : Option File → List ℕ → Credential → Result Made Answer
+executed None chain c = Err answer.Eacces
+executed (Some file) chain c = made_by_exec (exec c file chain)
+
 -- What a change makes of a base credential, or its refusal. It sees the file that it names, if any,
--- and the root ids of the base's namespace and of that one's ancestors. The other changes are not
--- built yet: no line makes one, and no function is called with one.
+-- and the root ids of the base's namespace and of that one's ancestors. The change of access(2) is
+-- not built yet: no line makes one, and no function is called with one.
 abbrev pub by_change : Option File → List ℕ → Credential → Change → Result Made Answer
 by_change file chain c (SetFs kind id) = Ok (made (answer.Was (old_fs c kind)) (set_fs c kind id))
 by_change file chain c (Adjust call) = made_by_rule (adjust c call)
+by_change file chain c (Exec place) = executed file chain c
 by_change file chain c change = Err answer.Einval
 
 -- what the permitted set gained, as the answer reports it

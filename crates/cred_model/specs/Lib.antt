@@ -2,6 +2,7 @@ pub mod Script
 pub mod Named
 pub mod State
 pub mod Slots
+pub mod Ends
 pub mod Answers
 pub mod Change
 pub mod Step

@@ -1,14 +1,15 @@
 -- What events and lines name, and which of them are built.
-use Rattle.std.specs.Prelude.{◌≡◌, ℕ, ◌<◌, Bool, true, false, List, [], ◌∷◌, All}
+use Rattle.std.specs.Prelude.{◌≡◌, ℕ, ◌<◌, Bool, true, false, List, [], ◌∷◌, All, IsSome}
 use Rattle.cred_event.specs.declared.event.Change.{Change}
 use Rattle.cred_event.specs.declared.event.Change.TheVariants.{SetFs, Adjust, Exec}
 use Rattle.cred_event.specs.declared.event.Event.{Event}
-use Rattle.cred_event.specs.declared.event.Event.TheVariants.{Init, Take, Release, Ask, Prepare, Alter, Commit, Abort, Begin, OpenFile, Sweep}
+use Rattle.cred_event.specs.declared.event.Event.TheVariants.{Init, Take, Release, Ask, Prepare, Alter, Commit, Abort, Begin, OpenFile, Fork, Exit, Sweep}
 use Rattle.cred_event.specs.declared.event.Query.{Query}
 use Rattle.cred_event.specs.declared.event.Query.TheVariants.{Check}
 use Rattle.cred_event.specs.declared.content.Content.{Content}
 use Rattle.cred_event.specs.declared.content.Content.TheVariants.{Nothing, One, Id, Question, Open, Access}
 use Rattle.cred_event.specs.declared.content.Content.TheVariants as content
+use Rattle.cred_model.specs.Script.{Namespace, chain_in}
 
 -- the files that a question names, by their places
 abbrev pub query_files : Query → List ℕ
@@ -50,6 +51,7 @@ namespaces content = []
 abbrev pub is_built_change : Change → Bool
 is_built_change (SetFs kind id) = true
 is_built_change (Adjust call) = true
+is_built_change (Exec file) = true
 is_built_change other = false
 
 -- the events that are built so far
@@ -63,6 +65,8 @@ is_built (Alter label change) = is_built_change change
 is_built (Commit label) = true
 is_built (Abort label) = true
 is_built (Begin task call) = true
+is_built (Fork task child process) = true
+is_built (Exit task) = true
 is_built Sweep = true
 is_built event = false
 
@@ -79,19 +83,19 @@ is_built_line content = false
 abbrev pub AreAmong : ℕ → List ℕ → Type 0
 AreAmong count files = All (λ file. file < count) files
 
--- Namespace 0 is the only one that is declared.
-abbrev pub AreDeclared : List ℕ → Type 0
-AreDeclared namespaces = All (λ namespace. namespace ≡ 0) namespaces
+-- Each of these namespaces is the initial one, or one of those that are declared.
+abbrev pub AreDeclared : List Namespace → List ℕ → Type 0
+AreDeclared declared namespaces = All (λ namespace. IsSome (chain_in declared namespace)) namespaces
 
 -- The event is of a kind that is built, and names only declared files and namespaces, where so many
--- files are declared.
-pub record IsEventOf (count : ℕ) (event : Event) : Type 0 where
+-- files and these namespaces are declared.
+pub record IsEventOf (count : ℕ) (declared : List Namespace) (event : Event) : Type 0 where
   pub built : is_built event ≡ true
   pub files : AreAmong count (event_files event)
-  pub namespaces : AreDeclared (event_namespaces event)
+  pub namespaces : AreDeclared declared (event_namespaces event)
 
 -- The same of what a line holds.
-pub record IsContentOf (count : ℕ) (content : Content) : Type 0 where
+pub record IsContentOf (count : ℕ) (declared : List Namespace) (content : Content) : Type 0 where
   pub built : is_built_line content ≡ true
   pub files : AreAmong count (files content)
-  pub namespaces : AreDeclared (namespaces content)
+  pub namespaces : AreDeclared declared (namespaces content)

@@ -1,8 +1,8 @@
 -- What a script is.
-use Rattle.std.specs.Prelude.{◌≡◌, ℕ, List, [], ◌∷◌, slice_get, None}
+use Rattle.std.specs.Prelude.{◌≡◌, ℕ, ◌==◌, List, [], ◌∷◌, find, slice_get, Some, None, if◌then◌else◌}
 use Rattle.std.specs.declared.option.Option.{Option}
 use Rattle.std.specs.List.{AllPairs}
-use Rattle.std.specs.Option.{option_map}
+use Rattle.std.specs.Option.{option_map, option_map_or}
 use Rattle.cred_record.specs.File.{File}
 use Rattle.cred_event.specs.declared.content.Content.{Content}
 
@@ -16,10 +16,17 @@ pub record Line : Type 0 where
   pub lane : ℕ
   pub content : Content
 
--- The files that a script declares, and its lines, each in its order. An event names a file by its
--- place. A line's number is its place, counted from 1.
+-- A declared user namespace has a number, and the root ids of itself and of its ancestors, its own
+-- first (user_namespaces(7)).
+pub record Namespace : Type 0 where
+  pub number : ℕ
+  pub chain : List ℕ
+
+-- The files and the namespaces that a script declares, and its lines, each in its order. An event
+-- names a file by its place. A line's number is its place, counted from 1.
 pub record Script : Type 0 where
   pub files : List NamedFile
+  pub namespaces : List Namespace
   pub lines : List Line
 
 -- what the script says of the file that an event names, by its place; none where it names none
@@ -27,10 +34,18 @@ abbrev pub info_of : Script → List ℕ → Option File
 info_of script [] = None
 info_of script (place ∷ places) = option_map (λ file. file.info) (slice_get script.files place)
 
--- the root ids of a namespace and of its ancestors: namespace 0, the initial one, has root id 0 and
--- no parent, and no other is declared so far (user_namespaces(7))
+-- Namespace 0 is the initial one. Its root id is 0, and it has no parent.
+abbrev pub INITIAL : List ℕ
+INITIAL = 0 ∷ []
+
+-- the root ids of a namespace and of its ancestors; none where it isn't declared
+abbrev pub chain_in : List Namespace → ℕ → Option (List ℕ)
+chain_in declared number =
+    if number == 0 then Some INITIAL
+    else option_map (λ ns. ns.chain) (find (λ ns. ns.number == number) declared)
+
 abbrev pub chain_of : Script → ℕ → List ℕ
-chain_of script namespace = 0 ∷ []
+chain_of script number = option_map_or (λ chain. chain) (chain_in script.namespaces number) []
 
 -- A line of the setup has none but such lines before it.
 abbrev pub SetupBefore : Line → Line → Type 0

@@ -1,23 +1,26 @@
 -- What each event answers, and the state after it.
-use Rattle.std.specs.Prelude.{ℕ, ◌==◌, nat_lt, [], ◌∷◌, ◌++◌, length, map, position, remove, slice_get, Result, Ok, Err, ok_or, is_some, Some, None, if◌then◌else◌, List}
+use Rattle.std.specs.Prelude.{ℕ, ◌==◌, nat_lt, Bool, false, [], ◌∷◌, ◌++◌, length, map, find, position, remove, slice_get, Result, Ok, Err, ok_or, is_some, Some, None, if◌then◌else◌, List, count_by}
 use Rattle.std.specs.declared.option.Option.{Option}
 use Rattle.std.specs.Option.{option_map_or}
 use Rattle.cred_record.specs.Credential.{Credential, first_credential}
+use Rattle.cred_record.specs.declared.gains.Gains.{Gains}
 use Rattle.cred_record.specs.declared.id_call.IdCall.{IdCall}
 use Rattle.cred_rules.specs.SetId.{set_id}
 use Rattle.cred_event.specs.declared.event.Change.{Change}
+use Rattle.cred_event.specs.declared.event.Change.TheVariants.{Exec}
 use Rattle.cred_event.specs.declared.event.Event.{Event}
 use Rattle.cred_event.specs.declared.event.Query.{Query}
 use Rattle.cred_event.specs.declared.event.Side.{Side}
-use Rattle.cred_event.specs.declared.event.Event.TheVariants.{Init, Take, Release, Ask, Prepare, Alter, Commit, Abort, Begin, Sweep}
+use Rattle.cred_event.specs.declared.event.Event.TheVariants.{Init, Take, Release, Ask, Prepare, Alter, Commit, Abort, Begin, Fork, Exit, Sweep}
 use Rattle.cred_event.specs.declared.answer.Answer.{Answer}
-use Rattle.cred_event.specs.declared.answer.Answer.TheVariants.{Done, Sealed, Kept, Began, Einval, NoTask, NoHold, NoPrepared, Exists, Stale, TooMany, TableFull}
+use Rattle.cred_event.specs.declared.answer.Answer.TheVariants.{Done, Sealed, Kept, Executed, Began, Einval, NoTask, NoHold, NoPrepared, Exists, Stale, TooMany, TableFull}
 use Rattle.cred_event.specs.declared.answer.Named.TheVariants as named
 use Rattle.cred_event.specs.declared.answer.Counted.TheVariants as counted
 use Rattle.cred_model.specs.Script.{Script, info_of, chain_of}
 use Rattle.cred_model.specs.Named.{query_files, change_files}
 use Rattle.cred_model.specs.State.{State, Task, Prepared, Changed, task_of, hold_of, prepared_of, numbered, current_of, held_by}
 use Rattle.cred_model.specs.Slots.{room, free, swept}
+use Rattle.cred_model.specs.Ends.{is_task, is_thread_of, is_beside, ended}
 use Rattle.cred_model.specs.Answers.{reply}
 use Rattle.cred_model.specs.Change.{by_change, by_rule}
 
@@ -120,17 +123,32 @@ committed s place p old c =
       deferred = s.deferred ++ old ∷ p.base ∷ [];
     }
 
--- what a commit answers, by what was changed last
-abbrev pub commit_answer : Changed → ℕ → ℕ → Answer
-commit_answer last number slot = Sealed number slot
+-- The tasks that end with the commit of this change by its task: an execve ends all other threads
+-- of the process (execve(2)), and no other change ends any.
+abbrev pub ends_with : Change → Task → Task → Bool
+ends_with (Exec file) task t = is_beside task t
+ends_with change task t = false
+
+-- what is answered where a change is committed, by what it was
+abbrev pub committed_by : Change → Gains → ℕ → ℕ → ℕ → Answer
+committed_by (Exec file) gains number slot count = Executed number slot count gains
+committed_by change gains number slot count = Sealed number slot
+
+-- what a commit answers, where so many tasks end with it
+abbrev pub commit_answer : Changed → ℕ → ℕ → ℕ → Answer
+commit_answer last number slot count = committed_by last.change last.gains number slot count
 
 -- Only a credential whose base is still the task's current one is committed. Another one is stale,
 -- and is given up.
-abbrev pub try_commit : State → ℕ → Prepared → ℕ → Changed → Answer × State
-try_commit s place p current last =
-    if current == p.base
-    then (commit_answer last (length s.creds) p.slot, committed s place p current last.cred)
-    else (Stale p.base current, given_up s place p)
+abbrev pub try_commit : State → ℕ → Prepared → Task → Changed → Answer × State
+try_commit s place p owner last =
+    let ends = ends_with last.change owner in
+    if owner.current == p.base
+    then (
+      commit_answer last (length s.creds) p.slot (count_by ends s.tasks),
+      committed (ended ends s) place p owner.current last.cred,
+    )
+    else (Stale p.base owner.current, given_up s place p)
 
 -- init: a first task is created
 abbrev pub by_init : State → ℕ → ℕ → ℕ → ℕ → ℕ → Result (Answer × State) Answer
@@ -205,8 +223,8 @@ by_commit s label = do
   place ← ok_or (position (λ p. p.label == label) s.prepared) (NoPrepared label)
   p ← ok_or (slice_get s.prepared place) (NoPrepared label)
   last ← ok_or p.changed (NoPrepared label)
-  now ← ok_or (current_of s p.task) (NoTask p.task)
-  Ok (try_commit s place p now.number last)
+  owner ← ok_or (task_of s p.task) (NoTask p.task)
+  Ok (try_commit s place p owner last)
 
 -- what a label prepared is given up
 abbrev pub by_abort : State → ℕ → Result (Answer × State) Answer
@@ -224,6 +242,24 @@ by_begin s task call = do
   Ok (in_slot s table_full (λ s slot.
       (Began (length s.creds) slot 0, replaced s task old.number new slot)))
 
+-- fork: a new process, whose only thread shares the credential of the task that makes it
+abbrev pub by_fork : State → ℕ → ℕ → ℕ → Result (Answer × State) Answer
+by_fork s task child process = do
+  parent ← ok_or (current_of s task) (NoTask task)
+  new ← none_or (task_of s child) (Exists named.Task child)
+  unused ← none_or (find (is_thread_of process) s.tasks) (Exists named.Process process)
+  few ← fewer_or (length s.tasks) TASKS (TooMany counted.Tasks)
+  Ok (
+    Sealed parent.number parent.slot,
+    record s { tasks = s.tasks ++ first_task child process parent.number ∷ [] },
+  )
+
+-- exit: the task ends
+abbrev pub by_exit : State → ℕ → Result (Answer × State) Answer
+by_exit s task = do
+  owner ← ok_or (task_of s task) (NoTask task)
+  Ok (Done, ended (is_task task) s)
+
 -- What an event of a line does if nothing refuses it, with its answer. The other events are not
 -- built yet: no line makes one, and no function is called with one.
 abbrev pub done : Script → State → ℕ → Event → Result (Answer × State) Answer
@@ -236,6 +272,8 @@ done script s line (Alter label change) = by_alter script s label change
 done script s line (Commit label) = by_commit s label
 done script s line (Abort label) = by_abort s label
 done script s line (Begin task call) = by_begin s task call
+done script s line (Fork task child process) = by_fork s task child process
+done script s line (Exit task) = by_exit s task
 done script s line Sweep = Ok (Done, swept s)
 done script s line event = Err Einval
 

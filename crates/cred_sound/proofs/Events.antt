@@ -1,6 +1,6 @@
 -- What each event changes.
-use Rattle.std.proofs.Common.{◌≡◌, ◌≢◌, ◌==◌, ◌<◌, ◌⊎◌, inl, inr, ℕ, List, [], ◌∷◌, ◌++◌, length, map, slice_get, Some, None, true, false, cond, refl, sym, ap, ◌∙◌, subst, position}
-use Rattle.std.specs.List.{All, Contains, remove}
+use Rattle.std.proofs.Common.{◌≡◌, ◌≢◌, ◌==◌, ◌<◌, ◌⊎◌, inl, inr, ℕ, List, [], ◌∷◌, ◌++◌, length, map, slice_get, Some, None, Ok, Bool, true, false, cond, refl, sym, ap, ◌∙◌, subst, position}
+use Rattle.std.specs.List.{All, Contains, count_by, find, remove}
 use Rattle.std.proofs.lemmas.Bool.{eqb-true}
 use Rattle.std.proofs.lemmas.List.Elements.{All-append, All-cons, All-contains_itself, All-map, All-nil, All-push, All-weaker}
 use Rattle.std.proofs.lemmas.List.Quantifiers.{position-Some}
@@ -8,7 +8,7 @@ use Rattle.cred_record.specs.Credential.{Credential, first_credential}
 use Rattle.cred_record.specs.declared.id_call.IdCall.{IdCall}
 use Rattle.cred_rules.specs.SetId.{set_id}
 use Rattle.cred_event.specs.declared.event.Event.{Event}
-use Rattle.cred_event.specs.declared.event.Event.TheVariants.{Init, Take, Release, Ask, Prepare, Alter, Commit, Abort, Begin, Sweep}
+use Rattle.cred_event.specs.declared.event.Event.TheVariants.{Init, Take, Release, Ask, Prepare, Alter, Commit, Abort, Begin, Fork, Exit, Sweep}
 use Rattle.cred_event.specs.declared.event.Change.{Change}
 use Rattle.cred_event.specs.declared.event.Side.{Side}
 use Rattle.cred_event.specs.declared.answer.Answer.{Answer}
@@ -18,13 +18,16 @@ use Rattle.cred_model.specs.State.{State, Task, Hold, Prepared, Changed, Numbere
 use Rattle.cred_model.specs.Slots.{SLOTS, refs, kept, free}
 use Rattle.cred_model.specs.Named.{change_files}
 use Rattle.cred_model.specs.Change.{by_change}
-use Rattle.cred_model.specs.Step.{TASKS, HOLDS, PREPARED, table_full, with_change, with_current, first_task, created, replaced, preparing, committed, given_up, commit_answer, try_commit, step}
+use Rattle.cred_model.specs.Ends.{is_task, is_thread_of, ended}
+use Rattle.cred_model.specs.Step.{TASKS, HOLDS, PREPARED, table_full, with_change, with_current, first_task, created, replaced, preparing, committed, given_up, ends_with, commit_answer, try_commit, step}
+use Rattle.cred_model.proofs.Numbers.{current_is}
+use Rattle.cred_model.proofs.Referred.{all_survive, each_ended}
 use Rattle.cred_model.proofs.Lists.{All-at, All-unmap, AllPairs-unmap, alone, at_place, others_differ}
 use Rattle.cred_sound.specs.Ledger.{IsClear, IsOrderly, ledger}
 use Rattle.cred_sound.proofs.Moves.{Apart}
-use Rattle.cred_sound.proofs.References.{IsFree, own_refs, current_stands, found_stands, held_stands, base_stands}
+use Rattle.cred_sound.proofs.References.{IsFree, own_refs, owner_stands, current_stands, found_stands, held_stands, base_stands}
 use Rattle.cred_sound.proofs.Tests.{outcome_has, if_some, if_none, if_fewer, if_rule, if_ok, in_slots}
-use Rattle.cred_sound.proofs.Parts.{with_left, sealed_cred, Fits, Changes, TasksChange, HoldsChange, PreparedChange, SameCreds, Seals, ByCall, ByCommit, SameTasks, Creates, Renews, SameHolds, Takes, Releases, SamePrepared, Prepares, Alters, Ends}
+use Rattle.cred_sound.proofs.Parts.{with_left, sealed_cred, Fits, Changes, TasksChange, HoldsChange, PreparedChange, SameCreds, Seals, ByCall, ByCommit, SameTasks, Creates, Forks, Renews, Exits, SameHolds, Takes, Releases, SamePrepared, Prepares, Alters, Ends}
 
 -- ---- the references that are left
 
@@ -103,6 +106,20 @@ with_tasks script s event answer left tasks c slot deferred fewer free change re
       creds = Seals c slot refl (λ order. fits_free s event left t slot refl free);
       deferred = refer;
     }
+
+-- a task is created or ends, and nothing is sealed
+only_tasks : (script : Script) (s : State) (event : Event) (answer : Answer) (tasks : List Task) (deferred : List ℕ)
+    → TasksChange s event (answer, record s { tasks = tasks; deferred = deferred }) → All (Contains (refs s)) deferred
+    → Changes script s event (answer, record s { tasks = tasks; deferred = deferred })
+only_tasks script s event answer tasks deferred change refer = record {
+  left = s.deferred;
+  fewer = All-contains_itself s.deferred;
+  tasks = change;
+  holds = SameHolds refl;
+  prepared = SamePrepared refl;
+  creds = SameCreds refl;
+  deferred = refer;
+}
 
 with_holds : (script : Script) (s : State) (event : Event) (answer : Answer) (holds : List Hold) (deferred : List ℕ)
     → HoldsChange s event s.deferred (record s { holds = holds; deferred = deferred }) → All (Contains (refs s)) deferred
@@ -217,33 +234,43 @@ gives_up_prepared script s event answer label place p ends at is =
     with_prepared script s event answer s.deferred (remove s.prepared place) (s.deferred ++ p.base ∷ []) (All-contains_itself s.deferred)
     (Ends label place p ends refl at is) (gives_up s p.base (base_stands s place p is))
 
-commit_fresh : (script : Script) (s : State) (label place : ℕ) (p : Prepared) (last : Changed) (now : Numbered)
+-- what the tasks that end referred to
+ended_stay : (s : State) (ends : Task → Bool) → All (Contains (refs s)) (ended ends s).deferred
+ended_stay s ends = (each_ended (own_refs s) ends).deferred
+
+commit_fresh : (script : Script) (s : State) (label place : ℕ) (p : Prepared) (last : Changed) (owner : Task)
     → position (λ p. p.label == label) s.prepared ≡ Some place → slice_get s.prepared place ≡ Some p
-    → p.changed ≡ Some last → current_of s p.task ≡ Some now → now.number ≡ p.base
-    → Changes script s (Commit label) (commit_answer last (length s.creds) p.slot, committed s place p now.number last.cred)
-commit_fresh script s label place p last now at is changed current same =
+    → p.changed ≡ Some last → task_of s p.task ≡ Some owner → owner.current ≡ p.base
+    → let ends = ends_with last.change owner in
+    Changes script s (Commit label)
+    (commit_answer last (length s.creds) p.slot (count_by ends s.tasks), committed (ended ends s) place p owner.current last.cred)
+commit_fresh script s label place p last owner at is changed found same =
     let Stays = Contains (refs s) in
+    let ends = ends_with last.change owner in
+    let t = committed (ended ends s) place p owner.current last.cred in
     record {
       left = s.deferred;
       fewer = All-contains_itself s.deferred;
-      tasks = Renews p.task p.slot now last.cred refl refl current (ByCommit place p.slot p last is changed same refl refl);
+      tasks = Renews p.task p.slot owner last.cred ends refl refl found
+          (ByCommit place p.slot (count_by ends s.tasks) p last is changed same refl refl);
       holds = SameHolds refl;
       prepared = Ends label place p (inl refl) refl at is;
-      creds = Seals last.cred p.slot refl (fits_own s (committed s place p now.number last.cred) label place p refl at is);
-      deferred = All-append Stays s.deferred (now.number ∷ p.base ∷ []) (still_left s s.deferred)
-          (All-cons Stays now.number (p.base ∷ []) (current_stands s p.task now current)
+      creds = Seals last.cred p.slot refl (fits_own s t label place p refl at is);
+      deferred = All-append Stays (ended ends s).deferred (owner.current ∷ p.base ∷ []) (ended_stay s ends)
+          (All-cons Stays owner.current (p.base ∷ []) (owner_stands s p.task owner found)
           (All-cons Stays p.base [] (base_stands s place p is) (All-nil Stays)));
     }
 
-try_commit_changes : (script : Script) (s : State) (label place : ℕ) (p : Prepared) (last : Changed) (now : Numbered)
+try_commit_changes : (script : Script) (s : State) (label place : ℕ) (p : Prepared) (last : Changed) (owner : Task)
     → position (λ p. p.label == label) s.prepared ≡ Some place → slice_get s.prepared place ≡ Some p
-    → p.changed ≡ Some last → current_of s p.task ≡ Some now
-    → Changes script s (Commit label) (try_commit s place p now.number last)
-try_commit_changes script s label place p last now at is changed current =
-    elim (now.number == p.base) as (λ b. (b ≡ true → now.number ≡ p.base) → Changes script s (Commit label) (cond {A = Answer × State} b (commit_answer last (length s.creds) p.slot, committed s place p now.number last.cred) (Stale p.base now.number, given_up s place p))) [
-      | true ↦ λ same. commit_fresh script s label place p last now at is changed current (same refl)
-      | false ↦ λ same. gives_up_prepared script s (Commit label) (Stale p.base now.number) label place p (inl refl) at is
-    ] (eqb-true now.number p.base)
+    → p.changed ≡ Some last → task_of s p.task ≡ Some owner
+    → Changes script s (Commit label) (try_commit s place p owner last)
+try_commit_changes script s label place p last owner at is changed found =
+    let ends = ends_with last.change owner in
+    elim (owner.current == p.base) as (λ b. (b ≡ true → owner.current ≡ p.base) → Changes script s (Commit label) (cond {A = Answer × State} b (commit_answer last (length s.creds) p.slot (count_by ends s.tasks), committed (ended ends s) place p owner.current last.cred) (Stale p.base owner.current, given_up s place p))) [
+      | true ↦ λ same. commit_fresh script s label place p last owner at is changed found (same refl)
+      | false ↦ λ same. gives_up_prepared script s (Commit label) (Stale p.base owner.current) label place p (inl refl) at is
+    ] (eqb-true owner.current p.base)
 
 commit_changes : (script : Script) (s : State) (line label : ℕ) → Changes script s (Commit label) (step script s line (Commit label))
 commit_changes script s line label =
@@ -252,8 +279,8 @@ commit_changes script s line label =
     (if_some Q (position (λ p. p.label == label) s.prepared) _ _
     (λ place at. if_some Q (slice_get s.prepared place) _ _
     (λ p is. if_some Q p.changed _ _
-    (λ last changed. if_some Q (current_of s p.task) _ _
-    (λ now current. try_commit_changes script s label place p last now at is changed current)))))
+    (λ last changed. if_some Q (task_of s p.task) _ _
+    (λ owner found. try_commit_changes script s label place p last owner at is changed found)))))
 
 abort_changes : (script : Script) (s : State) (line label : ℕ) → Changes script s (Abort label) (step script s line (Abort label))
 abort_changes script s line label =
@@ -262,6 +289,16 @@ abort_changes script s line label =
     (if_some Q (position (λ p. p.label == label) s.prepared) _ _
     (λ place at. if_some Q (slice_get s.prepared place) _ _
     (λ p is. gives_up_prepared script s (Abort label) Done label place p (inr refl) at is)))
+
+-- the caller's new credential is in the place of its old one, and no task ends
+renews_by_call : (s : State) (task : ℕ) (call : IdCall) (old : Numbered) (new : Credential) (slot : ℕ) (left : List ℕ)
+    → current_of s task ≡ Some old → set_id old.cred call ≡ Ok new
+    → TasksChange s (Begin task call) (Began (length s.creds) slot 0, replaced (with_left s left) task old.number new slot)
+renews_by_call s task call old new slot left is ruled =
+    let at = current_is s task old is in
+    Renews task slot at.owner new (λ t. false)
+    (ap (λ tasks. with_current tasks task (length s.creds)) (sym (all_survive s.tasks))) refl at.is
+    (ByCall call old is (sym at.number) ruled refl)
 
 begin_changes : (script : Script) (s : State) (line task : ℕ) (call : IdCall)
     → Changes script s (Begin task call) (step script s line (Begin task call))
@@ -275,8 +312,30 @@ begin_changes script s line task call =
     (still script s event TableFull)
     (λ left slot fewer free.
     with_tasks script s event (Began (length s.creds) slot 0) left (with_current s.tasks task (length s.creds)) new slot
-    (left ++ old.number ∷ []) fewer free (Renews task slot old new refl refl is (ByCall call ruled refl))
+    (left ++ old.number ∷ []) fewer free (renews_by_call s task call old new slot left is ruled)
     (gives_up (with_left s left) old.number (current_stands (with_left s left) task old is))))))
+
+fork_changes : (script : Script) (s : State) (line task child process : ℕ)
+    → Changes script s (Fork task child process) (step script s line (Fork task child process))
+fork_changes script s line task child process =
+    let event = Fork task child process in
+    let Q = Changes script s event in
+    outcome_has Q s _ (refused script s event)
+    (if_some Q (current_of s task) _ _
+    (λ parent is. if_none Q (task_of s child) _ _
+    (λ new. if_none Q (find (is_thread_of process) s.tasks) _ _
+    (λ unused. if_fewer Q (length s.tasks) TASKS _ _
+    (only_tasks script s event (Sealed parent.number parent.slot) (s.tasks ++ first_task child process parent.number ∷ []) s.deferred
+    (Forks task child process parent refl refl refl is new) (still_left s s.deferred))))))
+
+exit_changes : (script : Script) (s : State) (line task : ℕ) → Changes script s (Exit task) (step script s line (Exit task))
+exit_changes script s line task =
+    let event = Exit task in
+    outcome_has (Changes script s event) s _ (refused script s event)
+    (if_some (Changes script s event) (task_of s task) _ _
+    (λ owner is.
+    let after = ended (is_task task) s in
+    only_tasks script s event Done after.tasks after.deferred (Exits task refl refl refl) (ended_stay s (is_task task))))
 
 -- what an event changes
 pub changes : (script : Script) (s : State) (line : ℕ) (event : Event) → Changes script s event (step script s line event)
@@ -291,5 +350,7 @@ changes script s line (Alter label change) = alter_changes script s line label c
 changes script s line (Commit label) = commit_changes script s line label
 changes script s line (Abort label) = abort_changes script s line label
 changes script s line (Begin task call) = begin_changes script s line task call
+changes script s line (Fork task child process) = fork_changes script s line task child process
+changes script s line (Exit task) = exit_changes script s line task
 changes script s line Sweep = still script s Sweep Done [] (All-nil (Contains s.deferred))
 changes script s line event = refused script s event _

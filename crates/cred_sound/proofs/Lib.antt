@@ -5,3 +5,4 @@ pub mod Tests
 pub mod Events
 pub mod Unique
 pub mod Sound
+pub mod Survivors

@@ -1,18 +1,19 @@
 -- What an event may change, part by part.
-use Rattle.std.proofs.Common.{◌≡◌, ◌≢◌, ◌==◌, ◌⊎◌, ℕ, ◌<◌, List, [], ◌∷◌, ◌++◌, length, slice_get, Some, None, Ok, position}
+use Rattle.std.proofs.Common.{◌≡◌, ◌≢◌, ◌==◌, ◌⊎◌, Bool, ℕ, ◌<◌, List, [], ◌∷◌, ◌++◌, length, slice_get, Some, None, Ok, position}
 use Rattle.std.specs.List.{All, Contains, remove}
 use Rattle.cred_record.specs.Credential.{Credential, first_credential}
 use Rattle.cred_record.specs.declared.id_call.IdCall.{IdCall}
 use Rattle.cred_rules.specs.SetId.{set_id}
 use Rattle.cred_caps.specs.Caps.{empty}
 use Rattle.cred_event.specs.declared.event.Event.{Event}
-use Rattle.cred_event.specs.declared.event.Event.TheVariants.{Init, Release, Commit, Abort}
+use Rattle.cred_event.specs.declared.event.Event.TheVariants.{Init, Release, Commit, Abort, Fork, Exit}
 use Rattle.cred_event.specs.declared.answer.Answer.{Answer}
 use Rattle.cred_model.specs.Script.{Script, info_of, chain_of}
-use Rattle.cred_model.specs.State.{State, SealedCred, Hold, Prepared, Changed, Numbered, numbered, task_of, hold_of, prepared_of, current_of}
+use Rattle.cred_model.specs.State.{State, SealedCred, Task, Hold, Prepared, Changed, Numbered, numbered, task_of, hold_of, prepared_of, current_of}
 use Rattle.cred_model.specs.Slots.{SLOTS, refs, kept}
 use Rattle.cred_model.specs.Named.{change_files}
 use Rattle.cred_model.specs.Change.{by_change, gained}
+use Rattle.cred_model.specs.Ends.{is_task, survivors}
 use Rattle.cred_model.specs.Step.{with_change, with_current, first_task, commit_answer}
 use Rattle.cred_sound.specs.Ledger.{IsClear, IsOrderly, ledger}
 use Rattle.cred_sound.proofs.References.{IsFree}
@@ -41,20 +42,29 @@ pub data CredsChange (s : State) (event : Event) (left : List ℕ) (t : State) :
 
 -- Why a task's new credential comes in the place of its old one: it is what a call makes of that,
 -- or what a label prepared.
-pub data Cause (s : State) (event : Event) (old : Numbered) (c : Credential) (answer : Answer) : Type 0 where
-  ByCall : (call : IdCall) → set_id old.cred call ≡ Ok c → gained answer ≡ empty → Cause s event old c answer
-  ByCommit : (place slot : ℕ) (p : Prepared) (last : Changed) → slice_get s.prepared place ≡ Some p → p.changed ≡ Some last
-      → old.number ≡ p.base → c ≡ last.cred → answer ≡ commit_answer last (length s.creds) slot → Cause s event old c answer
+pub data Cause (s : State) (event : Event) (task : ℕ) (old : ℕ) (c : Credential) (answer : Answer) : Type 0 where
+  ByCall : (call : IdCall) (before : Numbered) → current_of s task ≡ Some before → old ≡ before.number
+      → set_id before.cred call ≡ Ok c → gained answer ≡ empty → Cause s event task old c answer
+  ByCommit : (place slot count : ℕ) (p : Prepared) (last : Changed) → slice_get s.prepared place ≡ Some p
+      → p.changed ≡ Some last → old ≡ p.base → c ≡ last.cred → answer ≡ commit_answer last (length s.creds) slot count
+      → Cause s event task old c answer
 
--- The tasks: as they were, a first one more, or one of them with a new credential.
+-- The tasks: as they were, a first one more, one more that shares its parent's credential, one of
+-- them with a new credential, perhaps after others have ended, or one less.
 pub data TasksChange (s : State) (event : Event) (made : Answer × State) : Type 0 where
   SameTasks : made.1.tasks ≡ s.tasks → TasksChange s event made
   Creates : (task process user group ns slot : ℕ) → event ≡ Init task process user group ns
       → made.1.tasks ≡ s.tasks ++ first_task task process (length s.creds) ∷ []
       → made.1.creds ≡ s.creds ++ sealed_cred (first_credential user group ns) slot ∷ [] → task_of s task ≡ None
       → TasksChange s event made
-  Renews : (task slot : ℕ) (old : Numbered) (c : Credential) → made.1.tasks ≡ with_current s.tasks task (length s.creds)
-      → made.1.creds ≡ s.creds ++ sealed_cred c slot ∷ [] → current_of s task ≡ Some old → Cause s event old c made.0
+  Forks : (task child process : ℕ) (parent : Numbered) → event ≡ Fork task child process
+      → made.1.tasks ≡ s.tasks ++ first_task child process parent.number ∷ [] → made.1.creds ≡ s.creds
+      → current_of s task ≡ Some parent → task_of s child ≡ None → TasksChange s event made
+  Renews : (task slot : ℕ) (owner : Task) (c : Credential) (ends : Task → Bool)
+      → made.1.tasks ≡ with_current (survivors ends s.tasks) task (length s.creds)
+      → made.1.creds ≡ s.creds ++ sealed_cred c slot ∷ [] → task_of s task ≡ Some owner
+      → Cause s event task owner.current c made.0 → TasksChange s event made
+  Exits : (task : ℕ) → event ≡ Exit task → made.1.tasks ≡ survivors (is_task task) s.tasks → made.1.creds ≡ s.creds
       → TasksChange s event made
 
 -- The holds: as they were, one more, or one less.

@@ -6,7 +6,7 @@ use Rattle.std.proofs.lemmas.List.Elements.{All-contains_itself, All-weaker}
 use Rattle.std.proofs.lemmas.List.FromFn.{get_or-range_with_len, length-range_with_len}
 use Rattle.std.proofs.lemmas.Bool.{eqb-false}
 use Rattle.std.proofs.lemmas.Option.{slice_get-map}
-use Rattle.cred_model.specs.State.{State, SealedCred, Hold, Prepared, Numbered, current_of, hold_of}
+use Rattle.cred_model.specs.State.{State, SealedCred, Task, Hold, Prepared, Numbered, task_of, current_of, hold_of}
 use Rattle.cred_model.specs.Slots.{SLOTS, refs, kept, stands_in, is_live, is_kept, slots, least_free}
 use Rattle.cred_model.proofs.Referred.{EachRef, each_ref}
 use Rattle.cred_model.proofs.LikeReads.{current_by}
@@ -22,6 +22,11 @@ own_refs s = each_ref (Contains (refs s)) s (All-contains_itself (refs s))
 pub current_stands : (s : State) (task : ℕ) (c : Numbered) → current_of s task ≡ Some c → Contains (refs s) c.number
 current_stands s task c is =
     subst (λ o. IfSome o (λ (c : Numbered). Contains (refs s) c.number)) is (current_by s (Contains (refs s)) task (own_refs s))
+
+pub owner_stands : (s : State) (task : ℕ) (owner : Task) → task_of s task ≡ Some owner → Contains (refs s) owner.current
+owner_stands s task owner is =
+    subst (λ o. IfSome o (λ (t : Task). Contains (refs s) t.current)) is
+    (find_each (λ t. Contains (refs s) t.current) (λ (t : Task). t.number == task) s.tasks (own_refs s).currents)
 
 pub found_stands : (s : State) (label : ℕ) (hold : Hold) → hold_of s label ≡ Some hold → Contains (refs s) hold.number
 found_stands s label hold is =

@@ -1,8 +1,8 @@
 -- Every state that a kernel comes to is sound.
-use Rattle.std.proofs.Common.{◌≡◌, ◌≢◌, ◌==◌, ◌⊎◌, inl, inr, ℕ, ◌<◌, List, [], ◌∷◌, ◌++◌, length, map, fold, None, refl, sym, ap, ◌∙◌, subst, arith}
+use Rattle.std.proofs.Common.{◌≡◌, ◌≢◌, ◌==◌, ◌⊎◌, inl, inr, not, ℕ, ◌<◌, List, [], ◌∷◌, ◌++◌, length, map, fold, None, refl, sym, ap, ◌∙◌, subst, arith}
 use Rattle.std.specs.List.{All, AllPairs, Contains, find, remove}
 use Rattle.std.proofs.lemmas.List.{length_push, length-map, map_push}
-use Rattle.std.proofs.lemmas.List.Elements.{All-contains, All-contains_itself, All-map, All-nil, All-push, All-weaker}
+use Rattle.std.proofs.lemmas.List.Elements.{All-contains, All-contains_itself, All-filter, All-map, All-nil, All-push, All-weaker}
 use Rattle.std.proofs.lemmas.List.Quantifiers.{all_pairs_remove}
 use Rattle.std.proofs.lemmas.Option.{slice_get_within}
 use Rattle.cred_event.specs.declared.event.Event.{Event}
@@ -12,6 +12,7 @@ use Rattle.cred_model.specs.Script.{Script}
 use Rattle.cred_model.specs.State.{State, SealedCred, Task, Prepared, opening}
 use Rattle.cred_model.specs.Slots.{in_use, refs, kept}
 use Rattle.cred_model.specs.Like.{IsLike}
+use Rattle.cred_model.specs.Ends.{is_task, survivors}
 use Rattle.cred_model.specs.Step.{updated, changed, step}
 use Rattle.cred_model.proofs.Lists.{All-kept, All-remove, All-unmap, AllPairs-map, AllPairs-unmap, map_same}
 use Rattle.cred_model.proofs.Numbers.{updated_as, changed_as}
@@ -19,8 +20,8 @@ use Rattle.cred_sound.specs.Ledger.{Ledger, ledger, referred, IsOrderly}
 use Rattle.cred_sound.specs.Sound.{IsSound, StatesAreSound}
 use Rattle.cred_sound.proofs.Moves.{Apart, fewer, keeps, seals}
 use Rattle.cred_model.proofs.Referred.{refs_each, each_deferred}
-use Rattle.cred_sound.proofs.References.{own_refs}
-use Rattle.cred_sound.proofs.Parts.{with_left, Changes, CredsChange, TasksChange, HoldsChange, PreparedChange, SameCreds, Seals, SameTasks, Creates, Renews, SameHolds, Takes, Releases, SamePrepared, Prepares, Alters, Ends}
+use Rattle.cred_sound.proofs.References.{own_refs, current_stands}
+use Rattle.cred_sound.proofs.Parts.{with_left, Changes, CredsChange, TasksChange, HoldsChange, PreparedChange, SameCreds, Seals, SameTasks, Creates, Forks, Renews, Exits, SameHolds, Takes, Releases, SamePrepared, Prepares, Alters, Ends}
 use Rattle.cred_sound.proofs.Events.{changes}
 use Rattle.cred_sound.proofs.Unique.{tasks_differ, holds_differ, labels_differ, labels_unheld}
 
@@ -52,11 +53,20 @@ tasks_refer s event left made (Creates task process user group ns slot is tasks 
     subst (All (Refers (OldOrNew s left made.1))) (sym tasks)
     (All-push (Refers (OldOrNew s left made.1)) s.tasks _ old
     (record { current = inr (grows s made.1 _ creds); overrides = All-nil (OldOrNew s left made.1) }))
-tasks_refer s event left made (Renews task slot before c tasks creds current cause) old =
+tasks_refer s event left made (Forks task child process parent is tasks creds current new) old =
+    subst (All (Refers (OldOrNew s left made.1))) (sym tasks)
+    (All-push (Refers (OldOrNew s left made.1)) s.tasks _ old
+    (record { current = inl (current_stands (with_left s left) task parent current); overrides = All-nil (OldOrNew s left made.1) }))
+tasks_refer s event left made (Renews task slot owner c ends tasks creds found cause) old =
     let P = Refers (OldOrNew s left made.1) in
+    let rest = survivors ends s.tasks in
     subst (All P) (sym tasks)
-    (All-kept P (updated task (length s.creds)) s.tasks
-    (λ t one. updated_as P task (length s.creds) t (record { current = inr (grows s made.1 _ creds); overrides = one.overrides }) one) old)
+    (All-kept P (updated task (length s.creds)) rest
+    (λ t one. updated_as P task (length s.creds) t (record { current = inr (grows s made.1 _ creds); overrides = one.overrides }) one)
+    (All-filter (λ t. not (ends t)) P s.tasks old))
+tasks_refer s event left made (Exits task is tasks creds) old =
+    let P = Refers (OldOrNew s left made.1) in
+    subst (All P) (sym tasks) (All-filter (λ t. not (is_task task t)) P s.tasks old)
 
 holds_refer : (s : State) (event : Event) (left : List ℕ) (t : State) → HoldsChange s event left t
     → All (λ h. Old s left h.number) s.holds → All (λ h. Old s left h.number) t.holds

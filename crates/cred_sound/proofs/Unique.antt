@@ -1,9 +1,10 @@
 -- Tasks and labels have each a name of their own after an event, if they had before it.
-use Rattle.std.proofs.Common.{◌≡◌, ◌≢◌, ◌==◌, ℕ, List, [], ◌∷◌, ◌++◌, get_or, map, Some, None, false, cond, sym, ap, ◌∙◌, subst, arith}
+use Rattle.std.proofs.Common.{◌≡◌, ◌≢◌, ◌==◌, not, ℕ, List, [], ◌∷◌, ◌++◌, get_or, map, Some, None, false, cond, sym, ap, ◌∙◌, subst, arith}
 use Rattle.std.specs.List.{All, AllPairs, find, remove}
 use Rattle.std.specs.Option.{option_or}
 use Rattle.std.proofs.lemmas.List.Elements.{All-push, All-weaker}
 use Rattle.std.proofs.lemmas.List.Folds.{find-append}
+use Rattle.std.proofs.lemmas.List.Kept.{AllPairs-filter}
 use Rattle.std.proofs.lemmas.List.Quantifiers.{all_pairs_push, all_pairs_remove}
 use Rattle.std.proofs.lemmas.Bool.Decides.{nat_tests}
 use Rattle.std.proofs.lemmas.Bool.{eqb-false}
@@ -12,10 +13,11 @@ use Rattle.cred_event.specs.declared.event.Event.{Event}
 use Rattle.cred_event.specs.declared.answer.Answer.{Answer}
 use Rattle.cred_model.specs.Script.{Script}
 use Rattle.cred_model.specs.State.{State, Task, Hold, Prepared}
+use Rattle.cred_model.specs.Ends.{is_task, survivors}
 use Rattle.cred_model.specs.Step.{updated, changed, first_task}
 use Rattle.cred_model.proofs.Lists.{All-kept, All-remove, AllPairs-map, AllPairs-weaker, Differ, found_none, none_found}
 use Rattle.cred_model.proofs.Numbers.{updated_number, changed_as, changed_label}
-use Rattle.cred_sound.proofs.Parts.{TasksChange, HoldsChange, PreparedChange, SameTasks, Creates, Renews, SameHolds, Takes, Releases, SamePrepared, Prepares, Alters, Ends}
+use Rattle.cred_sound.proofs.Parts.{TasksChange, HoldsChange, PreparedChange, SameTasks, Creates, Forks, Renews, Exits, SameHolds, Takes, Releases, SamePrepared, Prepares, Alters, Ends}
 
 -- where none is found of a number, each has another
 pub none_has : {X : Type 0} (f : X → ℕ) (xs : List X) (n : ℕ) → find (λ x. f x == n) xs ≡ None → All (λ x. f x ≢ n) xs
@@ -43,9 +45,16 @@ tasks_differ s event made (SameTasks same) differ = subst (AllPairs (Differ numb
 tasks_differ s event made (Creates task process user group ns slot is tasks creds new) differ =
     subst (AllPairs (Differ number_of)) (sym tasks)
     (all_pairs_push (Differ number_of) s.tasks (first_task task process _) differ (none_has number_of s.tasks task new))
-tasks_differ s event made (Renews task slot old c tasks creds current cause) differ =
+tasks_differ s event made (Forks task child process parent is tasks creds current new) differ =
     subst (AllPairs (Differ number_of)) (sym tasks)
-    (differ-map number_of (updated task _) s.tasks (updated_number task _) differ)
+    (all_pairs_push (Differ number_of) s.tasks (first_task child process _) differ (none_has number_of s.tasks child new))
+tasks_differ s event made (Renews task slot owner c ends tasks creds found cause) differ =
+    subst (AllPairs (Differ number_of)) (sym tasks)
+    (differ-map number_of (updated task _) (survivors ends s.tasks) (updated_number task _)
+    (AllPairs-filter (Differ number_of) (λ t. not (ends t)) s.tasks differ))
+tasks_differ s event made (Exits task is tasks creds) differ =
+    subst (AllPairs (Differ number_of)) (sym tasks)
+    (AllPairs-filter (Differ number_of) (λ t. not (is_task task t)) s.tasks differ)
 
 pub holds_differ : (s : State) (event : Event) (left : List ℕ) (t : State) → HoldsChange s event left t → AllPairs (Differ held_as) s.holds
     → AllPairs (Differ held_as) t.holds

@@ -1,0 +1,186 @@
+-- No event but a commit answers that an execve is completed.
+use Rattle.std.proofs.Common.{◌≡◌, ◌==◌, ℕ, List, length, nat_lt, position, slice_get, Option, Some, None, Result, Ok, Err, ok_or, Bool, true, false, cond, refl}
+use Rattle.std.specs.List.{find}
+use Rattle.std.specs.Option.{option_map_or}
+use Rattle.cred_record.specs.Credential.{Credential, first_credential}
+use Rattle.cred_record.specs.File.{File}
+use Rattle.cred_record.specs.declared.refusal.Denial.{Denial}
+use Rattle.cred_record.specs.declared.refusal.Denial.TheVariants.{Perm, Invalid}
+use Rattle.cred_rules.specs.Adjust.{adjust}
+use Rattle.cred_rules.specs.SetId.{set_id}
+use Rattle.cred_rules.specs.Access.{may}
+use Rattle.cred_rules.specs.Exec.{Executed, NoExec, exec}
+use Rattle.cred_rules.specs.Exec.NoExec.{MayNotExecute, SpellsNothing, GivesTooLittle}
+use Rattle.cred_event.specs.declared.answer.Answer.{Answer}
+use Rattle.cred_event.specs.declared.answer.Answer.TheVariants as answer
+use Rattle.cred_event.specs.declared.event.Change.{Change}
+use Rattle.cred_event.specs.declared.event.Change.TheVariants.{SetFs, Adjust, Exec}
+use Rattle.cred_event.specs.declared.event.Query.{Query}
+use Rattle.cred_event.specs.declared.event.Query.TheVariants.{Ids, Caps, Groups, Bits, Capable, Bset, AmbIs, Check}
+use Rattle.cred_event.specs.declared.event.Event.{Event}
+use Rattle.cred_event.specs.declared.event.Event.TheVariants.{Init, Take, Release, Ask, Prepare, Alter, Commit, Abort, Begin, Fork, Exit, Sweep}
+use Rattle.cred_model.specs.Script.{Script, info_of, chain_of}
+use Rattle.cred_model.specs.Named.{change_files}
+use Rattle.cred_model.specs.State.{State, numbered, task_of, hold_of, prepared_of, current_of, held_by}
+use Rattle.cred_model.specs.Ends.{is_thread_of}
+use Rattle.cred_model.specs.Slots.{free, room}
+use Rattle.cred_model.specs.Answers.{refusal, flag, reply}
+use Rattle.cred_model.specs.Change.{Made, made_by_rule, made_by_exec, by_rule, by_change}
+use Rattle.cred_model.specs.Step.{◌>>=◌, none_or, fewer_or, TASKS, HOLDS, PREPARED, in_slot, table_full, first_task, created, preparing, replaced, done, outcome}
+
+abbrev pub is_executed : Answer → Bool
+is_executed (answer.Executed number slot ended gains) = true
+is_executed other = false
+
+-- what an event answers, refused or not
+abbrev pub answer_of : Result (Answer × State) Answer → Answer
+answer_of (Ok made) = made.0
+answer_of (Err refused) = refused
+
+pub record Plain (r : Result (Answer × State) Answer) : Type 0 where
+  pub is : is_executed (answer_of r) ≡ false
+
+pub answers_settled : (s : State) (r : Result (Answer × State) Answer) → (outcome s r).0 ≡ answer_of r
+answers_settled s (Ok made) = refl
+answers_settled s (Err refused) = refl
+
+-- ---- tests
+
+some_plain : {A : Type 0} (found : Option A) (refused : Answer) (f : A → Result (Answer × State) Answer)
+    → is_executed refused ≡ false → ((x : A) → Plain (f x)) → Plain (ok_or found refused >>= f)
+some_plain None refused f plain each = record { is = plain }
+some_plain (Some x) refused f plain each = each x
+
+none_plain : {A : Type 0} (found : Option A) (refused : Answer) (f : Unit {0} → Result (Answer × State) Answer)
+    → is_executed refused ≡ false → Plain (f tt) → Plain (none_or found refused >>= f)
+none_plain None refused f plain each = each
+none_plain (Some x) refused f plain each = record { is = plain }
+
+test_plain : (test : Bool) (refused : Answer) (f : Unit {0} → Result (Answer × State) Answer)
+    → is_executed refused ≡ false → Plain (f tt) → Plain (cond test (Ok tt) (Err refused) >>= f)
+test_plain true refused f plain each = each
+test_plain false refused f plain each = record { is = plain }
+
+fewer_plain : (count limit : ℕ) (refused : Answer) (f : Unit {0} → Result (Answer × State) Answer)
+    → is_executed refused ≡ false → Plain (f tt) → Plain (fewer_or count limit refused >>= f)
+fewer_plain count limit refused f plain each = test_plain (nat_lt count limit) refused f plain each
+
+slot_plain : (s : State) (does : State → ℕ → Answer × State) → ((t : State) (slot : ℕ) → is_executed (does t slot).0 ≡ false)
+    → Plain (Ok (in_slot s table_full does))
+slot_plain s does each =
+    record {
+      is = elim (free s) as (λ o. is_executed (option_map_or (does (room s)) o (table_full (room s))).0 ≡ false) [
+        | None ↦ refl
+        | Some slot ↦ each (room s) slot
+      ];
+    }
+
+-- ---- rules
+
+refusal_plain : (denial : Denial) → is_executed (refusal denial) ≡ false
+refusal_plain Perm = refl
+refusal_plain Invalid = refl
+
+rule_plain : (r : Result Credential Denial) (f : Credential → Result (Answer × State) Answer) → ((c : Credential) → Plain (f c))
+    → Plain (by_rule r >>= f)
+rule_plain (Ok c) f each = each c
+rule_plain (Err denial) f each = record { is = refusal_plain denial }
+
+-- what a change answers
+abbrev change_answer : Result Made Answer → Answer
+change_answer (Ok made) = made.answer
+change_answer (Err refused) = refused
+
+made_plain : (r : Result Credential Denial) → is_executed (change_answer (made_by_rule r)) ≡ false
+made_plain (Ok c) = refl
+made_plain (Err denial) = refusal_plain denial
+
+exec_plain : (r : Result Executed NoExec) → is_executed (change_answer (made_by_exec r)) ≡ false
+exec_plain (Ok e) = refl
+exec_plain (Err MayNotExecute) = refl
+exec_plain (Err SpellsNothing) = refl
+exec_plain (Err GivesTooLittle) = refl
+
+change_plain : (file : Option File) (chain : List ℕ) (c : Credential) (change : Change)
+    → is_executed (change_answer (by_change file chain c change)) ≡ false
+change_plain file chain c (SetFs kind id) = refl
+change_plain file chain c (Adjust call) = made_plain (adjust c call)
+change_plain None chain c (Exec place) = refl
+change_plain (Some file) chain c (Exec place) = exec_plain (exec c file chain)
+change_plain file chain c change = refl
+
+alter_plain : (r : Result Made Answer) (f : Made → Result (Answer × State) Answer) → is_executed (change_answer r) ≡ false
+    → ((made : Made) → answer_of (f made) ≡ made.answer) → Plain (r >>= f)
+alter_plain (Ok made) f plain each = record { is = rw (each made) plain }
+alter_plain (Err refused) f plain each = record { is = plain }
+
+-- ---- questions
+
+flag_plain : (o : Option Bool) → is_executed (flag o) ≡ false
+flag_plain None = refl
+flag_plain (Some b) = refl
+
+checked_plain : (b : Bool) → is_executed (cond b answer.Done answer.Eacces) ≡ false
+checked_plain true = refl
+checked_plain false = refl
+
+reply_plain : (file : Option File) (c : Credential) (query : Query) → is_executed (reply file c query) ≡ false
+reply_plain file c Ids = refl
+reply_plain file c Caps = refl
+reply_plain file c Groups = refl
+reply_plain file c Bits = refl
+reply_plain file c (Capable n) = flag_plain _
+reply_plain file c (Bset n) = flag_plain _
+reply_plain file c (AmbIs n) = flag_plain _
+reply_plain None c (Check place asked) = refl
+reply_plain (Some file) c (Check place asked) = checked_plain (may c file asked)
+
+-- ---- events
+
+abbrev pub commits : Event → Bool
+commits (Commit label) = true
+commits event = false
+
+-- an answer that is given at once
+at_once : (answer : Answer) (t : State) → is_executed answer ≡ false → Plain (Ok (answer, t))
+at_once answer t plain = record { is = plain }
+
+pub plain : (script : Script) (s : State) (line : ℕ) (event : Event) → commits event ≡ false → Plain (done script s line event)
+plain script s line (Init task process user group ns) other =
+    none_plain (task_of s task) _ _ refl (fewer_plain (length s.tasks) TASKS _ _ refl
+    (slot_plain s (λ t slot. (answer.Sealed (length t.creds) slot, created t (first_task task process (length t.creds)) (first_credential user group ns) slot))
+    (λ t slot. refl)))
+plain script s line (Take label task side) other =
+    some_plain (current_of s task) _ _ refl
+    (λ taken. none_plain (hold_of s label) _ _ refl (none_plain (prepared_of s label) _ _ refl (fewer_plain (length s.holds) HOLDS _ _ refl (at_once _ _ refl))))
+plain script s line (Release label) other =
+    some_plain (position (λ h. h.label == label) s.holds) _ _ refl
+    (λ place. some_plain (slice_get s.holds place) _ _ refl (λ hold. at_once _ _ refl))
+plain script s line (Ask label query) other =
+    some_plain (held_by s label) _ _ refl (λ held. at_once _ _ (reply_plain _ held.cred query))
+plain script s line (Prepare label task hold) other =
+    some_plain (task_of s task) _ _ refl
+    (λ owner. some_plain (hold_of s hold) _ _ refl
+    (λ base. none_plain (hold_of s label) _ _ refl
+    (none_plain (prepared_of s label) _ _ refl (fewer_plain (length s.prepared) PREPARED _ _ refl
+    (slot_plain s (λ t slot. (answer.Kept slot, preparing t (record { label = label; task = task; base = base.number; slot = slot; changed = None })))
+    (λ t slot. refl))))))
+plain script s line (Alter label change) other =
+    some_plain (prepared_of s label) _ _ refl
+    (λ p. some_plain (numbered s.creds p.base) _ _ refl
+    (λ base. alter_plain (by_change (info_of script (change_files change)) (chain_of script base.cred.ns) base.cred change) _
+    (change_plain (info_of script (change_files change)) (chain_of script base.cred.ns) base.cred change) (λ made. refl)))
+plain script s line (Commit label) other = cc
+plain script s line (Abort label) other =
+    some_plain (position (λ p. p.label == label) s.prepared) _ _ refl
+    (λ place. some_plain (slice_get s.prepared place) _ _ refl (λ p. at_once _ _ refl))
+plain script s line (Begin task call) other =
+    some_plain (current_of s task) _ _ refl
+    (λ old. rule_plain (set_id old.cred call) _ (λ new. slot_plain s (λ t slot. (answer.Began (length t.creds) slot 0, replaced t task old.number new slot)) (λ t slot. refl)))
+plain script s line (Fork task child process) other =
+    some_plain (current_of s task) _ _ refl
+    (λ parent. none_plain (task_of s child) _ _ refl
+    (none_plain (find (is_thread_of process) s.tasks) _ _ refl (fewer_plain (length s.tasks) TASKS _ _ refl (at_once _ _ refl))))
+plain script s line (Exit task) other = some_plain (task_of s task) _ _ refl (λ owner. at_once _ _ refl)
+plain script s line Sweep other = at_once _ _ refl
+plain script s line event other = record { is = refl }
