@@ -2,4 +2,5 @@ pub mod FileMap
 pub mod IdLists
 pub mod Own
 pub mod Steps
+pub mod MoreNamespaces
 pub mod FirstBadLine

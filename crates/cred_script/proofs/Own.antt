@@ -23,17 +23,18 @@ use Rattle.cred_spelling.specs.declared.names.ChangeName.TheVariants as change
 use Rattle.cred_spelling.specs.declared.reason.Reason.{Reason}
 use Rattle.cred_spelling.specs.declared.reason.Reason.TheVariants.{Word, Name, Byte}
 use Rattle.cred_spelling.specs.Lines.{is_printable}
-use Rattle.cred_spelling.specs.Names.{id_name, change_name, call_name}
-use Rattle.cred_spelling.specs.Spellings.{letter, number_of, within, id_of, arg_of, cap_of, set_of, label_of, task_of, process_of, namespace_of}
+use Rattle.cred_spelling.specs.Names.{id_name, change_name, call_name, form_of}
+use Rattle.cred_spelling.specs.Spellings.{letter, number_of, within, id_of, arg_of, cap_of, set_of, label_of, task_of, process_of, namespace_of, new_namespace_of, parent_of}
 use Rattle.cred_spelling.specs.Words.{◌>>=◌, words_of, is_comment, word_of, no_words, one_of, two_of, three_of, five_of}
 use Rattle.cred_script.specs.declared.forms.Parsed.{Parsed}
 use Rattle.cred_script.specs.declared.forms.Parsed.TheVariants.{Empty, File, Starts, Holds}
-use Rattle.cred_script.specs.Changes.{change_of}
-use Rattle.cred_script.specs.Files.{FILES, place_of, has_room, file_of}
+use Rattle.cred_script.specs.declared.forms.Parsed.TheVariants as parsed
+use Rattle.cred_script.specs.Changes.{exec_of, change_of}
+use Rattle.cred_script.specs.Files.{FILES, place_of, file_at, has_room, file_of}
 use Rattle.cred_script.specs.IdCalls.{id_call_of}
-use Rattle.cred_script.specs.Forms.{query_of, query_named, take_of, ask_of, alter_of, begin_of, event_of, call_of, content_of, parse_form}
+use Rattle.cred_script.specs.Forms.{query_of, query_named, take_of, ask_of, alter_of, begin_of, event_of, fork_of, call_of, content_of, parse_form}
 use Rattle.cred_script.specs.Grammar.{parse_full, parse_words, parse_line}
-use Rattle.cred_script.specs.Reading.{Reading, has_namespaces, has_files, uses_declared, has_names, form_at, in_order, admits}
+use Rattle.cred_script.specs.Reading.{Reading, has_namespaces, has_files, uses_declared, has_names, in_new_process, in_order, admits}
 use Rattle.cred_script.specs.Sound.{LAST_LABEL, event_labels, labels, IsNext, IsParsed}
 
 -- ---- what holds of a value, if there is one, through the steps that lead to it
@@ -127,17 +128,24 @@ one label fits = All-cons IsLabel label [] fits none
 of_label : (event : Event) (label : ℕ) → event_labels event ≡ label ∷ [] → is_built event ≡ true → IsLabel label → Good OwnEvent (let r : Result Event Reason = Ok event in r)
 of_label event label labels_are built fits = record { is = record { labels = rw labels_are (one label fits); built = built } }
 
-own_change : (kind : ChangeName) (words : List (List ℕ)) → Good (λ made. is_built_change made ≡ true) (change_of kind words)
+own_exec : (files : List NamedFile) (words : List (List ℕ)) → Good (λ made. is_built_change made ≡ true) (exec_of files words)
+unfolding exec_of
+own_exec files [] = record { is = tt }
+own_exec files (word ∷ []) = skip _ (file_at files word) _ (λ file. record { is = refl })
+own_exec files (word ∷ more ∷ words) = record { is = tt }
+
+own_change : (files : List NamedFile) (kind : ChangeName) (words : List (List ℕ)) → Good (λ made. is_built_change made ≡ true) (change_of files kind words)
 unfolding change_of
-own_change (change.SetFs kind) words = skip _ (one_of arg_of words) _ (λ id. record { is = refl })
-own_change change.Capset words = skip _ (three_of set_of set_of set_of words) _ (λ sets. record { is = refl })
-own_change change.BoundDrop words = skip _ (one_of cap_of words) _ (λ cap. record { is = refl })
-own_change change.AmbRaise words = skip _ (one_of cap_of words) _ (λ cap. record { is = refl })
-own_change change.AmbLower words = skip _ (one_of cap_of words) _ (λ cap. record { is = refl })
-own_change change.AmbClear words = skip _ (no_words words) _ (λ end. record { is = refl })
-own_change change.Bits words = skip _ (one_of number_of words) _ (λ number. record { is = refl })
-own_change change.KeepCaps words = skip _ (one_of number_of words) _ (λ number. record { is = refl })
-own_change change.NoNewPrivs words = skip _ (one_of number_of words) _ (λ number. record { is = refl })
+own_change files (change.SetFs kind) words = skip _ (one_of arg_of words) _ (λ id. record { is = refl })
+own_change files change.Capset words = skip _ (three_of set_of set_of set_of words) _ (λ sets. record { is = refl })
+own_change files change.BoundDrop words = skip _ (one_of cap_of words) _ (λ cap. record { is = refl })
+own_change files change.AmbRaise words = skip _ (one_of cap_of words) _ (λ cap. record { is = refl })
+own_change files change.AmbLower words = skip _ (one_of cap_of words) _ (λ cap. record { is = refl })
+own_change files change.AmbClear words = skip _ (no_words words) _ (λ end. record { is = refl })
+own_change files change.Bits words = skip _ (one_of number_of words) _ (λ number. record { is = refl })
+own_change files change.KeepCaps words = skip _ (one_of number_of words) _ (λ number. record { is = refl })
+own_change files change.NoNewPrivs words = skip _ (one_of number_of words) _ (λ number. record { is = refl })
+own_change files change.Exec words = own_exec files words
 
 own_take : (side : Side) (words : List (List ℕ)) → Good OwnEvent (take_of side words)
 unfolding take_of
@@ -150,12 +158,12 @@ own_ask files (hold ∷ []) = record { is = tt }
 own_ask files (hold ∷ asked ∷ words) =
     skip OwnEvent (query_named files asked words) _ (λ query. after IsLabel OwnEvent _ _ (label_good hold) (λ label fits. of_label _ label refl refl fits))
 
-own_alter : (words : List (List ℕ)) → Good OwnEvent (alter_of words)
+own_alter : (files : List NamedFile) (words : List (List ℕ)) → Good OwnEvent (alter_of files words)
 unfolding alter_of
-own_alter [] = record { is = tt }
-own_alter (prepared ∷ []) = record { is = tt }
-own_alter (prepared ∷ changed ∷ words) =
-    skip OwnEvent (ok_or (change_name changed) Word) _ (λ kind. after (λ made. is_built_change made ≡ true) OwnEvent _ _ (own_change kind words)
+own_alter files [] = record { is = tt }
+own_alter files (prepared ∷ []) = record { is = tt }
+own_alter files (prepared ∷ changed ∷ words) =
+    skip OwnEvent (ok_or (change_name changed) Word) _ (λ kind. after (λ made. is_built_change made ≡ true) OwnEvent _ _ (own_change files kind words)
     (λ made built. after IsLabel OwnEvent _ _ (label_good prepared) (λ label fits. of_label _ label refl built fits)))
 
 own_begin : (words : List (List ℕ)) → Good OwnEvent (begin_of words)
@@ -174,7 +182,7 @@ own_event files name.Ask words = own_ask files words
 own_event files name.Prepare words =
     after (λ word. IsLabel word.0 × IsLabel word.2) OwnEvent _ _ (label_first_and_last task_of words)
     (λ word fits. record { is = record { labels = All-cons IsLabel word.0 (word.2 ∷ []) fits.0 (one word.2 fits.1); built = refl } })
-own_event files name.Alter words = own_alter words
+own_event files name.Alter words = own_alter files words
 own_event files name.Commit words = after IsLabel OwnEvent _ _ (one_label words) (λ label fits. of_label _ label refl refl fits)
 own_event files name.Abort words = after IsLabel OwnEvent _ _ (one_label words) (λ label fits. of_label _ label refl refl fits)
 own_event files name.Begin words = own_begin words
@@ -186,12 +194,18 @@ record OwnContent (content : Content) : Type 0 where
   labels : All IsLabel (labels content)
   built : is_built_line content ≡ true
 
+own_fork : (task : ℕ) (words : List (List ℕ)) → Good OwnContent (fork_of task words)
+unfolding fork_of
+own_fork task words = skip OwnContent (two_of task_of process_of words) _ (λ word. record { is = record { labels = none; built = refl } })
+
 own_call : (files : List NamedFile) (task : ℕ) (called : CallName) (words : List (List ℕ)) → Good OwnContent (call_of files task called words)
 unfolding call_of
 own_call files task (call.Id called) words = skip OwnContent (id_call_of called words) _ (λ made. record { is = record { labels = none; built = refl } })
 own_call files task (call.Change changed) words =
-    after (λ made. is_built_change made ≡ true) OwnContent _ _ (own_change changed words) (λ made built. record { is = record { labels = none; built = built } })
+    after (λ made. is_built_change made ≡ true) OwnContent _ _ (own_change files changed words) (λ made built. record { is = record { labels = none; built = built } })
 own_call files task (call.Question asked) words = skip OwnContent (query_of files asked words) _ (λ query. record { is = record { labels = none; built = refl } })
+own_call files task call.Fork words = own_fork task words
+own_call files task call.Exit words = skip OwnContent (no_words words) _ (λ end. record { is = record { labels = none; built = refl } })
 
 own_content : (files : List NamedFile) (task : ℕ) (words : List (List ℕ)) → Good OwnContent (content_of files task words)
 unfolding content_of
@@ -202,7 +216,8 @@ own_content files task (word ∷ words) = skip OwnContent (ok_or (call_name word
 abbrev OwnLine : List NamedFile → Parsed → Type 0
 OwnLine declared Empty = Unit {0}
 OwnLine declared (File file) = length declared < FILES
-OwnLine declared (Starts content) = OwnContent content
+OwnLine declared (parsed.Namespace number root parent) = Unit {0}
+OwnLine declared (Starts process content) = OwnContent content
 OwnLine declared (Holds content) = OwnContent content
 
 room : (declared : List NamedFile) → Good (λ _. nat_lt (length declared) FILES ≡ true) (has_room declared)
@@ -216,6 +231,7 @@ own_form : (declared : List NamedFile) (named : Form) (words : List (List ℕ)) 
 unfolding parse_form
 own_form declared form.Init words = skip _ (five_of task_of process_of id_of id_of namespace_of words) _ (λ word. record { is = record { labels = none; built = refl } })
 own_form declared form.File words = after _ _ _ _ (own_file declared words) (λ file few. record { is = few })
+own_form declared form.Namespace words = skip _ (three_of new_namespace_of id_of parent_of words) _ (λ word. record { is = tt })
 own_form declared (form.Task task) words = after _ _ _ _ (own_content declared task words) (λ content own. record { is = own })
 own_form declared (form.Event named) words = after _ _ _ _ (own_event declared named words) (λ event own. record { is = record { labels = own.labels; built = own.built } })
 
@@ -249,20 +265,21 @@ sound reading content own h =
       };
     }
 
-parsed : (reading : Reading) (line : Parsed) → OwnLine reading.files line → has_names reading line ≡ true → IsParsed reading line
-parsed reading Empty own named = tt
-parsed reading (File file) own named = (own, no_place (place_of reading.files file.name) named)
-parsed reading (Starts content) own named = sound reading content own named
-parsed reading (Holds content) own named = sound reading content own named
+parsed_line : (reading : Reading) (line : Parsed) → OwnLine reading.files line → has_names reading line ≡ true → IsParsed reading line
+parsed_line reading Empty own named = tt
+parsed_line reading (File file) own named = (own, no_place (place_of reading.files file.name) named)
+parsed_line reading (parsed.Namespace number root parent) own named = (both (is_some (chain_in reading.namespaces parent)) _ named).0
+parsed_line reading (Starts process content) own named = sound reading content own named
+parsed_line reading (Holds content) own named = sound reading content own named
 
 admitted : (reading : Reading) (line : Parsed) → Good (λ _. has_names reading line ≡ true) (admits reading line)
-admitted reading line = skip _ (in_order reading line) _ (λ order. tested (has_names reading line) Name)
+admitted reading line = skip _ (in_new_process reading line) _ (λ process. skip _ (in_order reading line) _ (λ order. tested (has_names reading line) Name))
 
 full : (reading : Reading) (first : List ℕ) (words : List (List ℕ)) → Good (IsParsed reading) (parse_full reading first words)
 unfolding parse_full
 full reading first words =
-    skip _ (form_at reading first) _ (λ named. after _ _ (parse_form reading.files named words) _ (own_form reading.files named words)
-    (λ line own. after _ _ (admits reading line) _ (admitted reading line) (λ end names. record { is = parsed reading line own names })))
+    skip _ (ok_or (form_of first) Word) _ (λ named. after _ _ (parse_form reading.files named words) _ (own_form reading.files named words)
+    (λ line own. after _ _ (admits reading line) _ (admitted reading line) (λ end names. record { is = parsed_line reading line own names })))
 
 words_good : (reading : Reading) (words : List (List ℕ)) → Good (IsParsed reading) (parse_words reading words)
 words_good reading [] = record { is = tt }

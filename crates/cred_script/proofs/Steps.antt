@@ -6,6 +6,7 @@ use Rattle.cred_spelling.specs.declared.reason.Reason.{Reason}
 use Rattle.cred_spelling.specs.Words.{◌>>=◌}
 use Rattle.cred_script.specs.declared.forms.Parsed.{Parsed}
 use Rattle.cred_script.specs.declared.forms.Parsed.TheVariants.{Empty, File, Starts, Holds}
+use Rattle.cred_script.specs.declared.forms.Parsed.TheVariants as parsed
 use Rattle.cred_script.specs.Grammar.{parse_line, add_line, at_line, add_lines}
 use Rattle.cred_script.specs.Reading.{Reading, keep}
 use Rattle.cred_script.specs.Sound.{IsSound, IsReading}
@@ -14,7 +15,8 @@ use Rattle.cred_script.specs.Sound.{IsSound, IsReading}
 longer_keep : (reading : Reading) (line : Parsed) → length (keep reading line).lines ≡ length reading.lines + 1
 longer_keep reading Empty = rw (length-append reading.lines) refl
 longer_keep reading (File file) = rw (length-append reading.lines) refl
-longer_keep reading (Starts content) = rw (length-append reading.lines) refl
+longer_keep reading (parsed.Namespace number root parent) = rw (length-append reading.lines) refl
+longer_keep reading (Starts process content) = rw (length-append reading.lines) refl
 longer_keep reading (Holds content) = rw (length-append reading.lines) refl
 
 longer_by : (reading next : Reading) (found : Result Parsed Reason)

@@ -21,6 +21,10 @@ place_of files name = position (λ file. bytes_eq name file.name) files
 abbrev pub place_or_next : List NamedFile → List ℕ → ℕ
 place_or_next files name = option_map_or (λ place. place) (place_of files name) (length files)
 
+-- the file that a word names, by its place
+abbrev pub file_at : List NamedFile → List ℕ → Result ℕ Reason
+file_at files word = name_of word >>= λ name. Ok (place_or_next files name)
+
 -- one file more may be declared
 abbrev pub has_room : List NamedFile → Result (Unit {0}) Reason
 has_room files = if nat_lt (length files) FILES then Ok tt else Err Count

@@ -3,7 +3,7 @@
 -- what they spell.
 use Rattle.std.specs.Prelude.{ℕ, List, [], ◌∷◌, Result, Ok, Err, ok_or}
 use Rattle.cred_event.specs.declared.event.Event.{Event}
-use Rattle.cred_event.specs.declared.event.Event.TheVariants.{Init, Take, Release, Ask, Prepare, Alter, Commit, Abort, Begin, Sweep}
+use Rattle.cred_event.specs.declared.event.Event.TheVariants.{Init, Take, Release, Ask, Prepare, Alter, Commit, Abort, Begin, Fork, Exit, Sweep}
 use Rattle.cred_event.specs.declared.event.Side.{Side}
 use Rattle.cred_event.specs.declared.event.Side.TheVariants.{Subjective, Objective}
 use Rattle.cred_event.specs.declared.event.Query.{Query}
@@ -22,11 +22,11 @@ use Rattle.cred_spelling.specs.declared.names.CallName.TheVariants as call
 use Rattle.cred_spelling.specs.declared.reason.Reason.{Reason}
 use Rattle.cred_spelling.specs.declared.reason.Reason.TheVariants.{Word, Count}
 use Rattle.cred_spelling.specs.Names as names
-use Rattle.cred_spelling.specs.Spellings.{id_of, cap_of, task_of, process_of, label_of, namespace_of, want_of}
-use Rattle.cred_spelling.specs.Words.{◌>>=◌, name_of, word_of, no_words, bare, one_of, two_of, three_of, five_of}
+use Rattle.cred_spelling.specs.Spellings.{id_of, cap_of, task_of, process_of, label_of, namespace_of, new_namespace_of, parent_of, want_of}
+use Rattle.cred_spelling.specs.Words.{◌>>=◌, word_of, no_words, bare, one_of, two_of, three_of, five_of}
 use Rattle.cred_script.specs.declared.forms.Parsed.{Parsed}
-use Rattle.cred_script.specs.declared.forms.Parsed.TheVariants.{File, Starts, Holds}
-use Rattle.cred_script.specs.Files.{place_or_next, file_of}
+use Rattle.cred_script.specs.declared.forms.Parsed.TheVariants.{File, Namespace, Starts, Holds}
+use Rattle.cred_script.specs.Files.{file_at, file_of}
 use Rattle.cred_script.specs.IdCalls.{id_call_of}
 use Rattle.cred_script.specs.Changes.{change_of}
 
@@ -46,9 +46,9 @@ query_of files query_name.AmbIs words = do
   cap ← one_of cap_of words
   Ok (query.AmbIs cap)
 query_of files query_name.Check (name ∷ want ∷ []) = do
-  file ← name_of name
+  file ← file_at files name
   wanted ← word_of want_of want
-  Ok (query.Check (place_or_next files file) wanted)
+  Ok (query.Check file wanted)
 query_of files query_name.Check words = Err Count
 
 -- a question, by the word that names it
@@ -72,13 +72,13 @@ ask_of files (hold ∷ asked ∷ words) = do
 ask_of files words = Err Count
 
 -- `change H CHANGE`: the change is read before the label
-unfoldable pub alter_of : List (List ℕ) → Result Event Reason
-alter_of (prepared ∷ changed ∷ words) = do
+unfoldable pub alter_of : List NamedFile → List (List ℕ) → Result Event Reason
+alter_of files (prepared ∷ changed ∷ words) = do
   kind ← ok_or (names.change_name changed) Word
-  change ← change_of kind words
+  change ← change_of files kind words
   label ← word_of label_of prepared
   Ok (Alter label change)
-alter_of words = Err Count
+alter_of files words = Err Count
 
 -- `begin T CALL`: the call is read before the task
 unfoldable pub begin_of : List (List ℕ) → Result Event Reason
@@ -98,11 +98,17 @@ event_of files name.Ask words = ask_of files words
 event_of files name.Prepare words = do
   word ← three_of label_of task_of label_of words
   Ok (Prepare word.0 word.1 word.2)
-event_of files name.Alter words = alter_of words
+event_of files name.Alter words = alter_of files words
 event_of files name.Commit words = one_of label_of words >>= λ label. Ok (Commit label)
 event_of files name.Abort words = one_of label_of words >>= λ label. Ok (Abort label)
 event_of files name.Begin words = begin_of words
 event_of files name.Sweep words = no_words words >>= λ end. Ok Sweep
+
+-- `fork T P`: the child, and its process
+unfoldable pub fork_of : ℕ → List (List ℕ) → Result Content Reason
+fork_of task words = do
+  word ← two_of task_of process_of words
+  Ok (One (Fork task word.0 word.1))
 
 -- what the task does, by its name
 unfoldable pub call_of : List NamedFile → ℕ → CallName → List (List ℕ) → Result Content Reason
@@ -110,11 +116,13 @@ call_of files task (call.Id called) words = do
   made ← id_call_of called words
   Ok (Id task made)
 call_of files task (call.Change changed) words = do
-  made ← change_of changed words
+  made ← change_of files changed words
   Ok (Change task made)
 call_of files task (call.Question asked) words = do
   question ← query_of files asked words
   Ok (Question task question)
+call_of files task call.Fork words = fork_of task words
+call_of files task call.Exit words = bare words (One (Exit task))
 
 -- a call or a question of the task: the line names it after the task
 unfoldable pub content_of : List NamedFile → ℕ → List (List ℕ) → Result Content Reason
@@ -124,14 +132,18 @@ content_of files task (word ∷ words) = do
   call_of files task called words
 
 -- A line of this form, where these files are declared before it. `init T P ID ID N` creates a
--- first task, with its process, user, group and namespace.
+-- first task, with its process, user, group and namespace. `ns NUM ID NUM` declares a namespace,
+-- with its number, its root id and its parent's number.
 unfoldable pub parse_form : List NamedFile → Form → List (List ℕ) → Result Parsed Reason
 parse_form files form.Init words = do
   word ← five_of task_of process_of id_of id_of namespace_of words
-  Ok (Starts (One (Init word.0 word.1 word.2 word.3 word.4)))
+  Ok (Starts word.1 (One (Init word.0 word.1 word.2 word.3 word.4)))
 parse_form files form.File words = do
   file ← file_of files words
   Ok (File file)
+parse_form files form.Namespace words = do
+  word ← three_of new_namespace_of id_of parent_of words
+  Ok (Namespace word.0 word.1 word.2)
 parse_form files (form.Task task) words = do
   content ← content_of files task words
   Ok (Holds content)

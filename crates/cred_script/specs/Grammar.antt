@@ -1,20 +1,21 @@
 -- What script a text is, or its first bad line and the reason.
-use Rattle.std.specs.Prelude.{ℕ, ◌+◌, ◌-◌, ◌==◌, List, [], ◌∷◌, length, slice_get, Result, Ok, Err, None, if◌then◌else◌}
+use Rattle.std.specs.Prelude.{ℕ, ◌+◌, ◌-◌, ◌==◌, List, [], ◌∷◌, length, slice_get, Result, Ok, Err, ok_or, None, if◌then◌else◌}
 use Rattle.std.specs.declared.option.Option.{Option}
 use Rattle.cred_model.specs.Script.{Script, Line}
 use Rattle.cred_spelling.specs.declared.reason.Reason.{Reason}
-use Rattle.cred_spelling.specs.declared.reason.Reason.TheVariants.{Byte}
+use Rattle.cred_spelling.specs.declared.reason.Reason.TheVariants.{Byte, Word}
 use Rattle.cred_spelling.specs.Lines.{lines_of, is_printable}
+use Rattle.cred_spelling.specs.Names.{form_of}
 use Rattle.cred_spelling.specs.Words.{◌>>=◌, words_of, is_comment}
 use Rattle.cred_script.specs.declared.forms.Parsed.{Parsed}
 use Rattle.cred_script.specs.declared.forms.Parsed.TheVariants.{Empty}
 use Rattle.cred_script.specs.Forms.{parse_form}
-use Rattle.cred_script.specs.Reading.{Reading, nothing, script, form_at, admits, keep}
+use Rattle.cred_script.specs.Reading.{Reading, nothing, script, admits, keep}
 
 -- A line that isn't empty. The tests stand in their order: the first that fails gives the reason.
 unfoldable pub parse_full : Reading → List ℕ → List (List ℕ) → Result Parsed Reason
 parse_full reading first words = do
-  form ← form_at reading first
+  form ← ok_or (form_of first) Word
   line ← parse_form reading.files form words
   fits ← admits reading line
   Ok line

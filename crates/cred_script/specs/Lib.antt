@@ -1,6 +1,7 @@
 pub use Rattle.cred_spelling.specs.Lines
 pub use Rattle.cred_spelling.specs.Spellings
 pub mod Files
+pub mod Namespaces
 pub mod IdCalls
 pub mod Changes
 pub mod Forms

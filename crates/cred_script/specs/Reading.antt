@@ -1,27 +1,26 @@
 -- What was read of a script before a line, what that asks of the line, and what the line adds.
-use Rattle.std.specs.Prelude.{ℕ, Bool, true, false, not, ◌&&◌, nat_lt, List, [], ◌∷◌, ◌++◌, length, is_some, Result, Ok, Err, ok_or, if◌then◌else◌}
-use Rattle.std.specs.List.{list_all}
+use Rattle.std.specs.Prelude.{ℕ, ◌==◌, Bool, true, false, not, ◌&&◌, nat_lt, List, [], ◌∷◌, ◌++◌, length, is_some, Result, Ok, Err, if◌then◌else◌}
+use Rattle.std.specs.List.{list_all, list_any}
 use Rattle.cred_event.specs.declared.content.Content.{Content}
 use Rattle.cred_event.specs.declared.content.Content.TheVariants.{Nothing}
 use Rattle.cred_model.specs.Script.{Line, NamedFile, Namespace, Script, chain_in}
 use Rattle.cred_model.specs.Named as named
-use Rattle.cred_spelling.specs.declared.names.Form.{Form}
-use Rattle.cred_spelling.specs.declared.names.Form.TheVariants.{Init}
 use Rattle.cred_spelling.specs.declared.reason.Reason.{Reason}
 use Rattle.cred_spelling.specs.declared.reason.Reason.TheVariants.{Word, Order, Name}
-use Rattle.cred_spelling.specs.Names.{form_of}
 use Rattle.cred_spelling.specs.Words.{◌>>=◌}
 use Rattle.cred_script.specs.declared.forms.Parsed.{Parsed}
 use Rattle.cred_script.specs.declared.forms.Parsed.TheVariants.{Empty, File, Starts, Holds}
+use Rattle.cred_script.specs.declared.forms.Parsed.TheVariants as parsed
 use Rattle.cred_script.specs.Files.{place_of}
+use Rattle.cred_script.specs.Namespaces.{with_namespace}
 
--- The files and the namespaces that are declared, the lines, whether a first task was created, and
+-- The files and the namespaces that are declared, the lines, the processes of the first tasks, and
 -- whether a call or an event stands there, so that nothing more may be declared.
 pub record Reading : Type 0 where
   pub files : List NamedFile
   pub namespaces : List Namespace
   pub lines : List Line
-  pub has_task : Bool
+  pub processes : List ℕ
   pub is_used : Bool
 
 -- before the first line
@@ -30,7 +29,7 @@ nothing = record {
   files = [];
   namespaces = [];
   lines = [];
-  has_task = false;
+  processes = [];
   is_used = false;
 }
 
@@ -42,21 +41,20 @@ script reading = record {
   lines = reading.lines;
 }
 
--- a script starts one task
-abbrev pub starts_again : Reading → Form → Bool
-starts_again reading Init = reading.has_task
+-- A process has one thread, so that an `init` line with a process of an earlier one is refused.
+abbrev pub starts_again : Reading → Parsed → Bool
+starts_again reading (Starts process content) =
+    list_any (λ started. started == process) reading.processes
 starts_again reading other = false
 
--- the form that the first word names; a second `init` is none
-unfoldable pub form_at : Reading → List ℕ → Result Form Reason
-form_at reading word = do
-  form ← ok_or (form_of word) Word
-  if starts_again reading form then Err Word else Ok form
+abbrev pub in_new_process : Reading → Parsed → Result (Unit {0}) Reason
+in_new_process reading line = if starts_again reading line then Err Word else Ok tt
 
 -- Declarations stand before all calls and events.
 abbrev pub is_declaration : Parsed → Bool
 is_declaration (File file) = true
-is_declaration (Starts content) = true
+is_declaration (parsed.Namespace number root parent) = true
+is_declaration (Starts process content) = true
 is_declaration other = false
 
 -- no declaration stands after a call or an event
@@ -82,15 +80,20 @@ uses_declared reading content =
 abbrev pub has_names : Reading → Parsed → Bool
 has_names reading Empty = true
 has_names reading (File file) = not (is_some (place_of reading.files file.name))
-has_names reading (Starts content) = uses_declared reading content
+has_names reading (parsed.Namespace number root parent) =
+    is_some (chain_in reading.namespaces parent)
+    && not (is_some (chain_in reading.namespaces number))
+has_names reading (Starts process content) = uses_declared reading content
 has_names reading (Holds content) = uses_declared reading content
 
 abbrev pub names_declared : Reading → Parsed → Result (Unit {0}) Reason
 names_declared reading line = if has_names reading line then Ok tt else Err Name
 
--- what a line may declare or hold after what was read: first the order, then the names
+-- what a line may declare or hold after what was read: first the process, then the order, then the
+-- names
 abbrev pub admits : Reading → Parsed → Result (Unit {0}) Reason
 admits reading line = do
+  process ← in_new_process reading line
   order ← in_order reading line
   names_declared reading line
 
@@ -106,5 +109,10 @@ push reading content = record reading { lines = reading.lines ++ setup_line cont
 abbrev pub keep : Reading → Parsed → Reading
 keep reading Empty = push reading Nothing
 keep reading (File file) = record (push reading Nothing) { files = reading.files ++ file ∷ [] }
-keep reading (Starts content) = record (push reading content) { has_task = true }
+keep reading (parsed.Namespace number root parent) =
+    record (push reading Nothing) {
+      namespaces = with_namespace reading.namespaces number root parent;
+    }
+keep reading (Starts process content) =
+    record (push reading content) { processes = reading.processes ++ process ∷ [] }
 keep reading (Holds content) = record (push reading content) { is_used = true }

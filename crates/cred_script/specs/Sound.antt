@@ -1,15 +1,16 @@
 -- What is true of the lines of every script.
-use Rattle.std.specs.Prelude.{◌≡◌, ℕ, ◌≤◌, ◌<◌, List, [], ◌∷◌, length, All, AllPairs, None, ⊤}
+use Rattle.std.specs.Prelude.{◌≡◌, ℕ, ◌≤◌, ◌<◌, List, [], ◌∷◌, length, All, AllPairs, IsSome, None, ⊤}
 use Rattle.cred_event.specs.declared.event.Event.{Event}
 use Rattle.cred_event.specs.declared.event.Event.TheVariants.{Take, TakeFile, Release, Ask, Signal, Prepare, Alter, Commit, Abort, Override, OpenFile}
 use Rattle.cred_event.specs.declared.entry.TheConstants.{LINE_LIMIT}
 use Rattle.cred_event.specs.declared.content.Content.{Content}
 use Rattle.cred_event.specs.declared.content.Content.TheVariants.{One}
-use Rattle.cred_model.specs.Script.{Line, Namespace, SetupBefore}
+use Rattle.cred_model.specs.Script.{Line, Namespace, SetupBefore, chain_in}
 use Rattle.cred_model.specs.Named.{IsContentOf}
 use Rattle.cred_spelling.specs.Spellings.{LAST_NUMBER}
 use Rattle.cred_script.specs.declared.forms.Parsed.{Parsed}
 use Rattle.cred_script.specs.declared.forms.Parsed.TheVariants.{Empty, File, Starts, Holds}
+use Rattle.cred_script.specs.declared.forms.Parsed.TheVariants as parsed
 use Rattle.cred_script.specs.Files.{FILES, place_of}
 use Rattle.cred_script.specs.Reading.{Reading, setup_line}
 
@@ -57,7 +58,9 @@ abbrev pub IsParsed : Reading → Parsed → Type 0
 IsParsed reading Empty = ⊤
 IsParsed reading (File file) =
     (length reading.files < FILES) × (place_of reading.files file.name ≡ None)
-IsParsed reading (Starts content) = IsNext reading content
+IsParsed reading (parsed.Namespace number root parent) =
+    IsSome (chain_in reading.namespaces parent)
+IsParsed reading (Starts process content) = IsNext reading content
 IsParsed reading (Holds content) = IsNext reading content
 
 -- what is true of the lines that were read, where so many files and these namespaces are declared

@@ -2,6 +2,7 @@
 ghost use Rattle.cred_spelling.specs.Read.{Says, nows};
 ghost use Rattle.cred_script.specs.Changes as spec;
 
+use crate::files::Files;
 use cred_caps::CapSet;
 use cred_event::Change;
 use cred_ids::Arg;
@@ -10,8 +11,8 @@ use cred_spelling::{Cap, ChangeName, Number, Reason, bare, one, three};
 
 /// A change, by its name.
 #[tactic(auto, unfolding(crate::specs::Changes::change_of))]
-pub(crate) fn change_of(name: ChangeName, words: &[&[u8]]) -> Result<Change, Reason>
-    ensures { Says (λ change. change) result (spec.change_of name (nows words.now)) }
+pub(crate) fn change_of(files: &Files, name: ChangeName, words: &[&[u8]]) -> Result<Change, Reason>
+    ensures { Says (λ change. change) result (spec.change_of files.now name (nows words.now)) }
 {
     match name {
         ChangeName::SetFs(kind) => Ok(Change::SetFs(kind, one::<Arg>(words)?)),
@@ -26,5 +27,19 @@ pub(crate) fn change_of(name: ChangeName, words: &[&[u8]]) -> Result<Change, Rea
         ChangeName::Bits => Ok(Change::Adjust(AdjCall::Bits(one::<Number>(words)?))),
         ChangeName::KeepCaps => Ok(Change::Adjust(AdjCall::KeepCaps(one::<Number>(words)?))),
         ChangeName::NoNewPrivs => Ok(Change::Adjust(AdjCall::NoNewPrivs(one::<Number>(words)?))),
+        ChangeName::Exec => exec_of(files, words),
+    }
+}
+
+/// `exec NAME`
+#[tactic(auto, unfolding(crate::specs::Changes::exec_of))]
+fn exec_of(files: &Files, words: &[&[u8]]) -> Result<Change, Reason>
+    ensures { Says (λ change. change) result (spec.exec_of files.now (nows words.now)) }
+{
+    match words {
+        [name] => Ok(Change::Exec {
+            file: files.file_at(name)?,
+        }),
+        _ => Err(Reason::Count),
     }
 }

@@ -1,10 +1,12 @@
 //! The files that a script declares.
 ghost use Rattle.std.specs.Prelude.{◌≡◌, ◌<◌, ◌∷◌, ◌++◌, [], IfSome, None, Some, OnErr, OnOk, length, nat_lt, not, slice_get};
 ghost use Rattle.std.specs.Option.{option_map};
+ghost use Rattle.cred_spelling.specs.Read.{Says};
 ghost use Rattle.cred_script.specs.Files as spec;
 
 use cred_ids::NoMemory;
 use cred_record::FileInfo;
+use cred_spelling::{Reason, name_of};
 use indexmap::IndexMap;
 use std::alloc::Global;
 use std::marker::Model;
@@ -88,6 +90,13 @@ impl Files {
             Some(place) => place,
             None => self.by_name.len() as u32,
         }
+    }
+
+    /// The file that the word names, by its place.
+    pub(crate) fn file_at(&self, word: &[u8]) -> Result<u32, Reason>
+        ensures { Says (λ place. place) result (spec.file_at self.now word.now) }
+    {
+        Ok(self.place_or_next(name_of(word)?))
     }
 
     /// The name of the file at this place; none past the last. No other file has it.

@@ -14,8 +14,9 @@ use cred_event::{Content, Event, Query, Side};
 use cred_ids::Id;
 use cred_record::Want;
 use cred_spelling::{
-    CallName, Cap, EventName, Form, Label, Namespace, Process, QueryName, Reason, Task, bare,
-    call_name, change_name, five, id_name, name_of, no_words, one, query_name, three, two, word,
+    CallName, Cap, EventName, Form, Label, Namespace, NewNamespace, Parent, Process, QueryName,
+    Reason, Task, bare, call_name, change_name, five, id_name, no_words, one, query_name, three,
+    two, word,
 };
 use std::alloc::Global;
 
@@ -26,8 +27,10 @@ pub(crate) enum Parsed {
     Empty,
     /// It declares a file.
     File(ScriptFile),
-    /// It creates a first task, which is a declaration too.
-    Starts(Content),
+    /// It declares a user namespace, with its root id and its parent's number.
+    Namespace { number: u32, root: Id, parent: u32 },
+    /// It creates a first task in this process, which is a declaration too.
+    Starts { process: u32, content: Content },
     /// It is a call, a question or an event.
     Holds(Content),
 }
@@ -45,15 +48,24 @@ pub(crate) fn parse_form(
     match form {
         Form::Init => {
             let (task, process, user, group, ns) = five::<Task, Process, Id, Id, Namespace>(words)?;
-            Ok(Parsed::Starts(Content::One(Event::Init {
+            let content = Content::One(Event::Init {
                 task,
                 process,
                 user,
                 group,
                 ns,
-            })))
+            });
+            Ok(Parsed::Starts { process, content })
         }
         Form::File => Ok(Parsed::File(file_of(alloc, files, words)?)),
+        Form::Namespace => {
+            let (number, root, parent) = three::<NewNamespace, Id, Parent>(words)?;
+            Ok(Parsed::Namespace {
+                number,
+                root,
+                parent,
+            })
+        }
         Form::Task(task) => Ok(Parsed::Holds(content_of(alloc, files, task, words)?)),
         Form::Event(name) => {
             let event = event_of(alloc, files, name, words)?;
@@ -83,7 +95,7 @@ fn event_of(
             let (label, task, hold) = three::<Label, Task, Label>(words)?;
             Ok(Event::Prepare { label, task, hold })
         }
-        EventName::Alter => Ok(alter_of(words)?),
+        EventName::Alter => Ok(alter_of(files, words)?),
         EventName::Commit => Ok(Event::Commit {
             label: one::<Label>(words)?,
         }),
@@ -124,13 +136,13 @@ fn ask_of(files: &Files, words: &[&[u8]]) -> Result<Event, Reason>
 
 /// `change H CHANGE`: the change is read before the label.
 #[tactic(auto, unfolding(crate::specs::Forms::alter_of))]
-fn alter_of(words: &[&[u8]]) -> Result<Event, Reason>
-    ensures { Says (λ event. event) result (spec.alter_of (nows words.now)) }
+fn alter_of(files: &Files, words: &[&[u8]]) -> Result<Event, Reason>
+    ensures { Says (λ event. event) result (spec.alter_of files.now (nows words.now)) }
 {
     match words {
         [label, name, words @ ..] => {
             let name = change_name(name).ok_or(Reason::Word)?;
-            let change = change_of(name, words)?;
+            let change = change_of(files, name, words)?;
             let label = word::<Label>(label)?;
             Ok(Event::Alter { label, change })
         }
@@ -180,7 +192,7 @@ fn query_of(files: &Files, name: QueryName, words: &[&[u8]]) -> Result<Query, Re
             let [name, want] = words else {
                 return Err(Reason::Count);
             };
-            let file = files.place_or_next(name_of(name)?);
+            let file = files.file_at(name)?;
             let want = word::<Want>(want)?;
             Ok(Query::Check { file, want })
         }
@@ -207,6 +219,19 @@ fn content_of(
     }
 }
 
+/// `fork T P`: the child, and its process.
+#[tactic(auto, unfolding(crate::specs::Forms::fork_of))]
+fn fork_of(task: u32, words: &[&[u8]]) -> Result<Content, Reason>
+    ensures { Says (λ made. made) result (spec.fork_of task (nows words.now)) }
+{
+    let (child, process) = two::<Task, Process>(words)?;
+    Ok(Content::One(Event::Fork {
+        task,
+        child,
+        process,
+    }))
+}
+
 /// What the task does, by its name.
 #[tactic(auto, unfolding(crate::specs::Forms::call_of))]
 fn call_of(
@@ -226,11 +251,16 @@ fn call_of(
         }),
         CallName::Change(name) => Ok(Content::Change {
             task,
-            change: change_of(name, words)?,
+            change: change_of(files, name, words)?,
         }),
         CallName::Question(name) => Ok(Content::Question {
             task,
             query: query_of(files, name, words)?,
         }),
+        CallName::Fork => Ok(fork_of(task, words)?),
+        CallName::Exit => {
+            no_words(words)?;
+            Ok(Content::One(Event::Exit { task }))
+        }
     }
 }

@@ -1,9 +1,10 @@
 //! The user namespaces that a script declares (user_namespaces(7)).
-ghost use Rattle.std.specs.Prelude.{◌≡◌, ◌==◌, [], find, is_some};
+ghost use Rattle.std.specs.Prelude.{◌≡◌, ◌==◌, [], IsSome, OnErr, OnOk, find, is_some};
 ghost use Rattle.std.specs.Option.{option_map};
 ghost use Rattle.cred_model.specs.Script.{chain_in};
+ghost use Rattle.cred_script.specs.Namespaces as spec;
 
-use cred_ids::Id;
+use cred_ids::{Id, NoMemory};
 use std::alloc::Global;
 use std::marker::Model;
 
@@ -72,6 +73,26 @@ impl Namespaces {
         ensures { result ≡ is_some (chain_in self.now number) }
     {
         self.chain(number).is_some()
+    }
+
+    /// One namespace more, with its root id and its parent, which is declared. Without memory
+    /// nothing changes.
+    pub(crate) fn add(
+        &mut self,
+        alloc: Global,
+        number: u32,
+        root: Id,
+        parent: u32,
+    ) -> Result<(), NoMemory>
+        requires { IsSome (chain_in self.old parent) }
+        ensures ok { OnOk result (self.new ≡ spec.with_namespace self.old number root parent) }
+        ensures err { OnErr result (self.new ≡ self.old) }
+    {
+        let mut chain = Vec::new(alloc);
+        chain.push(root)?;
+        chain.extend_from_slice(self.chain(parent).unwrap())?;
+        self.declared.push(Namespace { number, chain })?;
+        Ok(())
     }
 }
 

@@ -16,7 +16,7 @@ use crate::refusal::{LineRefusal, ScriptRefusal};
 use crate::script::{Script, ScriptLine};
 use crate::uses::{has_files, has_namespaces};
 use cred_event::{Content, LINE_LIMIT};
-use cred_spelling::{Form, Reason, form_of, is_comment, split_into};
+use cred_spelling::{Reason, form_of, is_comment, split_into};
 use std::alloc::Global;
 use std::marker::Model;
 
@@ -26,8 +26,8 @@ pub(crate) struct Reading {
     files: Files,
     namespaces: Namespaces,
     lines: Vec<ScriptLine>,
-    /// A first task was created.
-    has_task: bool,
+    /// The processes of the first tasks.
+    processes: Vec<u32>,
     /// A call or an event stands there, so that nothing more may be declared.
     is_used: bool,
 }
@@ -43,7 +43,7 @@ impl Model for Reading {
       files = r.files;
       namespaces = r.namespaces;
       lines = r.lines.items;
-      has_task = r.has_task;
+      processes = r.processes.items;
       is_used = r.is_used;
     } };
 
@@ -59,7 +59,7 @@ impl Reading {
             files: Files::new(alloc),
             namespaces: Namespaces::new(alloc),
             lines: Vec::new(alloc),
-            has_task: false,
+            processes: Vec::new(alloc),
             is_used: false,
         }
     }
@@ -121,11 +121,11 @@ impl Reading {
         ensures { GivesLine (λ _. self.new) result (grammar.add_line self.old text.now) }
     {
         let line = self.parse_line(alloc, words, text, printable)?;
-        self.keep(line)
+        self.keep(alloc, line)
     }
 
     /// The reading, and what this line adds to it.
-    fn keep(&mut self, line: Parsed) -> Result<(), LineRefusal>
+    fn keep(&mut self, alloc: Global, line: Parsed) -> Result<(), LineRefusal>
         requires few { length self.old.lines < LINE_LIMIT }
         requires sound { IsParsed self.old line }
         ensures ok { OnOk result (self.new ≡ spec.keep self.old line) }
@@ -138,8 +138,17 @@ impl Reading {
                 self.files.add(file)?;
                 Ok(())
             }
-            Parsed::Starts(content) => {
-                self.has_task = true;
+            Parsed::Namespace {
+                number,
+                root,
+                parent,
+            } => {
+                self.push(Content::Nothing)?;
+                self.namespaces.add(alloc, number, root, parent)?;
+                Ok(())
+            }
+            Parsed::Starts { process, content } => {
+                self.processes.push(process)?;
                 self.push(content)
             }
             Parsed::Holds(content) => {
@@ -205,7 +214,7 @@ impl Reading {
         ensures { GivesLine (λ line. line) result
             (grammar.parse_full self.now first.now (nows words.now)) }
     {
-        let form = self.form_at(first)?;
+        let form = form_of(first).ok_or(Reason::Word)?;
         let line = parse_form(alloc, &self.files, form, words)?;
         self.admits(&line)?;
         Ok(line)
@@ -215,19 +224,20 @@ impl Reading {
     fn admits(&self, line: &Parsed) -> Result<(), Reason>
         ensures { Says (λ x. x) result (spec.admits self.now line.now) }
     {
+        self.in_new_process(line)?;
         self.in_order(line)?;
         self.names_declared(line)
     }
 
-    /// The form that the first word names.
-    #[tactic(auto, unfolding(crate::specs::Reading::form_at))]
-    fn form_at(&self, word: &[u8]) -> Result<Form, Reason>
-        ensures { Says (λ form. form) result (spec.form_at self.now word.now) }
+    /// A process has one thread: no two `init` lines name one.
+    fn in_new_process(&self, line: &Parsed) -> Result<(), Reason>
+        ensures { Says (λ x. x) result (spec.in_new_process self.now line.now) }
     {
-        match form_of(word) {
-            None => Err(Reason::Word),
-            Some(Form::Init) if self.has_task => Err(Reason::Word),
-            Some(form) => Ok(form),
+        match line {
+            Parsed::Starts { process, .. } if self.processes.contains(process) => {
+                Err(Reason::Word)
+            }
+            _ => Ok(()),
         }
     }
 
@@ -236,7 +246,9 @@ impl Reading {
         ensures { Says (λ x. x) result (spec.in_order self.now line.now) }
     {
         match line {
-            Parsed::File(_) | Parsed::Starts(_) if self.is_used => Err(Reason::Order),
+            Parsed::File(_) | Parsed::Namespace { .. } | Parsed::Starts { .. } if self.is_used => {
+                Err(Reason::Order)
+            }
             _ => Ok(()),
         }
     }
@@ -248,7 +260,10 @@ impl Reading {
         let good = match line {
             Parsed::Empty => true,
             Parsed::File(file) => self.files.place_of(&file.name).is_none(),
-            Parsed::Starts(content) | Parsed::Holds(content) => {
+            Parsed::Namespace { number, parent, .. } => {
+                self.namespaces.has(*parent) && !self.namespaces.has(*number)
+            }
+            Parsed::Starts { content, .. } | Parsed::Holds(content) => {
                 has_namespaces(&self.namespaces, content) && has_files(&self.files, content)
             }
         };

@@ -4,7 +4,7 @@ use Rattle.std.specs.declared.option.Option.{Option}
 use Rattle.std.specs.Option.{option_map, option_or}
 use Rattle.cred_ids.specs.declared.id.Kind.TheVariants.{User, Group}
 use Rattle.cred_spelling.specs.declared.names.Form.{Form}
-use Rattle.cred_spelling.specs.declared.names.Form.TheVariants.{Init, File, Task, Event}
+use Rattle.cred_spelling.specs.declared.names.Form.TheVariants.{Init, File, Namespace, Task, Event}
 use Rattle.cred_spelling.specs.declared.names.EventName.TheVariants as event
 use Rattle.cred_spelling.specs.declared.names.IdName.{IdName}
 use Rattle.cred_spelling.specs.declared.names.IdName.TheVariants as id
@@ -22,6 +22,7 @@ unfoldable pub forms : List (List ℕ × Form)
 forms =
     (codes "init", Init) ∷
     (codes "file", File) ∷
+    (codes "ns", Namespace) ∷
     (codes "take", Event event.Take) ∷
     (codes "takereal", Event event.TakeReal) ∷
     (codes "drop", Event event.Release) ∷
@@ -61,6 +62,7 @@ change_names =
     (codes "securebits", change.Bits) ∷
     (codes "keepcaps", change.KeepCaps) ∷
     (codes "nonewprivs", change.NoNewPrivs) ∷
+    (codes "exec", change.Exec) ∷
     []
 
 -- the questions
@@ -74,6 +76,13 @@ query_names =
     (codes "bset", query.Bset) ∷
     (codes "ambis", query.AmbIs) ∷
     (codes "check", query.Check) ∷
+    []
+
+-- the calls that are neither id calls, nor changes, nor questions
+unfoldable pub call_names : List (List ℕ × CallName)
+call_names =
+    (codes "fork", call.Fork) ∷
+    (codes "exit", call.Exit) ∷
     []
 
 -- what a line is by its first word: a call or a question of a task is named by the task
@@ -97,4 +106,5 @@ abbrev pub call_name : List ℕ → Option CallName
 call_name word =
     option_or (option_map call.Question (query_name word))
     (option_or (option_map call.Id (id_name word))
-    (option_map call.Change (change_name word)))
+    (option_or (option_map call.Change (change_name word))
+    (named call_names word)))

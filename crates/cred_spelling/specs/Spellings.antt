@@ -84,11 +84,15 @@ bytes_of word =
 abbrev pub within : ℕ → ℕ → ℕ → Option ℕ
 within least most number = if nat_le least number && nat_le number most then Some number else None
 
+-- a word that is such a number
+abbrev pub number_within : ℕ → ℕ → List ℕ → Option ℕ
+number_within least most word = option_and_then (within least most) (number_of word)
+
 -- a letter, and a number from the least to the most
 abbrev pub numbered : ℕ → ℕ → ℕ → List ℕ → Option ℕ
 numbered letter least most [] = None
 numbered letter least most (first ∷ digits) =
-    if first == letter then option_and_then (within least most) (number_of digits) else None
+    if first == letter then number_within least most digits else None
 
 -- the letter that a text is
 abbrev pub letter : List ℕ → ℕ
@@ -118,6 +122,14 @@ label_of word = numbered (letter (codes "h")) 1 LAST_NUMBER word
 -- a namespace, as `n0`
 abbrev pub namespace_of : List ℕ → Option ℕ
 namespace_of word = numbered (letter (codes "n")) 0 LAST_NAMESPACE word
+
+-- the number of a namespace that is declared: 0 is the initial one, which is there
+abbrev pub new_namespace_of : List ℕ → Option ℕ
+new_namespace_of word = number_within 1 LAST_NAMESPACE word
+
+-- the number of a namespace's parent
+abbrev pub parent_of : List ℕ → Option ℕ
+parent_of word = number_within 0 LAST_NAMESPACE word
 
 -- a letter of either case
 abbrev pub is_letter : ℕ → Bool

@@ -97,6 +97,32 @@ impl Spelling for Namespace {
     }
 }
 
+/// The number of a namespace that a line declares, from 1 to 15.
+pub enum NewNamespace {}
+
+impl Spelling for NewNamespace {
+    type Value = u32;
+
+    ghost spelled = { spec.new_namespace_of };
+
+    fn of(word: &[u8]) -> Option<u32> {
+        spellings::new_namespace_of(word)
+    }
+}
+
+/// The number of a namespace's parent, from 0 to 15.
+pub enum Parent {}
+
+impl Spelling for Parent {
+    type Value = u32;
+
+    ghost spelled = { spec.parent_of };
+
+    fn of(word: &[u8]) -> Option<u32> {
+        spellings::parent_of(word)
+    }
+}
+
 impl Spelling for Id {
     type Value = Id;
 

@@ -18,7 +18,7 @@ mod words;
 
 pub use bytes::bytes_of;
 pub use file_name::name_of;
-pub use kinds::{Cap, Label, Namespace, Number, Process, Spelling, Task};
+pub use kinds::{Cap, Label, Namespace, NewNamespace, Number, Parent, Process, Spelling, Task};
 pub use lines::{first_line, line_count};
 pub use names::{
     CallName, ChangeName, EventName, Form, IdName, QueryName, call_name, change_name, form_of,

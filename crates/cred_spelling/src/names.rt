@@ -13,6 +13,8 @@ pub enum Form {
     Init,
     /// A file is declared.
     File,
+    /// A user namespace is declared.
+    Namespace,
     /// A call or a question of the task.
     Task(u32),
     /// An event.
@@ -70,6 +72,7 @@ pub enum ChangeName {
     Bits,
     KeepCaps,
     NoNewPrivs,
+    Exec,
 }
 
 /// The questions that a line may name.
@@ -91,11 +94,14 @@ pub enum CallName {
     Id(IdName),
     Change(ChangeName),
     Question(QueryName),
+    Fork,
+    Exit,
 }
 
-static FORMS: [(&str, Form); 12] = [
+static FORMS: [(&str, Form); 13] = [
     ("init", Form::Init),
     ("file", Form::File),
+    ("ns", Form::Namespace),
     ("take", Form::Event(EventName::Take)),
     ("takereal", Form::Event(EventName::TakeReal)),
     ("drop", Form::Event(EventName::Release)),
@@ -120,7 +126,7 @@ static ID_NAMES: [(&str, IdName); 9] = [
     ("setgroups", IdName::SetGroups),
 ];
 
-static CHANGE_NAMES: [(&str, ChangeName); 10] = [
+static CHANGE_NAMES: [(&str, ChangeName); 11] = [
     ("setfsuid", ChangeName::SetFs(Kind::User)),
     ("setfsgid", ChangeName::SetFs(Kind::Group)),
     ("capset", ChangeName::Capset),
@@ -131,6 +137,7 @@ static CHANGE_NAMES: [(&str, ChangeName); 10] = [
     ("securebits", ChangeName::Bits),
     ("keepcaps", ChangeName::KeepCaps),
     ("nonewprivs", ChangeName::NoNewPrivs),
+    ("exec", ChangeName::Exec),
 ];
 
 static QUERY_NAMES: [(&str, QueryName); 8] = [
@@ -143,6 +150,8 @@ static QUERY_NAMES: [(&str, QueryName); 8] = [
     ("ambis", QueryName::AmbIs),
     ("check", QueryName::Check),
 ];
+
+static CALL_NAMES: [(&str, CallName); 2] = [("fork", CallName::Fork), ("exit", CallName::Exit)];
 
 /// The form that a line's first word names: a call or a question of a task is named by the task.
 #[tactic(auto, unfolding(crate::specs::Names::forms))]
@@ -180,6 +189,7 @@ pub fn query_name(word: &[u8]) -> Option<QueryName>
 }
 
 /// What a task does on a line of its own, by its name.
+#[tactic(auto, unfolding(crate::specs::Names::call_names))]
 pub fn call_name(word: &[u8]) -> Option<CallName>
     ensures { result ≡ spec.call_name word.now }
 {
@@ -189,5 +199,8 @@ pub fn call_name(word: &[u8]) -> Option<CallName>
     if let Some(name) = id_name(word) {
         return Some(CallName::Id(name));
     }
-    Some(CallName::Change(change_name(word)?))
+    if let Some(name) = change_name(word) {
+        return Some(CallName::Change(name));
+    }
+    named(&CALL_NAMES, word)
 }

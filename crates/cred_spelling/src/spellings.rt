@@ -186,21 +186,41 @@ pub(crate) fn namespace_of(word: &[u8]) -> Option<u32>
     numbered(b'n', 0, LAST_NAMESPACE, word)
 }
 
+/// The number of a namespace that is declared. 0 is the initial one, which is there.
+pub(crate) fn new_namespace_of(word: &[u8]) -> Option<u32>
+    ensures { result ≡ spec.new_namespace_of word.now }
+{
+    number_within(1, LAST_NAMESPACE, word)
+}
+
+/// The number of a namespace's parent.
+pub(crate) fn parent_of(word: &[u8]) -> Option<u32>
+    ensures { result ≡ spec.parent_of word.now }
+{
+    number_within(0, LAST_NAMESPACE, word)
+}
+
 /// A letter, and a number from the least to the most.
 fn numbered(letter: u8, least: u32, most: u32, word: &[u8]) -> Option<u32>
     ensures value { result ≡ spec.numbered letter least most word.now }
     ensures within { IfSome result (λ number. number ≤ most) }
 {
     match word {
-        [first, digits @ ..] if *first == letter => {
-            let number = number_of(digits)?;
-            if least <= number && number <= most {
-                Some(number)
-            } else {
-                None
-            }
-        }
+        [first, digits @ ..] if *first == letter => { number_within(least, most, digits) }
         _ => None,
+    }
+}
+
+/// A number from the least to the most.
+fn number_within(least: u32, most: u32, word: &[u8]) -> Option<u32>
+    ensures value { result ≡ spec.number_within least most word.now }
+    ensures within { IfSome result (λ number. number ≤ most) }
+{
+    let number = number_of(word)?;
+    if least <= number && number <= most {
+        Some(number)
+    } else {
+        None
     }
 }
 
