@@ -1,9 +1,11 @@
 //! The examples, a module for each kind.
+mod among;
 mod changes;
 mod checks;
 mod copies;
 mod decoding;
 mod ends;
+mod execs;
 mod grammar;
 mod lasts;
 mod refused;
