@@ -1,13 +1,15 @@
 -- Tasks that end one after another, in the order in which they were created.
-use Rattle.std.proofs.Common.{◌≡◌, ℕ, ◌+◌, ◌<◌, ◌==◌, Bool, true, false, not, ◌&&◌, ◌||◌, cond, List, [], ◌∷◌, ◌++◌, filter, flat_map, get_or, length, map, nat_eq, take, Some, refl, sym, ap, ◌∙◌, arith}
+use Rattle.std.proofs.Common.{◌≡◌, ℕ, ◌+◌, ◌<◌, ◌≤◌, ◌==◌, Bool, true, false, not, ◌&&◌, ◌||◌, cond, List, [], ◌∷◌, ◌++◌, filter, flat_map, get_or, length, map, nat_eq, take, Some, refl, sym, ap, ◌∙◌, arith}
 use Rattle.std.specs.List.{IsDistinct, AllByRecursion, list_any}
 use Rattle.std.specs.Option.{option_map_or, IsSome}
 use Rattle.std.proofs.lemmas.Bool.{eqb-true, eq-eqb}
 use Rattle.std.proofs.lemmas.Bool.Decides.{nat_tests}
-use Rattle.std.proofs.lemmas.List.{take_more}
+use Rattle.std.proofs.lemmas.List.{take_more, length-map}
 use Rattle.std.proofs.lemmas.List.Folds.{list_any-append}
+use Rattle.std.proofs.lemmas.List.Sums.{length-filter, count_by-le-length}
 use Rattle.cred_model.specs.State.{Task}
 use Rattle.cred_model.specs.Ends.{is_task, is_thread_of, is_beside, numbers_of, survivors, left_by}
+use Rattle.cred_model.specs.Step.{TASKS}
 use Rattle.cred_procs.specs.Tasks.{task_in, those, members}
 use Rattle.cred_procs.proofs.Ends.{is_other}
 
@@ -115,6 +117,12 @@ without-those passes (t ∷ ts) distinct = step (passes t) (without-those passes
         ap (λ (b : Bool). cond (not b) (t ∷ without_all ts (those passes ts)) (without_all ts (those passes ts)))
         (none_among t.number (those passes ts) (others-those passes t.number ts distinct.0))
         ∙ ap (λ (us : List Task). t ∷ us) rest
+
+-- Those that pass a test are no more than there are.
+pub few_those : (passes : Task → Bool) (ts : List Task) (tasks : List ℕ) → tasks ≡ those passes ts → length ts ≤ TASKS → length tasks ≤ TASKS
+few_those passes ts tasks these few =
+    let many = ap length these ∙ length-map (filter passes ts) (λ (t : Task). t.number) ∙ length-filter passes ts in
+    omega (arith, few, many, count_by-le-length passes ts)
 
 -- ---- one task
 

@@ -2,7 +2,7 @@ use Rattle.std.proofs.Common.{◌∙◌, List, get_or, ap, sym}
 use Rattle.std.proofs.lemmas.List.{take_all}
 use Rattle.cred_model.specs.State.{Task}
 use Rattle.cred_model.specs.Ends.{is_task, survivors}
-use Rattle.cred_procs.proofs.Many.{without_all, without_all-none, without_all-more, without-those}
+use Rattle.cred_procs.proofs.Many.{without_all, without_all-none, without_all-more, without-those, few_those}
 use Rattle.cred_procs.proofs.procs.Procs.end.Goals as goal
 
 pub loop-task-init : goal.loop-task-init
@@ -18,6 +18,7 @@ loop-task-preserved c =
 pub returns-clause-ended : goal.returns-clause-ended
 returns-clause-ended c = λ ends these. record {
   ended = these;
+  few = few_those ends c.args.self.now _ these c.in_ok-numbers.ensures.tasks.few;
   gave_up = c.in_ok-numbers.ensures.numbers ends (c.items.ensures ∙ these);
   left = c.loop-task.invariant
       ∙ ap (without_all c.args.self.now) (take_all c.loop-task.task-index c.items-task-items.result.now c.loop-task-test.false ∙ c.items-task-items.ensures ∙ these)
