@@ -2,7 +2,7 @@
 -- built, and what it names is declared.
 use Rattle.std.proofs.Common.{◌≡◌, ℕ, ◌≤◌, ◌<◌, Bool, true, false, not, ◌&&◌, ◌==◌, nat_le, nat_lt, cond, List, [], ◌∷◌, length, Option, Some, None, is_some, Result, Ok, Err, ok_or, codes, refl, subst, arith}
 use Rattle.std.specs.List.{All, list_all}
-use Rattle.std.specs.Option.{IfSome, option_and_then}
+use Rattle.std.specs.Option.{IfSome, IsSome, option_and_then}
 use Rattle.std.specs.Result.{IfOk}
 use Rattle.std.proofs.lemmas.Bool.Decides.{nat_tests}
 use Rattle.std.proofs.lemmas.List.Elements.{All-nil, All-cons}
@@ -10,7 +10,7 @@ use Rattle.std.proofs.lemmas.List.Sums.{AllPass-from_list_all}
 use Rattle.cred_event.specs.declared.event.Event.{Event}
 use Rattle.cred_event.specs.declared.event.Side.{Side}
 use Rattle.cred_event.specs.declared.content.Content.{Content}
-use Rattle.cred_model.specs.Script.{NamedFile}
+use Rattle.cred_model.specs.Script.{NamedFile, Namespace, chain_in}
 use Rattle.cred_model.specs.Named.{is_built, is_built_change, is_built_line, files, namespaces}
 use Rattle.cred_spelling.specs.declared.names.Form.{Form}
 use Rattle.cred_spelling.specs.declared.names.Form.TheVariants as form
@@ -33,8 +33,8 @@ use Rattle.cred_script.specs.Files.{FILES, place_of, has_room, file_of}
 use Rattle.cred_script.specs.IdCalls.{id_call_of}
 use Rattle.cred_script.specs.Forms.{query_of, query_named, take_of, ask_of, alter_of, begin_of, event_of, call_of, content_of, parse_form}
 use Rattle.cred_script.specs.Grammar.{parse_full, parse_words, parse_line}
-use Rattle.cred_script.specs.Reading.{Reading, has_namespaces, has_files, has_names, form_at, in_order, admits, setup_line}
-use Rattle.cred_script.specs.Sound.{LAST_LABEL, event_labels, labels, IsSound, IsParsed}
+use Rattle.cred_script.specs.Reading.{Reading, has_namespaces, has_files, uses_declared, has_names, form_at, in_order, admits}
+use Rattle.cred_script.specs.Sound.{LAST_LABEL, event_labels, labels, IsNext, IsParsed}
 
 -- ---- what holds of a value, if there is one, through the steps that lead to it
 
@@ -229,47 +229,47 @@ no_place : (o : Option ℕ) → not (is_some o) ≡ true → o ≡ None
 no_place None h = refl
 no_place (Some place) h = absurd (cc)
 
-all_declared : (names : List ℕ) → list_all (λ namespace. namespace == 0) names ≡ true → All (λ namespace. namespace ≡ 0) names
-all_declared names h k d inside = let test = AllPass-from_list_all (λ namespace. namespace == 0) names h k d inside in grind (arith, nat_tests)
+all_declared : (declared : List Namespace) (numbers : List ℕ) → list_all (λ number. is_some (chain_in declared number)) numbers ≡ true
+    → All (λ number. IsSome (chain_in declared number)) numbers
+all_declared declared numbers h = AllPass-from_list_all (λ number. is_some (chain_in declared number)) numbers h
 
 all_among : (count : ℕ) (places : List ℕ) → list_all (λ file. nat_lt file count) places ≡ true → All (λ file. file < count) places
 all_among count places h k d inside = let test = AllPass-from_list_all (λ file. nat_lt file count) places h k d inside in grind (arith, nat_tests)
 
-sound : (declared : List NamedFile) (content : Content) → OwnContent content → (has_namespaces content && has_files declared content) ≡ true
-    → IsSound (length declared) (setup_line content)
-sound declared content own h =
-    let parts = both (has_namespaces content) (has_files declared content) h in
+sound : (reading : Reading) (content : Content) → OwnContent content → uses_declared reading content ≡ true → IsNext reading content
+sound reading content own h =
+    let parts = both (has_namespaces reading.namespaces content) (has_files reading.files content) h in
     record {
       lane = omega arith;
       labels = own.labels;
       content = record {
         built = own.built;
-        files = all_among (length declared) (files content) parts.1;
-        namespaces = all_declared (namespaces content) parts.0;
+        files = all_among (length reading.files) (files content) parts.1;
+        namespaces = all_declared reading.namespaces (namespaces content) parts.0;
       };
     }
 
-parsed : (declared : List NamedFile) (line : Parsed) → OwnLine declared line → has_names declared line ≡ true → IsParsed declared line
-parsed declared Empty own named = tt
-parsed declared (File file) own named = (own, no_place (place_of declared file.name) named)
-parsed declared (Starts content) own named = sound declared content own named
-parsed declared (Holds content) own named = sound declared content own named
+parsed : (reading : Reading) (line : Parsed) → OwnLine reading.files line → has_names reading line ≡ true → IsParsed reading line
+parsed reading Empty own named = tt
+parsed reading (File file) own named = (own, no_place (place_of reading.files file.name) named)
+parsed reading (Starts content) own named = sound reading content own named
+parsed reading (Holds content) own named = sound reading content own named
 
-admitted : (reading : Reading) (line : Parsed) → Good (λ _. has_names reading.files line ≡ true) (admits reading line)
-admitted reading line = skip _ (in_order reading line) _ (λ order. tested (has_names reading.files line) Name)
+admitted : (reading : Reading) (line : Parsed) → Good (λ _. has_names reading line ≡ true) (admits reading line)
+admitted reading line = skip _ (in_order reading line) _ (λ order. tested (has_names reading line) Name)
 
-full : (reading : Reading) (first : List ℕ) (words : List (List ℕ)) → Good (IsParsed reading.files) (parse_full reading first words)
+full : (reading : Reading) (first : List ℕ) (words : List (List ℕ)) → Good (IsParsed reading) (parse_full reading first words)
 unfolding parse_full
 full reading first words =
     skip _ (form_at reading first) _ (λ named. after _ _ (parse_form reading.files named words) _ (own_form reading.files named words)
-    (λ line own. after _ _ (admits reading line) _ (admitted reading line) (λ end names. record { is = parsed reading.files line own names })))
+    (λ line own. after _ _ (admits reading line) _ (admitted reading line) (λ end names. record { is = parsed reading line own names })))
 
-words_good : (reading : Reading) (words : List (List ℕ)) → Good (IsParsed reading.files) (parse_words reading words)
+words_good : (reading : Reading) (words : List (List ℕ)) → Good (IsParsed reading) (parse_words reading words)
 words_good reading [] = record { is = tt }
 words_good reading (first ∷ words) = one_of_both _ (is_comment first) _ _ (record { is = tt }) (full reading first words)
 
 -- a line that is good is sound
-pub parsed_sound : (reading : Reading) (text : List ℕ) (line : Parsed) → parse_line reading text ≡ Ok line → IsParsed reading.files line
+pub parsed_sound : (reading : Reading) (text : List ℕ) (line : Parsed) → parse_line reading text ≡ Ok line → IsParsed reading line
 parsed_sound reading text line is =
-    let good = one_of_both (IsParsed reading.files) (is_printable text) (parse_words reading (words_of text)) (Err Byte) (words_good reading (words_of text)) (record { is = tt }) in
-    subst (λ (r : Result Parsed Reason). IfOk r (IsParsed reading.files)) is good.is
+    let good = one_of_both (IsParsed reading) (is_printable text) (parse_words reading (words_of text)) (Err Byte) (words_good reading (words_of text)) (record { is = tt }) in
+    subst (λ (r : Result Parsed Reason). IfOk r (IsParsed reading)) is good.is

@@ -1,7 +1,7 @@
 -- One more line of a script.
 use Rattle.std.proofs.Common.{◌≡◌, ℕ, ◌+◌, ◌<◌, List, [], ◌∷◌, ◌++◌, length, Result, Ok, Err, refl, ap, length-append, arith}
 use Rattle.std.proofs.lemmas.List.Elements.{All-push}
-use Rattle.cred_model.specs.Script.{Line}
+use Rattle.cred_model.specs.Script.{Line, Namespace}
 use Rattle.cred_spelling.specs.declared.reason.Reason.{Reason}
 use Rattle.cred_spelling.specs.Words.{◌>>=◌}
 use Rattle.cred_script.specs.declared.forms.Parsed.{Parsed}
@@ -38,10 +38,10 @@ pub read_one : (reading next : Reading) (text : List ℕ) (texts all : List (Lis
 read_one reading next text texts all is all_is = rw (all_is, is) refl
 
 -- what was read stays sound with a sound line more
-pub pushed : (count : ℕ) (lines longer : List Line) (line : Line) → longer ≡ lines ++ line ∷ [] → length lines < 20000 → IsReading count lines → IsSound count line → line.lane ≡ 0
-    → IsReading count longer
-pushed count lines longer line longer_is room old sound setup = rw longer_is (record {
+pub pushed : (count : ℕ) (declared : List Namespace) (lines longer : List Line) (line : Line) → longer ≡ lines ++ line ∷ [] → length lines < 20000
+    → IsReading count declared lines → IsSound count declared line → line.lane ≡ 0 → IsReading count declared longer
+pushed count declared lines longer line longer_is room old sound setup = rw longer_is (record {
   few = rw (length-append lines (line ∷ [])) (omega arith);
-  each = All-push (IsSound count) lines line old.each sound;
+  each = All-push (IsSound count declared) lines line old.each sound;
   setup = All-push (λ l. l.lane ≡ 0) lines line old.setup setup;
 })

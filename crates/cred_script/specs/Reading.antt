@@ -1,10 +1,10 @@
 -- What was read of a script before a line, what that asks of the line, and what the line adds.
-use Rattle.std.specs.Prelude.{ℕ, ◌==◌, Bool, true, false, not, ◌&&◌, nat_lt, List, [], ◌∷◌, ◌++◌, length, is_some, Result, Ok, Err, ok_or, if◌then◌else◌}
+use Rattle.std.specs.Prelude.{ℕ, Bool, true, false, not, ◌&&◌, nat_lt, List, [], ◌∷◌, ◌++◌, length, is_some, Result, Ok, Err, ok_or, if◌then◌else◌}
 use Rattle.std.specs.List.{list_all}
 use Rattle.cred_event.specs.declared.content.Content.{Content}
 use Rattle.cred_event.specs.declared.content.Content.TheVariants.{Nothing}
-use Rattle.cred_model.specs.Script.{Line, NamedFile, Script}
-use Rattle.cred_model.specs.Named.{files, namespaces}
+use Rattle.cred_model.specs.Script.{Line, NamedFile, Namespace, Script, chain_in}
+use Rattle.cred_model.specs.Named as named
 use Rattle.cred_spelling.specs.declared.names.Form.{Form}
 use Rattle.cred_spelling.specs.declared.names.Form.TheVariants.{Init}
 use Rattle.cred_spelling.specs.declared.reason.Reason.{Reason}
@@ -15,21 +15,32 @@ use Rattle.cred_script.specs.declared.forms.Parsed.{Parsed}
 use Rattle.cred_script.specs.declared.forms.Parsed.TheVariants.{Empty, File, Starts, Holds}
 use Rattle.cred_script.specs.Files.{place_of}
 
--- The files that are declared, the lines, whether a first task was created, and whether a call or
--- an event stands there, so that nothing more may be declared.
+-- The files and the namespaces that are declared, the lines, whether a first task was created, and
+-- whether a call or an event stands there, so that nothing more may be declared.
 pub record Reading : Type 0 where
   pub files : List NamedFile
+  pub namespaces : List Namespace
   pub lines : List Line
   pub has_task : Bool
   pub is_used : Bool
 
 -- before the first line
 abbrev pub nothing : Reading
-nothing = record { files = []; lines = []; has_task = false; is_used = false }
+nothing = record {
+  files = [];
+  namespaces = [];
+  lines = [];
+  has_task = false;
+  is_used = false;
+}
 
 -- the script that was read
 abbrev pub script : Reading → Script
-script reading = record { files = reading.files; lines = reading.lines }
+script reading = record {
+  files = reading.files;
+  namespaces = reading.namespaces;
+  lines = reading.lines;
+}
 
 -- a script starts one task
 abbrev pub starts_again : Reading → Form → Bool
@@ -52,29 +63,36 @@ is_declaration other = false
 abbrev pub in_order : Reading → Parsed → Result (Unit {0}) Reason
 in_order reading line = if is_declaration line && reading.is_used then Err Order else Ok tt
 
--- Namespace 0 is the only one that is declared.
-abbrev pub has_namespaces : Content → Bool
-has_namespaces content = list_all (λ namespace. namespace == 0) (namespaces content)
+-- Each namespace that the line names is the initial one, or one of those that are declared.
+abbrev pub has_namespaces : List Namespace → Content → Bool
+has_namespaces declared content =
+    list_all (λ number. is_some (chain_in declared number)) (named.namespaces content)
 
 -- Each file that the line names is one of those that are declared.
 abbrev pub has_files : List NamedFile → Content → Bool
-has_files declared content = list_all (λ file. nat_lt file (length declared)) (files content)
+has_files declared content =
+    list_all (λ file. nat_lt file (length declared)) (named.files content)
+
+-- each name that the line uses is declared
+abbrev pub uses_declared : Reading → Content → Bool
+uses_declared reading content =
+    has_namespaces reading.namespaces content && has_files reading.files content
 
 -- the names that the line uses are declared, and the one that it declares is not
-abbrev pub has_names : List NamedFile → Parsed → Bool
-has_names declared Empty = true
-has_names declared (File file) = not (is_some (place_of declared file.name))
-has_names declared (Starts content) = has_namespaces content && has_files declared content
-has_names declared (Holds content) = has_namespaces content && has_files declared content
+abbrev pub has_names : Reading → Parsed → Bool
+has_names reading Empty = true
+has_names reading (File file) = not (is_some (place_of reading.files file.name))
+has_names reading (Starts content) = uses_declared reading content
+has_names reading (Holds content) = uses_declared reading content
 
-abbrev pub names_declared : List NamedFile → Parsed → Result (Unit {0}) Reason
-names_declared declared line = if has_names declared line then Ok tt else Err Name
+abbrev pub names_declared : Reading → Parsed → Result (Unit {0}) Reason
+names_declared reading line = if has_names reading line then Ok tt else Err Name
 
 -- what a line may declare or hold after what was read: first the order, then the names
 abbrev pub admits : Reading → Parsed → Result (Unit {0}) Reason
 admits reading line = do
   order ← in_order reading line
-  names_declared reading.files line
+  names_declared reading line
 
 -- every line belongs to the setup
 abbrev pub setup_line : Content → Line

@@ -5,13 +5,13 @@ use Rattle.cred_event.specs.declared.event.Event.TheVariants.{Take, TakeFile, Re
 use Rattle.cred_event.specs.declared.entry.TheConstants.{LINE_LIMIT}
 use Rattle.cred_event.specs.declared.content.Content.{Content}
 use Rattle.cred_event.specs.declared.content.Content.TheVariants.{One}
-use Rattle.cred_model.specs.Script.{Line, NamedFile, SetupBefore}
+use Rattle.cred_model.specs.Script.{Line, Namespace, SetupBefore}
 use Rattle.cred_model.specs.Named.{IsContentOf}
 use Rattle.cred_spelling.specs.Spellings.{LAST_NUMBER}
 use Rattle.cred_script.specs.declared.forms.Parsed.{Parsed}
 use Rattle.cred_script.specs.declared.forms.Parsed.TheVariants.{Empty, File, Starts, Holds}
 use Rattle.cred_script.specs.Files.{FILES, place_of}
-use Rattle.cred_script.specs.Reading.{setup_line}
+use Rattle.cred_script.specs.Reading.{Reading, setup_line}
 
 -- the labels that an event names
 abbrev pub event_labels : Event → List ℕ
@@ -41,27 +41,34 @@ LAST_LABEL = LAST_NUMBER
 abbrev pub LAST_LANE : ℕ
 LAST_LANE = 16
 
--- what is true of each line of a script that declares so many files
-pub record IsSound (count : ℕ) (line : Line) : Type 0 where
+-- what is true of each line of a script that declares so many files, and these namespaces
+pub record IsSound (count : ℕ) (declared : List Namespace) (line : Line) : Type 0 where
   pub lane : line.lane ≤ LAST_LANE
   pub labels : All (λ label. label ≤ LAST_LABEL) (labels line.content)
-  pub content : IsContentOf count line.content
+  pub content : IsContentOf count declared line.content
 
--- what is true of a line that was parsed, where these files are declared before it
-abbrev pub IsParsed : List NamedFile → Parsed → Type 0
-IsParsed declared Empty = ⊤
-IsParsed declared (File file) = (length declared < FILES) × (place_of declared file.name ≡ None)
-IsParsed declared (Starts content) = IsSound (length declared) (setup_line content)
-IsParsed declared (Holds content) = IsSound (length declared) (setup_line content)
+-- the next line is sound if it holds this
+abbrev pub IsNext : Reading → Content → Type 0
+IsNext reading content =
+    IsSound (length reading.files) reading.namespaces (setup_line content)
 
--- what is true of the lines that were read, where so many files are declared
-pub record IsReading (count : ℕ) (lines : List Line) : Type 0 where
+-- what is true of a line that was parsed, after what was read before it
+abbrev pub IsParsed : Reading → Parsed → Type 0
+IsParsed reading Empty = ⊤
+IsParsed reading (File file) =
+    (length reading.files < FILES) × (place_of reading.files file.name ≡ None)
+IsParsed reading (Starts content) = IsNext reading content
+IsParsed reading (Holds content) = IsNext reading content
+
+-- what is true of the lines that were read, where so many files and these namespaces are declared
+pub record IsReading (count : ℕ) (declared : List Namespace) (lines : List Line) : Type 0 where
   pub few : length lines ≤ LINE_LIMIT
-  pub each : All (IsSound count) lines
+  pub each : All (IsSound count declared) lines
   pub setup : All (λ line. line.lane ≡ 0) lines
 
--- what is true of the lines of a script that declares so many files
-pub record IsSoundScript (count : ℕ) (lines : List Line) : Type 0 where
+-- what is true of the lines of a script that declares so many files, and these namespaces
+pub record IsSoundScript (count : ℕ) (declared : List Namespace) (lines : List Line)
+    : Type 0 where
   pub few : length lines ≤ LINE_LIMIT
-  pub each : All (IsSound count) lines
+  pub each : All (IsSound count declared) lines
   pub first : AllPairs SetupBefore lines

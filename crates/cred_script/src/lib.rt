@@ -13,6 +13,7 @@ mod file_line;
 mod files;
 mod forms;
 mod id_calls;
+mod namespaces;
 mod reader;
 mod reading;
 mod refusal;

@@ -7,10 +7,11 @@ ghost use Rattle.cred_script.specs.Grammar as grammar;
 ghost use Rattle.cred_script.specs.Grammar.{at_line};
 ghost use Rattle.cred_script.specs.Read.{Gives, GivesLine};
 ghost use Rattle.cred_script.specs.Reading as spec;
-ghost use Rattle.cred_script.specs.Sound.{IsParsed, IsSound};
+ghost use Rattle.cred_script.specs.Sound.{IsNext, IsParsed};
 
 use crate::files::Files;
 use crate::forms::{Parsed, parse_form};
+use crate::namespaces::Namespaces;
 use crate::refusal::{LineRefusal, ScriptRefusal};
 use crate::script::{Script, ScriptLine};
 use crate::uses::{has_files, has_namespaces};
@@ -23,6 +24,7 @@ use std::marker::Model;
 #[derive(Drop)]
 pub(crate) struct Reading {
     files: Files,
+    namespaces: Namespaces,
     lines: Vec<ScriptLine>,
     /// A first task was created.
     has_task: bool,
@@ -39,12 +41,13 @@ impl Model for Reading {
 
     ghost view = { λ r. record {
       files = r.files;
+      namespaces = r.namespaces;
       lines = r.lines.items;
       has_task = r.has_task;
       is_used = r.is_used;
     } };
 
-    ghost invariant = { λ r. IsReading (length r.files) r.lines.items };
+    ghost invariant = { λ r. IsReading (length r.files) r.namespaces r.lines.items };
 }
 
 impl Reading {
@@ -54,6 +57,7 @@ impl Reading {
     {
         Reading {
             files: Files::new(alloc),
+            namespaces: Namespaces::new(alloc),
             lines: Vec::new(alloc),
             has_task: false,
             is_used: false,
@@ -65,8 +69,17 @@ impl Reading {
         ensures value { result ≡ spec.script self }
         ensures setup { SetupFirst result }
     {
-        let Reading { files, lines, .. } = self;
-        Script { files, lines }
+        let Reading {
+            files,
+            namespaces,
+            lines,
+            ..
+        } = self;
+        Script {
+            files,
+            namespaces,
+            lines,
+        }
     }
 
     /// One more line, of which it was tested whether each byte is printable. A bad one is reported
@@ -114,7 +127,7 @@ impl Reading {
     /// The reading, and what this line adds to it.
     fn keep(&mut self, line: Parsed) -> Result<(), LineRefusal>
         requires few { length self.old.lines < LINE_LIMIT }
-        requires sound { IsParsed self.old.files line }
+        requires sound { IsParsed self.old line }
         ensures ok { OnOk result (self.new ≡ spec.keep self.old line) }
         ensures err { IfErr result (λ e. e ≡ LineRefusal.Memory) }
     {
@@ -139,7 +152,7 @@ impl Reading {
     /// One more line, which holds this.
     fn push(&mut self, content: Content) -> Result<(), LineRefusal>
         requires few { length self.old.lines < LINE_LIMIT }
-        requires sound { IsSound (length self.old.files) (spec.setup_line content) }
+        requires sound { IsNext self.old content }
         ensures ok { OnOk result (self.new ≡ spec.push self.old content) }
         ensures err { IfErr result (λ e. e ≡ LineRefusal.Memory) }
     {
@@ -230,13 +243,13 @@ impl Reading {
 
     /// The names that the line uses are declared, and the one that it declares is not.
     fn names_declared(&self, line: &Parsed) -> Result<(), Reason>
-        ensures { Says (λ x. x) result (spec.names_declared self.now.files line.now) }
+        ensures { Says (λ x. x) result (spec.names_declared self.now line.now) }
     {
         let good = match line {
             Parsed::Empty => true,
             Parsed::File(file) => self.files.place_of(&file.name).is_none(),
             Parsed::Starts(content) | Parsed::Holds(content) => {
-                has_namespaces(content) && has_files(&self.files, content)
+                has_namespaces(&self.namespaces, content) && has_files(&self.files, content)
             }
         };
         if good { Ok(()) } else { Err(Reason::Name) }

@@ -1,15 +1,18 @@
-//! A script: the files that it declares, and its lines, each with its lane and what it holds.
+//! A script: the files and the namespaces that it declares, and its lines, each with its lane and
+//! what it holds.
 ghost use Rattle.std.specs.Prelude.{◌≡◌, ◌≤◌, ◌<◌, IfSome, Some, length, slice_get};
 ghost use Rattle.std.specs.Option.{option_map};
 ghost use Rattle.cred_model.specs.Named.{IsContentOf};
-ghost use Rattle.cred_model.specs.Script.{SetupFirst};
+ghost use Rattle.cred_model.specs.Script.{SetupFirst, chain_in};
 ghost use Rattle.cred_script.specs.Files as spec;
 ghost use Rattle.cred_script.specs.Grammar.{line_at};
 ghost use Rattle.cred_script.specs.Read.{seen};
 ghost use Rattle.cred_script.specs.Sound.{IsSound};
 
 use crate::files::{FILES, Files};
+use crate::namespaces::Namespaces;
 use cred_event::{Content, LINE_LIMIT};
+use cred_ids::Id;
 use cred_record::FileInfo;
 use std::marker::Model;
 
@@ -32,6 +35,7 @@ impl Model for ScriptLine {
 #[derive(Drop, Debug)]
 pub struct Script {
     pub(crate) files: Files,
+    pub(crate) namespaces: Namespaces,
     pub(crate) lines: Vec<ScriptLine>,
 }
 
@@ -42,9 +46,13 @@ impl Model for Script {
 
     ghost Value = { Script };
 
-    ghost view = { λ s. record { files = s.files; lines = s.lines.items } };
+    ghost view = { λ s. record {
+      files = s.files;
+      namespaces = s.namespaces;
+      lines = s.lines.items;
+    } };
 
-    ghost invariant = { λ s. IsSoundScript (length s.files) s.lines.items };
+    ghost invariant = { λ s. IsSoundScript (length s.files) s.namespaces s.lines.items };
 }
 
 impl Script {
@@ -83,13 +91,22 @@ impl Script {
         self.files.place_of(name)
     }
 
+    /// The root ids of a user namespace and of its ancestors, its own first (user_namespaces(7));
+    /// none for a number that isn't declared. Namespace 0, the initial one, is always declared.
+    pub fn chain(&self, ns: u32) -> Option<&[Id]>
+        ensures { option_map (λ chain. chain.now) result ≡ chain_in self.now.namespaces ns }
+    {
+        self.namespaces.chain(ns)
+    }
+
     /// The lane and the content of the line of this number; none for 0 and past the last line.
     pub fn line(&self, number: u32) -> Option<(u32, &Content)>
         ensures found { option_map seen result ≡ line_at self.now number }
         ensures few { IfSome result (λ _. number ≤ LINE_LIMIT) }
-        ensures sound { IfSome result (λ found. IsSound (length self.now.files) (seen found)) }
-        ensures kind { IfSome result
-            (λ found. IsContentOf (length self.now.files) (seen found).content) }
+        ensures sound { IfSome result
+            (λ found. IsSound (length self.now.files) self.now.namespaces (seen found)) }
+        ensures kind { IfSome result (λ found.
+            IsContentOf (length self.now.files) self.now.namespaces (seen found).content) }
     {
         let place = number.checked_sub(1)?;
         let line = self.lines.get(place as usize)?;

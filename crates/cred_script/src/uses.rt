@@ -5,14 +5,15 @@ ghost use Rattle.cred_model.specs.Named as named;
 ghost use Rattle.cred_script.specs.Reading as spec;
 
 use crate::files::Files;
+use crate::namespaces::Namespaces;
 use cred_event::{Change, Content, Event, Query};
 
-/// Namespace 0 is the only one that is declared.
-pub(crate) fn has_namespaces(content: &Content) -> bool
-    ensures { result ≡ spec.has_namespaces content.now }
+/// Each namespace that the line names is declared.
+pub(crate) fn has_namespaces(declared: &Namespaces, content: &Content) -> bool
+    ensures { result ≡ spec.has_namespaces declared.now content.now }
 {
     match content {
-        Content::One(Event::Init { ns, .. }) => *ns == 0,
+        Content::One(Event::Init { ns, .. }) => declared.has(*ns),
         _ => true,
     }
 }
