@@ -1,7 +1,7 @@
 -- What is left of the tasks, and of the threads that are kept of each process, when a task ends or
 -- is created.
-use Rattle.std.proofs.Common.{◌≡◌, ℕ, ◌<◌, ◌≤◌, ◌==◌, Bool, true, false, not, ◌||◌, cond, List, [], ◌∷◌, ◌++◌, filter, length, map, nat_eq, Some, refl, sym, ap, ◌∙◌, arith, append-nil, length-append}
-use Rattle.std.specs.List.{IsDistinct, AllByRecursion, list_any}
+use Rattle.std.proofs.Common.{◌≡◌, ℕ, ◌<◌, ◌≤◌, ◌==◌, Bool, true, false, not, cond, List, [], ◌∷◌, ◌++◌, filter, find, is_some, length, map, nat_eq, Some, refl, sym, ap, ◌∙◌, arith, append-nil, length-append}
+use Rattle.std.specs.List.{IsDistinct, AllByRecursion}
 use Rattle.std.proofs.lemmas.Bool.Decides.{nat_tests}
 use Rattle.std.proofs.lemmas.List.{map-append}
 use Rattle.std.proofs.lemmas.List.Elements.{All-filter, All-push, filter-append}
@@ -124,12 +124,13 @@ kept_added t ts before after kept room low distinct threads = record {
 
 -- ---- whether a process has a thread
 
-any_member : (p : ℕ) (ts : List Task) → list_any (is_thread_of p) ts ≡ not (nat_eq (length (members ts p)) 0)
+any_member : (p : ℕ) (ts : List Task) → has_process ts p ≡ not (nat_eq (length (members ts p)) 0)
 any_member p [] = refl
 any_member p (t ∷ ts) = step (t.process == p) (any_member p ts)
   where
-    step : (b : Bool) → list_any (is_thread_of p) ts ≡ not (nat_eq (length (members ts p)) 0)
-        → (b || list_any (is_thread_of p) ts) ≡ not (nat_eq (length (numbers (cond b (t ∷ filter (is_thread_of p) ts) (filter (is_thread_of p) ts)))) 0)
+    step : (b : Bool) → has_process ts p ≡ not (nat_eq (length (members ts p)) 0)
+        → is_some (cond b (Some t) (find (is_thread_of p) ts))
+        ≡ not (nat_eq (length (numbers (cond b (t ∷ filter (is_thread_of p) ts) (filter (is_thread_of p) ts)))) 0)
     step true rest = grind (arith, nat_tests)
     step false rest = rest
 

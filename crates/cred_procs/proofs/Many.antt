@@ -159,14 +159,3 @@ those-beside owner (t ∷ ts) = step (t.process == owner.process) (t.number == o
     step true false is rest =
         ap (λ (ns : List ℕ). t.number ∷ ns) rest
         ∙ sym (ap (λ (c : Bool). cond (not c) (t.number ∷ filter (is_other owner.number) (members ts owner.process)) (filter (is_other owner.number) (members ts owner.process))) is)
-
--- A task that is found has the number that it was looked for by.
-pub found-number : (task : ℕ) (ts : List Task) (t : Task) → task_in ts task ≡ Some t → t.number ≡ task
-found-number task [] t found = cc
-found-number task (u ∷ us) t found = step (u.number == task) refl found (found-number task us t)
-  where
-    step : (b : Bool) → (u.number == task) ≡ b → cond b (Some u) (task_in us task) ≡ Some t → (task_in us task ≡ Some t → t.number ≡ task) → t.number ≡ task
-    step true same found rest =
-        let is : u ≡ t = cc in
-        sym (ap (λ (v : Task). v.number) is) ∙ eqb-true u.number task same
-    step false other found rest = rest found

@@ -1,8 +1,8 @@
 -- The live tasks, in the order in which they were created: what is found among them, and what is
 -- left when one is created, changes its credentials or ends (credentials(7), nptl(7)).
-use Rattle.std.specs.Prelude.{◌≡◌, ℕ, ◌==◌, ◌≤◌, Bool, nat_eq, List, [], ◌∷◌, ◌++◌, All, filter, find, length, map, slice_get, if◌then◌else◌}
+use Rattle.std.specs.Prelude.{◌≡◌, ℕ, ◌==◌, ◌≤◌, Bool, nat_eq, List, [], ◌∷◌, ◌++◌, All, filter, find, is_some, length, map, slice_get, if◌then◌else◌}
 use Rattle.std.specs.declared.option.Option.{Option}
-use Rattle.std.specs.List.{IsDistinct, list_any}
+use Rattle.std.specs.List.{IsDistinct}
 use Rattle.std.specs.Option.{option_map_or, unwrap_or}
 use Rattle.cred_ids.specs.Ordered.{in_order}
 use Rattle.cred_model.specs.State.{Task}
@@ -42,7 +42,7 @@ threads_of tasks process = in_order (members tasks process)
 
 -- whether a process has a thread
 abbrev pub has_process : List Task → ℕ → Bool
-has_process tasks process = list_any (is_thread_of process) tasks
+has_process tasks process = is_some (find (is_thread_of process) tasks)
 
 -- ---- tasks that end
 

@@ -1,11 +1,12 @@
 use Rattle.std.proofs.Common.{◌≡◌, ℕ, ◌∙◌, List, refl, sym, ap, Option, None, Some, filter}
 use Rattle.std.specs.Option.{option_map, IfSome}
-use Rattle.cred_model.specs.State.{Task}
+use Rattle.cred_model.specs.State.{Task, opening}
 use Rattle.cred_model.specs.Ends.{is_beside}
+use Rattle.cred_model.proofs.Numbers.{owner_number}
 use Rattle.cred_procs.specs.Kept.{tasks_of}
 use Rattle.cred_procs.specs.Tasks.{task_in, those, members}
 use Rattle.cred_procs.proofs.Ends.{is_other}
-use Rattle.cred_procs.proofs.Many.{those-beside, found-number}
+use Rattle.cred_procs.proofs.Many.{those-beside}
 use Rattle.cred_procs.proofs.procs.Procs.others.Goals as goal
 
 -- the other threads of a task that is found, by its process
@@ -14,7 +15,7 @@ by_process : (task process : ℕ) (ts : List Task) (tasks : List ℕ) (found : O
 by_process task process ts tasks None at is these = cc
 by_process task process ts tasks (Some owner) at is these =
     let same : process ≡ owner.process = cc in
-    let number = found-number task ts owner at in
+    let number = owner_number (record opening { tasks = ts }) task owner at in
     these
     ∙ ap (λ (p : ℕ). filter (is_other task) (members ts p)) same
     ∙ ap (λ (n : ℕ). filter (is_other n) (members ts owner.process)) (sym number)
