@@ -1,12 +1,13 @@
 -- How the references that stand are counted while tasks, holds and prepared labels change.
-use Rattle.std.proofs.Common.{◌≡◌, ◌≢◌, ℕ, zero, suc, ◌+◌, ◌<◌, Bool, true, false, cond, ◌==◌, List, [], ◌∷◌, ◌++◌, map, find, remove, slice_get, Some, refl, ap, ◌∙◌, subst, arith}
-use Rattle.std.specs.List.{All, AllPairs, count_by, flat_map}
+use Rattle.std.proofs.Common.{◌≡◌, ◌≢◌, ℕ, zero, suc, ◌+◌, ◌<◌, Bool, true, false, not, cond, ◌==◌, List, [], ◌∷◌, ◌++◌, map, find, remove, slice_get, Some, refl, ap, ◌∙◌, subst, arith}
+use Rattle.std.specs.List.{All, AllPairs, count_by, filter, flat_map}
 use Rattle.std.proofs.lemmas.Bool.{eqb-true}
 use Rattle.std.proofs.lemmas.Bool.Decides.{nat_tests}
 use Rattle.std.proofs.lemmas.Grind.{flat_map-append}
 use Rattle.std.proofs.lemmas.List.{map-append}
 use Rattle.std.proofs.lemmas.List.Elements.{All-head, All-tail}
 use Rattle.cred_model.specs.State.{State, Task, Hold, Prepared, Changed}
+use Rattle.cred_model.specs.Ends.{numbers_of, survivors, left_by, ended}
 use Rattle.cred_model.specs.Step.{updated, with_current, changed, with_change}
 use Rattle.cred_model.specs.Slots.{in_use, kept}
 use Rattle.cred_slots.specs.Table.{IsSameBag}
@@ -181,6 +182,44 @@ in_use-updated s task number u differ found = record {
       let gone = count-cons test u.current (in_use new) in
       let one = count-cons test number (in_use s) in
       omega (arith, after, before, change, same, gone, one);
+}
+
+-- ---- tasks that end
+
+count-ended : (test : ℕ → Bool) (ends : Task → Bool) (tasks : List Task)
+    → count_by test (currents tasks) + count_by test (overrides tasks)
+    ≡ count_by test (left_by ends tasks) + (count_by test (currents (survivors ends tasks)) + count_by test (overrides (survivors ends tasks)))
+count-ended test ends [] = refl
+count-ended test ends (t ∷ ts) = by (ends t) (count-ended test ends ts)
+  where
+    by : (b : Bool)
+        → count_by test (currents ts) + count_by test (overrides ts)
+        ≡ count_by test (left_by ends ts) + (count_by test (currents (survivors ends ts)) + count_by test (overrides (survivors ends ts)))
+        → count_by test (currents (t ∷ ts)) + count_by test (overrides (t ∷ ts))
+        ≡ count_by test (flat_map numbers_of (cond b (t ∷ filter ends ts) (filter ends ts)))
+        + (count_by test (currents (cond (not b) (t ∷ survivors ends ts) (survivors ends ts))) + count_by test (overrides (cond (not b) (t ∷ survivors ends ts) (survivors ends ts))))
+    by true rest =
+        let one = count-cons test t.current (currents ts) in
+        let more = count-append test t.overrides (overrides ts) in
+        let left = count-append test (numbers_of t) (left_by ends ts) in
+        let first = count-cons test t.current t.overrides in
+        omega (arith, rest, one, more, left, first)
+    by false rest =
+        let one = count-cons test t.current (currents ts) in
+        let more = count-append test t.overrides (overrides ts) in
+        let on = count-cons test t.current (currents (survivors ends ts)) in
+        let still = count-append test t.overrides (overrides (survivors ends ts)) in
+        omega (arith, rest, one, more, on, still)
+
+-- what those which end referred to, and what is still referred to
+pub in_use-ended : (s : State) (ends : Task → Bool) → IsSameBag (in_use s) (left_by ends s.tasks ++ in_use (ended ends s))
+in_use-ended s ends = record {
+  counts = λ test.
+      let after = count-in_use test (ended ends s) in
+      let before = count-in_use test s in
+      let each = count-ended test ends s.tasks in
+      let all = count-append test (left_by ends s.tasks) (in_use (ended ends s)) in
+      omega (arith, after, before, each, all);
 }
 
 -- ---- a change of a prepared label

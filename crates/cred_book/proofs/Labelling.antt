@@ -175,10 +175,13 @@ module _ {tasks : List Task} {holds : List Hold} {prepared : List Prepared} {sto
 
 -- ---- what was found before a label begins
 
-pub present : (number : ℕ) (tasks given : List Task) (found : Option Task) (test : Bool) → given ≡ tasks → found ≡ find (λ u. u.number == number) given
-    → is_some found ≡ not test → test ≡ false → (u : Task) × (find (λ v. v.number == number) tasks ≡ Some u)
-present number tasks given None test same is tests none = cc
-present number tasks given (Some u) test same is tests none = (u, ap (λ (ts : List Task). find (λ v. v.number == number) ts) (sym same) ∙ sym is)
+pub present : (number : ℕ) (tasks : List Task) (test : Bool) → test ≡ is_some (find (λ u. u.number == number) tasks) → test ≡ true
+    → (u : Task) × (find (λ v. v.number == number) tasks ≡ Some u)
+present number tasks test tests alive = by (find (λ u. u.number == number) tasks) refl tests
+  where
+    by : (found : Option Task) → find (λ u. u.number == number) tasks ≡ found → test ≡ is_some found → (u : Task) × (find (λ v. v.number == number) tasks ≡ Some u)
+    by None is tests = cc
+    by (Some u) is tests = (u, is)
 
 pub held_hold : (found : Option Hold) (number : ℕ) → Some number ≡ option_map (λ h. h.number) found → (h : Hold) × (found ≡ Some h) × (h.number ≡ number)
 held_hold None number is = cc

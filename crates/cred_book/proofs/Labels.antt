@@ -6,6 +6,7 @@ use Rattle.std.specs.Map.{keys_of, lookup, set_value}
 use Rattle.std.specs.Option.{option_and_then, option_map, IsSome}
 use Rattle.std.proofs.lemmas.Map.{lookup-none}
 use Rattle.std.proofs.lemmas.Map.Entries.{none_past_head}
+use Rattle.cred_event.specs.declared.event.Change.{Change}
 use Rattle.cred_model.specs.State.{Prepared, Changed}
 use Rattle.cred_model.specs.Step.{changed, with_change}
 use Rattle.cred_book.specs.declared.prepared.Preparation.{Preparation}
@@ -24,30 +25,27 @@ pub is_changed : (label : ℕ) (found : Option Preparation) (p : Preparation) �
 is_changed label found p is some = subst (λ (o : Option Preparation). IsSome (option_and_then (λ q. q.changed) (option_map (prepared_as label) o))) is some
 
 -- What a changed label gave up is what it was found with.
-pub same_label : (before after : List Prepared) (label task base slot : ℕ) (last : Changed) → IsReady before label task base
-    → (gives : Commits before after label slot last) → (gives.task ≡ task) × (gives.base ≡ base)
-same_label before after label task base slot last ready gives =
+pub same_label : (before after : List Prepared) (label task base slot : ℕ) (change : Change) (last : Changed) → IsReady before label task base change
+    → (gives : Commits before after label slot last) → (gives.task ≡ task) × (gives.base ≡ base) × (last.change ≡ change)
+same_label before after label task base slot change last ready gives =
     let here = find-at (λ r. r.label == label) before gives.gives.place _ gives.gives.found gives.gives.there in
     let there = ready.found in
     let same : record { label = label; task = gives.task; base = gives.base; slot = slot; changed = Some last }
     ≡ record { label = label; task = task; base = base; slot = ready.slot; changed = Some ready.last }
     = cc in
-    (ap (λ (p : Prepared). p.task) same, ap (λ (p : Prepared). p.base) same)
-
-some_changed : (changed : Option Changed) → IsSome changed → (last : Changed) × (changed ≡ Some last)
-some_changed None some = cc
-some_changed (Some last) some = (last, refl)
+    let some : Some last ≡ Some ready.last = ap (λ (p : Prepared). p.changed) same in
+    let own : last ≡ ready.last = cc in
+    (ap (λ (p : Prepared). p.task) same, ap (λ (p : Prepared). p.base) same, ap (λ (c : Changed). c.change) own ∙ ready.by)
 
 -- a label that was found with a change
-pub readies : (prepared : List Prepared) (label : ℕ) (p : Preparation) → find (λ q. q.label == label) prepared ≡ Some (prepared_as label p) → IsSome p.changed
-    → IsReady prepared label p.task p.base
-readies prepared label p found some =
-    let last = some_changed p.changed some in
-    record {
-      slot = p.slot;
-      last = last.0;
-      found = found ∙ ap (λ (changed : Option Changed). Some (record { label = label; task = p.task; base = p.base; slot = p.slot; changed = changed })) last.1;
-    }
+pub readies : (prepared : List Prepared) (label : ℕ) (p : Preparation) (last : Changed) → find (λ q. q.label == label) prepared ≡ Some (prepared_as label p)
+    → p.changed ≡ Some last → IsReady prepared label p.task p.base last.change
+readies prepared label p last found is = record {
+  slot = p.slot;
+  last = last;
+  by = refl;
+  found = found ∙ ap (λ (changed : Option Changed). Some (record { label = label; task = p.task; base = p.base; slot = p.slot; changed = changed })) is;
+}
 
 -- ---- a change
 

@@ -11,6 +11,7 @@ pub mod InUse
 pub mod Stored
 pub mod Sealing
 pub mod Inits
+pub mod Ending
 pub mod Begins
 pub mod Holding
 pub mod Labelling

@@ -1,5 +1,5 @@
 -- The first that passes a test, and its place.
-use Rattle.std.proofs.Common.{◌≡◌, ℕ, zero, suc, ◌+◌, ◌<◌, Bool, true, false, not, cond, nat_lt, List, [], ◌∷◌, length, find, position, slice_get, get_or, None, Some, ap, ◌∙◌, arith}
+use Rattle.std.proofs.Common.{◌≡◌, ℕ, zero, suc, ◌+◌, ◌<◌, Bool, true, false, not, cond, nat_lt, List, [], ◌∷◌, length, find, is_some, position, slice_get, get_or, Option, None, Some, refl, ap, ◌∙◌, arith}
 use Rattle.std.specs.List.{prefix_len}
 use Rattle.std.proofs.lemmas.Bool.Decides.{nat_tests}
 use Rattle.std.proofs.lemmas.List.Quantifiers.{position-Some}
@@ -43,3 +43,17 @@ place-of_found test xs x found =
     let n = prefix_len (λ y. not (test y)) xs in
     let at = first_place test xs x found in
     (n, ap (λ b. cond b (Some n) None) (within_is n (length xs) at.0), at.1)
+
+-- ---- what a test says of what was found
+
+pub none_by_test : {X : Type 0} (found : Option X) (test : Bool) → test ≡ is_some found → test ≡ false → found ≡ None
+none_by_test None test is none = refl
+none_by_test (Some x) test is none = cc
+
+pub none_by_other : {X : Type 0} (found : Option X) (test : Bool) → is_some found ≡ not test → test ≡ true → found ≡ None
+none_by_other None test is none = refl
+none_by_other (Some x) test is none = cc
+
+pub some_by_test : {X : Type 0} (found : Option X) (test : Bool) → is_some found ≡ not test → test ≡ false → found ≡ None → ⊥
+some_by_test None test is some none = cc
+some_by_test (Some x) test is some none = cc

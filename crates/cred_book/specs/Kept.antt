@@ -1,6 +1,6 @@
 -- How a book keeps the kernel's state: the tasks, the holds and the prepared labels as they are,
 -- the credentials in their slots' places, and a table of slots that counts the references.
-use Rattle.std.specs.Prelude.{◌≡◌, ℕ, ◌<◌, ◌==◌, List, ◌∷◌, [], ◌++◌, length, map, slice_index_or, Some, None}
+use Rattle.std.specs.Prelude.{◌≡◌, ℕ, ◌<◌, ◌≤◌, ◌==◌, List, ◌∷◌, [], ◌++◌, count_by, length, map, slice_index_or, Some, None}
 use Rattle.std.specs.declared.option.Option.{Option}
 use Rattle.std.specs.List.{All, list_any}
 use Rattle.std.specs.Option.{IsSome, option_map_or}
@@ -40,6 +40,11 @@ state_of tasks holds prepared store table = record {
   deferred = table.deferred;
   creds = creds_in store table.sealed;
 }
+
+-- each of these numbers is referred to at least as often as it stands among them
+abbrev pub AreHeld : List ℕ → List ℕ → Type 0
+AreHeld numbers held =
+    (n : ℕ) → count_by (λ m. m == n) numbers ≤ count_by (λ m. m == n) held
 
 -- The table counts just these references, and keeps just these slots.
 pub record IsCounted (in_use kept : List ℕ) (table : Table) : Type 0 where

@@ -2,6 +2,7 @@
 use Rattle.std.specs.Prelude.{◌≡◌, ℕ, ◌==◌, List, find, map, position, remove, slice_get, Some}
 use Rattle.std.specs.declared.option.Option.{Option}
 use Rattle.std.specs.Option.{option_and_then}
+use Rattle.cred_event.specs.declared.event.Change.{Change}
 use Rattle.cred_model.specs.State.{Prepared, Changed}
 use Rattle.cred_book.specs.declared.prepared.Preparation.{Preparation}
 
@@ -26,10 +27,11 @@ place_of prepared label = position (λ p. p.label == label) prepared
 abbrev pub changed_of : List Prepared → ℕ → Option Changed
 changed_of prepared label = option_and_then (λ p. p.changed) (find (λ p. p.label == label) prepared)
 
--- The label is prepared for the task, on the base, and was changed.
-pub record IsReady (prepared : List Prepared) (label task base : ℕ) : Type 0 where
+-- The label is prepared for the task, on the base, and this was its last change.
+pub record IsReady (prepared : List Prepared) (label task base : ℕ) (change : Change) : Type 0 where
   pub slot : ℕ
   pub last : Changed
+  pub by : last.change ≡ change
   pub found :
       find (λ p. p.label == label) prepared
       ≡ Some (record { label = label; task = task; base = base; slot = slot; changed = Some last })

@@ -99,7 +99,7 @@ impl Book {
     /// `NoMemory` if an allocation of the state, the entry or the copy fails: the book is as it
     /// was.
     pub fn event(&mut self, line: u32, event: Event) -> Result<Answer, NoMemory>
-        requires kind { IsEventOf (length self.old.script.files) event }
+        requires kind { IsEventOf (length self.old.script.files) self.old.script.namespaces event }
         ensures entered { OnOk result (self.new ≡ with_event self.old line event) }
         ensures answer { IfOk result (λ answer. answer ≡ answer_of self.old line event) }
         ensures err { OnErr result (self.new ≡ self.old) }
@@ -151,7 +151,7 @@ impl Book {
     /// Enters the next event of a course, and answers the cursor after it; the book's own stays.
     /// The answer moves into the entry, where `event` makes a copy of it.
     fn enter(&mut self, course: Course, event: Event) -> Result<Option<Course>, NoMemory>
-        requires kind { IsEventOf (length self.old.script.files) event }
+        requires kind { IsEventOf (length self.old.script.files) self.old.script.namespaces event }
         requires line { IsOfLine self.old.script course }
         requires going { is_some course.stage ≡ true }
         ensures entered { OnOk result (self.new ≡ with_event self.old course.line event) }

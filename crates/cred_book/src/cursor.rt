@@ -39,7 +39,8 @@ pub fn next_event(script: &Script, course: Course) -> Result<Option<Event>, NoMe
     ensures event { IfOk result (λ event. event
         ≡ option_and_then (λ line. model.event_at line.content course)
         (line_at script.now course.line)) }
-    ensures named { IfOk result (λ event. IfSome event (IsEventOf (length script.now.files))) }
+    ensures named { IfOk result (λ event.
+        IfSome event (IsEventOf (length script.now.files) script.now.namespaces)) }
 {
     match script.line(course.line()) {
         Some((_, content)) => course.event(content),

@@ -1,8 +1,8 @@
 //! What an event sees of the script besides the kernel's state.
-ghost use Rattle.std.specs.Prelude.{◌≡◌, [], ◌∷◌};
+ghost use Rattle.std.specs.Prelude.{◌≡◌};
 ghost use Rattle.std.specs.Option.{option_map};
 ghost use Rattle.cred_model.specs.Named.{change_files, query_files};
-ghost use Rattle.cred_model.specs.Script.{info_of};
+ghost use Rattle.cred_model.specs.Script.{chain_of, info_of};
 
 use cred_event::{Change, Query};
 use cred_ids::Id;
@@ -29,11 +29,13 @@ pub fn executed_file(script: &Script, change: Change) -> Option<&FileInfo>
     }
 }
 
-/// The root ids of namespace 0 and of its ancestors: it is the initial one and has none
-/// (user_namespaces(7)).
-pub fn initial_chain() -> [Id; 1]
-    ensures { result ≡ 0 ∷ [] }
+/// The root ids of a namespace and of its ancestors, its own first (user_namespaces(7)). Empty for a
+/// namespace that isn't declared.
+pub fn chain_of(script: &Script, ns: u32) -> &[Id]
+    ensures { result.now ≡ chain_of script.now ns }
 {
-    // 0 is an id.
-    [Id::new(0).unwrap()]
+    match script.chain(ns) {
+        Some(chain) => chain,
+        None => &[],
+    }
 }

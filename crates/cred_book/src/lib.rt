@@ -3,6 +3,7 @@
 
 mod book;
 mod cursor;
+mod ends;
 mod files;
 mod holds;
 mod labelled;

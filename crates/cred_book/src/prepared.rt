@@ -37,11 +37,13 @@ pub struct Preparation {
     pub changed: Option<Changed>,
 }
 
-/// Which task a changed label is for, and the number of the credential that it is based on.
+/// Which task a changed label is for, the number of the credential that it is based on, and what it
+/// was changed by last.
 #[derive(Clone, Copy)]
 pub struct Ready {
     pub task: u32,
     pub base: u64,
+    pub change: Change,
 }
 
 /// The number of the credential that a label was based on, and the slot that was kept for it.
@@ -96,13 +98,14 @@ impl Preparing {
     pub fn ready(&self, label: u32) -> Option<Ready>
         ensures { MatchOption result
             (changed_of self.now label ≡ None)
-            (λ ready. IsReady self.now label ready.task ready.base) }
+            (λ ready. IsReady self.now label ready.task ready.base ready.change) }
     {
         let preparation = self.get(label)?;
-        preparation.changed.as_ref()?;
+        let last = preparation.changed.as_ref()?;
         Some(Ready {
             task: preparation.task,
             base: preparation.base,
+            change: last.change,
         })
     }
 

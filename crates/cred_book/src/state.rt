@@ -4,32 +4,28 @@ ghost use Rattle.std.specs.Prelude.{◌≡◌, ◌||◌, is_some, length, IfOk, 
 ghost use Rattle.std.specs.Option.{option_map};
 ghost use Rattle.cred_model.specs.State.{opening, hold_of, prepared_of, current_of, held_by};
 ghost use Rattle.cred_model.specs.Slots as model;
-ghost use Rattle.cred_model.specs.Step.{by_ask, by_begin, by_init, by_release, by_take, done};
+ghost use Rattle.cred_model.specs.Step.{by_ask, by_release, by_take, done};
 ghost use Rattle.cred_model.specs.Named.{IsEventOf};
 ghost use Rattle.cred_model.specs.Like.{Gives, GivesLike};
 ghost use Rattle.cred_sound.specs.Sound.{IsSound};
 ghost use Rattle.cred_book.specs.Kept.{seen_numbered};
 
 mod prepare;
+mod tasks;
 
 use crate::files::asked_file;
 use crate::holds::Holds;
 use crate::prepared::Preparing;
-use crate::seal::seal_next;
 use crate::store::Store;
-use crate::table::{Numbered, Task, sealed_at, set_current, task_among};
+use crate::table::{Numbered, sealed_at};
 use cred_decide::reply;
 use cred_event::{Answer, Counted, Event, Named, Query, Side};
-use cred_ids::{Id, NoMemory};
-use cred_record::{IdCall, Refusal, first};
+use cred_ids::NoMemory;
+use cred_procs::Procs;
 use cred_script::Script;
-use cred_setid::apply;
 use cred_slots::Slots;
 use std::alloc::Global;
 use std::marker::Model;
-
-/// How many tasks may live.
-const TASKS: usize = 64;
 
 /// How many holds may stand.
 const HOLDS: usize = 512;
@@ -38,7 +34,7 @@ const HOLDS: usize = 512;
 /// where nothing refers to the number any more, that may be a later credential.
 #[derive(Drop, Debug)]
 pub struct State {
-    tasks: Vec<Task>,
+    tasks: Procs,
     holds: Holds,
     prepared: Preparing,
     store: Store,
@@ -52,10 +48,10 @@ impl Model for State {
 
     ghost Value = { model.State };
 
-    ghost view = { λ s. state_of s.tasks.items s.holds s.prepared s.store s.slots };
+    ghost view = { λ s. state_of s.tasks s.holds s.prepared s.store s.slots };
 
     ghost invariant = { λ s.
-        IsKept (state_of s.tasks.items s.holds s.prepared s.store s.slots) s.store s.slots };
+        IsKept (state_of s.tasks s.holds s.prepared s.store s.slots) s.store s.slots };
 }
 
 impl State {
@@ -63,12 +59,12 @@ impl State {
     ///
     /// # Errors
     ///
-    /// `NoMemory` if an allocation of the places or of the slots fails.
+    /// `NoMemory` if an allocation of the tasks, the places or the slots fails.
     pub fn new(alloc: Global) -> Result<State, NoMemory>
         ensures { IfOk result (λ state. state ≡ opening) }
     {
         Ok(State {
-            tasks: Vec::new(alloc),
+            tasks: Procs::new(alloc)?,
             holds: Holds::new(alloc),
             prepared: Preparing::new(alloc),
             store: Store::new(alloc)?,
@@ -81,10 +77,10 @@ impl State {
     ///
     /// # Errors
     ///
-    /// `NoMemory` if an allocation of a credential, of a list in the answer or of room for what is
-    /// entered fails: the state is as it was.
+    /// `NoMemory` if an allocation of a credential, of a list or of room for what is entered fails:
+    /// the state is as it was.
     pub fn step(&mut self, script: &Script, line: u32, event: &Event) -> Result<Answer, NoMemory>
-        requires kind { IsEventOf (length script.now.files) event.now }
+        requires kind { IsEventOf (length script.now.files) script.now.namespaces event.now }
         requires sound { IsSound self.old }
         ensures ok { IfOk result (λ answer.
             GivesLike self.old (done script.now self.old line event.now) answer self.new) }
@@ -106,6 +102,12 @@ impl State {
             Event::Commit { label } => self.commit(*label),
             Event::Abort { label } => Ok(self.abort(*label)),
             Event::Begin { task, call } => self.begin(*task, call),
+            Event::Fork {
+                task,
+                child,
+                process,
+            } => self.fork(*task, *child, *process),
+            Event::Exit { task } => self.exit(*task),
             Event::Sweep => {
                 self.slots.sweep();
                 Ok(Answer::Done)
@@ -127,8 +129,8 @@ impl State {
     fn current(&self, task: u32) -> Option<Numbered<'_>>
         ensures { option_map seen_numbered result ≡ current_of self.now task }
     {
-        let task = task_among(&self.tasks, task)?;
-        sealed_at(&self.store, &self.slots, task.current)
+        let number = self.tasks.current(task)?;
+        sealed_at(&self.store, &self.slots, number)
     }
 
     /// The credential that a label holds.
@@ -145,45 +147,6 @@ impl State {
             ≡ (is_some (hold_of self.now label) || is_some (prepared_of self.now label)) }
     {
         self.holds.get(label).is_some() || self.prepared.get(label).is_some()
-    }
-
-    fn init(
-        &mut self,
-        number: u32,
-        process: u32,
-        user: Id,
-        group: Id,
-        ns: u32,
-    ) -> Result<Answer, NoMemory>
-        ensures ok { IfOk result (λ answer.
-            GivesLike self.old (by_init self.old number process user group ns) answer self.new) }
-        ensures err { OnErr result (self.new ≡ self.old) }
-    {
-        if task_among(&self.tasks, number).is_some() {
-            return Ok(Answer::Exists {
-                what: Named::Task,
-                number,
-            });
-        }
-        if self.tasks.len() >= TASKS {
-            return Ok(Answer::TooMany(Counted::Tasks));
-        }
-        let cred = first(self.alloc, user, group, ns)?;
-        self.tasks.reserve(1)?;
-        self.slots.reserve()?;
-        let Some((current, slot)) = seal_next(&mut self.slots) else {
-            return Ok(Answer::TableFull);
-        };
-        self.store.put(slot, cred);
-        self.tasks.push(Task {
-            number,
-            process,
-            current,
-        })?;
-        Ok(Answer::Sealed {
-            cred: current,
-            slot,
-        })
     }
 
     fn take(&mut self, label: u32, task: u32, side: Side) -> Result<Answer, NoMemory>
@@ -227,41 +190,5 @@ impl State {
             Some(held) => reply(self.alloc, asked_file(script, query), held.cred, query),
             None => Ok(Answer::NoHold(label)),
         }
-    }
-
-    fn begin(&mut self, task: u32, call: &IdCall) -> Result<Answer, NoMemory>
-        requires { IsSound self.old }
-        ensures ok { IfOk result (λ answer.
-            GivesLike self.old (by_begin self.old task call.now) answer self.new) }
-        ensures err { OnErr result (self.new ≡ self.old) }
-    {
-        let Some(
-            Numbered {
-                number: old,
-                cred,
-                ..
-            },
-        ) = self.current(task)
-        else {
-            return Ok(Answer::NoTask(task));
-        };
-        let cred = match apply(self.alloc, cred, call) {
-            Ok(cred) => cred,
-            Err(Refusal::Perm) => return Ok(Answer::Eperm),
-            Err(Refusal::Invalid) => return Ok(Answer::Einval),
-            Err(Refusal::Memory) => return Err(NoMemory),
-        };
-        self.slots.reserve()?;
-        let Some((number, slot)) = seal_next(&mut self.slots) else {
-            return Ok(Answer::TableFull);
-        };
-        self.store.put(slot, cred);
-        set_current(&mut self.tasks, task, number);
-        self.slots.drop_later(old);
-        Ok(Answer::Began {
-            cred: number,
-            slot,
-            left: 0,
-        })
     }
 }

@@ -1,40 +1,12 @@
-//! The tasks and the sealed credentials, and what is found among them.
-ghost use Rattle.std.specs.Prelude.{◌≡◌, ◌==◌, find};
+//! The sealed credentials, and what is found among them.
+ghost use Rattle.std.specs.Prelude.{◌≡◌};
 ghost use Rattle.std.specs.Option.{option_map};
 ghost use Rattle.cred_model.specs.State as model;
-ghost use Rattle.cred_model.specs.Step as spec;
 ghost use Rattle.cred_book.specs.Kept.{creds_in, AreFilled, seen_numbered};
 
 use crate::store::Store;
 use cred_record::Cred;
 use cred_slots::Slots;
-use std::marker::Model;
-
-/// A task, its process, and the number of its current credential. It overrides nothing yet.
-#[derive(Clone, Copy, Debug)]
-pub struct Task {
-    pub number: u32,
-    pub process: u32,
-    pub current: u64,
-}
-
-impl Model for Task {
-    ghost use Rattle.cred_model.specs.State as model;
-    ghost use Rattle.cred_model.specs.Step.{first_task};
-
-    ghost Value = { model.Task };
-
-    ghost view = { λ t. first_task t.number t.process t.current };
-
-    ghost inverse = { λ t. record { number = t.number; process = t.process; current = t.current } };
-}
-
-/// The task of this number.
-pub fn task_among(tasks: &[Task], number: u32) -> Option<Task>
-    ensures { result ≡ find (λ t. t.number == number) tasks.now }
-{
-    tasks.iter().find(|t| t.number == number).copied()
-}
 
 /// A sealed credential, with its number and its slot.
 #[derive(Clone, Copy)]
@@ -58,26 +30,4 @@ pub fn sealed_at<'a>(store: &'a Store, slots: &Slots, number: u64) -> Option<Num
     // The place of each sealed number's slot is filled.
     let cred = store.get(slot).unwrap();
     Some(Numbered { number, cred, slot })
-}
-
-fn updated(t: Task, task: u32, number: u64) -> Task
-    ensures { result ≡ spec.updated task number t }
-{
-    if t.number == task {
-        Task {
-            current: number,
-            ..t
-        }
-    } else {
-        t
-    }
-}
-
-/// Gives the task of this number another current credential.
-pub fn set_current(tasks: &mut [Task], task: u32, number: u64)
-    ensures { tasks.new ≡ spec.with_current tasks.old task number }
-{
-    for t in tasks.iter_mut() {
-        *t = updated(*t, task, number);
-    }
 }

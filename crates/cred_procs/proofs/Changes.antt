@@ -4,8 +4,9 @@ use Rattle.std.proofs.Common.{◌≡◌, ℕ, suc, ◌≤◌, ◌==◌, Bool, tr
 use Rattle.std.specs.List.{IsDistinct, AllByRecursion}
 use Rattle.std.proofs.lemmas.List.Elements.{All-from_recursion, recursion_from_All}
 use Rattle.cred_model.specs.State.{Task}
+use Rattle.cred_model.specs.Ends.{is_thread_of}
 use Rattle.cred_slots.specs.Stack.{DEPTH}
-use Rattle.cred_procs.specs.Tasks.{AreTasks, members, is_thread}
+use Rattle.cred_procs.specs.Tasks.{AreTasks, members}
 
 abbrev numbers : List Task → List ℕ
 numbers ts = map (λ t. t.number) ts
@@ -27,10 +28,10 @@ module _ (f : Task → Task) (leaves : LeavesPlace f) where
 
   members_step : (p : ℕ) (t : Task) (ts : List Task) → members (map f ts) p ≡ members ts p → members (map f (t ∷ ts)) p ≡ members (t ∷ ts) p
   members_step p t ts rest =
-      ap (λ (b : Bool). numbers (cond b (f t ∷ filter (is_thread p) (map f ts)) (filter (is_thread p) (map f ts)))) (ap (λ (n : ℕ). n == p) (leaves.process t))
+      ap (λ (b : Bool). numbers (cond b (f t ∷ filter (is_thread_of p) (map f ts)) (filter (is_thread_of p) (map f ts)))) (ap (λ (n : ℕ). n == p) (leaves.process t))
       ∙ at (t.process == p)
     where
-      at : (b : Bool) → numbers (cond b (f t ∷ filter (is_thread p) (map f ts)) (filter (is_thread p) (map f ts))) ≡ numbers (cond b (t ∷ filter (is_thread p) ts) (filter (is_thread p) ts))
+      at : (b : Bool) → numbers (cond b (f t ∷ filter (is_thread_of p) (map f ts)) (filter (is_thread_of p) (map f ts))) ≡ numbers (cond b (t ∷ filter (is_thread_of p) ts) (filter (is_thread_of p) ts))
       at true = λ i. leaves.number t i ∷ rest i
       at false = rest
 

@@ -9,9 +9,10 @@ use Rattle.std.proofs.lemmas.Bool.Decides.{nat_tests}
 use Rattle.std.proofs.lemmas.Map.{NonePasses}
 use Rattle.std.proofs.lemmas.Map.Entries.{none_past_head}
 use Rattle.cred_model.specs.State.{Task}
+use Rattle.cred_model.specs.Ends.{is_task, survivors}
 use Rattle.cred_procs.specs.declared.thread.Thread.{Thread}
 use Rattle.cred_procs.specs.Kept.{task_as, tasks_of}
-use Rattle.cred_procs.specs.Tasks.{task_in, without}
+use Rattle.cred_procs.specs.Tasks.{task_in}
 
 test_sym : (a b : ℕ) → nat_eq a b ≡ nat_eq b a
 test_sym a b = grind (arith, nat_tests)
@@ -42,29 +43,29 @@ module _ (task : ℕ) where
 
   -- ---- a task is taken away
 
-  pub without-none : (es : List (ℕ × Thread)) → NonePasses (nat_eq task) es → without (tasks_of es) task ≡ tasks_of es
-  without-none [] none = refl
-  without-none (e ∷ es) none =
-      ap (λ (b : Bool). cond (not b) (task_as e.0 e.1 ∷ without (tasks_of es) task) (without (tasks_of es) task)) (test_sym e.0 task ∙ none.0)
-      ∙ ap (λ (ts : List Task). task_as e.0 e.1 ∷ ts) (without-none es none.1)
+  pub survivors-none : (es : List (ℕ × Thread)) → NonePasses (nat_eq task) es → survivors (is_task task) (tasks_of es) ≡ tasks_of es
+  survivors-none [] none = refl
+  survivors-none (e ∷ es) none =
+      ap (λ (b : Bool). cond (not b) (task_as e.0 e.1 ∷ survivors (is_task task) (tasks_of es)) (survivors (is_task task) (tasks_of es))) (test_sym e.0 task ∙ none.0)
+      ∙ ap (λ (ts : List Task). task_as e.0 e.1 ∷ ts) (survivors-none es none.1)
 
   removed_at : (e : ℕ × Thread) (es : List (ℕ × Thread)) (test : Bool) → nat_eq task e.0 ≡ test
       → (test ≡ true → NonePasses (nat_eq task) es)
-      → tasks_of (remove_entry (nat_eq task) es) ≡ without (tasks_of es) task
+      → tasks_of (remove_entry (nat_eq task) es) ≡ survivors (is_task task) (tasks_of es)
       → tasks_of (cond test es (e ∷ remove_entry (nat_eq task) es))
-      ≡ cond (not test) (task_as e.0 e.1 ∷ without (tasks_of es) task) (without (tasks_of es) task)
-  removed_at e es true is last rest = sym (without-none es (last refl))
+      ≡ cond (not test) (task_as e.0 e.1 ∷ survivors (is_task task) (tasks_of es)) (survivors (is_task task) (tasks_of es))
+  removed_at e es true is last rest = sym (survivors-none es (last refl))
   removed_at e es false is last rest = ap (λ (ts : List Task). task_as e.0 e.1 ∷ ts) rest
 
   -- Only one task has the number, so that taking its entry out leaves the tasks without it.
-  pub remove_entry-tasks_of : (es : List (ℕ × Thread)) → IsDistinct nat_eq (keys_of es) → tasks_of (remove_entry (nat_eq task) es) ≡ without (tasks_of es) task
+  pub remove_entry-tasks_of : (es : List (ℕ × Thread)) → IsDistinct nat_eq (keys_of es) → tasks_of (remove_entry (nat_eq task) es) ≡ survivors (is_task task) (tasks_of es)
   unfolding IsDistinct
   remove_entry-tasks_of [] distinct = refl
   remove_entry-tasks_of (e ∷ es) distinct =
       removed_at e es (nat_eq task e.0) refl
       (λ same. none_past_head nat_eq_equiv task e es distinct same)
       (remove_entry-tasks_of es distinct.1)
-      ∙ ap (λ (b : Bool). cond (not b) (task_as e.0 e.1 ∷ without (tasks_of es) task) (without (tasks_of es) task)) (test_sym task e.0)
+      ∙ ap (λ (b : Bool). cond (not b) (task_as e.0 e.1 ∷ survivors (is_task task) (tasks_of es)) (survivors (is_task task) (tasks_of es))) (test_sym task e.0)
 
   -- ---- a task is changed
 

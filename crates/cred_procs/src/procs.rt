@@ -1,10 +1,12 @@
 //! The table of tasks.
-ghost use Rattle.std.specs.Prelude.{◌≡◌, ◌<◌, ◌≤◌, not, nat_lt, is_some, [], ◌∷◌, ◌++◌, drop, length, slice_get, false, None, IfOk, OnOk, OnErr, if◌then◌else◌};
+ghost use Rattle.std.specs.Prelude.{◌≡◌, ◌<◌, Bool, not, nat_lt, is_some, [], ◌∷◌, ◌++◌, drop, length, slice_get, false, None, IfOk, IfSome, OnOk, OnErr, if◌then◌else◌};
 ghost use Rattle.std.specs.Option.{option_map, IsSome};
+ghost use Rattle.cred_model.specs.Ends.{is_task, is_thread_of, is_beside, survivors, left_by};
+ghost use Rattle.cred_model.specs.State.{Task};
 ghost use Rattle.cred_model.specs.Step.{TASKS, first_task, with_current};
 ghost use Rattle.cred_slots.specs.Stack.{DEPTH};
 ghost use Rattle.cred_procs.specs.Kept.{task_as};
-ghost use Rattle.cred_procs.specs.Tasks.{AreTasks, task_in, acting, numbers_of, numbers_in, threads_of, has_process, without, without_all, others_of, spawned, forked, overrides_of, with_overrides};
+ghost use Rattle.cred_procs.specs.Tasks.{AreTasks, Ends, task_in, acting, those, threads_of, has_process, spawned, forked, overrides_of, with_overrides};
 
 use crate::lists::{Numbers, TaskList};
 use crate::processes::{Processes, take_off};
@@ -40,9 +42,9 @@ impl Model for Procs {
     ghost invariant = { λ p. IsKept (tasks_of p.tasks.entries) p.processes };
 }
 
-/// The tasks that ended, in rising order, and the numbers that they referred to, task by task: the
-/// current credential's first and then those of the overrides, the newest first. A number stands
-/// there once for each place that referred to it.
+/// The tasks that ended, in the order in which they were created, and the numbers that they referred
+/// to, task by task: the current credential's first and then those of the overrides, the newest
+/// first. A number stands there once for each place that referred to it.
 #[derive(Drop, Debug)]
 pub struct Ended {
     pub tasks: TaskList,
@@ -216,9 +218,8 @@ impl Procs {
     /// then those of its overrides, the newest first.
     pub fn exit(&mut self, task: u32) -> Result<Numbers, NoMemory>
         requires { IsSome (task_in self.old task) }
-        ensures numbers { IfOk result (λ numbers.
-            Some numbers ≡ option_map numbers_of (task_in self.old task)) }
-        ensures tasks { OnOk result (self.new ≡ without self.old task) }
+        ensures numbers { IfOk result (λ numbers. numbers ≡ left_by (is_task task) self.old) }
+        ensures tasks { OnOk result (self.new ≡ survivors (is_task task) self.old) }
         ensures err { OnErr result (self.new ≡ self.old) }
     {
         let numbers = self.numbers_in(&[task])?;
@@ -229,10 +230,8 @@ impl Procs {
     /// All other threads of a task's process end, as when it calls execve(2).
     pub fn dethread(&mut self, task: u32) -> Result<Ended, NoMemory>
         requires { IsSome (task_in self.old task) }
-        ensures ended { IfOk result (λ ended. ended.tasks ≡ others_of self.old task) }
-        ensures numbers { IfOk result (λ ended.
-            ended.numbers ≡ numbers_in self.old (others_of self.old task)) }
-        ensures tasks { OnOk result (self.new ≡ without_all self.old (others_of self.old task)) }
+        ensures ended { IfOk result (λ ended. IfSome (task_in self.old task) (λ owner.
+            Ends (is_beside owner) self.old self.new ended.tasks ended.numbers)) }
         ensures err { OnErr result (self.new ≡ self.old) }
     {
         let others = self.others(task)?;
@@ -241,14 +240,11 @@ impl Procs {
 
     /// All threads of a process end. None does where the process has none.
     pub fn end_process(&mut self, process: u32) -> Result<Ended, NoMemory>
-        ensures ended { IfOk result (λ ended. ended.tasks ≡ threads_of self.old process) }
-        ensures numbers { IfOk result (λ ended.
-            ended.numbers ≡ numbers_in self.old (threads_of self.old process)) }
-        ensures tasks { OnOk result
-            (self.new ≡ without_all self.old (threads_of self.old process)) }
+        ensures ended { IfOk result (λ ended.
+            Ends (is_thread_of process) self.old self.new ended.tasks ended.numbers) }
         ensures err { OnErr result (self.new ≡ self.old) }
     {
-        let threads = self.threads(process)?;
+        let threads = TaskList::of(self.alloc, self.processes.threads(process))?;
         self.end(threads)
     }
 
@@ -259,22 +255,25 @@ impl Procs {
         self.tasks.get(&task)
     }
 
-    /// The other threads of a task's process, in rising order.
+    /// The other threads of a task's process, in the order in which they were created.
     fn others(&self, task: u32) -> Result<TaskList, NoMemory>
         requires { IsSome (task_in self.now task) }
-        ensures { IfOk result (λ tasks. tasks ≡ others_of self.now task) }
+        ensures { IfOk result (λ tasks. IfSome (task_in self.now task) (λ owner.
+            tasks ≡ those (is_beside owner) self.now)) }
     {
         // It is there: the task is alive.
         let process = self.process_of(task).unwrap();
         let mut others = Vec::from_slice(self.alloc, self.processes.threads(process))?;
         take_off(&mut others, task);
-        others.sort()?;
         Ok(TaskList::from_vec(others))
     }
 
-    /// The numbers that these tasks refer to, task by task.
+    /// The numbers that these tasks refer to, task by task. The tasks come in the order in which
+    /// they were created.
     fn numbers_in(&self, tasks: &[u32]) -> Result<Numbers, NoMemory>
-        ensures { IfOk result (λ numbers. numbers ≡ numbers_in self.now tasks.now) }
+        ensures numbers { IfOk result (λ numbers. (ends : Task → Bool)
+            → tasks.now ≡ those ends self.now → numbers ≡ left_by ends self.now) }
+        ensures tasks { AreTasks self.now }
     {
         let mut numbers = Vec::new(self.alloc);
         for task in tasks {
@@ -285,11 +284,10 @@ impl Procs {
         Ok(Numbers::from_vec(numbers))
     }
 
-    /// These tasks end.
+    /// These tasks end, which come in the order in which they were created.
     fn end(&mut self, tasks: TaskList) -> Result<Ended, NoMemory>
-        ensures ended { IfOk result (λ ended. ended.tasks ≡ tasks) }
-        ensures numbers { IfOk result (λ ended. ended.numbers ≡ numbers_in self.old tasks) }
-        ensures tasks { OnOk result (self.new ≡ without_all self.old tasks) }
+        ensures ended { IfOk result (λ ended. (ends : Task → Bool) → tasks ≡ those ends self.old
+            → Ends ends self.old self.new ended.tasks ended.numbers) }
         ensures err { OnErr result (self.new ≡ self.old) }
     {
         let numbers = self.numbers_in(tasks.items())?;
@@ -301,7 +299,7 @@ impl Procs {
 
     /// The table is without a task.
     fn remove(&mut self, task: u32)
-        ensures { self.new ≡ without self.old task }
+        ensures { self.new ≡ survivors (is_task task) self.old }
     {
         if let Some(thread) = self.tasks.shift_remove(&task) {
             self.processes.remove(thread.process, task);

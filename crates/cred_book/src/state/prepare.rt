@@ -8,10 +8,12 @@ ghost use Rattle.cred_sound.specs.Sound.{IsSound};
 ghost use Rattle.cred_model.specs.Step.{by_abort, by_alter, by_commit, by_prepare};
 ghost use Rattle.cred_book.specs.Kept.{seen_numbered};
 
-use crate::files::{executed_file, initial_chain};
+use crate::ends::{commit_answer, end_with};
+use crate::files::{chain_of, executed_file};
 use crate::prepared::{Changed, Ended, Preparation, Ready};
+use crate::seal::drop_all;
 use crate::state::State;
-use crate::table::{Numbered, sealed_at, set_current, task_among};
+use crate::table::{Numbered, sealed_at};
 use cred_decide::{Made, change as change_of};
 use cred_event::{Answer, Change, Counted, Named};
 use cred_ids::NoMemory;
@@ -34,7 +36,7 @@ impl State {
             Gives self.old (by_prepare self.old label task hold) answer self.new) }
         ensures err { OnErr result (self.new ≡ self.old) }
     {
-        if task_among(&self.tasks, task).is_none() {
+        if !self.tasks.alive(task) {
             return Ok(Answer::NoTask(task));
         }
         let Some(base) = self.holds.get(hold) else {
@@ -84,12 +86,14 @@ impl State {
         let Some(base) = self.base(label) else {
             return Ok(Answer::NoPrepared(label));
         };
+        let base = base.cred;
         let file = executed_file(script, change);
+        let chain = chain_of(script, base.ns);
         let Made {
             answer,
             cred,
             gains,
-        } = match change_of(base.cred, file, &initial_chain(), &change)? {
+        } = match change_of(base, file, chain, &change)? {
             Ok(made) => made,
             Err(answer) => return Ok(answer),
         };
@@ -105,23 +109,25 @@ impl State {
     }
 
     /// What the label prepared is sealed in the slot that was kept for it, and becomes its task's
-    /// current credential (Documentation/security/credentials.rst). `NoPrepared`, also where the
-    /// label was never changed, and `NoTask` leave the state. `Stale` comes where the task's
-    /// current credential isn't the base any more: then the label is given up.
+    /// current credential (Documentation/security/credentials.rst). Where the last change was an
+    /// execve, all other threads of the task's process end (execve(2)). `NoPrepared`, also where the
+    /// label was never changed, and `NoTask` leave the state. `Stale` comes where the task's current
+    /// credential isn't the base any more: then the label is given up.
     ///
     /// # Errors
     ///
-    /// `NoMemory` if an allocation of room for the reference fails: the state is as it was.
+    /// `NoMemory` if an allocation of room for the reference or of a list fails: the state is as it
+    /// was.
     pub fn commit(&mut self, label: u32) -> Result<Answer, NoMemory>
         requires { IsSound self.old }
         ensures ok { IfOk result (λ answer.
             GivesLike self.old (by_commit self.old label) answer self.new) }
         ensures err { OnErr result (self.new ≡ self.old) }
     {
-        let Some(Ready { task, base }) = self.prepared.ready(label) else {
+        let Some(Ready { task, base, change }) = self.prepared.ready(label) else {
             return Ok(Answer::NoPrepared(label));
         };
-        let Some(Numbered { number: now, .. }) = self.current(task) else {
+        let Some(now) = self.tasks.current(task) else {
             return Ok(Answer::NoTask(task));
         };
         if now != base {
@@ -129,13 +135,16 @@ impl State {
             return Ok(Answer::Stale { base, now });
         }
         self.slots.reserve()?;
+        let ended = end_with(self.alloc, &mut self.tasks, change, task)?;
+        drop_all(&mut self.slots, ended.numbers.items());
         let (slot, last) = self.prepared.commit(label);
         let number = self.slots.seal(slot);
+        let answer = commit_answer(&last, number, slot, ended.tasks.items().len() as u32);
         self.store.put(slot, last.cred);
-        set_current(&mut self.tasks, task, number);
+        self.tasks.set_current(task, number);
         self.slots.drop_later(now);
         self.slots.drop_later(base);
-        Ok(Answer::Sealed { cred: number, slot })
+        Ok(answer)
     }
 
     /// The label gives up what it prepared, with its slot and the reference to its base.

@@ -145,12 +145,12 @@ fn tasks_end_with_what_they_referred_to(rt: HostRuntime) -> Result<(), Fail> {
         (Call::Pop(7), &[]),
         (Call::Threads(50), &[3, 5, 9]),
         (Call::Threads(51), &[]),
-        // Tasks 3 and 9, with the current number of 3 and its overrides, and those of 9.
-        (Call::Dethread(5), &[3, 9, 10, 10, 20, 11, 20]),
+        // Tasks 9 and 3, as they were created: the numbers of 9 and of its override, and those of 3.
+        (Call::Dethread(5), &[9, 3, 11, 20, 10, 10, 20]),
         (Call::Dethread(5), &[]),
         (Call::Spawn(5, 2), &[]),
         (Call::Push(5, 10), &[1]),
-        (Call::EndProcess(50), &[2, 5, 10, 10, 10]),
+        (Call::EndProcess(50), &[5, 2, 10, 10, 10]),
         (Call::EndProcess(50), &[]),
         (Call::Threads(50), &[]),
         (Call::Push(7, 8), &[1]),

@@ -34,7 +34,7 @@ returns-in_default c =
 
 pub enter-requires-clause-kind : goal.enter-requires-clause-kind
 enter-requires-clause-kind c =
-    rw (← c.self.view_is) (if_some (IsEventOf (length c.self.inside.script.files)) _ c.in-Some-2.event c.in-Some-2.is c.in_ok-event.ensures.named)
+    rw (← c.self.view_is) (if_some (IsEventOf (length c.self.inside.script.files) c.self.inside.script.namespaces) _ c.in-Some-2.event c.in-Some-2.is c.in_ok-event.ensures.named)
 
 pub returns-in_default-2 : goal.returns-in_default-2
 returns-in_default-2 c =

@@ -1,10 +1,12 @@
-use Rattle.std.proofs.Common.{is_some, sym, ap}
-use Rattle.std.specs.Option.{IsSome}
+use Rattle.std.proofs.Common.{sym, ap, subst}
+use Rattle.cred_event.specs.declared.event.Change.{Change}
+use Rattle.cred_model.specs.State.{Changed}
+use Rattle.cred_book.specs.Prepared.{IsReady}
 use Rattle.cred_book.proofs.Labels.{readies}
 use Rattle.cred_book.proofs.prepared.Preparing.ready.Goals as goal
 
 pub returns : goal.returns
 returns c =
     let p = c.in_ok-preparation.preparation.now in
-    let some : IsSome p.changed = ap is_some (sym c.in_ok-as_ref.ensures.value) in
-    readies c.args.self.now c.args.label p (sym c.in_ok-preparation.ensures) some
+    subst (λ (change : Change). IsReady c.args.self.now c.args.label p.task p.base change) (sym (ap (λ (last : Changed). last.change) c.last.view_is))
+    (readies c.args.self.now c.args.label p c.in_ok-last.last.now (sym c.in_ok-preparation.ensures) (sym c.in_ok-last.ensures.value))

@@ -23,7 +23,7 @@ unfolding empty
 nothing-state_of store = refl
 
 pub invariant_of-result : goal.invariant_of-result
-invariant_of-result c = rw (c.new.ensures.items, c.new-2.ensures, c.new-3.ensures, c.in_ok-new-2.ensures) (nothing-kept c.in_ok-new.field-0)
+invariant_of-result c = rw (c.in_ok-new.ensures, c.new-2.ensures, c.new-3.ensures, c.in_ok-new-3.ensures) (nothing-kept c.in_ok-new-2.field-0)
 
 pub returns : goal.returns
-returns c = rw (c.new.ensures.items, c.new-2.ensures, c.new-3.ensures, c.in_ok-new-2.ensures) (nothing-state_of c.in_ok-new.field-0)
+returns c = rw (c.in_ok-new.ensures, c.new-2.ensures, c.new-3.ensures, c.in_ok-new-3.ensures) (nothing-state_of c.in_ok-new-2.field-0)

@@ -12,7 +12,7 @@ pub returns-in_default-free_slot-clause-ok : goal.returns-in_default-free_slot-c
 returns-in_default-free_slot-clause-ok c =
     let t = c.self.inside in
     let few : length t.prepared < 64 = grind (arith, common_steps) in
-    let owner = present c.args.task t.tasks.items _ _ _ c.deref.ensures.value c.task_among.ensures c.is_none.ensures c.if-is_none.false in
+    let owner = present c.args.task t.tasks c.alive.result c.alive.ensures c.if-not-alive.false in
     let base = held_hold _ c.in-Some.base c.in-Some.ensures in
     let labels = rw (← c.self.view_is) at c.has_label.ensures in
     let new = neither_found _ _ c.has_label.result labels c.if-has_label.false in
@@ -21,7 +21,7 @@ returns-in_default-free_slot-clause-ok c =
     (prepare_full c.self.invariant c.sweep.new.self c.args.label c.args.task c.args.hold
     (record { owner = owner.0; lives = owner.1; base = base.0; has = base.1; new = new.0; unprepared = new.1; few = few })
     (none_spare t.slots c.in_ok-reserve.ensures.ok none)
-    (roomy_spare t.tasks.items t.holds t.prepared t.store t.slots _ _ _ c.in_ok-reserve.ensures.ok
+    (roomy_spare t.tasks t.holds t.prepared t.store t.slots _ _ _ c.in_ok-reserve.ensures.ok
     (c.sweep.ensures ∙ sym (full_swept c.reserve.new.self none))))
 
 pub add-requires-clause-referred : goal.add-requires-clause-referred
@@ -48,7 +48,7 @@ returns-clause-ok c =
     let t = c.self.inside in
     let slot = c.in-Some-free_slot.slot in
     let few : length t.prepared < 64 = grind (arith, common_steps) in
-    let owner = present c.args.task t.tasks.items _ _ _ c.deref.ensures.value c.task_among.ensures c.is_none.ensures c.if-is_none.false in
+    let owner = present c.args.task t.tasks c.alive.result c.alive.ensures c.if-not-alive.false in
     let base = held_hold _ c.in-Some.base c.in-Some.ensures in
     let labels = rw (← c.self.view_is) at c.has_label.ensures in
     let new = neither_found _ _ c.has_label.result labels c.if-has_label.false in

@@ -1,5 +1,5 @@
 use Rattle.std.proofs.Common.{◌≡◌, take}
-use Rattle.cred_procs.specs.Tasks.{without_all}
+use Rattle.cred_procs.proofs.Many.{without_all}
 use Rattle.cred_procs.proofs.procs.Procs.end.Given as goal
 
 abbrev pub invariant-loop-task : goal.invariant-loop-task

@@ -1,5 +1,5 @@
 use Rattle.std.proofs.Common.{◌≡◌, take}
-use Rattle.cred_procs.specs.Tasks.{numbers_in}
+use Rattle.cred_procs.proofs.Many.{numbers_in}
 use Rattle.cred_procs.proofs.procs.Procs.numbers_in.Given as goal
 
 abbrev pub invariant-loop-task : goal.invariant-loop-task

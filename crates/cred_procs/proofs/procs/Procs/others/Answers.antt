@@ -1,30 +1,33 @@
-use Rattle.std.proofs.Common.{◌≡◌, ℕ, ◌∙◌, List, [], sym, ap, Option, None, Some, filter}
-use Rattle.std.specs.Option.{option_map, option_map_or}
-use Rattle.std.proofs.lemmas.List.Sorted.{IsNonDecreasingBy-from_sort}
-use Rattle.cred_ids.specs.Ordered.{in_order}
-use Rattle.cred_ids.proofs.InOrder.{in_order-is}
-use Rattle.cred_model.specs.State.{Task}
+use Rattle.std.proofs.Common.{◌≡◌, ℕ, ◌∙◌, List, refl, sym, ap, Option, None, Some, filter}
+use Rattle.std.specs.Option.{option_map, IfSome}
+use Rattle.cred_model.specs.State.{Task, opening}
+use Rattle.cred_model.specs.Ends.{is_beside}
+use Rattle.cred_model.proofs.Numbers.{owner_number}
 use Rattle.cred_procs.specs.Kept.{tasks_of}
-use Rattle.cred_procs.specs.Tasks.{task_in, threads_of, without}
-use Rattle.cred_procs.proofs.Ends.{is_other, members-without}
+use Rattle.cred_procs.specs.Tasks.{task_in, those, members}
+use Rattle.cred_procs.proofs.Ends.{is_other}
+use Rattle.cred_procs.proofs.Many.{those-beside}
 use Rattle.cred_procs.proofs.procs.Procs.others.Goals as goal
 
--- of a task that is found, what is said of it by its process
-by_process : (of : ℕ → List ℕ) (process : ℕ) (found : Option Task) → option_map (λ t. t.process) found ≡ Some process
-    → of process ≡ option_map_or (λ t. of t.process) found []
-by_process of process None is = cc
-by_process of process (Some t) is =
-    let same : process ≡ t.process = cc in
-    ap of same
+-- the other threads of a task that is found, by its process
+by_process : (task process : ℕ) (ts : List Task) (tasks : List ℕ) (found : Option Task) → task_in ts task ≡ found → option_map (λ t. t.process) found ≡ Some process
+    → tasks ≡ filter (is_other task) (members ts process) → IfSome found (λ owner. tasks ≡ those (is_beside owner) ts)
+by_process task process ts tasks None at is these = cc
+by_process task process ts tasks (Some owner) at is these =
+    let same : process ≡ owner.process = cc in
+    let number = owner_number (record opening { tasks = ts }) task owner at in
+    these
+    ∙ ap (λ (p : ℕ). filter (is_other task) (members ts p)) same
+    ∙ ap (λ (n : ℕ). filter (is_other n) (members ts owner.process)) (sym number)
+    ∙ sym (those-beside owner ts)
 
 pub returns : goal.returns
 returns c =
     let ts = tasks_of c.self.inside.tasks.entries in
     let process = c.unwrap-process.result in
     let is : option_map (λ t. t.process) (task_in c.args.self.now c.args.task) ≡ Some process = sym c.process_of.ensures ∙ c.unwrap-process.ensures in
-    rw (← c.self.view_is, c.from_vec.ensures)
-    (in_order-is _ _ c.in_ok-sort.ensures.permutation (IsNonDecreasingBy-from_sort (λ x. x) _ c.in_ok-sort.ensures.sorted)
-    ∙ ap in_order (c.take_off.ensures
-    ∙ ap (filter (is_other c.args.task)) (c.in_ok-others.ensures.items ∙ c.threads.ensures ∙ c.self.invariant.grouped process)
-    ∙ sym (members-without c.args.task process ts))
-    ∙ by_process (λ p. threads_of (without ts c.args.task) p) process (task_in ts c.args.task) (rw (← c.self.view_is) at is))
+    let of = rw (← c.self.view_is) at is in
+    rw (← c.self.view_is)
+    (by_process c.args.task process ts _ (task_in ts c.args.task) refl of
+    (c.from_vec.ensures ∙ c.take_off.ensures
+    ∙ ap (filter (is_other c.args.task)) (c.in_ok-others.ensures.items ∙ c.threads.ensures ∙ c.self.invariant.grouped process)))
