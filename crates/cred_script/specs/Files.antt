@@ -49,7 +49,9 @@ has_count words =
 unfoldable pub attr_of : List (List ℕ) → Result (Option (List ℕ)) Reason
 attr_of [] = Ok None
 attr_of (word ∷ digits ∷ []) =
-    if bytes_eq word (codes "caps") then ok_or (option_map Some (bytes_of digits)) Word else Err Word
+    if bytes_eq word (codes "caps")
+    then ok_or (option_map Some (bytes_of digits)) Word
+    else Err Word
 attr_of words = Err Word
 
 -- what may follow: `nosuid`, and then `caps HEX`
