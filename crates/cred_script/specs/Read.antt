@@ -1,10 +1,9 @@
 -- What reading a script may answer.
-use Rattle.std.specs.Prelude.{◌≡◌, ℕ, List, Result, Ok, Err, ⊤}
+use Rattle.std.specs.Prelude.{◌≡◌, ℕ, Result, Ok, Err, ⊤}
 use Rattle.std.specs.Borrow.{Bor}
 use Rattle.cred_event.specs.declared.content.Content.{Content}
 use Rattle.cred_model.specs.Script.{Line}
 use Rattle.cred_spelling.specs.declared.reason.Reason.{Reason}
-use Rattle.cred_spelling.specs.Read.{nows}
 use Rattle.cred_script.specs.declared.refusal.LineRefusal.{LineRefusal}
 use Rattle.cred_script.specs.declared.refusal.LineRefusal.TheVariants as line
 use Rattle.cred_script.specs.declared.refusal.ScriptRefusal.{ScriptRefusal}
@@ -22,14 +21,6 @@ abbrev pub GivesLine : {V A : Type 0} → (V → A) → Result V LineRefusal →
 GivesLine view (Ok v) given = given ≡ Ok (view v)
 GivesLine view (Err (line.Bad reason)) given = given ≡ Err reason
 GivesLine view (Err line.Memory) given = ⊤
-
--- five words, and those after them
-abbrev pub options_nows
-    : Bor (List ℕ) × Bor (List ℕ) × Bor (List ℕ) × Bor (List ℕ) × Bor (List ℕ)
-    × Bor (List (Bor (List ℕ)))
-    → List ℕ × List ℕ × List ℕ × List ℕ × List ℕ × List (List ℕ)
-options_nows words =
-    (words.0.now, words.1.now, words.2.now, words.3.now, words.4.now, nows words.5.now)
 
 -- the line that a lane and a content make
 abbrev pub seen : ℕ × Bor Content → Line

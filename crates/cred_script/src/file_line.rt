@@ -1,74 +1,20 @@
 //! The lines that declare files.
 ghost use Rattle.cred_spelling.specs.Read.{Says, nows};
 ghost use Rattle.cred_script.specs.Files as spec;
-ghost use Rattle.cred_script.specs.Read.{GivesLine, options_nows};
+ghost use Rattle.cred_script.specs.Read.{GivesLine};
 
 use crate::files::{Files, ScriptFile};
 use crate::refusal::LineRefusal;
-use cred_record::{Attr, FileInfo};
-use cred_spelling::{Reason, bytes_of, id_of, is, kind_of, mode_of, name_of};
+use cred_ids::Id;
+use cred_record::{Attr, FileInfo, FileKind};
+use cred_spelling::{Reason, bytes_of, is, mode_of, name_of, three};
 use std::alloc::Global;
 
-/// The word is this text.
-fn only(word: &[u8], text: &str) -> Result<(), Reason>
-    ensures { Says (λ x. x) result (spec.only word.now text.now) }
-{
-    if is(word, text) {
-        Ok(())
-    } else {
-        Err(Reason::Word)
-    }
-}
+/// How many words stand after the first one of such a line: the five of each, and the three that
+/// may follow.
+const LEAST_WORDS: usize = 5;
 
-/// Five words, and those after them.
-type FiveAndOptions<'w, 'b> = (
-    &'b [u8],
-    &'b [u8],
-    &'b [u8],
-    &'b [u8],
-    &'b [u8],
-    &'w [&'b [u8]],
-);
-
-/// There are five words, and at most three more.
-fn five_and_options<'w, 'b>(words: &'w [&'b [u8]]) -> Result<FiveAndOptions<'w, 'b>, Reason>
-    ensures { Says options_nows result (spec.five_and_options (nows words.now)) }
-{
-    match words {
-        [a, b, c, d, e, options @ ..] if options.len() <= 3 => Ok((a, b, c, d, e, options)),
-        _ => Err(Reason::Count),
-    }
-}
-
-/// `caps HEX`
-#[tactic(auto, unfolding(crate::specs::Files::caps_of))]
-fn caps_of(alloc: Global, word: &[u8], digits: &[u8]) -> Result<Attr, LineRefusal>
-    ensures { GivesLine (λ attr. attr) result (spec.caps_of word.now digits.now) }
-{
-    only(word, "caps")?;
-    let bytes = bytes_of(alloc, digits)?.ok_or(Reason::Word)?;
-    Ok(Attr::from_vec(bytes))
-}
-
-/// What may follow: `nosuid`, and then `caps HEX`.
-#[tactic(auto, unfolding(crate::specs::Files::options_of))]
-fn options_of(alloc: Global, words: &[&[u8]]) -> Result<(bool, Option<Attr>), LineRefusal>
-    ensures { GivesLine (λ options. options) result (spec.options_of (nows words.now)) }
-{
-    match words {
-        [] => Ok((false, None)),
-        [a] => {
-            only(a, "nosuid")?;
-            Ok((true, None))
-        }
-        [a, b] => Ok((false, Some(caps_of(alloc, a, b)?))),
-        [a, b, c] => {
-            only(a, "nosuid")?;
-            Ok((true, Some(caps_of(alloc, b, c)?)))
-        }
-        _ => Err(LineRefusal::Bad(Reason::Count)),
-    }
-}
+const MOST_WORDS: usize = 8;
 
 /// `file NAME KIND ID ID MODE`, then perhaps `nosuid`, then perhaps `caps HEX`.
 #[tactic(auto, unfolding(crate::specs::Files::file_of))]
@@ -82,23 +28,93 @@ pub(crate) fn file_of(
     if files.is_full() {
         return Err(LineRefusal::Bad(Reason::Count));
     }
-    let (name, kind, owner, group, mode, options) = five_and_options(words)?;
-    let name = name_of(name)?;
-    let kind = kind_of(kind).ok_or(Reason::Word)?;
-    let owner = id_of(owner).ok_or(Reason::Word)?;
-    let group = id_of(group).ok_or(Reason::Word)?;
-    let mode = mode_of(mode).ok_or(Reason::Word)?;
-    let (nosuid, attr) = options_of(alloc, options)?;
-    let info = FileInfo {
-        kind,
-        owner,
-        group,
-        mode,
-        nosuid,
-        attr,
-    };
-    Ok(ScriptFile {
-        name: String::from_str(alloc, name)?,
-        info,
-    })
+    has_count(words)?;
+    declared_of(alloc, words)
+}
+
+/// The words are as many as such a line may have.
+fn has_count(words: &[&[u8]]) -> Result<(), Reason>
+    ensures { Says (λ x. x) result (spec.has_count (nows words.now)) }
+{
+    if LEAST_WORDS <= words.len() && words.len() <= MOST_WORDS {
+        Ok(())
+    } else {
+        Err(Reason::Count)
+    }
+}
+
+/// `NAME KIND ID ID MODE`, and what may follow.
+#[tactic(auto, unfolding(crate::specs::Files::declared_of))]
+fn declared_of(alloc: Global, words: &[&[u8]]) -> Result<ScriptFile, LineRefusal>
+    ensures { GivesLine (λ file. file) result (spec.declared_of (nows words.now)) }
+{
+    match words {
+        [] => Err(LineRefusal::Bad(Reason::Count)),
+        [name, words @ ..] => {
+            let name = name_of(name)?;
+            let info = info_of(alloc, words)?;
+            Ok(ScriptFile {
+                name: String::from_str(alloc, name)?,
+                info,
+            })
+        }
+    }
+}
+
+/// `KIND ID ID MODE`, and what may follow.
+#[tactic(auto, unfolding(crate::specs::Files::info_of))]
+fn info_of(alloc: Global, words: &[&[u8]]) -> Result<FileInfo, LineRefusal>
+    ensures { GivesLine (λ info. info) result (spec.info_of (nows words.now)) }
+{
+    match words {
+        [kind, owner, group, mode, options @ ..] => {
+            let (kind, owner, group) = three::<FileKind, Id, Id>(&[*kind, *owner, *group])?;
+            let mode = mode_of(mode).ok_or(Reason::Word)?;
+            let (nosuid, attr) = options_of(alloc, options)?;
+            Ok(FileInfo {
+                kind,
+                owner,
+                group,
+                mode,
+                nosuid,
+                attr,
+            })
+        }
+        _ => Err(LineRefusal::Bad(Reason::Count)),
+    }
+}
+
+/// What may follow: `nosuid`, and then `caps HEX`.
+#[tactic(auto, unfolding(crate::specs::Files::options_of))]
+fn options_of(alloc: Global, words: &[&[u8]]) -> Result<(bool, Option<Attr>), LineRefusal>
+    ensures { GivesLine (λ options. options) result (spec.options_of (nows words.now)) }
+{
+    match words {
+        [] => Ok((false, None)),
+        [first, rest @ ..] => {
+            if is(first, "nosuid") {
+                Ok((true, attr_of(alloc, rest)?))
+            } else {
+                Ok((false, attr_of(alloc, words)?))
+            }
+        }
+    }
+}
+
+/// Nothing, or `caps HEX`.
+#[tactic(auto, unfolding(crate::specs::Files::attr_of))]
+fn attr_of(alloc: Global, words: &[&[u8]]) -> Result<Option<Attr>, LineRefusal>
+    ensures { GivesLine (λ attr. attr) result (spec.attr_of (nows words.now)) }
+{
+    match words {
+        [] => Ok(None),
+        [word, digits] => {
+            if !is(word, "caps") {
+                return Err(LineRefusal::Bad(Reason::Word));
+            }
+            let bytes = bytes_of(alloc, digits)?.ok_or(Reason::Word)?;
+            Ok(Some(Attr::from_vec(bytes)))
+        }
+        _ => Err(LineRefusal::Bad(Reason::Word)),
+    }
 }

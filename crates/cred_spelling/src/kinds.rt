@@ -6,7 +6,7 @@ ghost use Rattle.cred_spelling.specs.Spellings as spec;
 use crate::spellings;
 use cred_caps::CapSet;
 use cred_ids::{Arg, Id};
-use cred_record::Want;
+use cred_record::{FileKind, Want};
 
 /// A kind of words, and what such a word spells.
 pub trait Spelling {
@@ -150,6 +150,16 @@ impl Spelling for CapSet {
 
     fn of(word: &[u8]) -> Option<CapSet> {
         spellings::set_of(word)
+    }
+}
+
+impl Spelling for FileKind {
+    type Value = FileKind;
+
+    ghost spelled = { spec.kind_of };
+
+    fn of(word: &[u8]) -> Option<FileKind> {
+        spellings::kind_of(word)
     }
 }
 

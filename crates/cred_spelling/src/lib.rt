@@ -25,5 +25,5 @@ pub use names::{
     id_name, query_name,
 };
 pub use reason::Reason;
-pub use spellings::{id_of, is, kind_of, mode_of, want_of};
+pub use spellings::{is, mode_of};
 pub use words::{bare, five, is_comment, no_words, one, split_into, three, two, word};

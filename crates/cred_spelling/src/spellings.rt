@@ -36,7 +36,7 @@ pub(crate) fn arg_of(word: &[u8]) -> Option<Arg>
 }
 
 /// An id: a number, but for the greatest.
-pub fn id_of(word: &[u8]) -> Option<Id>
+pub(crate) fn id_of(word: &[u8]) -> Option<Id>
     ensures { result ≡ spec.id_of word.now }
 {
     Id::new(number_of(word)?)
@@ -256,7 +256,7 @@ static KINDS: [(&str, FileKind); 2] = [("reg", FileKind::Regular), ("dir", FileK
 
 /// A file's kind.
 #[tactic(auto, unfolding(crate::specs::Spellings::kinds))]
-pub fn kind_of(word: &[u8]) -> Option<FileKind>
+pub(crate) fn kind_of(word: &[u8]) -> Option<FileKind>
     ensures { result ≡ spec.kind_of word.now }
 {
     named(&KINDS, word)
@@ -347,7 +347,7 @@ static WANTS: [(&str, Want); 7] = [
 
 /// What is wanted of a file.
 #[tactic(auto, unfolding(crate::specs::Spellings::wants))]
-pub fn want_of(word: &[u8]) -> Option<Want>
+pub(crate) fn want_of(word: &[u8]) -> Option<Want>
     ensures { result ≡ spec.want_of word.now }
 {
     named(&WANTS, word)

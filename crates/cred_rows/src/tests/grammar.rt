@@ -1,5 +1,6 @@
 //! What the reader answers at the edges of the grammar.
 mod files;
+mod tasks;
 
 use cred_script::{Reason, Script, ScriptRefusal, line_count, read};
 use std::alloc::Global;
@@ -52,10 +53,13 @@ const SCRIPTS: [(&str, Answered); 16] = [
     ("t1 ids\ninit t1 p1 0 0 n0\n", Err((2, Reason::Order))),
     ("sweep\ninit t1 p1 0 0 n1\n", Err((2, Reason::Order))),
     ("sweep\ninit t1 p1 0 0\n", Err((2, Reason::Count))),
-    // a namespace that isn't declared, and a second task
+    // a namespace that isn't declared, and a second task with too few words
     ("init t1 p1 0 0 n1\n", Err((1, Reason::Name))),
     ("init t1 p1 0 0 n15\n", Err((1, Reason::Name))),
-    ("init t1 p1 0 0 n0\n#\ninit t2 p2\n", Err((3, Reason::Word))),
+    (
+        "init t1 p1 0 0 n0\n#\ninit t2 p2\n",
+        Err((3, Reason::Count)),
+    ),
 ];
 
 #[test]
@@ -122,7 +126,7 @@ fn declares_nothing_after_a_use(rt: HostRuntime) -> Result<(), Fail> {
 /// Each of these lines has a word that may not stand at its place.
 const BAD_WORDS: &str = "sweeps
 t1
-t1 exit 1
+t1 spawn t2
 t0 ids
 t01 ids
 t100000 ids
@@ -160,11 +164,11 @@ t1 ambis CAP_ALL
 t1 securebits 4294967296
 t1 keepcaps 0x1
 t1 nonewprivs -1
-t1 exec x
+t1 open x r f1
 t1 change h1 ambclear
 ask h1 ambclear
 ask t1 bits
-change h1 exec x
+change h1 access x r
 change h1 ids
 change h1 setuid 0
 change t1 ambclear
