@@ -30,9 +30,9 @@ pub same_label : (before after : List Prepared) (label task base slot : ℕ) (ch
 same_label before after label task base slot change last ready gives =
     let here = find-at (λ r. r.label == label) before gives.gives.place _ gives.gives.found gives.gives.there in
     let there = ready.found in
-    let same : record { label = label; task = gives.task; base = gives.base; slot = slot; changed = Some last }
-    ≡ record { label = label; task = task; base = base; slot = ready.slot; changed = Some ready.last }
-    = cc in
+    let gone : Prepared = record { label = label; task = gives.task; base = gives.base; slot = slot; changed = Some last } in
+    let found : Prepared = record { label = label; task = task; base = base; slot = ready.slot; changed = Some ready.last } in
+    let same : gone ≡ found = cc in
     let some : Some last ≡ Some ready.last = ap (λ (p : Prepared). p.changed) same in
     let own : last ≡ ready.last = cc in
     (ap (λ (p : Prepared). p.task) same, ap (λ (p : Prepared). p.base) same, ap (λ (c : Changed). c.change) own ∙ ready.by)

@@ -29,8 +29,8 @@ pub fn executed_file(script: &Script, change: Change) -> Option<&FileInfo>
     }
 }
 
-/// The root ids of a namespace and of its ancestors, its own first (user_namespaces(7)). Empty for a
-/// namespace that isn't declared.
+/// The root ids of a namespace and of its ancestors, its own first (user_namespaces(7)). Empty for
+/// a namespace that isn't declared.
 pub fn chain_of(script: &Script, ns: u32) -> &[Id]
     ensures { result.now ≡ chain_of script.now ns }
 {

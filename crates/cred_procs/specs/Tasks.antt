@@ -46,9 +46,10 @@ has_process tasks process = is_some (find (is_thread_of process) tasks)
 
 -- ---- tasks that end
 
--- The tasks that pass the test ended, at most 64, and gave up the numbers that they referred to. The
--- others stay in their order.
-pub record Ends (ends : Task → Bool) (before after : List Task) (tasks numbers : List ℕ) : Type 0 where
+-- The tasks that pass the test ended, at most 64, and gave up the numbers that they referred to.
+-- The others stay in their order.
+pub record Ends (ends : Task → Bool) (before after : List Task) (tasks numbers : List ℕ)
+    : Type 0 where
   pub ended : tasks ≡ those ends before
   pub few : length tasks ≤ TASKS
   pub gave_up : numbers ≡ left_by ends before

@@ -42,9 +42,9 @@ impl Model for Procs {
     ghost invariant = { λ p. IsKept (tasks_of p.tasks.entries) p.processes };
 }
 
-/// The tasks that ended, in the order in which they were created, and the numbers that they referred
-/// to, task by task: the current credential's first and then those of the overrides, the newest
-/// first. A number stands there once for each place that referred to it.
+/// The tasks that ended, in the order in which they were created, and the numbers that they
+/// referred to, task by task: the current credential's first and then those of the overrides, the
+/// newest first. A number stands there once for each place that referred to it.
 #[derive(Drop, Debug)]
 pub struct Ended {
     pub tasks: TaskList,

@@ -110,9 +110,9 @@ impl State {
 
     /// What the label prepared is sealed in the slot that was kept for it, and becomes its task's
     /// current credential (Documentation/security/credentials.rst). Where the last change was an
-    /// execve, all other threads of the task's process end (execve(2)). `NoPrepared`, also where the
-    /// label was never changed, and `NoTask` leave the state. `Stale` comes where the task's current
-    /// credential isn't the base any more: then the label is given up.
+    /// execve, all other threads of the task's process end (execve(2)). `NoPrepared`, also where
+    /// the label was never changed, and `NoTask` leave the state. `Stale` comes where the task's
+    /// current credential isn't the base any more: then the label is given up.
     ///
     /// # Errors
     ///

@@ -64,8 +64,8 @@ impl State {
     ///
     /// # Errors
     ///
-    /// `NoMemory` if an allocation of room for the child or for its reference fails: the state is as
-    /// it was.
+    /// `NoMemory` if an allocation of room for the child or for its reference fails: the state is
+    /// as it was.
     pub fn fork(&mut self, task: u32, child: u32, process: u32) -> Result<Answer, NoMemory>
         ensures ok { IfOk result (λ answer.
             Gives self.old (by_fork self.old task child process) answer self.new) }
@@ -95,8 +95,8 @@ impl State {
         Ok(Answer::Sealed { cred: number, slot })
     }
 
-    /// A task ends, and what it referred to is given up. Its holds and prepared labels stay. `NoTask`
-    /// leaves the state.
+    /// A task ends, and what it referred to is given up. Its holds and prepared labels stay.
+    /// `NoTask` leaves the state.
     ///
     /// # Errors
     ///
@@ -114,8 +114,8 @@ impl State {
         Ok(Answer::Done)
     }
 
-    /// A task makes an id call. `NoTask`, `Eperm` and `Einval` leave the state; `TableFull` leaves it
-    /// swept.
+    /// A task makes an id call. `NoTask`, `Eperm` and `Einval` leave the state; `TableFull` leaves
+    /// it swept.
     ///
     /// # Errors
     ///

@@ -36,11 +36,11 @@ invariant_of-self-2 c =
 pub returns-clause-ok : goal.returns-clause-ok
 returns-clause-ok c =
     let t = c.self.inside in
+    let store : c.put.new.self ≡ slice_set t.store c.unwrap-current.result.1 (Some (first_credential c.args.user c.args.group c.args.ns)) = grind (arith, common_steps) in
     let new = none_by_test _ c.alive.result c.alive.ensures c.if-alive.false in
     let few = few_by_test (length t.tasks) c.full.result c.full.ensures.full c.if-full.false in
     let seals = sealed_there c.reserve.new.self c.seal_next.new.slots c.seal_next.result _ _ c.unwrap-current.ensures c.seal_next.ensures in
     let tasks = started t.tasks c.start.new.self c.args.number c.args.process _ _ c.in_ok-start.ensures.ok (c.next_number-next.ensures ∙ sym seals.counted) in
-    let store : c.put.new.self ≡ slice_set t.store c.unwrap-current.result.1 (Some (first_credential c.args.user c.args.group c.args.ns)) = grind (arith, common_steps) in
     rw (← c.self.view_is, tasks, store)
     (init_sealed c.self.invariant c.seal_next.new.slots c.args.number c.args.process c.args.user c.args.group c.args.ns
     c.put.ensures.long (seals_spare c.in_ok-reserve.ensures.ok seals) new few)
