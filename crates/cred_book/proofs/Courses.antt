@@ -1,9 +1,12 @@
 -- The course of a line, from event to event and from line to line.
 use Rattle.std.proofs.Common.{◌≡◌, ℕ, zero, suc, ◌+◌, ◌-◌, ◌<◌, ◌≤◌, ◌==◌, cond, List, [], ◌∷◌, ◌++◌, length, slice_get, Option, Some, None, is_some, is_none, true, false, refl, sym, ap, ◌∙◌, subst, inl, inr, arith}
-use Rattle.std.specs.Option.{IfSome, option_map, option_and_then}
+use Rattle.std.specs.Option.{IfSome, option_map, option_and_then, option_map_or}
 use Rattle.std.proofs.lemmas.List.Sums.{fold_push}
 use Rattle.std.proofs.lemmas.Bool.{cases_lt}
 use Rattle.std.proofs.lemmas.Bool.Decides.{nat_tests}
+use Rattle.cred_event.specs.declared.content.Content.{Content}
+use Rattle.cred_event.specs.declared.content.Content.TheVariants.{One, Id}
+use Rattle.cred_event.specs.declared.content.Stage.{Stage}
 use Rattle.cred_event.specs.declared.content.Stage.TheVariants.{First}
 use Rattle.cred_event.specs.declared.event.Event.{Event}
 use Rattle.cred_event.specs.declared.entry.Entry.{Entry}
@@ -15,7 +18,7 @@ use Rattle.cred_model.proofs.Journals.{IsInOrder-push}
 use Rattle.cred_model.proofs.Courses.{after_line}
 use Rattle.cred_model.proofs.Lines.{answers_of-push_same, answers_of-push_other, first_due_at}
 use Rattle.cred_script.specs.Grammar.{line_at}
-use Rattle.cred_book.specs.Cursor.{HasEnded, IsOver, StandsOn, left_at, IsOfLine, next_start, Passes}
+use Rattle.cred_book.specs.Cursor.{HasEnded, IsOver, StandsOn, left_at, may_wait, may_wait_at, IsOfLine, next_start, Passes}
 
 -- the line at a place has the next number
 line_at-place : (script : Script) (place : ℕ) → line_at script (place + 1) ≡ slice_get script.lines place
@@ -122,11 +125,24 @@ some_of None is = cc
 some_of (Some x) is = refl
 
 -- no more than a whole course is left of a line
-few_left : (line : Line) (number : ℕ) → model.left (start number line.content) ≤ 62
-few_left line number = elim (model.makes_events line.content) as (λ b. model.left (record { line = number; stage = cond b (Some First) None; tries = 1 }) ≤ 62) [
+few_left : (line : Line) (number : ℕ) → model.left (start number line.content) ≤ 86
+few_left line number = elim (model.makes_events line.content) as (λ b. model.left (record { line = number; stage = cond b (Some First) None; tries = 1 }) ≤ 86) [
   | true ↦ omega arith
   | false ↦ omega arith
 ]
+
+-- no more tasks than may live wait after its next event
+few_wait : (content : Content) (stage : Option Stage) → may_wait content stage ≤ 64
+few_wait (One event) (Some First) = omega arith
+few_wait (Id task call) (Some First) = omega arith
+few_wait content stage = omega arith
+
+few_wait_at : (script : Script) (course : Course) → may_wait_at script course ≤ 64
+few_wait_at script course = by (line_at script course.line)
+  where
+    by : (found : Option Line) → option_map_or (λ line. may_wait line.content course.stage) found 0 ≤ 64
+    by None = omega arith
+    by (Some line) = few_wait line.content course.stage
 
 record IsNext (script : Script) (course next : Course) : Type 0 where
   line : Line
@@ -156,7 +172,8 @@ reaches_next script from course next over is at =
     let within = later_line script course.line n.line n.following in
     let few = few_left n.line (course.line + 1) in
     let none = none_of course.stage over in
-    let fell : left_at script (Some (start (course.line + 1) n.line.content)) ≤ left_at script (Some course) = omega (arith, within, few) in
+    let fell : left_at script (Some (start (course.line + 1) n.line.content)) ≤ left_at script (Some course)
+    = omega (arith, within, few, few_wait_at script (start (course.line + 1) n.line.content)) in
     let before = at.falls in
     subst (Reaches script from) n.is (record {
       stands = λ journal on. passes_on script journal course n.line none n.following (at.stands journal on);

@@ -4,21 +4,23 @@ use Rattle.std.specs.List.{All}
 use Rattle.std.specs.Option.{IfSome, option_map, option_and_then, option_map_or}
 use Rattle.std.proofs.lemmas.List.Elements.{All-head, All-tail, All-weaker}
 use Rattle.std.proofs.lemmas.Bool.Decides.{nat_tests}
+use Rattle.cred_event.specs.declared.content.Stage.{Stage}
 use Rattle.cred_event.specs.declared.event.Event.{Event}
 use Rattle.cred_event.specs.declared.answer.Answer.{Answer}
 use Rattle.cred_event.specs.declared.entry.Entry.{Entry}
 use Rattle.cred_model.specs.Script.{Script, Line}
 use Rattle.cred_model.specs.Course as model
 use Rattle.cred_model.specs.Course.{Course, Leads, start, event_in, event_at, leads}
-use Rattle.cred_model.specs.Journal.{Due, next_event, first_due, entry_of, due_in, next, next_in_order, IsInOrder, IsSequence}
-use Rattle.cred_model.proofs.Courses.{makes_event, after_line, leads_on}
+use Rattle.cred_model.specs.Journal.{Due, next_event, first_due, entry_of, due_in, next, next_in_order, replay, IsInOrder, IsSequence}
+use Rattle.cred_model.proofs.Courses.{makes_event}
 use Rattle.cred_model.proofs.Lines.{first_due_none}
 use Rattle.cred_script.specs.Grammar.{line_at}
 use Rattle.cred_book.specs.Book.{Recorded, with_event, answer_of, next_of}
-use Rattle.cred_book.specs.Cursor.{StandsOn, IsCursor, left_at, left, Stands, Passes, Makes, IsSetup}
+use Rattle.cred_book.specs.Cursor.{StandsOn, IsCursor, left_at, left, waiting, Stands, Passes, Makes, IsSetup}
 use Rattle.cred_book.specs.declared.cursor.Step.TheVariants as step
 use Rattle.cred_book.specs.declared.cursor.Step.TheVariants.{More}
 use Rattle.cred_book.proofs.Courses.{line_is, of_line, next_due, goes_on}
+use Rattle.cred_book.proofs.Measure.{step_falls}
 
 -- ---- a step
 
@@ -31,9 +33,16 @@ pub record Moves (before after : Recorded) : Type 0 where
   pub entered : after.journal ≡ before.journal ++ entry ∷ []
   pub falls : left after < left before
 
--- what is left falls with the course
-left_falls : (script : Script) (a b : Course) → a.line ≡ b.line → model.left a < model.left b → left_at script (Some a) < left_at script (Some b)
-left_falls script a b same falls = rw same (omega (arith, falls))
+record HasStage (course : Course) : Type 0 where
+  stage : Stage
+  is : course.stage ≡ Some stage
+
+stage_is : (course : Course) → is_some course.stage ≡ true → HasStage course
+stage_is course going = by course.stage refl going
+  where
+    by : (o : Option Stage) → course.stage ≡ o → is_some o ≡ true → HasStage course
+    by None is none = cc
+    by (Some stage) is some = record { stage = stage; is = is }
 
 pub moves : (book after : Recorded) (course : Course) (event : Event) (line : Line)
     → book.cursor ≡ Some course → Stands book → line_at book.script course.line ≡ Some line → event_at line.content course ≡ Some event
@@ -53,11 +62,14 @@ moves book after course event line here stands line_here due script_is journal_i
     (goes_on book.script book.journal course event entry at due_at refl) in
     let own : Leads line.content course
     = subst (λ (o : Option Line). IfSome o (λ l. Leads l.content course)) line_here (of_line book.script book.journal course at) in
-    let fewer = (leads_on line.content course entry.answer course.stage refl both.1 own).falls in
-    let fell = left_falls book.script (model.after line.content course entry.answer) course (after_line line.content course entry.answer) fewer in
+    let here_is = stage_is course both.1 in
+    let fell = step_falls book.script book.journal course here_is.stage line event here_is.is line_here own due in
     let most : left_at book.script after.cursor ≤ left_at book.script (Some (model.after line.content course entry.answer)) = passes.falls in
-    let before : left book ≡ left_at book.script (Some course) + 0 = ap (λ (c : Option Course). left_at book.script c + 0) here in
-    let now : left after ≡ left_at book.script after.cursor + 0 = ap (λ (s : Script). left_at s after.cursor + 0) script_is in
+    let before : left book ≡ left_at book.script (Some course) + waiting (replay book.script book.journal)
+    = ap (λ (c : Option Course). left_at book.script c + waiting (replay book.script book.journal)) here in
+    let now : left after ≡ left_at book.script after.cursor + waiting (replay book.script (book.journal ++ entry ∷ []))
+    = ap (λ (s : Script). left_at s after.cursor + waiting (replay s after.journal)) script_is
+    ∙ ap (λ (j : List Entry). left_at book.script after.cursor + waiting (replay book.script j)) journal_is in
     record {
       script = script_is;
       stands = subst (λ (s : Script). IsCursor s after.journal after.cursor) (sym script_is)

@@ -1,149 +1,241 @@
 -- An answer that holds a list is a question's, and leaves the state.
-use Rattle.std.proofs.Common.{◌≡◌, ℕ, Bool, true, false, if◌then◌else◌, List, Result, Ok, Err, Option, Some, None, refl, sym, subst, count_by, find, length, ok_or, position, slice_get, ◌==◌}
-use Rattle.std.specs.Option.{option_map_or}
-use Rattle.cred_event.specs.Lists.{HoldsList}
-use Rattle.cred_event.specs.declared.event.Event.{Event}
-use Rattle.cred_event.specs.declared.event.Event.TheVariants.{Init, Take, Release, Ask, Prepare, Alter, Commit, Abort, Begin, Fork, Exit, Sweep}
-use Rattle.cred_event.specs.declared.event.Change.{Change}
-use Rattle.cred_event.specs.declared.event.Change.TheVariants.{SetFs, Adjust, Exec}
-use Rattle.cred_event.specs.declared.answer.Answer.{Answer}
-use Rattle.cred_event.specs.declared.answer.Answer.TheVariants.{Sealed, Kept, Began, NoTask, NoHold, NoPrepared, Exists, Stale, TooMany}
-use Rattle.cred_event.specs.declared.answer.Named.TheVariants as named
-use Rattle.cred_event.specs.declared.answer.Counted.TheVariants as counted
-use Rattle.cred_record.specs.File.{File}
+use Rattle.std.proofs.Common.{◌≡◌, ℕ, ◌==◌, ◌-◌, true, false, cond, List, [], ◌∷◌, length, Result, Ok, Err, IfOk, Option, Some, None, find, position, slice_get, refl, sym, subst}
+use Rattle.std.specs.List.{count_by}
+use Rattle.std.specs.Option.{option_and_then}
 use Rattle.cred_record.specs.Credential.{Credential, first_credential}
+use Rattle.cred_record.specs.File.{File}
 use Rattle.cred_record.specs.declared.gains.Gains.{Gains}
 use Rattle.cred_record.specs.declared.refusal.Denial.{Denial}
-use Rattle.cred_rules.specs.SetId.{set_id}
+use Rattle.cred_rules.specs.Access.{may_signal}
 use Rattle.cred_rules.specs.Adjust.{adjust}
 use Rattle.cred_rules.specs.Exec.{Executed, NoExec, exec}
+use Rattle.cred_rules.specs.SetId.{set_id}
+use Rattle.cred_event.specs.Lists.{HoldsList}
+use Rattle.cred_event.specs.declared.event.Event.{Event}
+use Rattle.cred_event.specs.declared.event.Event.TheVariants.{Init, Take, TakeFile, Release, Ask, Signal, Prepare, Alter, Commit, Abort, Override, Revert, Begin, Act, OpenFile, CloseFile, Spawn, Fork, Exit, Sweep}
+use Rattle.cred_event.specs.declared.event.Change.{Change}
+use Rattle.cred_event.specs.declared.event.Change.TheVariants.{SetFs, Adjust, Exec, Access}
+use Rattle.cred_event.specs.declared.answer.Answer.{Answer}
+use Rattle.cred_event.specs.declared.answer.Answer.TheVariants.{Sealed, Kept, Began, Acted, Aborted, Stale}
+use Rattle.cred_event.specs.declared.answer.AbortCause.TheVariants as cause
 use Rattle.cred_model.specs.Script.{Script, info_of, chain_of}
+use Rattle.cred_model.specs.State.{State, Task, Broadcast, Prepared, Changed, Numbered, credential_of, opener_of, numbered, task_of, cast_of, cast_in, begun_by, open_of, hold_of, prepared_of, held_by}
 use Rattle.cred_model.specs.Named.{change_files}
-use Rattle.cred_model.specs.State.{State, Task, Prepared, Changed, task_of, hold_of, prepared_of, numbered, current_of, held_by}
-use Rattle.cred_model.specs.Slots.{room, free}
+use Rattle.cred_model.specs.Answers.{checked}
 use Rattle.cred_model.specs.Change.{Made, made_by_rule, made_by_exec, executed, by_change, by_rule}
 use Rattle.cred_model.specs.Ends.{is_thread_of, ended}
+use Rattle.cred_model.specs.Casts.{others_of, with_cast, waits_no_more}
 use Rattle.cred_model.specs.Like.{IsLike, IsOutcomeLike}
-use Rattle.cred_model.specs.Step.{TASKS, HOLDS, PREPARED, ◌>>=◌, none_or, fewer_or, table_full, first_task, created, replaced, preparing, altered, given_up, commit_answer, committed, committed_by, ends_with, done, outcome, step}
+use Rattle.cred_model.specs.Moves.{TASKS, FILES, HOLDS, PREPARED, DEPTH, table_full, first_task, created, replaced, preparing, given_up, committed}
+use Rattle.cred_model.specs.Step.{aborted, casts_after, commit_answer, committed_by, ends_with, follow, for_access, for_task, override_held, override_prepared, step, take_hold, try_commit}
+use Rattle.cred_sound.proofs.Tests.{IfAllowed, outcome_has, if_some, if_none, if_either, if_fewer, if_passed, if_idle, if_own, if_last, if_rule, if_ok, in_slots}
 
 -- the state is left where the answer holds a list
-record Leaves (s : State) (made : Result (Answer × State) Answer) : Type 0 where
-  leaves : HoldsList (outcome s made).0 → (outcome s made).1 ≡ s
+abbrev Leaves : State → Answer × State → Type 0
+Leaves s made = HoldsList made.0 → made.1 ≡ s
 
--- a test that refuses leaves the state
-tested : {A : Type 0} (s : State) (test : Result A Answer) (goes_on : A → Result (Answer × State) Answer)
-    → ((a : A) → Leaves s (goes_on a)) → Leaves s (test >>= goes_on)
-tested s (Ok a) goes_on each = each a
-tested s (Err answer) goes_on each = record { leaves = λ list. refl }
+-- a refusal leaves the state
+refuses : (s : State) (answer : Answer) → Leaves s (answer, s)
+refuses s answer list = refl
 
--- What happens in a slot is answered without a list.
-in_slot : (s r : State) (does : State → ℕ → Answer × State) (found : Option ℕ)
-    → ((slot : ℕ) → HoldsList (does r slot).0 → ⊥) → Leaves s (Ok (option_map_or (does r) found (table_full r)))
-in_slot s r does None plain = record { leaves = λ list. absurd list }
-in_slot s r does (Some slot) plain = record { leaves = λ list. absurd (plain slot list) }
+-- ---- answers of parts that events share
 
-altered_to : State → ℕ → Change → Made → Result (Answer × State) Answer
-altered_to s label change made = Ok (made.answer, altered s label (record { change = change; cred = made.cred; gains = made.gains }))
+takes_hold : (s : State) (label : ℕ) (taken : Numbered) → IfAllowed (Leaves s) (take_hold s label taken)
+takes_hold s label taken =
+    if_none (Leaves s) (hold_of s label) _ _
+    (λ new. if_none (Leaves s) (prepared_of s label) _ _
+    (λ unprepared. if_fewer (Leaves s) (length s.holds) HOLDS _ _ (λ list. absurd list)))
 
-executes : (s : State) (label : ℕ) (change : Change) (made : Result Executed NoExec)
-    → Leaves s (◌>>=◌ {B = Answer × State} (made_by_exec made) (altered_to s label change))
-unfolding altered_to
-executes s label change (Ok e) = record { leaves = λ list. absurd list }
-executes s label change (Err why) = record { leaves = λ list. refl }
+abbrev IsPlain : Result Made Answer → Type 0
+IsPlain r = IfOk r (λ made. HoldsList made.answer → ⊥)
 
-execs : (file : Option File) (chain : List ℕ) (s : State) (label : ℕ) (change : Change) (base : Credential)
-    → Leaves s (◌>>=◌ {B = Answer × State} (executed file chain base) (altered_to s label change))
-unfolding altered_to
-execs None chain s label change base = record { leaves = λ list. refl }
-execs (Some file) chain s label change base = executes s label change (exec base file chain)
+adjusts_plainly : (r : Result Credential Denial) → IsPlain (made_by_rule r)
+adjusts_plainly (Ok c) = λ list. list
+adjusts_plainly (Err denial) = tt
 
-adjusts : (s : State) (label : ℕ) (change : Change) (rule : Result Credential Denial)
-    → Leaves s (◌>>=◌ {B = Answer × State} (made_by_rule rule) (altered_to s label change))
-unfolding altered_to
-adjusts s label change (Ok new) = record { leaves = λ list. absurd list }
-adjusts s label change (Err denial) = record { leaves = λ list. refl }
+executes_plainly : (r : Result Executed NoExec) → IsPlain (made_by_exec r)
+executes_plainly (Ok e) = λ list. list
+executes_plainly (Err why) = tt
+
+execs_plainly : (file : Option File) (chain : List ℕ) (base : Credential) → IsPlain (executed file chain base)
+execs_plainly None chain base = tt
+execs_plainly (Some file) chain base = executes_plainly (exec base file chain)
 
 -- A change is answered without a list.
-alters : (file : Option File) (chain : List ℕ) (s : State) (label : ℕ) (change : Change) (base : Credential)
-    → Leaves s (◌>>=◌ {B = Answer × State} (by_change file chain base change) (altered_to s label change))
-unfolding altered_to
-alters file chain s label (SetFs kind id) base = record { leaves = λ list. absurd list }
-alters file chain s label (Adjust call) base = adjusts s label (Adjust call) (adjust base call)
-alters file chain s label (Exec place) base = execs file chain s label (Exec place) base
-alters file chain s label change base = record { leaves = λ list. refl }
+alters_plainly : (file : Option File) (chain : List ℕ) (base : Credential) (change : Change) → IsPlain (by_change file chain base change)
+alters_plainly file chain base (SetFs kind id) = λ list. list
+alters_plainly file chain base (Adjust call) = adjusts_plainly (adjust base call)
+alters_plainly file chain base (Exec place) = execs_plainly file chain base
+alters_plainly file chain base Access = λ list. list
 
 -- A commit is answered without a list.
-plainly : (change : Change) (gains : Gains) (number slot count : ℕ) → HoldsList (committed_by change gains number slot count) → ⊥
-plainly (Exec file) gains number slot count list = list
-plainly change gains number slot count list = list
+commits_plainly : (change : Change) (gains : Gains) (number slot count : ℕ) → HoldsList (committed_by change gains number slot count) → ⊥
+commits_plainly (Exec file) gains number slot count list = list
+commits_plainly change gains number slot count list = list
 
-tries_commit : (s : State) (place : ℕ) (p : Prepared) (owner : Task) (last : Changed) (test : Bool)
-    → Leaves s (Ok (if test
-    then (commit_answer last (length s.creds) p.slot (count_by (ends_with last.change owner) s.tasks), committed (ended (ends_with last.change owner) s) place p owner.current last.cred)
-    else (Stale p.base owner.current, given_up s place p)))
-tries_commit s place p owner last true = record {
-  leaves = λ list. absurd (plainly last.change last.gains (length s.creds) p.slot (count_by (ends_with last.change owner) s.tasks) list);
-}
-tries_commit s place p owner last false = record { leaves = λ list. absurd list }
+tries_commit : (s : State) (place : ℕ) (p : Prepared) (owner : Task) (last : Changed) → Leaves s (try_commit s place p owner last)
+tries_commit s place p owner last =
+    let ends = ends_with last.change owner in
+    let count = count_by ends s.tasks in
+    elim (owner.current == p.base) as (λ b. Leaves s (cond {A = Answer × State} b (commit_answer last (length s.creds) p.slot count, casts_after last.change owner (committed (ended ends s) place p owner.current last.cred)) (Stale p.base owner.current, given_up s place p))) [
+      | true ↦ λ list. absurd (commits_plainly last.change last.gains (length s.creds) p.slot count list)
+      | false ↦ λ list. absurd list
+    ]
 
-by_event : (script : Script) (s : State) (line : ℕ) (event : Event) → Leaves s (done script s line event)
-unfolding altered_to
+follows_plainly : (s : State) (cast : Broadcast) (task old : ℕ) (made : Result Credential Denial) → Leaves s (follow s cast task old (by_rule made))
+follows_plainly s cast task old (Err refusal) = λ list. absurd list
+follows_plainly s cast task old (Ok new) =
+    in_slots (Leaves s) s (λ now. (Aborted task cause.Full, aborted cast now))
+    (λ now slot. (Acted task (length now.creds) slot (length cast.waiting - 1), record (replaced now task old new slot) { casts = waits_no_more task now.casts }))
+    (λ left fewer list. absurd list)
+    (λ left slot fewer free list. absurd list)
+
+holds_override : (s : State) (owner : Task) (held : Numbered) → IfAllowed (Leaves s) (override_held s owner held)
+holds_override s owner held = if_fewer (Leaves s) (length owner.overrides) DEPTH _ _ (λ list. absurd list)
+
+prepares_override : (s : State) (owner : Task) (label : ℕ) → IfAllowed (Leaves s) (override_prepared s owner label)
+prepares_override s owner label =
+    if_some (Leaves s) (position (λ p. p.label == label) s.prepared) _ _
+    (λ place at. if_some (Leaves s) (slice_get s.prepared place) _ _
+    (λ p is. if_some (Leaves s) (for_access owner.number p) _ _
+    (λ last changed. if_fewer (Leaves s) (length owner.overrides) DEPTH _ _ (λ list. absurd list))))
+
+-- ---- every event
+
+by_event : (script : Script) (s : State) (line : ℕ) (event : Event) → Leaves s (step script s line event)
 by_event script s line (Init task process user group ns) =
-    tested s (none_or (task_of s task) (Exists named.Task task)) _
-    (λ new. tested s (fewer_or (length s.tasks) TASKS (TooMany counted.Tasks)) _
-    (λ few. in_slot s (room s) (λ r slot.
-    let number = length r.creds in
-    (Sealed number slot, created r (first_task task process number) (first_credential user group ns) slot))
-    (free s) (λ slot list. list)))
+    let c = first_credential user group ns in
+    outcome_has (Leaves s) s _ (refuses s)
+    (if_idle (Leaves s) (cast_in s process) _
+    (λ idle. if_none (Leaves s) (task_of s task) _ _
+    (λ new. if_fewer (Leaves s) (length s.tasks) TASKS _ _
+    (in_slots (Leaves s) s table_full (λ s slot. (Sealed (length s.creds) slot, created s (first_task task process (length s.creds)) c slot))
+    (λ left fewer list. absurd list)
+    (λ left slot fewer free list. absurd list)))))
 by_event script s line (Take label task side) =
-    tested s (ok_or (current_of s task) (NoTask task)) _
-    (λ taken. tested s (none_or (hold_of s label) (Exists named.Label label)) _
-    (λ new. tested s (none_or (prepared_of s label) (Exists named.Label label)) _
-    (λ unprepared. tested s (fewer_or (length s.holds) HOLDS (TooMany counted.Holds)) _ (λ few. record { leaves = λ list. absurd list }))))
+    outcome_has (Leaves s) s _ (refuses s)
+    (if_some (Leaves s) (credential_of s task side) _ _ (λ taken is. takes_hold s label taken))
+by_event script s line (TakeFile label fd) =
+    outcome_has (Leaves s) s _ (refuses s)
+    (if_some (Leaves s) (opener_of s fd) _ _ (λ taken is. takes_hold s label taken))
 by_event script s line (Release label) =
-    tested s (ok_or (position (λ h. h.label == label) s.holds) (NoHold label)) _
-    (λ place. tested s (ok_or (slice_get s.holds place) (NoHold label)) _ (λ hold. record { leaves = λ list. absurd list }))
+    outcome_has (Leaves s) s _ (refuses s)
+    (if_some (Leaves s) (position (λ h. h.label == label) s.holds) _ _
+    (λ place at. if_some (Leaves s) (slice_get s.holds place) _ _ (λ hold is list. absurd list)))
 by_event script s line (Ask label query) =
-    tested s (ok_or (held_by s label) (NoHold label)) _ (λ held. record { leaves = λ list. refl })
+    outcome_has (Leaves s) s _ (refuses s)
+    (if_some (Leaves s) (held_by s label) _ _ (λ held is list. refl))
+by_event script s line (Signal from hold to target) =
+    outcome_has (Leaves s) s _ (refuses s)
+    (if_some (Leaves s) (task_of s from) _ _
+    (λ sender is. if_some (Leaves s) (task_of s to) _ _
+    (λ receiver there. if_some (Leaves s) (held_by s hold) _ _
+    (λ own held. if_some (Leaves s) (held_by s target) _ _
+    (λ other at. if_last (Leaves s) (may_signal own.cred other.cred (sender.process == receiver.process)) _ _ (λ list. refl))))))
 by_event script s line (Prepare label task hold) =
-    tested s (ok_or (task_of s task) (NoTask task)) _
-    (λ owner. tested s (ok_or (hold_of s hold) (NoHold hold)) _
-    (λ base. tested s (none_or (hold_of s label) (Exists named.Label label)) _
-    (λ new. tested s (none_or (prepared_of s label) (Exists named.Label label)) _
-    (λ unprepared. tested s (fewer_or (length s.prepared) PREPARED (TooMany counted.Prepared)) _
-    (λ few. in_slot s (room s) (λ r slot.
-    (Kept slot, preparing r (record { label = label; task = task; base = base.number; slot = slot; changed = None })))
-    (free s) (λ slot list. list))))))
+    outcome_has (Leaves s) s _ (refuses s)
+    (if_some (Leaves s) (task_of s task) _ _
+    (λ owner is. if_idle (Leaves s) (begun_by s task) _
+    (λ idle. if_some (Leaves s) (hold_of s hold) _ _
+    (λ base held. if_none (Leaves s) (hold_of s label) _ _
+    (λ new. if_none (Leaves s) (prepared_of s label) _ _
+    (λ unprepared. if_fewer (Leaves s) (length s.prepared) PREPARED _ _
+    (in_slots (Leaves s) s table_full
+    (λ s slot. (Kept slot, preparing s (record { label = label; task = task; base = base.number; slot = slot; changed = None })))
+    (λ left fewer list. absurd list)
+    (λ left slot fewer free list. absurd list))))))))
 by_event script s line (Alter label change) =
-    tested s (ok_or (prepared_of s label) (NoPrepared label)) _
-    (λ p. tested s (ok_or (numbered s.creds p.base) (NoPrepared label)) _
-    (λ base. alters (info_of script (change_files change)) (chain_of script base.cred.ns) s label change base.cred))
+    outcome_has (Leaves s) s _ (refuses s)
+    (if_some (Leaves s) (prepared_of s label) _ _
+    (λ p is. if_some (Leaves s) (numbered s.creds p.base) _ _
+    (λ base at.
+    let file = info_of script (change_files change) in
+    let chain = chain_of script base.cred.ns in
+    if_ok (Leaves s) (by_change file chain base.cred change) _
+    (λ made so list.
+    let plain : HoldsList made.answer → ⊥ = subst IsPlain so (alters_plainly file chain base.cred change) in
+    absurd (plain list)))))
 by_event script s line (Commit label) =
-    tested s (ok_or (position (λ p. p.label == label) s.prepared) (NoPrepared label)) _
-    (λ place. tested s (ok_or (slice_get s.prepared place) (NoPrepared label)) _
-    (λ p. tested s (ok_or p.changed (NoPrepared label)) _
-    (λ last. tested s (ok_or (task_of s p.task) (NoTask p.task)) _
-    (λ owner. tries_commit s place p owner last (owner.current == p.base)))))
+    outcome_has (Leaves s) s _ (refuses s)
+    (if_some (Leaves s) (position (λ p. p.label == label) s.prepared) _ _
+    (λ place at. if_some (Leaves s) (slice_get s.prepared place) _ _
+    (λ p is. if_some (Leaves s) (option_and_then for_task p.changed) _ _
+    (λ last changed. if_some (Leaves s) (task_of s p.task) _ _
+    (λ owner found. if_idle (Leaves s) (begun_by s p.task) _
+    (λ idle. if_own (Leaves s) owner _ (tries_commit s place p owner last)))))))
 by_event script s line (Abort label) =
-    tested s (ok_or (position (λ p. p.label == label) s.prepared) (NoPrepared label)) _
-    (λ place. tested s (ok_or (slice_get s.prepared place) (NoPrepared label)) _ (λ p. record { leaves = λ list. absurd list }))
+    outcome_has (Leaves s) s _ (refuses s)
+    (if_some (Leaves s) (position (λ p. p.label == label) s.prepared) _ _
+    (λ place at. if_some (Leaves s) (slice_get s.prepared place) _ _ (λ p is list. absurd list)))
+by_event script s line (Override task label) =
+    outcome_has (Leaves s) s _ (refuses s)
+    (if_some (Leaves s) (task_of s task) _ _
+    (λ owner found. if_either (Leaves s) (held_by s label) _ _
+    (λ held is. holds_override s owner held)
+    (λ none. prepares_override s owner label)))
+by_event script s line (Revert task) =
+    outcome_has (Leaves s) s _ (refuses s)
+    (if_some (Leaves s) (task_of s task) _ _
+    (λ owner found. if_some (Leaves s) (slice_get owner.overrides 0) _ _ (λ newest is list. absurd list)))
 by_event script s line (Begin task call) =
-    tested s (ok_or (current_of s task) (NoTask task)) _
-    (λ old. tested s (by_rule (set_id old.cred call)) _
-    (λ new. in_slot s (room s) (λ r slot. (Began (length r.creds) slot 0, replaced r task old.number new slot)) (free s) (λ slot list. list)))
+    outcome_has (Leaves s) s _ (refuses s)
+    (if_some (Leaves s) (task_of s task) _ _
+    (λ owner found. if_some (Leaves s) (numbered s.creds owner.current) _ _
+    (λ old at. if_idle (Leaves s) (cast_in s owner.process) _
+    (λ idle. if_none (Leaves s) (cast_of s line) _ _
+    (λ unused. if_own (Leaves s) owner _
+    (if_rule (Leaves s) (set_id old.cred call) _
+    (λ new ruled.
+    let others = others_of owner s.tasks in
+    let cast : Broadcast = record { number = line; process = owner.process; caller = task; call = call; waiting = others } in
+    in_slots (Leaves s) s table_full
+    (λ s slot. (Began (length s.creds) slot (length others), record (replaced s task old.number new slot) { casts = with_cast s.casts cast }))
+    (λ left fewer list. absurd list)
+    (λ left slot fewer free list. absurd list))))))))
+by_event script s line (Act number) =
+    outcome_has (Leaves s) s _ (refuses s)
+    (if_some (Leaves s) (cast_of s number) _ _
+    (λ cast opened. if_some (Leaves s) (slice_get cast.waiting 0) _ _
+    (λ task first. if_some (Leaves s) (task_of s task) _ _
+    (λ owner found. if_some (Leaves s) (numbered s.creds owner.current) _ _
+    (λ old at. follows_plainly s cast task old.number (set_id old.cred cast.call))))))
+by_event script s line (OpenFile hold place asked fd) =
+    outcome_has (Leaves s) s _ (refuses s)
+    (if_some (Leaves s) (held_by s hold) _ _
+    (λ held is. if_none (Leaves s) (open_of s fd) _ _
+    (λ new. if_passed (Leaves s) (checked held.cred (info_of script (place ∷ [])) asked) _
+    (if_fewer (Leaves s) (length s.files) FILES _ _ (λ list. absurd list)))))
+by_event script s line (CloseFile fd) =
+    outcome_has (Leaves s) s _ (refuses s)
+    (if_some (Leaves s) (position (λ f. f.fd == fd) s.files) _ _
+    (λ place at. if_some (Leaves s) (slice_get s.files place) _ _ (λ file is list. absurd list)))
+by_event script s line (Spawn task child) =
+    outcome_has (Leaves s) s _ (refuses s)
+    (if_some (Leaves s) (task_of s task) _ _
+    (λ owner found. if_some (Leaves s) (numbered s.creds owner.current) _ _
+    (λ parent at. if_idle (Leaves s) (begun_by s task) _
+    (λ idle. if_none (Leaves s) (task_of s child) _ _
+    (λ new. if_own (Leaves s) owner _
+    (if_fewer (Leaves s) (length s.tasks) TASKS _ _ (λ list. absurd list)))))))
 by_event script s line (Fork task child process) =
-    tested s (ok_or (current_of s task) (NoTask task)) _
-    (λ parent. tested s (none_or (task_of s child) (Exists named.Task child)) _
-    (λ new. tested s (none_or (find (is_thread_of process) s.tasks) (Exists named.Process process)) _
-    (λ unused. tested s (fewer_or (length s.tasks) TASKS (TooMany counted.Tasks)) _ (λ few. record { leaves = λ list. absurd list }))))
+    outcome_has (Leaves s) s _ (refuses s)
+    (if_some (Leaves s) (task_of s task) _ _
+    (λ owner found. if_some (Leaves s) (numbered s.creds owner.current) _ _
+    (λ parent at. if_idle (Leaves s) (begun_by s task) _
+    (λ idle. if_none (Leaves s) (task_of s child) _ _
+    (λ new. if_none (Leaves s) (find (is_thread_of process) s.tasks) _ _
+    (λ unused. if_own (Leaves s) owner _
+    (if_fewer (Leaves s) (length s.tasks) TASKS _ _ (λ list. absurd list))))))))
 by_event script s line (Exit task) =
-    tested s (ok_or (task_of s task) (NoTask task)) _ (λ owner. record { leaves = λ list. absurd list })
-by_event script s line Sweep = record { leaves = λ list. absurd list }
-by_event script s line event = record { leaves = λ list. refl }
+    outcome_has (Leaves s) s _ (refuses s)
+    (if_some (Leaves s) (task_of s task) _ _
+    (λ owner is. if_idle (Leaves s) (begun_by s task) _
+    (λ idle. if_own (Leaves s) owner _ (λ list. absurd list))))
+by_event script s line Sweep = λ list. absurd list
 
 -- an event that is answered with a list leaves the state
 pub list_leaves : (script : Script) (s : State) (line : ℕ) (event : Event) → HoldsList (step script s line event).0 → (step script s line event).1 ≡ s
-list_leaves script s line event = (by_event script s line event).leaves
+list_leaves script s line event = by_event script s line event
 
 -- What is so where the event was made: the state after it is like the one before.
 pub list_stays : (script : Script) (s after : State) (line : ℕ) (event : Event) (answer : Answer) → IsOutcomeLike (step script s line event) answer after

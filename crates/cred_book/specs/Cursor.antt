@@ -1,12 +1,17 @@
 -- How far a script's lines have run, where they run whole and in order.
 use Rattle.std.specs.Prelude.{◌≡◌, ℕ, ◌+◌, ◌-◌, ◌*◌, ◌<◌, ◌≤◌, true, List, [], ◌∷◌, ◌++◌, length, All, slice_get, Some, None, IfSome, is_some}
 use Rattle.std.specs.declared.option.Option.{Option}
+use Rattle.std.specs.List.{sum_by}
 use Rattle.std.specs.Option.{option_map, option_map_or}
+use Rattle.cred_event.specs.declared.content.Content.{Content}
+use Rattle.cred_event.specs.declared.content.Content.TheVariants.{One, Id}
+use Rattle.cred_event.specs.declared.content.Stage.{Stage}
+use Rattle.cred_event.specs.declared.content.Stage.TheVariants.{First}
 use Rattle.cred_event.specs.declared.entry.Entry.{Entry}
 use Rattle.cred_model.specs.Script.{Script, Line}
 use Rattle.cred_model.specs.Course as model
-use Rattle.cred_model.specs.State.{State}
-use Rattle.cred_model.specs.Step.{TASKS}
+use Rattle.cred_model.specs.State.{State, Broadcast}
+use Rattle.cred_model.specs.Moves.{TASKS}
 use Rattle.cred_model.specs.Course.{Course, Leads, TRIES, TRY_EVENTS, leads}
 use Rattle.cred_model.specs.Journal.{answers_of, next_event, replay, IsInOrder}
 use Rattle.cred_script.specs.Grammar.{line_at}
@@ -50,15 +55,35 @@ Stands book = IsCursor book.script book.journal book.cursor
 abbrev pub LINE_EVENTS : ℕ
 LINE_EVENTS = TRY_EVENTS * TRIES + TASKS
 
--- how many steps may be left where the cursor stands here, at most
+-- how many more tasks may wait after a line's next event, at most: an id call lets all other
+-- threads of its task's process wait, and a new thread waits where its creator does
+abbrev pub may_wait : Content → Option Stage → ℕ
+may_wait (One event) (Some First) = TASKS
+may_wait (Id task call) (Some First) = TASKS
+may_wait content stage = 0
+
+-- so it is with the line of a course
+abbrev pub may_wait_at : Script → Course → ℕ
+may_wait_at script course =
+    option_map_or (λ line. may_wait line.content course.stage) (line_at script course.line) 0
+
+-- How many steps may be left where the cursor stands here, at most, beside those of the tasks that
+-- wait already. The step of a task that waits is not counted with its line.
 abbrev pub left_at : Script → Option Course → ℕ
 left_at script cursor =
-    option_map_or (λ course. LINE_EVENTS * (length script.lines - course.line) + model.left course)
+    option_map_or
+    (λ course.
+    LINE_EVENTS * (length script.lines - course.line)
+    + model.left course
+    + may_wait_at script course)
     cursor 0
 
--- how many tasks wait to make a call that one of their process has begun: none so far
+-- how many tasks wait to make a call that one of their process has begun
+abbrev pub waiting_in : List Broadcast → ℕ
+waiting_in casts = sum_by (λ cast. length cast.waiting) casts
+
 abbrev pub waiting : State → ℕ
-waiting s = 0
+waiting s = waiting_in s.casts
 
 abbrev pub left : Recorded → ℕ
 left book = left_at book.script book.cursor + waiting (replay book.script book.journal)

@@ -11,11 +11,11 @@ ghost use Rattle.cred_book.specs.Cursor.{IsOfLine, IsSetup, Makes, Passes, Stand
 ghost use Rattle.cred_book.specs.declared.cursor.Step.TheVariants.{More};
 
 use crate::cursor::{Step, cursor_after, first_cursor, next_event};
-use crate::state::State;
 use cred_course::Course;
 use cred_event::{Answer, Entry, Event, copy_answer};
 use cred_ids::NoMemory;
 use cred_script::Script;
+use cred_state::State;
 use std::alloc::Global;
 use std::marker::Model;
 
@@ -92,7 +92,7 @@ impl Book {
     }
 
     /// Enters one event of a line, and answers it with a copy of the entry's answer. The cursor
-    /// stays. The event is of a kind that is built, and names only declared files and namespaces.
+    /// stays. The event names only declared files and namespaces.
     ///
     /// # Errors
     ///

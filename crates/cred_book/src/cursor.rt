@@ -28,8 +28,8 @@ pub fn first_cursor(script: &Script) -> Option<Course>
     first_left(script, Course::start(1, content))
 }
 
-/// The next event of the course's line. It is of a kind that is built, and names only declared
-/// files and namespaces, as its line does. `None` where the line has ended.
+/// The next event of the course's line. It names only declared files and namespaces, as its line
+/// does. `None` where the line has ended.
 ///
 /// # Errors
 ///

@@ -3,16 +3,7 @@
 
 mod book;
 mod cursor;
-mod ends;
-mod files;
-mod holds;
-mod labelled;
-mod prepared;
-mod seal;
 mod sequence;
-mod state;
-mod store;
-mod table;
 
 pub use book::Book;
 pub use cursor::Step;

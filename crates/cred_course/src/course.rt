@@ -3,9 +3,9 @@ ghost use Rattle.std.specs.Prelude.{◌≡◌, ◌≤◌, ◌<◌, true, IfOk, O
 ghost use Rattle.cred_event.specs.Lists.{BeginsSetGroups};
 ghost use Rattle.cred_model.specs.Course as spec;
 ghost use Rattle.cred_model.specs.Course.{Leads, after, event_at, is_bounded, left};
-ghost use Rattle.cred_model.specs.Named.{is_built_line};
 
-use crate::stages::{event_in, is_stale, makes_events, next_stage};
+use crate::events::{event_in, makes_events};
+use crate::stages::{is_stale, next_stage};
 use cred_event::{Answer, Content, Event, LINE_LIMIT, Stage};
 use cred_ids::NoMemory;
 use std::marker::Model;
@@ -40,8 +40,7 @@ impl Course {
     /// The line of this number, with this content, before its first event. A line that makes none
     /// has ended.
     pub fn start(line: u32, content: &Content) -> Course
-        requires few { line ≤ LINE_LIMIT }
-        requires kind { is_built_line content.now ≡ true }
+        requires { line ≤ LINE_LIMIT }
         ensures value { result ≡ spec.start line content.now }
         ensures leads { Leads content.now result }
     {

@@ -3,6 +3,7 @@
 #![tactic(auto)]
 
 mod course;
+mod events;
 mod stages;
 
 pub use course::Course;

@@ -1,10 +1,10 @@
 //! What a change makes of a credential.
-ghost use Rattle.std.specs.Prelude.{◌≡◌, true, IfOk};
+ghost use Rattle.std.specs.Prelude.{◌≡◌, IfOk};
 ghost use Rattle.std.specs.Option.{option_map};
 ghost use Rattle.cred_model.specs.Change as spec;
 ghost use Rattle.cred_rules.specs.Exec.{exec};
-ghost use Rattle.cred_model.specs.Named.{is_built_change};
 
+use cred_access::access_cred;
 use cred_adjust::apply;
 use cred_caps::CapSet;
 use cred_event::{Answer, Change};
@@ -67,10 +67,12 @@ fn executed(cred: &Cred, file: &FileInfo, chain: &[Id]) -> Result<Result<Made, A
 /// What a change makes of a credential, which stays as it is, or the answer of its refusal: `Eperm`
 /// and `Einval` where `cred_adjust::apply` refuses by `Perm` and `Invalid`. setfsuid(2) and
 /// setfsgid(2) are never refused, and answer the filesystem id before. execve(2) is refused by
-/// `Eacces`, `Einval` and `Eperm` where `cred_exec::exec` refuses by `Access`, `BadAttribute` and `Perm`.
+/// `Eacces`, `Einval` and `Eperm` where `cred_exec::exec` refuses by `Access`, `BadAttribute` and
+/// `Perm`. access(2) makes the credential that it asks by, and is never refused.
 ///
-/// `file` is the file that the change names, if it names one (without it an execve is `Eacces`), and `chain` has the root ids of the
-/// credential's user namespace and of that one's ancestors, the nearest first (user_namespaces(7)).
+/// `file` is the file that the change names, if it names one (without it an execve is `Eacces`), and
+/// `chain` has the root ids of the credential's user namespace and of that one's ancestors, the
+/// nearest first (user_namespaces(7)).
 ///
 /// # Errors
 ///
@@ -81,7 +83,6 @@ pub fn change(
     chain: &[Id],
     change: &Change,
 ) -> Result<Result<Made, Answer>, NoMemory>
-    requires { is_built_change change.now ≡ true }
     ensures { IfOk result (λ made. made
         ≡ spec.by_change (option_map (λ file. file.now) file.entry) chain.now cred.now change.now) }
 {
@@ -100,6 +101,6 @@ pub fn change(
             Some(file) => executed(cred, file, chain),
             None => Ok(Err(Answer::Eacces)),
         },
-        Change::Access => unreachable!(),
+        Change::Access => Ok(Ok(without_gains(Answer::Done, access_cred(cred)?))),
     }
 }

@@ -55,8 +55,18 @@ pub enum Content {
 pub enum Stage {
     /// Its first event.
     First,
+    /// The step of the next thread that waits in the line's broadcast.
+    Acting,
     /// The question on the hold that it took.
     Asking,
+    /// The opening of a file.
+    Opening,
+    /// The hold of the credential of the task that is signalled.
+    TakingTarget,
+    /// The signal.
+    Signalling,
+    /// The release of the target's hold.
+    ReleasingTarget,
     /// The preparation of a new credential.
     Preparing,
     /// The change of that one.
@@ -65,6 +75,14 @@ pub enum Stage {
     Committing,
     /// The end of a preparation that came to nothing.
     Aborting,
+    /// The override of the task's credential by the one that access(2) asks by.
+    Overriding,
+    /// The hold of that one.
+    TakingAccess,
+    /// The release of that hold.
+    ReleasingAccess,
+    /// The end of the override.
+    Reverting,
     /// The release of the hold, with which the line ends.
     Releasing,
     /// The release of the hold, after which the line begins again.

@@ -1,5 +1,5 @@
 -- The laws of the calls on a credential: first what each call gives, then each law by cases on it.
-use Rattle.std.proofs.Common.{◌≡◌, ℕ, ◌==◌, ◌&&◌, ◌||◌, not, nat_lt, Bool, true, false, List, length, Option, Some, Result, Ok, Err, if◌then◌else◌, refl, sym, ap, subst, ◌∙◌, arith}
+use Rattle.std.proofs.Common.{◌≡◌, ℕ, ◌==◌, ◌&&◌, ◌||◌, not, nat_lt, Bool, true, false, List, length, Option, Some, None, Result, Ok, Err, if◌then◌else◌, refl, sym, ap, subst, ◌∙◌, arith}
 use Rattle.std.specs.List.{list_all}
 use Rattle.std.proofs.lemmas.Bool.{eqb-true}
 use Rattle.cred_ids.specs.declared.arg.Arg.{Arg}
@@ -24,6 +24,7 @@ use Rattle.cred_record.specs.declared.refusal.Denial.{Denial}
 use Rattle.cred_record.specs.declared.refusal.Denial.TheVariants.{Perm, Invalid}
 use Rattle.cred_record.specs.Credential.{Credential, has_cap}
 use Rattle.cred_record.specs.File.{File}
+use Rattle.cred_rules.specs.Access.{access_credential}
 use Rattle.cred_rules.specs.Adjust.{is_no_cap, may_capset, may_raise, may_set_bits, after_capset, after_bound_drop, after_amb_raise, after_amb_lower, FLAGS, keeps_lock, after_bits, after_keep_caps, after_no_new_privs, adjust}
 use Rattle.cred_rules.specs.Exec.{Executed, NoExec, exec}
 use Rattle.cred_rules.specs.Fix.{fixed, with_user_ids}
@@ -32,7 +33,7 @@ use Rattle.cred_rules.specs.SetId.{after_setgroups, for_users, for_groups, set_i
 use Rattle.cred_setid.proofs.SetIdLaws as setid
 use Rattle.cred_exec.proofs.ExecLaws.{gains_are_what_is_gained, inheritable_and_bounding_stay, other_securebits_stay, real_ids_and_groups_stay}
 use Rattle.cred_event.specs.declared.answer.Answer.TheVariants as answer
-use Rattle.cred_event.specs.declared.event.Change.TheVariants.{SetFs, Adjust, Exec}
+use Rattle.cred_event.specs.declared.event.Change.TheVariants.{SetFs, Adjust, Exec, Access}
 use Rattle.cred_model.specs.Change.{Made, made, made_by_rule, made_by_exec}
 use Rattle.cred_laws.specs.Calls.{Call, SetIds, Changes, after, added, clears, KeepsLocked, LocksStaySet, BoundingNeverGrows, PermittedGrowsByExecve, NoNewPrivsStays}
 
@@ -63,11 +64,11 @@ for_groups-leaves c d (Err e) same = cc
 
 -- ---- what a call gives that one test, or two, may refuse
 
-one-test : (P : Credential → Type 0) (refused : Bool) (e : Denial) (new d : Credential) → (refused ≡ false → P new) → (if refused then Err e else Ok new) ≡ Ok d → P d
+pub one-test : (P : Credential → Type 0) (refused : Bool) (e : Denial) (new d : Credential) → (refused ≡ false → P new) → (if refused then Err e else Ok new) ≡ Ok d → P d
 one-test P true e new d holds same = cc
 one-test P false e new d holds same = let is : new ≡ d = cc in subst P is (holds refl)
 
-two-tests : (P : Credential → Type 0) (first second : Bool) (e e' : Denial) (new d : Credential) → (second ≡ false → P new) → (if first then Err e else if second then Err e' else Ok new) ≡ Ok d → P d
+pub two-tests : (P : Credential → Type 0) (first second : Bool) (e e' : Denial) (new d : Credential) → (second ≡ false → P new) → (if first then Err e else if second then Err e' else Ok new) ≡ Ok d → P d
 two-tests P true second e e' new d holds same = cc
 two-tests P false second e e' new d holds same = one-test P second e' new d holds same
 
@@ -261,7 +262,7 @@ adds_nothing c call next none follows = record {
 }
 
 -- a fact of what a rule gives holds of what is made by the rule
-by_rule : (P : Credential → Type 0) (next : Made) (r : Result Credential Denial) → ((d : Credential) → r ≡ Ok d → P d) → made_by_rule r ≡ Ok next
+pub by_rule : (P : Credential → Type 0) (next : Made) (r : Result Credential Denial) → ((d : Credential) → r ≡ Ok d → P d) → made_by_rule r ≡ Ok next
     → P next.cred
 by_rule P next (Ok d) holds is = let same : made answer.Done d ≡ next = cc in subst (λ (m : Made). P m.cred) same (holds d refl)
 by_rule P next (Err e) holds is = cc
@@ -271,6 +272,10 @@ set_id-follows c d call same = Leaves-follows c d (set_id-leaves c d call same) 
 
 set_fs-follows : (c : Credential) (kind : Kind) (a : Arg) → Follows c (set_fs c kind a)
 set_fs-follows c kind a = Leaves-follows c _ (set_fs-leaves c kind a) (set_fs-perm c kind a)
+
+access-follows : (c : Credential) → Follows c (access_credential c)
+unfolding access_credential
+access-follows c = Leaves-follows c _ (record { bits = refl; bound = refl; nnp = refl }) (within_itself c.perm)
 
 -- execve clears KEEP_CAPS, and leaves each other flag and every lock
 exec-flags : (old new : ℕ) (call : Call) (f : Flag) → SetsFlag old new KeepCaps false → clears call KeepCaps ≡ true
@@ -306,7 +311,10 @@ keeps c next (Changes file chain (SetFs kind a)) is =
 keeps c next (Changes file chain (Adjust call)) is =
     adds_nothing c (Changes file chain (Adjust call)) next refl (by_rule (Follows c) next (adjust c call) (λ d. adjust-follows c d call) is)
 keeps c next (Changes (Some file) chain (Exec place)) is = by_exec c next (Some file) file chain place (exec c file chain) refl is
-keeps c next call is = cc
+keeps c next (Changes None chain (Exec place)) is = cc
+keeps c next (Changes file chain Access) is =
+    let same : made answer.Done (access_credential c) ≡ next = cc in
+    adds_nothing c (Changes file chain Access) next refl (subst (λ (m : Made). Follows c m.cred) same (access-follows c))
 
 -- ---- the laws
 

@@ -4,7 +4,7 @@ use Rattle.cred_caps.specs.Caps.{less}
 use Rattle.cred_record.specs.Credential.{Credential}
 use Rattle.cred_record.specs.File.{File}
 use Rattle.cred_event.specs.declared.event.Change.{Change}
-use Rattle.cred_event.specs.declared.event.Change.TheVariants.{SetFs, Adjust, Exec}
+use Rattle.cred_event.specs.declared.event.Change.TheVariants.{SetFs, Adjust, Exec, Access}
 use Rattle.cred_model.specs.State.{Changed}
 use Rattle.cred_model.specs.Change.{Made, by_change, gained}
 use Rattle.cred_model.specs.Step.{commit_answer}
@@ -23,4 +23,5 @@ change_gains file chain c (Adjust adj) to number slot count is =
     permitted_grows_by_execve c to (Changes file chain (Adjust adj)) is
 change_gains file chain c (Exec place) to number slot count is =
     permitted_grows_by_execve c to (Changes file chain (Exec place)) is
-change_gains file chain c change to number slot count is = cc
+change_gains file chain c Access to number slot count is =
+    permitted_grows_by_execve c to (Changes file chain Access) is

@@ -1,5 +1,5 @@
 -- An event that answers that an execve is completed commits what the rule of execve makes.
-use Rattle.std.proofs.Common.{◌≡◌, ◌==◌, not, ℕ, zero, suc, ◌<◌, List, [], ◌∷◌, ◌++◌, length, position, slice_get, Option, Some, None, Result, Ok, Err, ok_or, Bool, true, false, cond, refl, sym, ap, ◌∙◌, subst, arith}
+use Rattle.std.proofs.Common.{◌≡◌, ◌==◌, not, ℕ, ◌<◌, List, [], ◌∷◌, ◌++◌, length, position, slice_get, Option, Some, None, Result, Ok, Err, Bool, true, false, cond, refl, sym, ap, ◌∙◌, subst, arith}
 use Rattle.std.specs.List.{All, count_by, find}
 use Rattle.std.specs.Option.{IfSome, option_map, option_and_then}
 use Rattle.std.proofs.lemmas.Bool.Decides.{nat_tests}
@@ -19,17 +19,21 @@ use Rattle.cred_event.specs.declared.event.Change.TheVariants.{Exec}
 use Rattle.cred_event.specs.declared.event.Event.{Event}
 use Rattle.cred_event.specs.declared.event.Event.TheVariants.{Commit}
 use Rattle.cred_model.specs.Script.{Script, info_of, chain_of}
-use Rattle.cred_model.specs.State.{State, SealedCred, Task, Prepared, Changed, Numbered, numbered, task_of}
+use Rattle.cred_model.specs.State.{State, SealedCred, Task, Broadcast, Prepared, Changed, Numbered, numbered, task_of, begun_by}
 use Rattle.cred_model.specs.Named.{change_files}
 use Rattle.cred_model.specs.Change.{Made, made_by_exec, executed, by_change}
+use Rattle.cred_model.specs.Casts.{dropped}
 use Rattle.cred_model.specs.Ends.{is_beside, survivors, ended}
-use Rattle.cred_model.specs.Step.{◌>>=◌, updated, with_current, committed, committed_by, commit_answer, ends_with, given_up, try_commit, outcome, by_commit, done}
-use Rattle.cred_model.proofs.Lists.{All-at, at_place}
+use Rattle.cred_model.specs.Moves.{updated, with_current, committed, given_up}
+use Rattle.cred_model.specs.Step.{committed_by, commit_answer, ends_with, casts_after, try_commit, for_task, outcome, by_commit, done}
+use Rattle.cred_model.proofs.Lists.{All-at, at_place, slice_get_at}
 use Rattle.cred_model.proofs.Numbers.{numbered_last, updated_as, updated_task}
 use Rattle.cred_sound.specs.Sound.{IsSound}
+use Rattle.cred_sound.proofs.Events.{changed_for_task}
 use Rattle.cred_sound.proofs.Survivors.{find_goes_on}
 use Rattle.cred_laws.specs.Made.{IsMadeOf, IsMade, AreMade}
 use Rattle.cred_laws.specs.Execve.{IsExecve, ExecvesAreByTheRule}
+use Rattle.cred_laws.proofs.Cases.{some_case, own_case, idle_case}
 use Rattle.cred_laws.proofs.MadeLaws.{bases_sealed}
 use Rattle.cred_laws.proofs.Unexecuted.{answer_of, answers_settled, is_executed, plain}
 
@@ -45,14 +49,9 @@ found_first : (ps : List Prepared) (label place : ℕ) (p : Prepared) → positi
 found_first ps label place p at is =
     find_at (λ (p : Prepared). p.label == label) ps ∙ ap (slice_get ps) (first_place _ place _ at) ∙ is
 
-sealed_at : (creds : List SealedCred) (n : ℕ) → n < length creds → (x : SealedCred) × (slice_get creds n ≡ Some x)
-sealed_at [] n lt = absurd (omega arith)
-sealed_at (x ∷ xs) zero lt = (x, refl)
-sealed_at (x ∷ xs) (suc n) lt = sealed_at xs n (omega arith)
-
-numbered_at : (creds : List SealedCred) (n : ℕ) → n < length creds → (c : Numbered) × (numbered creds n ≡ Some c)
+pub numbered_at : (creds : List SealedCred) (n : ℕ) → n < length creds → (c : Numbered) × (numbered creds n ≡ Some c)
 numbered_at creds n lt =
-    let x = sealed_at creds n lt in (
+    let x = slice_get_at creds n lt in (
       record { number = n; cred = x.0.cred; slot = x.0.slot },
       ap (option_map (λ (y : SealedCred). record { number = n; cred = y.cred; slot = y.slot })) x.1,
     )
@@ -104,16 +103,12 @@ module _ (script : Script) (s : State) (label number slot count : ℕ) (gains : 
   abbrev Q : Result (Answer × State) Answer → Type 0
   Q r = answer_of r ≡ Executed number slot count gains → IsExecve script s (Commit label) number slot gains (outcome s r).1
 
-  some_case : {A : Type 0} (found : Option A) (refused : Answer) (f : A → Result (Answer × State) Answer) → Q (Err refused)
-      → ((x : A) → found ≡ Some x → Q (f x)) → Q (ok_or found refused >>= f)
-  some_case None refused f none each = none
-  some_case (Some x) refused f none each = each x refl
-
-  fresh : (place file : ℕ) (p : Prepared) (owner : Task) (last : Changed) → position (λ p. p.label == label) s.prepared ≡ Some place
+  fresh : (casts : List Broadcast) (place file : ℕ) (p : Prepared) (owner : Task) (last : Changed) → position (λ p. p.label == label) s.prepared ≡ Some place
       → slice_get s.prepared place ≡ Some p → p.changed ≡ Some last → task_of s p.task ≡ Some owner → owner.current ≡ p.base
       → last.change ≡ Exec file → number ≡ length s.creds → slot ≡ p.slot → gains ≡ last.gains
-      → IsExecve script s (Commit label) number slot gains (committed (ended (is_beside owner) s) place p owner.current last.cred)
-  fresh place file p owner last at is changed lives same executes at_number at_slot at_gains =
+      → IsExecve script s (Commit label) number slot gains
+      (record (committed (ended (is_beside owner) s) place p owner.current last.cred) { casts = casts })
+  fresh casts place file p owner last at is changed lives same executes at_number at_slot at_gains =
       let labelled : (p.label == label) ≡ true
       = at_place (λ (p : Prepared). p.label == label) s.prepared place p is (position-Some (λ (p : Prepared). p.label == label) s.prepared place p at).1 in
       let own : p.label ≡ label = eqb-true p.label label labelled in
@@ -154,12 +149,13 @@ module _ (script : Script) (s : State) (label number slot count : ℕ) (gains : 
       → slice_get s.prepared place ≡ Some p → p.changed ≡ Some last → task_of s p.task ≡ Some owner → owner.current ≡ p.base
       → (change : Change) → last.change ≡ change
       → committed_by change last.gains (length s.creds) p.slot (count_by (ends_with change owner) s.tasks) ≡ Executed number slot count gains
-      → IsExecve script s (Commit label) number slot gains (committed (ended (ends_with change owner) s) place p owner.current last.cred)
+      → IsExecve script s (Commit label) number slot gains
+      (casts_after change owner (committed (ended (ends_with change owner) s) place p owner.current last.cred))
   by_kind place p owner last at is changed lives same (Exec file) executes answered =
       let at_number : number ≡ length s.creds = cc in
       let at_slot : slot ≡ p.slot = cc in
       let at_gains : gains ≡ last.gains = cc in
-      fresh place file p owner last at is changed lives same executes at_number at_slot at_gains
+      fresh (dropped owner.process s.casts) place file p owner last at is changed lives same executes at_number at_slot at_gains
   by_kind place p owner last at is changed lives same other executes answered = cc
 
   settles : (place : ℕ) (p : Prepared) (owner : Task) (last : Changed) → position (λ p. p.label == label) s.prepared ≡ Some place
@@ -167,7 +163,7 @@ module _ (script : Script) (s : State) (label number slot count : ℕ) (gains : 
       → Q (Ok (try_commit s place p owner last))
   settles place p owner last at is changed lives =
       let ends = ends_with last.change owner in
-      let fresh_one : Answer × State = (commit_answer last (length s.creds) p.slot (count_by ends s.tasks), committed (ended ends s) place p owner.current last.cred) in
+      let fresh_one : Answer × State = (commit_answer last (length s.creds) p.slot (count_by ends s.tasks), casts_after last.change owner (committed (ended ends s) place p owner.current last.cred)) in
       elim (owner.current == p.base) as (λ b. (b ≡ true → owner.current ≡ p.base) → Q (Ok (cond {A = Answer × State} b fresh_one (Stale p.base owner.current, given_up s place p)))) [
         | true ↦ λ same answered. by_kind place p owner last at is changed lives (same refl) last.change refl answered
         | false ↦ λ same answered. cc
@@ -175,11 +171,12 @@ module _ (script : Script) (s : State) (label number slot count : ℕ) (gains : 
 
   pub commit_case : Q (by_commit s label)
   commit_case =
-      some_case (position (λ p. p.label == label) s.prepared) _ _ (λ answered. cc)
-      (λ place at. some_case (slice_get s.prepared place) _ _ (λ answered. cc)
-      (λ p is. some_case p.changed _ _ (λ answered. cc)
-      (λ last changed. some_case (task_of s p.task) _ _ (λ answered. cc)
-      (λ owner lives. settles place p owner last at is changed lives))))
+      some_case Q (position (λ p. p.label == label) s.prepared) _ _ (λ answered. cc)
+      (λ place at. some_case Q (slice_get s.prepared place) _ _ (λ answered. cc)
+      (λ p is. some_case Q (option_and_then for_task p.changed) _ _ (λ answered. cc)
+      (λ last changed. some_case Q (task_of s p.task) _ _ (λ answered. cc)
+      (λ owner lives. idle_case Q (begun_by s p.task) _ (λ busy answered. cc)
+      (λ idle. own_case Q owner _ (λ depth answered. cc) (settles place p owner last at is (changed_for_task p.changed last changed) lives))))))
 
 by_event : (script : Script) (s : State) (line : ℕ) (event : Event) (number slot count : ℕ) (gains : Gains) → IsSound s → AreMade script s
     → answer_of (done script s line event) ≡ Executed number slot count gains

@@ -1,5 +1,5 @@
 -- What was sealed, and what is held, stays as it is.
-use Rattle.std.proofs.Common.{◌≡◌, ◌≢◌, ◌==◌, ℕ, List, [], ◌∷◌, ◌++◌, length, take, fold, Option, Some, None, refl, sym, ap, ◌∙◌, append_assoc}
+use Rattle.std.proofs.Common.{◌≡◌, ◌≢◌, ◌==◌, ℕ, List, [], ◌∷◌, ◌++◌, length, take, fold, Option, Some, None, refl, sym, ap, ◌∙◌, subst, append_assoc}
 use Rattle.std.specs.List.{All, find}
 use Rattle.std.specs.Option.{option_and_then, option_or}
 use Rattle.std.proofs.lemmas.List.{append-nil, take_at}
@@ -15,7 +15,7 @@ use Rattle.cred_model.specs.Journal.{replay}
 use Rattle.cred_laws.specs.Held.{SealedStays, HoldStays, HeldStays}
 use Rattle.cred_model.proofs.Lists.{find-remove_other}
 use Rattle.cred_model.proofs.Numbers.{numbered_stays}
-use Rattle.cred_sound.proofs.Parts.{CredsChange, HoldsChange, SameCreds, Seals, SameHolds, Takes, Releases}
+use Rattle.cred_sound.proofs.Parts.{CredsChange, ListChange, SameCreds, Seals, Stays, Adds, Removes}
 use Rattle.cred_sound.proofs.Events.{changes}
 
 -- ---- the states after more entries
@@ -45,7 +45,7 @@ extends : (s : State) (event : Event) (left : List ℕ) (t : State) → CredsCha
 extends s event left t (SameCreds same) = same_creds s t.creds same
 extends s event left t (Seals c slot creds fits) = (_, creds)
 
-step_extends : (script : Script) (s : State) (line : ℕ) (event : Event) → Extends s (step script s line event).1.creds
+pub step_extends : (script : Script) (s : State) (line : ℕ) (event : Event) → Extends s (step script s line event).1.creds
 step_extends script s line event = let c = changes script s line event in extends s event c.left _ c.creds
 
 pub on_extends : (script : Script) (s : State) (entries : List Entry) → Extends s (goes_on script s entries).creds
@@ -64,48 +64,58 @@ sealed_stays script journal more =
     ap (λ (after : State). take (length s.creds) after.creds) (replay-append script journal more)
     ∙ ap (take (length s.creds)) grown.1 ∙ take_at s.creds grown.0 (length s.creds) refl
 
--- ---- holds
+-- ---- what stays over each event, and over more entries
 
-still_held : (s : State) (event : Event) (left : List ℕ) (t : State) (label : ℕ) (hold : Hold) → HoldsChange s event left t
-    → hold_of s label ≡ Some hold → event ≢ Release label → hold_of t label ≡ Some hold
-still_held s event left t label hold (SameHolds same) is other =
-    ap (find (λ (h : Hold). h.label == label)) same ∙ is
-still_held s event left t label hold (Takes new holds fresh unprepared stands) is other =
-    ap (find (λ (h : Hold). h.label == label)) holds
-    ∙ find-append (λ (h : Hold). h.label == label) s.holds (new ∷ [])
-    ∙ ap (λ o. option_or o (find (λ (h : Hold). h.label == label) (new ∷ []))) is
-still_held s event left t label hold (Releases gone place old ended holds at found) is other =
-    ap (find (λ (h : Hold). h.label == label)) holds
-    ∙ find-remove_other (λ (h : Hold). h.label) s.holds label gone place old at found (λ same. other (ended ∙ ap Release same))
+-- what is found by a number in a list is still found, where the event doesn't end that
+pub still_found : {X : Type 0} (name : X → ℕ) (IsNew : X → Type 0) (IsGone : ℕ → Type 0) (xs ys : List X) (wanted : ℕ) (x : X)
+    → ListChange X name IsNew IsGone xs ys → find (λ y. name y == wanted) xs ≡ Some x → (IsGone wanted → ⊥)
+    → find (λ y. name y == wanted) ys ≡ Some x
+still_found name IsNew IsGone xs ys wanted x (Stays same) is goes_on = ap (find (λ y. name y == wanted)) same ∙ is
+still_found name IsNew IsGone xs ys wanted x (Adds new more none fresh) is goes_on =
+    ap (find (λ y. name y == wanted)) more
+    ∙ find-append (λ y. name y == wanted) xs (new ∷ [])
+    ∙ ap (λ o. option_or o (find (λ y. name y == wanted) (new ∷ []))) is
+still_found name IsNew IsGone xs ys wanted x (Removes gone place old ended less at found) is goes_on =
+    ap (find (λ y. name y == wanted)) less
+    ∙ find-remove_other name xs wanted gone place old at found (λ same. goes_on (subst IsGone same ended))
     ∙ is
 
-pub hold_stays : HoldStays
-hold_stays script s line event label hold =
-    let c = changes script s line event in
-    still_held s event c.left _ label hold c.holds
+-- what each event of a kind leaves, all of them leave
+pub left_by_each : (P : State → Type 0) (Spares : Event → Type 0)
+    → ((script : Script) (s : State) (line : ℕ) (event : Event) → P s → Spares event → P (step script s line event).1)
+    → (script : Script) (s : State) (entries : List Entry) → P s → All (λ entry. Spares entry.event) entries
+    → P (goes_on script s entries)
+left_by_each P Spares leaves script s [] is each = is
+left_by_each P Spares leaves script s (entry ∷ entries) is each =
+    left_by_each P Spares leaves script (step script s entry.line entry.event).1 entries
+    (leaves script s entry.line entry.event is (All-head (λ e. Spares e.event) entry entries each))
+    (All-tail (λ e. Spares e.event) entry entries each)
 
-pub hold_goes_on : (script : Script) (s : State) (entries : List Entry) (label : ℕ) (hold : Hold) → hold_of s label ≡ Some hold
-    → All (λ entry. entry.event ≢ Release label) entries → hold_of (goes_on script s entries) label ≡ Some hold
-hold_goes_on script s [] label hold is none = is
-hold_goes_on script s (entry ∷ entries) label hold is none =
-    hold_goes_on script (step script s entry.line entry.event).1 entries label hold
-    (hold_stays script s entry.line entry.event label hold is (All-head (λ e. e.event ≢ Release label) entry entries none))
-    (All-tail (λ e. e.event ≢ Release label) entry entries none)
+-- where what is found stays, the credential that it refers to does
+pub still_refers : {X : Type 0} (f : X → ℕ) (script : Script) (s : State) (entries : List Entry) (before after : Option X) (c : Numbered)
+    → ((x : X) → before ≡ Some x → after ≡ Some x) → option_and_then (λ x. numbered s.creds (f x)) before ≡ Some c
+    → option_and_then (λ x. numbered (goes_on script s entries).creds (f x)) after ≡ Some c
+still_refers f script s entries None after c stays at = cc
+still_refers f script s entries (Some x) after c stays at =
+    let now = goes_on script s entries in
+    let grown = on_extends script s entries in
+    ap (option_and_then (λ x. numbered now.creds (f x))) (stays x refl)
+    ∙ ap (λ creds. numbered creds (f x)) grown.1 ∙ numbered_stays s.creds grown.0 (f x) c at
+
+-- ---- holds
+
+pub hold_stays : HoldStays
+hold_stays script s line event label hold is other =
+    let c = changes script s line event in
+    still_found (λ (h : Hold). h.label) _ _ s.holds _ label hold c.holds is other
 
 -- ---- what a label holds
-
-held_from : (script : Script) (s : State) (entries : List Entry) (label : ℕ) (held : Numbered) (found : Option Hold)
-    → hold_of s label ≡ found → option_and_then (λ (h : Hold). numbered s.creds h.number) found ≡ Some held
-    → All (λ entry. entry.event ≢ Release label) entries → held_by (goes_on script s entries) label ≡ Some held
-held_from script s entries label held None is at none = cc
-held_from script s entries label held (Some h) is at none =
-    let after = goes_on script s entries in
-    let grown = on_extends script s entries in
-    ap (option_and_then (λ (h : Hold). numbered after.creds h.number)) (hold_goes_on script s entries label h is none)
-    ∙ ap (λ creds. numbered creds h.number) grown.1 ∙ numbered_stays s.creds grown.0 h.number held at
 
 pub held_stays : HeldStays
 held_stays script journal more label held is none =
     let s = replay script journal in
     ap (λ (after : State). held_by after label) (replay-append script journal more)
-    ∙ held_from script s more label held (hold_of s label) refl is none
+    ∙ still_refers (λ (h : Hold). h.number) script s more (hold_of s label) (hold_of (goes_on script s more) label) held
+    (λ hold at. left_by_each (λ t. hold_of t label ≡ Some hold) (λ event. event ≢ Release label)
+    (λ script s line event. hold_stays script s line event label hold) script s more at none)
+    is

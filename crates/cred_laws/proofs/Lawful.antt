@@ -1,19 +1,19 @@
 -- Every journal is lawful.
-use Rattle.std.proofs.Common.{◌≡◌, ◌≢◌, inl, inr, ℕ, ◌+◌, ◌<◌, ◌≤◌, List, [], ◌∷◌, ◌++◌, length, take, drop, slice_get, Option, Some, None, false, refl, sym, ap, ◌∙◌, subst, arith}
+use Rattle.std.proofs.Common.{◌≡◌, ◌≢◌, ℕ, ◌+◌, ◌<◌, ◌≤◌, List, ◌++◌, length, take, drop, slice_get, Option, Some, None, false, refl, sym, ap, ◌∙◌, subst, arith}
 use Rattle.std.specs.List.{All}
 use Rattle.std.specs.Option.{IfSome}
-use Rattle.std.proofs.lemmas.List.{take_more, take-take, take-append-drop, get_or-drop, get_or-take, length-drop, length-take}
-use Rattle.std.proofs.lemmas.Option.{get_or_from_slice_get, slice_get-get_or, slice_get_past, slice_get_within}
-use Rattle.std.proofs.lemmas.Bool.{cases_lt}
+use Rattle.std.proofs.lemmas.List.{take-take, take-append-drop, get_or-drop, get_or-take, length-drop, length-take}
+use Rattle.std.proofs.lemmas.Option.{slice_get-get_or}
 use Rattle.cred_record.specs.declared.gains.Gains.{Gains}
+use Rattle.cred_record.specs.declared.id_call.IdCall.{IdCall}
+use Rattle.cred_event.specs.declared.answer.Answer.{Answer}
 use Rattle.cred_event.specs.declared.answer.Answer.TheVariants.{Executed}
-use Rattle.cred_event.specs.declared.event.Event.TheVariants.{Release}
+use Rattle.cred_event.specs.declared.event.Event.TheVariants.{Release, CloseFile}
 use Rattle.cred_event.specs.declared.entry.Entry.{Entry}
 use Rattle.cred_model.specs.Script.{Script}
-use Rattle.cred_model.specs.State.{State, SealedCred, Numbered, numbered, task_of, current_of, held_by}
+use Rattle.cred_model.specs.State.{State, SealedCred, Numbered, numbered, task_of, current_of, opener_of, held_by}
 use Rattle.cred_model.specs.Step.{step}
 use Rattle.cred_model.specs.Journal.{replay, IsAnswered}
-use Rattle.cred_model.proofs.Journals.{replay-push}
 use Rattle.cred_model.proofs.Numbers.{numbered_stays}
 use Rattle.cred_laws.specs.Slots.{IsUnused}
 use Rattle.cred_sound.proofs.Sound.{sound_after}
@@ -22,23 +22,20 @@ use Rattle.cred_laws.specs.Held.{prepared_as, ends}
 use Rattle.cred_laws.specs.Permitted.{IsCreatedWith}
 use Rattle.cred_laws.specs.Permitted as permitted
 use Rattle.cred_laws.specs.Execve.{IsExecve}
-use Rattle.cred_laws.specs.Journals.{state_at, IsAlwaysSound, IsAlwaysMade, WritesUnusedSlots, KeepsSealed, KeepsHeld, KeepsPrepared, ExecvesByTheRule, GainsAsAnswered, CreatesTasks, JournalsAreLawful}
+use Rattle.cred_laws.specs.Journals.{state_at, IsAlwaysSound, IsAlwaysMade, WritesUnusedSlots, KeepsSealed, KeepsHeld, KeepsOpeners, KeepsPrepared, ExecvesByTheRule, GainsAsAnswered, CreatesTasks, CompletesForAll, JournalsAreLawful}
+use Rattle.cred_laws.specs.Broadcast.{HasNamed, AllHave, Completes}
+use Rattle.cred_laws.proofs.AlikeLaws.{keeps_alike}
+use Rattle.cred_laws.proofs.BroadcastLaws.{calls_are_every_threads, followed_after}
+use Rattle.cred_laws.proofs.States.{step_at, answered_at}
 use Rattle.cred_laws.proofs.Unused.{no_held_slot_is_rewritten}
 use Rattle.cred_laws.proofs.HeldLaws.{held_stays, on_extends, replay-append}
+use Rattle.cred_laws.proofs.OverrideLaws.{opener_goes_on}
 use Rattle.cred_laws.proofs.PreparedLaws.{prepared_goes_on}
 use Rattle.cred_laws.proofs.MadeLaws.{made_after}
 use Rattle.cred_laws.proofs.ExecveLaws.{execves_are_by_the_rule}
 use Rattle.cred_laws.proofs.PermittedLaws.{permitted_gains, new_tasks_are_created}
 
--- ---- the states of a journal
-
--- the state after one entry more is the step's
-step_at : (script : Script) (journal : List Entry) (k : ℕ) (entry : Entry) → slice_get journal k ≡ Some entry
-    → state_at script journal (k + 1) ≡ (step script (state_at script journal k) entry.line entry.event).1
-step_at script journal k entry is =
-    let lt = slice_get_within journal k entry is in
-    ap (replay script) (take_more journal k entry lt ∙ ap (λ (e : Entry). take k journal ++ e ∷ []) (get_or_from_slice_get journal k entry entry is))
-    ∙ replay-push script (take k journal) entry
+-- ---- the entries of a journal
 
 -- the entries from one place to another
 between : List Entry → ℕ → ℕ → List Entry
@@ -97,6 +94,14 @@ keeps_held script journal k l label held within is none =
     ∙ held_stays script (take k journal) (between journal k l) label held is
     (each_between (λ entry. entry.event ≢ Release label) journal k l none)
 
+pub keeps_openers : (script : Script) (journal : List Entry) → KeepsOpeners script journal
+keeps_openers script journal k l fd opener within is none =
+    let more = between journal k l in
+    ap (λ (j : List Entry). opener_of (replay script j) fd) (take_between journal k l within)
+    ∙ ap (λ (s : State). opener_of s fd) (replay-append script (take k journal) more)
+    ∙ opener_goes_on script (state_at script journal k) more fd opener is
+    (each_between (λ entry. entry.event ≢ CloseFile fd) journal k l none)
+
 pub keeps_prepared : (script : Script) (journal : List Entry) → KeepsPrepared script journal
 keeps_prepared script journal k l label p within is none =
     let more = between journal k l in
@@ -116,16 +121,6 @@ gains_by script journal k task before after (Some entry) is answered was now =
     (permitted_gains script (state_at script journal k) entry.line entry.event task before after (always_sound script journal k) (always_made script journal k) was
     (ap (λ (s : State). current_of s task) (sym (step_at script journal k entry is)) ∙ now))
 gains_by script journal k task before after None is answered was now = tt
-
--- past its end a journal says nothing of its answers
-answered_at : (script : Script) (journal : List Entry) → IsAnswered script journal → (k : ℕ)
-    → IfSome (slice_get journal k) (λ entry. entry.answer ≡ (step script (state_at script journal k) entry.line entry.event).0)
-answered_at script journal answered k =
-    elim (cases_lt k (length journal)) [
-      | inl lt ↦ answered k lt
-      | inr past ↦ subst (λ (o : Option Entry). IfSome o (λ entry. entry.answer ≡ (step script (state_at script journal k) entry.line entry.event).0))
-          (sym (slice_get_past journal k past)) tt
-    ]
 
 executed_by : (script : Script) (journal : List Entry) (k number slot ended : ℕ) (gains : Gains) (o : Option Entry)
     → slice_get journal k ≡ o
@@ -159,6 +154,22 @@ pub creates_tasks : (script : Script) (journal : List Entry) → CreatesTasks sc
 creates_tasks script journal k task after none now =
     created_by script journal k task after (slice_get journal k) refl none now
 
+completes_by : (script : Script) (journal : List Entry) (k process : ℕ) (call : IdCall) (o : Option Entry) → slice_get journal k ≡ o
+    → IfSome o (λ entry. entry.answer ≡ (step script (state_at script journal k) entry.line entry.event).0)
+    → IfSome o (λ entry. Completes (state_at script journal k) entry.event entry.answer (state_at script journal (k + 1)) process call → AllHave (HasNamed call) (state_at script journal (k + 1)) process)
+completes_by script journal k process call (Some entry) is answered =
+    let s = state_at script journal k in
+    let Then : State → Answer → Type 0 = λ t answer. Completes s entry.event answer t process call → AllHave (HasNamed call) t process in
+    subst (λ t. Then t entry.answer) (sym (step_at script journal k entry is))
+    (subst (Then (step script s entry.line entry.event).1) (sym answered)
+    (calls_are_every_threads script s entry.line entry.event process call (always_sound script journal k) (always_made script journal k)
+    (followed_after script (take k journal))))
+completes_by script journal k process call None is answered = tt
+
+pub completes_for_all : (script : Script) (journal : List Entry) → IsAnswered script journal → CompletesForAll script journal
+completes_for_all script journal answered k process call =
+    completes_by script journal k process call (slice_get journal k) refl (answered_at script journal answered k)
+
 pub lawful : JournalsAreLawful
 lawful script journal answered = record {
   sound = always_sound script journal;
@@ -166,8 +177,11 @@ lawful script journal answered = record {
   unused = writes_unused_slots script journal;
   sealed = keeps_sealed script journal;
   held = keeps_held script journal;
+  openers = keeps_openers script journal;
   prepared = keeps_prepared script journal;
   execves = execves_by_the_rule script journal answered;
   gains = gains_as_answered script journal answered;
   created = creates_tasks script journal;
+  calls = completes_for_all script journal answered;
+  alike = keeps_alike script journal answered;
 }

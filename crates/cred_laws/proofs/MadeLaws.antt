@@ -10,7 +10,8 @@ use Rattle.cred_event.specs.declared.event.Event.{Event}
 use Rattle.cred_event.specs.declared.entry.Entry.{Entry}
 use Rattle.cred_model.specs.Script.{Script}
 use Rattle.cred_model.specs.State.{State, SealedCred, Prepared, numbered, prepared_of, opening}
-use Rattle.cred_model.specs.Step.{changed, step}
+use Rattle.cred_model.specs.Moves.{changed}
+use Rattle.cred_model.specs.Step.{step}
 use Rattle.cred_model.proofs.Lists.{All-remove, alone, found}
 use Rattle.cred_model.proofs.Numbers.{changed_as, numbered_is, numbered_before, sealed_cred_of}
 use Rattle.cred_model.proofs.Referred.{each_ref}

@@ -1,32 +1,35 @@
 -- How the permitted set of a task's credential may change.
-use Rattle.std.proofs.Common.{◌≡◌, ◌==◌, ℕ, List, [], ◌∷◌, ◌++◌, length, Option, Some, None, Bool, true, false, cond, refl, sym, ap, ◌∙◌, subst, arith}
+use Rattle.std.proofs.Common.{◌≡◌, ◌==◌, ℕ, List, [], ◌∷◌, ◌++◌, length, Option, Some, None, Ok, Bool, true, false, cond, refl, sym, ap, ◌∙◌, subst, arith}
 use Rattle.std.specs.List.{find}
 use Rattle.std.specs.Option.{IfSome, option_map, option_and_then, option_or}
 use Rattle.std.proofs.lemmas.List.Folds.{find-append}
 use Rattle.std.proofs.lemmas.Bool.Decides.{nat_tests}
 use Rattle.std.proofs.lemmas.Option.{slice_get_within}
-use Rattle.cred_caps.specs.Caps.{less}
+use Rattle.cred_caps.specs.Caps.{empty, less}
 use Rattle.cred_caps.proofs.SetLaws.{less-within}
 use Rattle.cred_record.specs.Credential.{Credential, first_credential}
+use Rattle.cred_record.specs.declared.id_call.IdCall.{IdCall}
+use Rattle.cred_rules.specs.SetId.{set_id}
 use Rattle.cred_setid.proofs.SetIdLaws as setid
 use Rattle.cred_event.specs.declared.event.Event.{Event}
-use Rattle.cred_event.specs.declared.event.Event.TheVariants.{Init, Fork}
+use Rattle.cred_event.specs.declared.event.Event.TheVariants.{Init}
 use Rattle.cred_event.specs.declared.answer.Answer.{Answer}
 use Rattle.cred_model.specs.Script.{Script, info_of, chain_of}
 use Rattle.cred_model.specs.State.{State, SealedCred, Task, Numbered, numbered, task_of, current_of}
 use Rattle.cred_model.specs.Named.{change_files}
 use Rattle.cred_model.specs.Change.{gained}
-use Rattle.cred_model.specs.Ends.{is_task, survivors}
-use Rattle.cred_model.specs.Step.{updated, first_task}
+use Rattle.cred_model.specs.Ends.{survivors}
+use Rattle.cred_model.specs.Moves.{updated, overriding, with_overrides, first_task}
 use Rattle.cred_model.proofs.Lists.{All-at}
-use Rattle.cred_model.proofs.Numbers.{current_is, at_owner, owner_number, numbered_stays, numbered_last, updated_task, sealed_cred_of}
+use Rattle.cred_model.proofs.Numbers.{current_is, at_owner, owner_number, numbered_stays, numbered_last, updated_task, overriding_task, sealed_cred_of}
 use Rattle.cred_sound.specs.Sound.{IsSound}
 use Rattle.cred_sound.proofs.Survivors.{find_survivor, find_no_survivor}
-use Rattle.cred_sound.proofs.Parts.{sealed_cred, Cause, CredsChange, TasksChange, SameCreds, Seals, ByCall, ByCommit, SameTasks, Creates, Forks, Renews, Exits}
+use Rattle.cred_sound.proofs.Parts.{sealed_cred, Cause, Birth, CredsChange, TasksChange, SameCreds, Seals, ByBegin, ByAct, ByCommit, BySpawn, ByFork, SameTasks, Creates, Shares, Renews, Overrides, Fewer}
 use Rattle.cred_sound.proofs.Events.{changes}
 use Rattle.cred_laws.specs.Made.{IsMadeOf, IsMade, AreMade}
 use Rattle.cred_laws.specs.Permitted.{Gains, PermittedGains, IsCreatedWith, NewTasksAreCreated}
 use Rattle.cred_laws.proofs.ChangeLaws.{change_gains}
+use Rattle.cred_laws.proofs.OverrideLaws.{leaves_current}
 
 -- a task's current credential, where these are the tasks and the credentials
 abbrev current_in : List Task → List SealedCred → ℕ → Option Numbered
@@ -78,6 +81,16 @@ then_map : {A B C : Type 0} (f : B → Option C) (g : A → B) (o : Option A)
 then_map f g None = refl
 then_map f g (Some x) = refl
 
+-- ---- a task that acts with other credentials
+
+acts_same : (tasks : List Task) (creds : List SealedCred) (acting : ℕ) (numbers : List ℕ) (task : ℕ)
+    → current_in (with_overrides tasks acting numbers) creds task ≡ current_in tasks creds task
+acts_same tasks creds acting numbers task =
+    let current : Task → ℕ = λ t. t.current in
+    sym (then_map (numbered creds) current (find (λ (t : Task). t.number == task) (with_overrides tasks acting numbers)))
+    ∙ ap (option_and_then (numbered creds)) (leaves_current tasks acting numbers task)
+    ∙ then_map (numbered creds) current (find (λ (t : Task). t.number == task) tasks)
+
 -- ---- a task with a new credential
 
 -- the credential under the number of a task's current one is that one
@@ -85,18 +98,26 @@ under_number : (s : State) (task : ℕ) (c : Numbered) → current_of s task ≡
 under_number s task c is =
     let at = current_is s task c is in ap (numbered s.creds) at.number ∙ at_owner s task c at is
 
-caused_gains : (script : Script) (s : State) (event : Event) (task : ℕ) (old : Numbered) (c : Credential) (answer : Answer)
-    → AreMade script s → current_of s task ≡ Some old → Cause s event task old.number c answer
-    → less c.perm old.cred.perm ≡ gained answer
-caused_gains script s event task old c answer made current (ByCall call before is number ruled none) =
+-- a call that sets ids permits nothing more
+called_gains : (s : State) (task : ℕ) (old before : Numbered) (call : IdCall) (c : Credential) → current_of s task ≡ Some old
+    → current_of s task ≡ Some before → set_id before.cred call ≡ Ok c → less c.perm old.cred.perm ≡ empty
+called_gains s task old before call c current is ruled =
     let both : Some before ≡ Some old = sym is ∙ current in
     let same : before ≡ old = cc in
     ap (λ (n : Numbered). less c.perm n.cred.perm) (sym same)
-    ∙ less-within c.perm before.cred.perm (setid.permitted_never_grows before.cred c call ruled) ∙ sym none
-caused_gains script s event task old c answer made current (ByCommit place slot count p last is changed same cred answered) =
-    let one = All-at (IsMade script s.creds) s.prepared place p is made in
+    ∙ less-within c.perm before.cred.perm (setid.permitted_never_grows before.cred c call ruled)
+
+caused_gains : (script : Script) (s : State) (event : Event) (task : ℕ) (owner : Task) (ends : Task → Bool) (old : Numbered) (c : Credential)
+    (made : Answer × State) → AreMade script s → current_of s task ≡ Some old → owner.current ≡ old.number
+    → Cause s event task owner ends c made → less c.perm old.cred.perm ≡ gained made.0
+caused_gains script s event task owner ends old c made are current number (ByBegin call before line slot by is ruled unused idle none casts answered) =
+    called_gains s task old before call c current is ruled ∙ ap gained (sym answered)
+caused_gains script s event task owner ends old c made are current number (ByAct line slot cast before by opened first is ruled none casts answered) =
+    called_gains s task old before cast.call c current is ruled ∙ ap gained (sym answered)
+caused_gains script s event task owner ends old c made are current number (ByCommit label place slot count p last by is changed same cred ending casts answered) =
+    let one = All-at (IsMade script s.creds) s.prepared place p is are in
     let so = subst (λ o. IfSome o (IsMadeOf script (numbered s.creds p.base))) changed one in
-    let base : numbered s.creds p.base ≡ Some old = ap (numbered s.creds) (sym same) ∙ under_number s task old current in
+    let base : numbered s.creds p.base ≡ Some old = ap (numbered s.creds) (sym same ∙ number) ∙ under_number s task old current in
     let by = subst (λ found. IsMadeOf script found last) base so in
     ap (λ (c : Credential). less c.perm old.cred.perm) cred
     ∙ change_gains (info_of script (change_files last.change)) (chain_of script old.cred.ns) old.cred last.change (record { answer = by.0; cred = last.cred; gains = last.gains }) (length s.creds) slot count by.1
@@ -129,26 +150,25 @@ updated_gains s acting task slot owner before after c answer t false test number
     record { same = λ same_number. same; other = λ differ. absurd (differ (ap (λ (c : Numbered). c.number) same)) }
 
 -- the number of the acting task's old credential, as its owner has it and as it is found
-by_owner : (s : State) (event : Event) (acting : ℕ) (owner : Task) (old : Numbered) (c : Credential) (answer : Answer)
-    → task_of s acting ≡ Some owner → current_of s acting ≡ Some old → Cause s event acting owner.current c answer
-    → Cause s event acting old.number c answer
-by_owner s event acting owner old c answer found current cause =
+owner_current : (s : State) (acting : ℕ) (owner : Task) (old : Numbered) → task_of s acting ≡ Some owner
+    → current_of s acting ≡ Some old → owner.current ≡ old.number
+owner_current s acting owner old found current =
     let at = current_is s acting old current in
     let both : Some at.owner ≡ Some owner = sym at.is ∙ found in
     let one : at.owner ≡ owner = cc in
-    subst (λ n. Cause s event acting n c answer) (sym (at.number ∙ ap (λ (t : Task). t.current) one)) cause
+    sym (at.number ∙ ap (λ (t : Task). t.current) one)
 
 gains_by : (script : Script) (s : State) (event : Event) (left : List ℕ) (made : Answer × State) (task : ℕ) (before after : Numbered)
     → IsSound s → AreMade script s → CredsChange s event left made.1 → TasksChange s event made → current_of s task ≡ Some before
     → current_of made.1 task ≡ Some after → Gains made.0 before after
-gains_by script s event left made task before after sound are creds (SameTasks same) is now =
+gains_by script s event left made task before after sound are creds (SameTasks same casts) is now =
     unchanged made.1 task made.0 before after
     (ap (λ tasks. current_in tasks made.1.creds task) same ∙ still_with s event left made.1 task before creds is) now
-gains_by script s event left made task before after sound are creds (Creates new process user group ns slot by tasks sealed fresh) is now =
+gains_by script s event left made task before after sound are creds (Creates new process user group ns slot by tasks sealed fresh idle casts) is now =
     unchanged made.1 task made.0 before after
     (ap (λ tasks. current_in tasks made.1.creds task) tasks
     ∙ still_before s _ made.1.creds task before (still_with s event left made.1 task before creds is)) now
-gains_by script s event left made task before after sound are creds (Forks parent child process shared by tasks sealed current fresh) is now =
+gains_by script s event left made task before after sound are creds (Shares parent child process shared tasks sealed current fresh birth) is now =
     unchanged made.1 task made.0 before after
     (ap (λ tasks. current_in tasks made.1.creds task) tasks
     ∙ still_before s _ made.1.creds task before (still_with s event left made.1 task before creds is)) now
@@ -167,17 +187,22 @@ gains_by script s event left made task before after sound are creds (Renews acti
     let both : Some at.owner ≡ Some t = sym at.is ∙ here in
     let one : at.owner ≡ t = cc in
     updated_gains s acting task slot owner before after c made.0 t (t.number == acting) refl
-    (owner_number s task t here) found (λ old current. caused_gains script s event acting old c made.0 are current (by_owner s event acting owner old c made.0 found current cause)) is
+    (owner_number s task t here) found (λ old current. caused_gains script s event acting owner ends old c made are current (owner_current s acting owner old found current) cause) is
     (ap (λ (t : Task). numbered s.creds t.current) (sym one) ∙ at_owner s task before at is)
     alive.2
-gains_by script s event left made task before after sound are creds (Exits gone by tasks sealed) is now =
+gains_by script s event left made task before after sound are creds (Overrides acting numbers tasks refer casts) is now =
+    unchanged made.1 task made.0 before after
+    (ap (λ tasks. current_in tasks made.1.creds task) tasks
+    ∙ acts_same s.tasks made.1.creds acting numbers task
+    ∙ still_with s event left made.1 task before creds is) now
+gains_by script s event left made task before after sound are creds (Fewer ends tasks sealed death) is now =
     let at = current_is s task before is in
-    let rest = survivors (is_task gone) s.tasks in
+    let rest = survivors ends s.tasks in
     let seen : option_and_then (λ (t : Task). numbered s.creds t.current) (find (λ (t : Task). t.number == task) rest) ≡ Some after
     = sym (ap (λ creds. current_in made.1.tasks creds task) sealed ∙ ap (λ ts. current_in ts s.creds task) tasks) ∙ now in
     let alive = found_then (λ (t : Task). numbered s.creds t.current) (find (λ (t : Task). t.number == task) rest) after seen in
     let t : Task = alive.0 in
-    let here : task_of s task ≡ Some t = find_survivor (is_task gone) s.tasks task t sound.tasks alive.1 in
+    let here : task_of s task ≡ Some t = find_survivor ends s.tasks task t sound.tasks alive.1 in
     let both : Some at.owner ≡ Some t = sym at.is ∙ here in
     let one : at.owner ≡ t = cc in
     let stays : current_of s task ≡ Some after = ap (option_and_then (λ (t : Task). numbered s.creds t.current)) here ∙ alive.2 in
@@ -208,7 +233,7 @@ first_at s number process task user group ns slot c false test now = cc
 child_at : (s : State) (parent child process task : ℕ) (shared c : Numbered) (b : Bool) → (child == task) ≡ b
     → current_of s parent ≡ Some shared
     → option_and_then (λ (t : Task). numbered s.creds t.current) (cond b (Some (first_task child process shared.number)) None) ≡ Some c
-    → IsCreatedWith s (Fork parent child process) task c
+    → (child ≡ task) × (current_of s parent ≡ Some c)
 child_at s parent child process task shared c true test current now =
     let same : child ≡ task = grind (arith, nat_tests) in
     let both : Some shared ≡ Some c = sym (under_number s parent shared current) ∙ now in
@@ -216,11 +241,18 @@ child_at s parent child process task shared c true test current now =
     (same, current ∙ ap Some one)
 child_at s parent child process task shared c false test current now = cc
 
+born_with : (s : State) (event : Event) (parent child process task : ℕ) (c : Numbered) (made : Answer × State)
+    → Birth s event parent child process made → (child ≡ task) × (current_of s parent ≡ Some c) → IsCreatedWith s event task c
+born_with s event parent child process task c made (BySpawn owner is found own casts) with =
+    subst (λ e. IsCreatedWith s e task c) (sym is) with
+born_with s event parent child process task c made (ByFork is unused casts) with =
+    subst (λ e. IsCreatedWith s e task c) (sym is) with
+
 created_by : (s : State) (event : Event) (made : Answer × State) (task : ℕ) (after : Numbered) → TasksChange s event made
     → task_of s task ≡ None → current_of made.1 task ≡ Some after → IsCreatedWith s event task after
-created_by s event made task after (SameTasks same) none now =
+created_by s event made task after (SameTasks same casts) none now =
     absurd (nobody made.1.tasks made.1.creds task after (ap (find (λ (t : Task). t.number == task)) same ∙ none) now)
-created_by s event made task after (Creates number process user group ns slot by tasks creds fresh) none now =
+created_by s event made task after (Creates number process user group ns slot by tasks creds fresh idle casts) none now =
     let first = first_task number process (length s.creds) in
     let owner = find-append (λ (t : Task). t.number == task) s.tasks (first ∷ [])
     ∙ ap (λ o. option_or o (find (λ (t : Task). t.number == task) (first ∷ []))) none in
@@ -229,11 +261,11 @@ created_by s event made task after (Creates number process user group ns slot by
     (sym (ap (λ tasks. current_in tasks made.1.creds task) tasks
     ∙ ap (λ creds. current_in (s.tasks ++ first ∷ []) creds task) creds
     ∙ ap (option_and_then (λ (t : Task). numbered (s.creds ++ sealed_cred (first_credential user group ns) slot ∷ []) t.current)) owner) ∙ now))
-created_by s event made task after (Forks parent child process shared by tasks creds current fresh) none now =
+created_by s event made task after (Shares parent child process shared tasks creds current fresh birth) none now =
     let first = first_task child process shared.number in
     let owner = find-append (λ (t : Task). t.number == task) s.tasks (first ∷ [])
     ∙ ap (λ o. option_or o (find (λ (t : Task). t.number == task) (first ∷ []))) none in
-    subst (λ e. IsCreatedWith s e task after) (sym by)
+    born_with s event parent child process task after made birth
     (child_at s parent child process task shared after (child == task) refl current
     (sym (ap (λ tasks. current_in tasks made.1.creds task) tasks
     ∙ ap (λ creds. current_in (s.tasks ++ first ∷ []) creds task) creds
@@ -242,9 +274,13 @@ created_by s event made task after (Renews acting slot owner c ends tasks creds 
     absurd (nobody made.1.tasks made.1.creds task after
     (ap (find (λ (t : Task). t.number == task)) tasks ∙ updated_task (survivors ends s.tasks) acting (length s.creds) task
     ∙ ap (option_map (updated acting (length s.creds))) (find_no_survivor ends s.tasks task none)) now)
-created_by s event made task after (Exits gone by tasks creds) none now =
+created_by s event made task after (Overrides acting numbers tasks refer casts) none now =
     absurd (nobody made.1.tasks made.1.creds task after
-    (ap (find (λ (t : Task). t.number == task)) tasks ∙ find_no_survivor (is_task gone) s.tasks task none) now)
+    (ap (find (λ (t : Task). t.number == task)) tasks ∙ overriding_task s.tasks acting numbers task
+    ∙ ap (option_map (overriding acting numbers)) none) now)
+created_by s event made task after (Fewer ends tasks creds death) none now =
+    absurd (nobody made.1.tasks made.1.creds task after
+    (ap (find (λ (t : Task). t.number == task)) tasks ∙ find_no_survivor ends s.tasks task none) now)
 
 pub new_tasks_are_created : NewTasksAreCreated
 new_tasks_are_created script s line event task after =

@@ -2,21 +2,21 @@
 use Rattle.std.proofs.Common.{◌≡◌, ◌≢◌, ◌==◌, ◌⊎◌, inl, inr, false, sym, ℕ, List, [], ◌∷◌, Option, Some, None, refl, ap, ◌∙◌}
 use Rattle.std.specs.List.{All, find}
 use Rattle.std.specs.Option.{option_map, option_or}
-use Rattle.std.proofs.lemmas.List.Elements.{All-head, All-tail}
 use Rattle.std.proofs.lemmas.List.Folds.{find-append}
 use Rattle.cred_event.specs.declared.event.Event.{Event}
-use Rattle.cred_event.specs.declared.event.Event.TheVariants.{Commit, Abort}
+use Rattle.cred_event.specs.declared.event.Event.TheVariants.{Commit, Abort, Override}
 use Rattle.cred_event.specs.declared.entry.Entry.{Entry}
 use Rattle.cred_model.specs.Script.{Script}
 use Rattle.cred_model.specs.State.{State, Prepared, Changed}
-use Rattle.cred_model.specs.Step.{changed, step}
+use Rattle.cred_model.specs.Moves.{changed}
 use Rattle.cred_laws.specs.Held.{prepared_as, ends, PreparedStays}
 use Rattle.std.proofs.lemmas.Bool.{eqb-false}
-use Rattle.cred_model.proofs.Lists.{find-map, find-remove_other}
+use Rattle.cred_model.proofs.Lists.{find_changed, find-remove_other}
 use Rattle.cred_model.proofs.Numbers.{changed_as, changed_label}
+use Rattle.cred_sound.specs.Ledger.{SealsOf}
 use Rattle.cred_sound.proofs.Parts.{PreparedChange, SamePrepared, Prepares, Alters, Ends}
 use Rattle.cred_sound.proofs.Events.{changes}
-use Rattle.cred_laws.proofs.HeldLaws.{goes_on}
+use Rattle.cred_laws.proofs.HeldLaws.{goes_on, left_by_each}
 
 -- what is prepared, as it was before its first change
 abbrev fresh : Prepared → Prepared
@@ -33,12 +33,18 @@ change_leaves : (o : Option Prepared) (label : ℕ) (to : Changed)
 change_leaves None label to = refl
 change_leaves (Some q) label to = ap Some (changed_as (λ p. fresh p ≡ fresh q) label to q (λ test. refl) refl)
 
+-- the event that seals what a label prepared ends that
+seals_end : (label gone : ℕ) (event : Event) → SealsOf event gone → ends label event ≡ (gone == label)
+seals_end label gone (Commit committed) seals = ap (λ n. n == label) seals
+seals_end label gone (Override task overriding) seals = ap (λ n. n == label) seals
+seals_end label gone event seals = absurd seals
+
 -- where it isn't ended, what an event ends is another label
-not_ended : (label gone : ℕ) (event : Event) → (event ≡ Commit gone) ⊎ (event ≡ Abort gone) → ends label event ≡ false
+not_ended : (label gone : ℕ) (event : Event) → SealsOf event gone ⊎ (event ≡ Abort gone) → ends label event ≡ false
     → gone ≢ label
 not_ended label gone event ended other same =
     let test : (gone == label) ≡ false
-    = elim ended [ inl is ↦ ap (ends label) (sym is) ∙ other | inr is ↦ ap (ends label) (sym is) ∙ other ] in
+    = elim ended [ inl seals ↦ sym (seals_end label gone event seals) ∙ other | inr is ↦ ap (ends label) (sym is) ∙ other ] in
     eqb-false gone label test same
 
 still_prepared : (script : Script) (s : State) (event : Event) (left : List ℕ) (t : State) (label : ℕ) (p : Prepared)
@@ -52,7 +58,7 @@ still_prepared script s event left t label p (Prepares new prepared unchanged un
     ∙ first_stays (find (λ (p : Prepared). p.label == label) s.prepared) _ p is
 still_prepared script s event left t label p (Alters altered to q base answer prepared found at so) is other =
     ap (λ ps. option_map fresh (find (λ (p : Prepared). p.label == label) ps)) prepared
-    ∙ ap (option_map fresh) (find-map (λ (p : Prepared). p.label == label) (changed altered to) s.prepared (λ q. ap (λ n. n == label) (changed_label altered to q)))
+    ∙ ap (option_map fresh) (find_changed (λ (p : Prepared). p.label) (changed altered to) s.prepared label (changed_label altered to))
     ∙ change_leaves (find (λ (p : Prepared). p.label == label) s.prepared) altered to ∙ is
 still_prepared script s event left t label p (Ends gone place q ended prepared at found) is other =
     ap (λ ps. option_map fresh (find (λ (p : Prepared). p.label == label) ps)) prepared
@@ -67,8 +73,6 @@ prepared_stays script s line event label p =
 pub prepared_goes_on : (script : Script) (s : State) (entries : List Entry) (label : ℕ) (p : Prepared)
     → prepared_as s label ≡ Some p → All (λ entry. ends label entry.event ≡ false) entries
     → prepared_as (goes_on script s entries) label ≡ Some p
-prepared_goes_on script s [] label p is none = is
-prepared_goes_on script s (entry ∷ entries) label p is none =
-    prepared_goes_on script (step script s entry.line entry.event).1 entries label p
-    (prepared_stays script s entry.line entry.event label p is (All-head (λ e. ends label e.event ≡ false) entry entries none))
-    (All-tail (λ e. ends label e.event ≡ false) entry entries none)
+prepared_goes_on script s entries label p =
+    left_by_each (λ t. prepared_as t label ≡ Some p) (λ event. ends label event ≡ false)
+    (λ script s line event. prepared_stays script s line event label p) script s entries

@@ -1,32 +1,36 @@
 -- No event but a commit answers that an execve is completed.
-use Rattle.std.proofs.Common.{◌≡◌, ◌==◌, ℕ, List, length, nat_lt, position, slice_get, Option, Some, None, Result, Ok, Err, ok_or, Bool, true, false, cond, refl}
+use Rattle.std.proofs.Common.{◌≡◌, ◌==◌, ◌-◌, ℕ, List, [], ◌∷◌, length, nat_lt, position, slice_get, Option, Some, None, Result, Ok, Err, ok_or, Bool, true, false, cond, refl}
 use Rattle.std.specs.List.{find}
 use Rattle.std.specs.Option.{option_map_or}
 use Rattle.cred_record.specs.Credential.{Credential, first_credential}
 use Rattle.cred_record.specs.File.{File}
 use Rattle.cred_record.specs.declared.refusal.Denial.{Denial}
 use Rattle.cred_record.specs.declared.refusal.Denial.TheVariants.{Perm, Invalid}
+use Rattle.cred_record.specs.declared.want.Want.{Want}
 use Rattle.cred_rules.specs.Adjust.{adjust}
 use Rattle.cred_rules.specs.SetId.{set_id}
-use Rattle.cred_rules.specs.Access.{may}
+use Rattle.cred_rules.specs.Access.{may, may_signal}
 use Rattle.cred_rules.specs.Exec.{Executed, NoExec, exec}
 use Rattle.cred_rules.specs.Exec.NoExec.{MayNotExecute, SpellsNothing, GivesTooLittle}
 use Rattle.cred_event.specs.declared.answer.Answer.{Answer}
 use Rattle.cred_event.specs.declared.answer.Answer.TheVariants as answer
+use Rattle.cred_event.specs.declared.answer.AbortCause.TheVariants as cause
 use Rattle.cred_event.specs.declared.event.Change.{Change}
 use Rattle.cred_event.specs.declared.event.Change.TheVariants.{SetFs, Adjust, Exec}
 use Rattle.cred_event.specs.declared.event.Query.{Query}
 use Rattle.cred_event.specs.declared.event.Query.TheVariants.{Ids, Caps, Groups, Bits, Capable, Bset, AmbIs, Check}
 use Rattle.cred_event.specs.declared.event.Event.{Event}
-use Rattle.cred_event.specs.declared.event.Event.TheVariants.{Init, Take, Release, Ask, Prepare, Alter, Commit, Abort, Begin, Fork, Exit, Sweep}
+use Rattle.cred_event.specs.declared.event.Event.TheVariants.{Init, Take, TakeFile, Release, Ask, Signal, Prepare, Alter, Commit, Abort, Override, Revert, Begin, Act, OpenFile, CloseFile, Spawn, Fork, Exit, Sweep}
 use Rattle.cred_model.specs.Script.{Script, info_of, chain_of}
 use Rattle.cred_model.specs.Named.{change_files}
-use Rattle.cred_model.specs.State.{State, numbered, task_of, hold_of, prepared_of, current_of, held_by}
+use Rattle.cred_model.specs.State.{State, Broadcast, Task, Numbered, numbered, task_of, cast_of, cast_in, begun_by, open_of, hold_of, prepared_of, credential_of, opener_of, held_by}
+use Rattle.cred_model.specs.Casts.{not_busy, others_of, with_cast, waits_no_more}
 use Rattle.cred_model.specs.Ends.{is_thread_of}
 use Rattle.cred_model.specs.Slots.{free, room}
-use Rattle.cred_model.specs.Answers.{refusal, flag, reply}
+use Rattle.cred_model.specs.Answers.{refusal, flag, checked, reply, is_ok}
 use Rattle.cred_model.specs.Change.{Made, made_by_rule, made_by_exec, by_rule, by_change}
-use Rattle.cred_model.specs.Step.{◌>>=◌, none_or, fewer_or, TASKS, HOLDS, PREPARED, in_slot, table_full, first_task, created, preparing, replaced, done, outcome}
+use Rattle.cred_model.specs.Moves.{◌>>=◌, none_or, fewer_or, passed, not_overridden, TASKS, FILES, HOLDS, PREPARED, DEPTH, in_slot, table_full, first_task, created, preparing, replaced}
+use Rattle.cred_model.specs.Step.{take_hold, for_access, aborted, follow, done, outcome}
 
 abbrev pub is_executed : Answer → Bool
 is_executed (answer.Executed number slot ended gains) = true
@@ -65,12 +69,36 @@ fewer_plain : (count limit : ℕ) (refused : Answer) (f : Unit {0} → Result (A
     → is_executed refused ≡ false → Plain (f tt) → Plain (fewer_or count limit refused >>= f)
 fewer_plain count limit refused f plain each = test_plain (nat_lt count limit) refused f plain each
 
-slot_plain : (s : State) (does : State → ℕ → Answer × State) → ((t : State) (slot : ℕ) → is_executed (does t slot).0 ≡ false)
-    → Plain (Ok (in_slot s table_full does))
-slot_plain s does each =
+own_plain : (t : Task) (f : Unit {0} → Result (Answer × State) Answer) → Plain (f tt) → Plain (not_overridden t >>= f)
+own_plain t f each = test_plain (length t.overrides == 0) _ f refl each
+
+passed_plain : (answer : Answer) (f : Unit {0} → Result (Answer × State) Answer) → is_executed answer ≡ false → Plain (f tt)
+    → Plain (passed answer >>= f)
+passed_plain answer f plain each = test_plain (is_ok answer) answer f plain each
+
+-- what is done with what is found, or where nothing is
+either_plain : {A : Type 0} (found : Option A) (f : A → Result (Answer × State) Answer) (none : Result (Answer × State) Answer)
+    → ((x : A) → Plain (f x)) → Plain none → Plain (option_map_or f found none)
+either_plain None f none each otherwise = otherwise
+either_plain (Some x) f none each otherwise = each x
+
+-- the last test
+last_plain : (test : Bool) (answer refused : Answer) (t : State) → is_executed answer ≡ false → is_executed refused ≡ false
+    → Plain (cond test (Ok (answer, t)) (Err refused))
+last_plain true answer refused t done plain = record { is = done }
+last_plain false answer refused t done plain = record { is = plain }
+
+idle_plain : (found : Option Broadcast) (f : Unit {0} → Result (Answer × State) Answer) → Plain (f tt) → Plain (not_busy found >>= f)
+idle_plain None f each = each
+idle_plain (Some cast) f each = record { is = refl }
+
+slot_plain : (s : State) (full : State → Answer × State) (does : State → ℕ → Answer × State)
+    → ((t : State) → is_executed (full t).0 ≡ false) → ((t : State) (slot : ℕ) → is_executed (does t slot).0 ≡ false)
+    → Plain (Ok (in_slot s full does))
+slot_plain s full does none each =
     record {
-      is = elim (free s) as (λ o. is_executed (option_map_or (does (room s)) o (table_full (room s))).0 ≡ false) [
-        | None ↦ refl
+      is = elim (free s) as (λ o. is_executed (option_map_or (does (room s)) o (full (room s))).0 ≡ false) [
+        | None ↦ none (room s)
         | Some slot ↦ each (room s) slot
       ];
     }
@@ -124,6 +152,10 @@ checked_plain : (b : Bool) → is_executed (cond b answer.Done answer.Eacces) �
 checked_plain true = refl
 checked_plain false = refl
 
+file_plain : (c : Credential) (file : Option File) (asked : Want) → is_executed (checked c file asked) ≡ false
+file_plain c None asked = refl
+file_plain c (Some file) asked = checked_plain (may c file asked)
+
 reply_plain : (file : Option File) (c : Credential) (query : Query) → is_executed (reply file c query) ≡ false
 reply_plain file c Ids = refl
 reply_plain file c Caps = refl
@@ -132,8 +164,7 @@ reply_plain file c Bits = refl
 reply_plain file c (Capable n) = flag_plain _
 reply_plain file c (Bset n) = flag_plain _
 reply_plain file c (AmbIs n) = flag_plain _
-reply_plain None c (Check place asked) = refl
-reply_plain (Some file) c (Check place asked) = checked_plain (may c file asked)
+reply_plain file c (Check place asked) = file_plain c file asked
 
 -- ---- events
 
@@ -145,26 +176,44 @@ commits event = false
 at_once : (answer : Answer) (t : State) → is_executed answer ≡ false → Plain (Ok (answer, t))
 at_once answer t plain = record { is = plain }
 
+hold_plain : (s : State) (label : ℕ) (taken : Numbered) → Plain (take_hold s label taken)
+hold_plain s label taken =
+    none_plain (hold_of s label) _ _ refl
+    (none_plain (prepared_of s label) _ _ refl (fewer_plain (length s.holds) HOLDS _ _ refl (at_once _ _ refl)))
+
+follow_plain : (s : State) (cast : Broadcast) (task old : ℕ) (made : Result Credential Answer) → Plain (Ok (follow s cast task old made))
+follow_plain s cast task old (Err refused) = at_once _ _ refl
+follow_plain s cast task old (Ok new) =
+    slot_plain s (λ t. (answer.Aborted task cause.Full, aborted cast t))
+    (λ t slot. (answer.Acted task (length t.creds) slot (length cast.waiting - 1), record (replaced t task old new slot) { casts = waits_no_more task t.casts }))
+    (λ t. refl) (λ t slot. refl)
+
 pub plain : (script : Script) (s : State) (line : ℕ) (event : Event) → commits event ≡ false → Plain (done script s line event)
 plain script s line (Init task process user group ns) other =
-    none_plain (task_of s task) _ _ refl (fewer_plain (length s.tasks) TASKS _ _ refl
-    (slot_plain s (λ t slot. (answer.Sealed (length t.creds) slot, created t (first_task task process (length t.creds)) (first_credential user group ns) slot))
-    (λ t slot. refl)))
+    idle_plain (cast_in s process) _ (none_plain (task_of s task) _ _ refl (fewer_plain (length s.tasks) TASKS _ _ refl
+    (slot_plain s table_full (λ t slot. (answer.Sealed (length t.creds) slot, created t (first_task task process (length t.creds)) (first_credential user group ns) slot))
+    (λ t. refl) (λ t slot. refl))))
 plain script s line (Take label task side) other =
-    some_plain (current_of s task) _ _ refl
-    (λ taken. none_plain (hold_of s label) _ _ refl (none_plain (prepared_of s label) _ _ refl (fewer_plain (length s.holds) HOLDS _ _ refl (at_once _ _ refl))))
+    some_plain (credential_of s task side) _ _ refl (λ taken. hold_plain s label taken)
+plain script s line (TakeFile label fd) other = some_plain (opener_of s fd) _ _ refl (λ taken. hold_plain s label taken)
 plain script s line (Release label) other =
     some_plain (position (λ h. h.label == label) s.holds) _ _ refl
     (λ place. some_plain (slice_get s.holds place) _ _ refl (λ hold. at_once _ _ refl))
 plain script s line (Ask label query) other =
     some_plain (held_by s label) _ _ refl (λ held. at_once _ _ (reply_plain _ held.cred query))
+plain script s line (Signal from hold to target) other =
+    some_plain (task_of s from) _ _ refl
+    (λ sender. some_plain (task_of s to) _ _ refl
+    (λ receiver. some_plain (held_by s hold) _ _ refl
+    (λ own. some_plain (held_by s target) _ _ refl
+    (λ with. last_plain (may_signal own.cred with.cred (sender.process == receiver.process)) _ _ s refl refl))))
 plain script s line (Prepare label task hold) other =
     some_plain (task_of s task) _ _ refl
-    (λ owner. some_plain (hold_of s hold) _ _ refl
+    (λ owner. idle_plain (begun_by s task) _ (some_plain (hold_of s hold) _ _ refl
     (λ base. none_plain (hold_of s label) _ _ refl
     (none_plain (prepared_of s label) _ _ refl (fewer_plain (length s.prepared) PREPARED _ _ refl
-    (slot_plain s (λ t slot. (answer.Kept slot, preparing t (record { label = label; task = task; base = base.number; slot = slot; changed = None })))
-    (λ t slot. refl))))))
+    (slot_plain s table_full (λ t slot. (answer.Kept slot, preparing t (record { label = label; task = task; base = base.number; slot = slot; changed = None })))
+    (λ t. refl) (λ t slot. refl)))))))
 plain script s line (Alter label change) other =
     some_plain (prepared_of s label) _ _ refl
     (λ p. some_plain (numbered s.creds p.base) _ _ refl
@@ -174,13 +223,55 @@ plain script s line (Commit label) other = cc
 plain script s line (Abort label) other =
     some_plain (position (λ p. p.label == label) s.prepared) _ _ refl
     (λ place. some_plain (slice_get s.prepared place) _ _ refl (λ p. at_once _ _ refl))
+plain script s line (Override task label) other =
+    some_plain (task_of s task) _ _ refl
+    (λ owner. either_plain (held_by s label) _ _
+    (λ held. fewer_plain (length owner.overrides) DEPTH _ _ refl (at_once _ _ refl))
+    (some_plain (position (λ p. p.label == label) s.prepared) _ _ refl
+    (λ place. some_plain (slice_get s.prepared place) _ _ refl
+    (λ p. some_plain (for_access owner.number p) _ _ refl
+    (λ last. fewer_plain (length owner.overrides) DEPTH _ _ refl (at_once _ _ refl))))))
+plain script s line (Revert task) other =
+    some_plain (task_of s task) _ _ refl
+    (λ owner. some_plain (slice_get owner.overrides 0) _ _ refl (λ newest. at_once _ _ refl))
 plain script s line (Begin task call) other =
-    some_plain (current_of s task) _ _ refl
-    (λ old. rule_plain (set_id old.cred call) _ (λ new. slot_plain s (λ t slot. (answer.Began (length t.creds) slot 0, replaced t task old.number new slot)) (λ t slot. refl)))
+    some_plain (task_of s task) _ _ refl
+    (λ owner. some_plain (numbered s.creds owner.current) _ _ refl
+    (λ old. idle_plain (cast_in s owner.process) _ (none_plain (cast_of s line) _ _ refl
+    (own_plain owner _
+    (rule_plain (set_id old.cred call) _
+    (λ new.
+    let others = others_of owner s.tasks in
+    let cast : Broadcast = record { number = line; process = owner.process; caller = task; call = call; waiting = others } in
+    slot_plain s table_full
+    (λ t slot. (answer.Began (length t.creds) slot (length others), record (replaced t task old.number new slot) { casts = with_cast t.casts cast }))
+    (λ t. refl) (λ t slot. refl)))))))
+plain script s line (Act number) other =
+    some_plain (cast_of s number) _ _ refl
+    (λ cast. some_plain (slice_get cast.waiting 0) _ _ refl
+    (λ task. some_plain (task_of s task) _ _ refl
+    (λ owner. some_plain (numbered s.creds owner.current) _ _ refl
+    (λ old. follow_plain s cast task old.number (by_rule (set_id old.cred cast.call))))))
+plain script s line (OpenFile hold place asked fd) other =
+    some_plain (held_by s hold) _ _ refl
+    (λ held. none_plain (open_of s fd) _ _ refl
+    (passed_plain (checked held.cred (info_of script (place ∷ [])) asked) _ (file_plain held.cred (info_of script (place ∷ [])) asked)
+    (fewer_plain (length s.files) FILES _ _ refl (at_once _ _ refl))))
+plain script s line (CloseFile fd) other =
+    some_plain (position (λ f. f.fd == fd) s.files) _ _ refl
+    (λ place. some_plain (slice_get s.files place) _ _ refl (λ file. at_once _ _ refl))
+plain script s line (Spawn task child) other =
+    some_plain (task_of s task) _ _ refl
+    (λ owner. some_plain (numbered s.creds owner.current) _ _ refl
+    (λ parent. idle_plain (begun_by s task) _ (none_plain (task_of s child) _ _ refl
+    (own_plain owner _ (fewer_plain (length s.tasks) TASKS _ _ refl (at_once _ _ refl))))))
 plain script s line (Fork task child process) other =
-    some_plain (current_of s task) _ _ refl
-    (λ parent. none_plain (task_of s child) _ _ refl
-    (none_plain (find (is_thread_of process) s.tasks) _ _ refl (fewer_plain (length s.tasks) TASKS _ _ refl (at_once _ _ refl))))
-plain script s line (Exit task) other = some_plain (task_of s task) _ _ refl (λ owner. at_once _ _ refl)
+    some_plain (task_of s task) _ _ refl
+    (λ owner. some_plain (numbered s.creds owner.current) _ _ refl
+    (λ parent. idle_plain (begun_by s task) _ (none_plain (task_of s child) _ _ refl
+    (none_plain (find (is_thread_of process) s.tasks) _ _ refl
+    (own_plain owner _ (fewer_plain (length s.tasks) TASKS _ _ refl (at_once _ _ refl)))))))
+plain script s line (Exit task) other =
+    some_plain (task_of s task) _ _ refl
+    (λ owner. idle_plain (begun_by s task) _ (own_plain owner _ (at_once _ _ refl)))
 plain script s line Sweep other = at_once _ _ refl
-plain script s line event other = record { is = refl }

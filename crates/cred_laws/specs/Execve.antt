@@ -16,7 +16,8 @@ use Rattle.cred_laws.specs.Made.{AreMade}
 -- The event commits a label that was prepared for a task, and changed last by the execve of a file
 -- of the script. The rule of execve makes the task's new credential of its old one, with these
 -- gains, and no other thread of the task's process goes on.
-pub record IsExecve (script : Script) (before : State) (event : Event) (number slot : ℕ) (gains : Gains) (after : State) : Type 0 where
+pub record IsExecve (script : Script) (before : State) (event : Event) (number slot : ℕ)
+    (gains : Gains) (after : State) : Type 0 where
   pub prepared : Prepared
   pub last : Changed
   pub place : ℕ

@@ -3,7 +3,7 @@ use Rattle.std.specs.Prelude.{◌≡◌, ◌≢◌, ◌==◌, ℕ, Bool, false, 
 use Rattle.std.specs.declared.option.Option.{Option}
 use Rattle.std.specs.Option.{option_map}
 use Rattle.cred_event.specs.declared.event.Event.{Event}
-use Rattle.cred_event.specs.declared.event.Event.TheVariants.{Release, Commit, Abort}
+use Rattle.cred_event.specs.declared.event.Event.TheVariants.{Release, Commit, Abort, Override}
 use Rattle.cred_event.specs.declared.entry.Entry.{Entry}
 use Rattle.cred_model.specs.Script.{Script}
 use Rattle.cred_model.specs.State.{State, Hold, Prepared, Numbered, hold_of, held_by, prepared_of}
@@ -44,6 +44,7 @@ prepared_as s label =
 abbrev pub ends : ℕ → Event → Bool
 ends label (Commit committed) = committed == label
 ends label (Abort aborted) = aborted == label
+ends label (Override task overriding) = overriding == label
 ends label event = false
 
 -- A prepared label stands, with its task, its base and its slot, after each event that doesn't end

@@ -1,11 +1,14 @@
 -- The laws, of the states that one journal leads through.
-use Rattle.std.specs.Prelude.{◌≡◌, ◌≢◌, ℕ, false, ◌+◌, ◌<◌, ◌≤◌, List, length, take, slice_get, Some, None, IfSome}
+use Rattle.std.specs.Prelude.{◌≡◌, ◌≢◌, ℕ, Bool, false, ◌+◌, ◌<◌, ◌≤◌, List, length, take, slice_get, Some, None, IfSome}
+use Rattle.std.specs.Option.{option_map}
+use Rattle.cred_ids.specs.declared.id.Kind.{Kind}
 use Rattle.cred_record.specs.declared.gains.Gains as answer
-use Rattle.cred_event.specs.declared.answer.Answer.TheVariants.{Executed}
-use Rattle.cred_event.specs.declared.event.Event.TheVariants.{Release}
+use Rattle.cred_record.specs.declared.id_call.IdCall.{IdCall}
+use Rattle.cred_event.specs.declared.answer.Answer.TheVariants.{Executed, Began}
+use Rattle.cred_event.specs.declared.event.Event.TheVariants.{Release, Begin, CloseFile}
 use Rattle.cred_event.specs.declared.entry.Entry.{Entry}
 use Rattle.cred_model.specs.Script.{Script}
-use Rattle.cred_model.specs.State.{State, Prepared, Numbered, numbered, task_of, current_of, held_by}
+use Rattle.cred_model.specs.State.{State, Prepared, Numbered, numbered, task_of, cast_in, current_of, opener_of, held_by}
 use Rattle.cred_model.specs.Journal.{replay, IsAnswered}
 use Rattle.cred_sound.specs.Sound.{IsSound}
 use Rattle.cred_laws.specs.Slots.{IsUnused}
@@ -13,6 +16,7 @@ use Rattle.cred_laws.specs.Held.{prepared_as, ends}
 use Rattle.cred_laws.specs.Made.{AreMade}
 use Rattle.cred_laws.specs.Execve.{IsExecve}
 use Rattle.cred_laws.specs.Permitted.{Gains, IsCreatedWith}
+use Rattle.cred_laws.specs.Broadcast.{HasNamed, AllHave, Completes, kind_of, three_of, IsAlike, stepping}
 
 -- the state after the first k entries
 abbrev pub state_at : Script → List Entry → ℕ → State
@@ -27,8 +31,8 @@ abbrev pub IsAlwaysMade : Script → List Entry → Type 0
 IsAlwaysMade script journal = (k : ℕ) → AreMade script (state_at script journal k)
 
 -- What an entry seals is put where no credential in use stood, and where no prepared label kept the
--- slot but the one that the entry commits. One that was given up and waits for the sweep is not in
--- use.
+-- slot but the one whose credential the entry seals. One that was given up and waits for the sweep is
+-- not in use.
 abbrev pub WritesUnusedSlots : Script → List Entry → Type 0
 WritesUnusedSlots script journal =
     (k number : ℕ) (new : Numbered) → length (state_at script journal k).creds ≤ number
@@ -51,6 +55,15 @@ KeepsHeld script journal =
     → ((i : ℕ) → k ≤ i → i < l
     → IfSome (slice_get journal i) (λ entry. entry.event ≢ Release label))
     → held_by (state_at script journal l) label ≡ Some held
+
+-- A file that is open keeps its opener's credential as long as no entry closes its descriptor.
+abbrev pub KeepsOpeners : Script → List Entry → Type 0
+KeepsOpeners script journal =
+    (k l fd : ℕ) (opener : Numbered) → k ≤ l
+    → opener_of (state_at script journal k) fd ≡ Some opener
+    → ((i : ℕ) → k ≤ i → i < l
+    → IfSome (slice_get journal i) (λ entry. entry.event ≢ CloseFile fd))
+    → opener_of (state_at script journal l) fd ≡ Some opener
 
 -- What a label prepares stays, but for its changes, as long as no entry ends it.
 abbrev pub KeepsPrepared : Script → List Entry → Type 0
@@ -87,6 +100,57 @@ CreatesTasks script journal =
     → IfSome (slice_get journal k) (λ entry.
     IsCreatedWith (state_at script journal k) entry.event task after)
 
+-- After an entry that completes a call of a thread, each live thread of the process has what the
+-- call names.
+abbrev pub CompletesForAll : Script → List Entry → Type 0
+CompletesForAll script journal =
+    (k process : ℕ) (call : IdCall)
+    → IfSome (slice_get journal k) (λ entry.
+    let after = state_at script journal (k + 1) in
+    Completes (state_at script journal k) entry.event entry.answer after process call
+    → AllHave (HasNamed call) after process)
+
+-- The call of a thread of the process, begun by entry `begun` and completed by entry `done`. Its
+-- broadcast has the number of the begin's line, and is open in between.
+pub record RunsThrough (script : Script) (journal : List Entry) (begun done number process : ℕ) (call : IdCall) : Type 0 where
+  pub order : begun ≤ done
+  pub first : Entry
+  pub last : Entry
+  pub task : ℕ
+  pub cred : ℕ
+  pub slot : ℕ
+  pub left : ℕ
+  pub begins : slice_get journal begun ≡ Some first
+  pub numbered : first.line ≡ number
+  pub calls : first.event ≡ Begin task call
+  pub began : first.answer ≡ Began cred slot left
+  pub caller : option_map (λ t. t.process) (task_of (state_at script journal begun) task)
+      ≡ Some process
+  pub goes_on : (i : ℕ) → begun < i → i ≤ done
+      → option_map (λ b. b.number) (cast_in (state_at script journal i) process) ≡ Some number
+  pub ends : slice_get journal done ≡ Some last
+  pub completes : Completes (state_at script journal done) last.event last.answer
+      (state_at script journal (done + 1)) process call
+
+-- From one entry to another each thread had, before its own step in the broadcast, these three ids
+-- of the kind on its current credential, and had or lacked the capability.
+abbrev pub StepAlike : Script → List Entry → ℕ → ℕ → ℕ → Kind → List ℕ → Bool → Type 0
+StepAlike script journal begun done number kind ids able =
+    (i : ℕ) → begun ≤ i → i ≤ done
+    → IfSome (slice_get journal i) (λ entry.
+    IfSome (stepping number entry.line entry.event entry.answer) (λ task.
+    IfSome (current_of (state_at script journal i) task) (λ c. IsAlike kind ids able c.cred)))
+
+-- Where that is so of all steps of a call that was completed, the three ids are equal in all live
+-- threads of the process.
+abbrev pub KeepsAlike : Script → List Entry → Type 0
+KeepsAlike script journal =
+    (begun done number process : ℕ) (call : IdCall) (ids : List ℕ) (able : Bool)
+    → RunsThrough script journal begun done number process call
+    → StepAlike script journal begun done number (kind_of call) ids able
+    → (equal : List ℕ)
+    × AllHave (λ c. three_of (kind_of call) c ≡ equal) (state_at script journal (done + 1)) process
+
 -- all of these
 pub record IsLawful (script : Script) (journal : List Entry) : Type 0 where
   pub sound : IsAlwaysSound script journal
@@ -94,10 +158,13 @@ pub record IsLawful (script : Script) (journal : List Entry) : Type 0 where
   pub unused : WritesUnusedSlots script journal
   pub sealed : KeepsSealed script journal
   pub held : KeepsHeld script journal
+  pub openers : KeepsOpeners script journal
   pub prepared : KeepsPrepared script journal
   pub execves : ExecvesByTheRule script journal
   pub gains : GainsAsAnswered script journal
   pub created : CreatesTasks script journal
+  pub calls : CompletesForAll script journal
+  pub alike : KeepsAlike script journal
 
 -- They hold of every journal whose entries have the answers that the kernel gives.
 abbrev pub JournalsAreLawful : Type 0

@@ -3,7 +3,9 @@ pub mod Slots
 pub mod Held
 pub mod Made
 pub mod Execve
+pub mod Overrides
 pub mod Permitted
-pub mod Journals
 pub mod Answered
 pub mod Calls
+pub mod Broadcast
+pub mod Journals

@@ -4,7 +4,7 @@ use Rattle.cred_caps.specs.Caps.{less}
 use Rattle.cred_record.specs.Credential.{first_credential}
 use Rattle.cred_event.specs.declared.answer.Answer.{Answer}
 use Rattle.cred_event.specs.declared.event.Event.{Event}
-use Rattle.cred_event.specs.declared.event.Event.TheVariants.{Init, Fork}
+use Rattle.cred_event.specs.declared.event.Event.TheVariants.{Init, Spawn, Fork}
 use Rattle.cred_model.specs.Script.{Script}
 use Rattle.cred_model.specs.State.{State, Numbered, task_of, current_of}
 use Rattle.cred_model.specs.Change.{gained}
@@ -30,10 +30,12 @@ PermittedGains =
     → Gains (step script s line event).0 before after
 
 -- In this state the event creates the task, with this current credential: a first task has a new
--- one, that of the ids and the namespace which the event names, and a child shares its parent's.
+-- one, that of the ids and the namespace which the event names, and a thread or a child shares that
+-- of the task which creates it.
 abbrev pub IsCreatedWith : State → Event → ℕ → Numbered → Type 0
 IsCreatedWith s (Init number process user group ns) task c =
     (number ≡ task) × (c.number ≡ length s.creds) × (c.cred ≡ first_credential user group ns)
+IsCreatedWith s (Spawn parent child) task c = (child ≡ task) × (current_of s parent ≡ Some c)
 IsCreatedWith s (Fork parent child process) task c =
     (child ≡ task) × (current_of s parent ≡ Some c)
 IsCreatedWith s event task c = ⊥

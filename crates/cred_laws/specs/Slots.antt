@@ -1,19 +1,18 @@
 -- Where a credential is sealed.
 use Rattle.std.specs.Prelude.{◌≡◌, ℕ, ◌≤◌, length, All, Some}
 use Rattle.cred_event.specs.declared.event.Event.{Event}
-use Rattle.cred_event.specs.declared.event.Event.TheVariants.{Commit}
 use Rattle.cred_model.specs.Script.{Script}
 use Rattle.cred_model.specs.State.{State, Numbered, numbered}
 use Rattle.cred_model.specs.Slots.{in_use}
 use Rattle.cred_model.specs.Step.{step}
-use Rattle.cred_sound.specs.Ledger.{ledger, IsClear}
+use Rattle.cred_sound.specs.Ledger.{ledger, IsClear, SealsOf}
 use Rattle.cred_sound.specs.Sound.{IsSound}
 
 -- No reference in use is to a credential in the slot, and no prepared label keeps it but the one
--- that the event commits.
+-- whose credential the event seals.
 pub record IsUnused (s : State) (event : Event) (slot : ℕ) : Type 0 where
   pub clear : IsClear (ledger s).slots slot (in_use s)
-  pub kept : All (λ p. p.slot ≡ slot → event ≡ Commit p.label) s.prepared
+  pub kept : All (λ p. p.slot ≡ slot → SealsOf event p.label) s.prepared
 
 -- Each credential that an event seals in a sound state is put into such a slot.
 abbrev pub NoHeldSlotIsRewritten : Type 0

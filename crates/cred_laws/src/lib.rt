@@ -6,10 +6,12 @@
 #![tactic(auto)]
 
 pub mod answered;
+pub mod broadcast;
 pub mod calls;
 pub mod execve;
 pub mod held;
 pub mod journals;
 pub mod order;
+pub mod overrides;
 pub mod permitted;
 pub mod slots;

@@ -20,7 +20,8 @@ pub fn permitted_gains()
 {}
 
 /// A task that an event adds is created by it: a first task with a new credential, that of the ids
-/// and the namespace which the event names, and a child with its parent's (fork(2)).
+/// and the namespace which the event names, and a thread or a child with that of the task which
+/// creates it (fork(2), nptl(7)).
 pub fn new_tasks_are_created()
     ensures { NewTasksAreCreated }
 {}

@@ -1,49 +1,81 @@
 -- How a line goes from event to event.
 use Rattle.std.proofs.Common.{◌≡◌, ℕ, ◌+◌, ◌<◌, List, [], ◌∷◌, ◌++◌, Some, None, Option, is_some, Bool, true, false, cond, nat_lt, refl, sym, ap, ◌∙◌, subst, arith}
-use Rattle.std.specs.Prelude.{fold}
+use Rattle.std.specs.Prelude.{fold, ⊤}
 use Rattle.std.specs.Option.{IfSome, option_and_then}
 use Rattle.std.proofs.lemmas.List.Sums.{fold_push}
 use Rattle.std.proofs.lemmas.Bool.Decides.{nat_tests}
 use Rattle.cred_event.specs.declared.content.Stage.{Stage}
-use Rattle.cred_event.specs.declared.content.Stage.TheVariants.{First, Asking, Preparing, Altering, Committing, Aborting, Releasing, Retrying}
+use Rattle.cred_event.specs.declared.content.Stage.TheVariants.{First, Acting, Asking, Opening, TakingTarget, Signalling, ReleasingTarget, Preparing, Altering, Committing, Aborting, Overriding, TakingAccess, ReleasingAccess, Reverting, Releasing, Retrying}
 use Rattle.cred_event.specs.declared.answer.Answer.{Answer}
 use Rattle.cred_event.specs.declared.answer.Answer.TheVariants.{Stale}
 use Rattle.cred_event.specs.declared.content.Content.{Content}
-use Rattle.cred_event.specs.declared.content.Content.TheVariants.{One, Id, Question, Change}
+use Rattle.cred_event.specs.declared.content.Content.TheVariants.{Nothing, One, Id, Question, Open, Fcap, Signal, Change, Access}
 use Rattle.cred_model.specs.Answers.{is_ok}
-use Rattle.cred_model.specs.Course.{Course, TRIES, start, event_in, event_at, next_stage, is_stale, next_try, after, most, left, leads, Leads}
+use Rattle.cred_model.specs.Course.{Course, TRIES, start, event_in, event_at, either, some_wait, next_stage, is_stale, next_try, after, most, left, is_bounded, leads, Leads}
 
 -- ---- each event is followed by fewer
 
 -- the stage is one of a line with this content
 abbrev pub IsStageOf : Content → Stage → Type 0
-IsStageOf content stage = is_some (event_in 0 content stage) ≡ true
+IsStageOf content stage = (line : ℕ) → is_some (event_in line content stage) ≡ true
+
+-- Where a line's events are bounded, fewer come after the next stage.
+abbrev IsFewer : Bool → Stage → Stage → Type 0
+IsFewer true next stage = most next < most stage
+IsFewer false next stage = ⊤
+
+-- a stage of such a line too, after which fewer events come
+abbrev pub Falls : Content → Stage → Stage → Type 0
+Falls content stage next = IsStageOf content next × IsFewer (is_bounded content) next stage
 
 -- whatever the test says
-either : {A : Type 0} (P : A → Type 0) (test : Bool) (a b : A) → P a → P b → P (cond test a b)
-either P true a b one other = one
-either P false a b one other = other
+branch : {A : Type 0} (P : A → Type 0) (test : Bool) (a b : A) → P a → P b → P (cond test a b)
+branch P true a b one other = one
+branch P false a b one other = other
+
+-- the line ends where its answer doesn't pass the test
+or_ends : (content : Content) (stage : Stage) (test : Bool) (next : Stage) → Falls content stage next
+    → IfSome (cond test (Some next) None) (Falls content stage)
+or_ends content stage test next falls =
+    branch (λ o. IfSome o (Falls content stage)) test (Some next) None falls tt
+
+-- a refusal leads to another stage
+or_else : (content : Content) (stage : Stage) (answer : Answer) (next otherwise : Stage) → Falls content stage next → Falls content stage otherwise
+    → IfSome (either answer next otherwise) (Falls content stage)
+or_else content stage answer = branch (Falls content stage) (is_ok answer)
 
 next_falls : (content : Content) (stage : Stage) (answer : Answer) → IsStageOf content stage
-    → IfSome (next_stage content stage answer) (λ next. IsStageOf content next × (most next < most stage))
+    → IfSome (next_stage content stage answer) (Falls content stage)
 next_falls (One event) First answer is = tt
-next_falls (Id task call) First answer is = tt
-next_falls (Question task query) First answer is =
-    either (λ o. IfSome o (λ next. IsStageOf (Question task query) next × (most next < 6))) (is_ok answer) (Some Asking) None (refl, omega arith) tt
-next_falls (Question task query) Asking answer is = (refl, omega arith)
-next_falls (Question task query) Releasing answer is = tt
-next_falls (Change task change) First answer is =
-    either (λ o. IfSome o (λ next. IsStageOf (Change task change) next × (most next < 6))) (is_ok answer) (Some Preparing) None (refl, omega arith) tt
-next_falls (Change task change) Preparing answer is =
-    either (λ next. IsStageOf (Change task change) next × (most next < 5)) (is_ok answer) Altering Releasing (refl, omega arith) (refl, omega arith)
-next_falls (Change task change) Altering answer is =
-    either (λ next. IsStageOf (Change task change) next × (most next < 4)) (is_ok answer) Committing Aborting (refl, omega arith) (refl, omega arith)
-next_falls (Change task change) Committing answer is =
-    either (λ next. IsStageOf (Change task change) next × (most next < 3)) (is_ok answer) Releasing Aborting (refl, omega arith) (refl, omega arith)
-next_falls (Change task change) Aborting answer is = (refl, omega arith)
-next_falls (Change task change) Releasing answer is = tt
-next_falls (Change task change) Retrying answer is = (refl, omega arith)
-next_falls content stage answer is = cc
+next_falls (Id task call) First answer is = or_ends (Id task call) First (some_wait answer) Acting ((λ line. refl), tt)
+next_falls (Id task call) Acting answer is = or_ends (Id task call) Acting (some_wait answer) Acting ((λ line. refl), tt)
+next_falls (Question task query) First answer is = or_ends (Question task query) First (is_ok answer) Asking ((λ line. refl), omega arith)
+next_falls (Question task query) Asking answer is = ((λ line. refl), omega arith)
+next_falls (Open task file want fd) First answer is = or_ends (Open task file want fd) First (is_ok answer) Opening ((λ line. refl), omega arith)
+next_falls (Open task file want fd) Opening answer is = ((λ line. refl), omega arith)
+next_falls (Fcap task fd wanted) First answer is = or_ends (Fcap task fd wanted) First (is_ok answer) Asking ((λ line. refl), omega arith)
+next_falls (Fcap task fd wanted) Asking answer is = ((λ line. refl), omega arith)
+next_falls (Signal task to) First answer is = or_ends (Signal task to) First (is_ok answer) TakingTarget ((λ line. refl), omega arith)
+next_falls (Signal task to) TakingTarget answer is = or_else (Signal task to) TakingTarget answer Signalling Releasing ((λ line. refl), omega arith) ((λ line. refl), omega arith)
+next_falls (Signal task to) Signalling answer is = ((λ line. refl), omega arith)
+next_falls (Signal task to) ReleasingTarget answer is = ((λ line. refl), omega arith)
+next_falls (Change task change) First answer is = or_ends (Change task change) First (is_ok answer) Preparing ((λ line. refl), omega arith)
+next_falls (Change task change) Preparing answer is = or_else (Change task change) Preparing answer Altering Releasing ((λ line. refl), omega arith) ((λ line. refl), omega arith)
+next_falls (Change task change) Altering answer is = or_else (Change task change) Altering answer Committing Aborting ((λ line. refl), omega arith) ((λ line. refl), omega arith)
+next_falls (Change task change) Committing answer is = or_else (Change task change) Committing answer Releasing Aborting ((λ line. refl), omega arith) ((λ line. refl), omega arith)
+next_falls (Change task change) Aborting answer is = ((λ line. refl), omega arith)
+next_falls (Change task change) Retrying answer is = ((λ line. refl), omega arith)
+next_falls (Access task file want) First answer is = or_ends (Access task file want) First (is_ok answer) Preparing ((λ line. refl), omega arith)
+next_falls (Access task file want) Preparing answer is = or_else (Access task file want) Preparing answer Altering Releasing ((λ line. refl), omega arith) ((λ line. refl), omega arith)
+next_falls (Access task file want) Overriding answer is = or_else (Access task file want) Overriding answer TakingAccess Aborting ((λ line. refl), omega arith) ((λ line. refl), omega arith)
+next_falls (Access task file want) TakingAccess answer is = or_else (Access task file want) TakingAccess answer Asking Reverting ((λ line. refl), omega arith) ((λ line. refl), omega arith)
+next_falls (Access task file want) Altering answer is = ((λ line. refl), omega arith)
+next_falls (Access task file want) Asking answer is = ((λ line. refl), omega arith)
+next_falls (Access task file want) ReleasingAccess answer is = ((λ line. refl), omega arith)
+next_falls (Access task file want) Reverting answer is = ((λ line. refl), omega arith)
+next_falls (Access task file want) Aborting answer is = ((λ line. refl), omega arith)
+next_falls content Releasing answer is = tt
+next_falls content stage answer is = let no = is 0 in cc
 
 -- ---- a course
 
@@ -53,30 +85,24 @@ Fits content course = IfSome course.stage (IsStageOf content)
 
 most_some : (stage : Stage) → 0 < most stage
 most_some First = omega arith
-most_some Asking = omega arith
-most_some Preparing = omega arith
-most_some Altering = omega arith
-most_some Committing = omega arith
-most_some Aborting = omega arith
-most_some Releasing = omega arith
-most_some Retrying = omega arith
+most_some stage = omega arith
 
 -- what the next stage of a line in its course is
 pub record Follows (content : Content) (course next : Course) : Type 0 where
   pub fits : Fits content next
-  pub falls : left next < left course
+  pub falls : is_bounded content ≡ true → left next < left course
   pub same : next.line ≡ course.line
 
 goes_on : (content : Content) (course : Course) (stage : Stage) (next : Option Stage) → course.stage ≡ Some stage
-    → IfSome next (λ to. IsStageOf content to × (most to < most stage)) → Follows content course (record course { stage = next })
+    → IfSome next (Falls content stage) → Follows content course (record course { stage = next })
 goes_on content course stage None here after = record {
   fits = tt;
-  falls = rw here (let some = most_some stage in omega arith);
+  falls = λ bounded. rw here (let some = most_some stage in omega arith);
   same = refl;
 }
 goes_on content course stage (Some to) here after = record {
   fits = after.0;
-  falls = rw here (let less = after.1 in omega arith);
+  falls = λ bounded. rw here (let less : most to < most stage = subst (λ b. IsFewer b to stage) bounded after.1 in omega arith);
   same = refl;
 }
 
@@ -85,13 +111,13 @@ begins_again : (content : Content) (course : Course) → course.stage ≡ Some C
 begins_again (Change task change) course here is =
     elim (nat_lt course.tries TRIES) as (λ b. nat_lt course.tries TRIES ≡ b → Follows (Change task change) course (cond b (record course { stage = Some Retrying; tries = course.tries + 1 }) (record course { stage = Some Releasing }))) [
       | true ↦ λ test. record {
-        fits = refl;
-        falls = rw here (let few : course.tries < 8 = grind (arith, nat_tests) in omega arith);
+        fits = λ line. refl;
+        falls = λ bounded. rw here (let few : course.tries < 8 = grind (arith, nat_tests) in omega arith);
         same = refl;
       }
-      | false ↦ λ test. record { fits = refl; falls = rw here (omega arith); same = refl }
+      | false ↦ λ test. record { fits = λ line. refl; falls = λ bounded. rw here (omega arith); same = refl }
     ] refl
-begins_again content course here is = cc
+begins_again content course here is = let no = is 0 in cc
 
 follows-by : (content : Content) (course : Course) (stage : Stage) (answer : Answer) → course.stage ≡ Some stage → IsStageOf content stage
     → Follows content course
@@ -129,11 +155,8 @@ after_fits content course answer None here fits = ended_fits content course answ
 after_fits content course answer (Some stage) here fits = (follows content course stage answer here fits).fits
 
 start_fits : (line : ℕ) (content : Content) → Fits content (start line content)
-start_fits line (One event) = refl
-start_fits line (Id task call) = refl
-start_fits line (Question task query) = refl
-start_fits line (Change task change) = refl
-start_fits line content = tt
+start_fits line Nothing = tt
+start_fits line content = λ line. refl
 
 from_fits : (content : Content) (answers : List Answer) (course : Course) → Fits content course
     → Fits content (fold (after content) course answers)
@@ -145,33 +168,18 @@ from_fits content (answer ∷ answers) course fits =
 pub leads_fits : (content : Content) (course : Course) → Leads content course → Fits content course
 leads_fits content course at = subst (Fits content) (sym at.is) (from_fits content at.answers (start course.line content) (start_fits course.line content))
 
-any_line : (line : ℕ) (content : Content) (stage : Stage) → IsStageOf content stage → is_some (event_in line content stage) ≡ true
-any_line line (One event) First is = refl
-any_line line (Id task call) First is = refl
-any_line line (Question task query) First is = refl
-any_line line (Question task query) Asking is = refl
-any_line line (Question task query) Releasing is = refl
-any_line line (Change task change) First is = refl
-any_line line (Change task change) Preparing is = refl
-any_line line (Change task change) Altering is = refl
-any_line line (Change task change) Committing is = refl
-any_line line (Change task change) Aborting is = refl
-any_line line (Change task change) Releasing is = refl
-any_line line (Change task change) Retrying is = refl
-any_line line content stage is = cc
-
 -- a line that has a stage makes an event
 pub makes_event : (content : Content) (course : Course) (o : Option Stage) → course.stage ≡ o → Leads content course
     → is_some (event_at content course) ≡ is_some course.stage
 makes_event content course None here at = rw here refl
 makes_event content course (Some stage) here at =
     let is : IsStageOf content stage = subst (λ o. IfSome o (IsStageOf content)) here (leads_fits content course at) in
-    rw here (any_line course.line content stage is)
+    rw here (is course.line)
 
 -- a course that has a stage is led on by an answer
 pub record LedOn (content : Content) (course next : Course) : Type 0 where
   pub leads : Leads content next
-  pub falls : left next < left course
+  pub falls : is_bounded content ≡ true → left next < left course
 
 pub leads_on : (content : Content) (course : Course) (answer : Answer) (o : Option Stage) → course.stage ≡ o → is_some course.stage ≡ true
     → Leads content course → LedOn content course (after content course answer)

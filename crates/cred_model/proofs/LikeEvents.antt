@@ -1,29 +1,38 @@
 -- Each event does the same in two states that are alike.
-use Rattle.std.proofs.Common.{◌≡◌, ◌==◌, ℕ, List, [], ◌∷◌, ◌++◌, length, position, None, ok_or, true, false, cond, refl, sym, ap, ◌∙◌, subst}
+use Rattle.std.proofs.Common.{◌≡◌, ◌==◌, ◌-◌, ℕ, List, [], ◌∷◌, ◌++◌, length, drop, position, slice_get, None, Result, Ok, Err, ok_or, true, false, cond, refl, sym, ap, ◌∙◌, subst}
 use Rattle.std.specs.List.{All, count_by, find, remove}
-use Rattle.std.proofs.lemmas.List.Elements.{All-append, All-cons, All-push, All-nil}
-use Rattle.cred_record.specs.Credential.{first_credential}
+use Rattle.std.specs.Option.{option_and_then}
+use Rattle.std.proofs.lemmas.List.Elements.{All-append, All-cons, All-drop, All-push, All-nil}
+use Rattle.cred_record.specs.Credential.{Credential, first_credential}
 use Rattle.cred_record.specs.declared.id_call.IdCall.{IdCall}
+use Rattle.cred_record.specs.declared.want.Want.{Want}
+use Rattle.cred_rules.specs.Access.{may_signal}
 use Rattle.cred_rules.specs.SetId.{set_id}
 use Rattle.cred_event.specs.declared.answer.Answer.{Answer}
-use Rattle.cred_event.specs.declared.answer.Answer.TheVariants.{Done, Sealed, Kept, Began, NoTask, NoHold, NoPrepared, Stale}
+use Rattle.cred_event.specs.declared.answer.Answer.TheVariants.{Done, Sealed, Kept, Began, Acted, Ebadf, Eperm, NoTask, NoHold, NoPrepared, NoBroadcast, NotOverridden, Stale, Aborted}
+use Rattle.cred_event.specs.declared.answer.AbortCause.{AbortCause}
+use Rattle.cred_event.specs.declared.answer.AbortCause.TheVariants as cause
 use Rattle.cred_event.specs.declared.event.Change.{Change}
+use Rattle.cred_event.specs.declared.event.Change.TheVariants.{Exec}
 use Rattle.cred_event.specs.declared.event.Event.{Event}
 use Rattle.cred_event.specs.declared.event.Side.{Side}
 use Rattle.cred_event.specs.declared.event.Query.{Query}
-use Rattle.cred_event.specs.declared.event.Event.TheVariants.{Init, Take, Release, Ask, Prepare, Alter, Commit, Abort, Begin, Fork, Exit, Sweep}
+use Rattle.cred_event.specs.declared.event.Event.TheVariants.{Init, Take, TakeFile, Release, Ask, Signal, Prepare, Alter, Commit, Abort, Override, Revert, Begin, Act, OpenFile, CloseFile, Spawn, Fork, Exit, Sweep}
 use Rattle.cred_model.specs.Script.{Script, info_of, chain_of}
 use Rattle.cred_model.specs.Named.{change_files}
-use Rattle.cred_model.specs.State.{State, SealedCred, Task, Hold, Prepared, Changed, Numbered, task_of, hold_of, prepared_of}
+use Rattle.cred_model.specs.State.{State, SealedCred, Task, Broadcast, OpenFile as Open, Hold, Prepared, Changed, Numbered, numbered, task_of, cast_of, cast_in, begun_by, open_of, hold_of, prepared_of, held_by}
 use Rattle.cred_model.specs.Slots.{swept}
+use Rattle.cred_model.specs.Answers.{checked}
 use Rattle.cred_model.specs.Change.{by_change, by_rule}
 use Rattle.cred_model.specs.Ends.{is_task, is_thread_of, ended}
-use Rattle.cred_model.specs.Step.{TASKS, HOLDS, PREPARED, none_or, fewer_or, try_commit, done, first_task, with_current, given_up, committed, altered, preparing, created, replaced, ends_with, commit_answer}
+use Rattle.cred_model.specs.Casts.{not_busy, others_of, with_cast, waits_no_more, joined, dropped}
+use Rattle.cred_model.specs.Moves.{TASKS, FILES, HOLDS, PREPARED, DEPTH, ◌>>=◌, none_or, fewer_or, passed, not_overridden, table_full, first_task, with_overrides, holding, lent, with_current, given_up, committed, altered, preparing, created, replaced}
+use Rattle.cred_model.specs.Step.{try_commit, done, ends_with, casts_after, commit_answer, aborted, follow, take_hold, for_task, for_access, override_held, override_prepared}
 use Rattle.cred_model.specs.Like.{IsLike, AreAlike}
 use Rattle.cred_model.proofs.Lists.{All-remove, find_each, get_each}
-use Rattle.cred_model.proofs.Referred.{EachRef, each_updated, each_changed, each_tasks, each_holds, each_prepared, each_deferred, each_ended}
-use Rattle.cred_model.proofs.LikeReads.{with, Same, slots_of, each_same, same_numbered, same_current, same_held, current_by}
-use Rattle.cred_model.proofs.LikeTests.{BothAre, tested, read, found, like_with, like_sealed, same_next, gave, in_slots}
+use Rattle.cred_model.proofs.Referred.{EachRef, each_updated, each_overriding, each_changed, each_tasks, each_casts, each_files, each_holds, each_prepared, each_deferred, each_ended}
+use Rattle.cred_model.proofs.LikeReads.{with, Same, slots_of, each_same, same_numbered, same_credential, same_opener, same_held, numbered_by, credential_by, opener_by, held_by_each}
+use Rattle.cred_model.proofs.LikeTests.{BothAre, tested, read, found, either, like_with, like_casts, like_sealed, same_next, gave, full_like, in_slots}
 
 -- ---- the events
 
@@ -38,8 +47,14 @@ module _ (script : Script) (s : State) (cs : List SealedCred) (line : ℕ) (like
   abbrev OfBase : Prepared → Type 0
   OfBase p = Here p.base
 
+  abbrev OfFile : Open → Type 0
+  OfFile f = Here f.opener
+
   abbrev OfTask : Task → Type 0
   OfTask t = Here t.current
+
+  abbrev OfOverrides : Task → Type 0
+  OfOverrides t = All Here t.overrides
 
   abbrev OfCred : Numbered → Type 0
   OfCred c = Here c.number
@@ -65,22 +80,31 @@ module _ (script : Script) (s : State) (cs : List SealedCred) (line : ℕ) (like
   init_like task process user group ns =
       let new = first_task task process in
       let cred = first_credential user group ns in
-      tested (none_or (task_of s task) _) _ _
+      tested (not_busy (cast_in s process)) _ _
+      (λ idle. tested (none_or (task_of s task) _) _ _
       (λ free. tested (fewer_or (length s.tasks) TASKS _) _ _
-      (λ few. in_slots s cs (λ now slot. (Sealed (length now.creds) slot, created now (new (length now.creds)) cred slot)) like
+      (λ few. in_slots s cs table_full (λ now slot. (Sealed (length now.creds) slot, created now (new (length now.creds)) cred slot)) like (full_like s cs like.slots)
       (λ gone each slot. like_sealed (λ n. Sealed n slot) (λ n. record (gave s gone) { tasks = s.tasks ++ new n ∷ [] })
       s.creds cs (record { cred = cred; slot = slot }) like.slots
       (each_tasks each _ (All-push (λ (t : Task). Here t.current) s.tasks _ each.currents next)
-      (All-push (λ (t : Task). All Here t.overrides) s.tasks _ each.overrides (All-nil Here))))))
+      (All-push OfOverrides s.tasks _ each.overrides (All-nil Here)))))))
+
+  take_hold_like : (label : ℕ) (taken : Numbered) → Here taken.number → BothAre (take_hold s label taken) (take_hold (with s cs) label taken)
+  take_hold_like label taken here =
+      tested (none_or (hold_of s label) _) _ _
+      (λ new. tested (none_or (prepared_of s label) _) _ _
+      (λ unprepared. tested (fewer_or (length s.holds) HOLDS _) _ _
+      (λ few. leaves _ (holding s label taken.number) refl
+      (each_holds refs _ (All-push OfHold s.holds _ refs.holds here)))))
 
   pub take_like : (label task : ℕ) (side : Side) → DoneAlike (Take label task side)
   take_like label task side =
-      found OfCred _ _ (NoTask task) _ _ (same_current s cs task like) (current_by s Here task refs)
-      (λ taken here. tested (none_or (hold_of s label) _) _ _
-      (λ new. tested (none_or (prepared_of s label) _) _ _
-      (λ unprepared. tested (fewer_or (length s.holds) HOLDS _) _ _
-      (λ few. leaves _ (record s { holds = s.holds ++ record { label = label; number = taken.number } ∷ [] }) refl
-      (each_holds refs _ (All-push OfHold s.holds _ refs.holds here))))))
+      found OfCred _ _ (NoTask task) _ _ (same_credential s cs task side like) (credential_by s Here task side refs)
+      (take_hold_like label)
+
+  pub take_file_like : (label fd : ℕ) → DoneAlike (TakeFile label fd)
+  take_file_like label fd =
+      found OfCred _ _ Ebadf _ _ (same_opener s cs fd like) (opener_by s Here fd refs) (take_hold_like label)
 
   pub release_like : (label : ℕ) → DoneAlike (Release label)
   release_like label =
@@ -95,18 +119,31 @@ module _ (script : Script) (s : State) (cs : List SealedCred) (line : ℕ) (like
   ask_like label query =
       read _ _ (NoHold label) _ _ (same_held s cs label like) (λ held. record { answers = refl; states = like })
 
+  pub signal_like : (from hold to target : ℕ) → DoneAlike (Signal from hold to target)
+  signal_like from hold to target =
+      tested (ok_or (task_of s from) _) _ _
+      (λ sender. tested (ok_or (task_of s to) _) _ _
+      (λ receiver. read _ _ (NoHold hold) _ _ (same_held s cs hold like)
+      (λ own. read _ _ (NoHold target) _ _ (same_held s cs target like)
+      (λ other.
+      elim (may_signal own.cred other.cred (sender.process == receiver.process)) as (λ b. BothAre (cond b (Ok (Done, s)) (Err Eperm)) (cond b (Ok (Done, with s cs)) (Err Eperm))) [
+        | true ↦ record { answers = refl; states = like }
+        | false ↦ refl
+      ]))))
+
   pub prepare_like : (label task hold : ℕ) → DoneAlike (Prepare label task hold)
   prepare_like label task hold =
       tested (ok_or (task_of s task) _) _ _
-      (λ owner. found OfHold _ _ (NoHold hold) _ _ refl (find_each OfHold (λ h. h.label == hold) s.holds refs.holds)
+      (λ owner. tested (not_busy (begun_by s task)) _ _
+      (λ idle. found OfHold _ _ (NoHold hold) _ _ refl (find_each OfHold (λ h. h.label == hold) s.holds refs.holds)
       (λ base here. tested (none_or (hold_of s label) _) _ _
       (λ new. tested (none_or (prepared_of s label) _) _ _
       (λ unprepared. tested (fewer_or (length s.prepared) PREPARED _) _ _
       (λ few.
       let kept : ℕ → Prepared = λ slot. record { label = label; task = task; base = base.number; slot = slot; changed = None } in
-      in_slots s cs (λ now slot. (Kept slot, preparing now (kept slot))) like
+      in_slots s cs table_full (λ now slot. (Kept slot, preparing now (kept slot))) like (full_like s cs like.slots)
       (λ gone each slot. leaves (Kept slot) (preparing (gave s gone) (kept slot)) refl
-      (each_prepared each _ (All-push OfBase s.prepared _ each.bases here))))))))
+      (each_prepared each _ (All-push OfBase s.prepared _ each.bases here)))))))))
 
   pub alter_like : (label : ℕ) (change : Change) → DoneAlike (Alter label change)
   alter_like label change =
@@ -142,14 +179,22 @@ module _ (script : Script) (s : State) (cs : List SealedCred) (line : ℕ) (like
       (each_prepared (each_updated each p.task (length s.creds) next) _ (All-remove OfBase s.prepared place refs.bases)) _
       (All-append Here on.deferred _ each.deferred (All-cons Here owner.current (p.base ∷ []) now (All-cons Here p.base [] here (All-nil Here)))))
 
+  -- an execve drops the broadcast of the process
+  casts_like : (change : Change) (owner : Task) (a b : Answer × State) → AreAlike a b
+      → AreAlike (a.0, casts_after change owner a.1) (b.0, casts_after change owner b.1)
+  casts_like (Exec file) owner a b alike =
+      record { answers = alike.answers; states = like_casts (dropped owner.process) alike.states }
+  casts_like change owner a b alike = alike
+
   try_commit_like : (place : ℕ) (p : Prepared) (owner : Task) (last : Changed) → Here p.base → Here owner.current
       → AreAlike (try_commit s place p owner last) (try_commit (with s cs) place p owner last)
   try_commit_like place p owner last here now =
       let ends = ends_with last.change owner in
       let count = count_by ends s.tasks in
       let stale = Stale p.base owner.current in
-      elim (owner.current == p.base) as (λ b. AreAlike (cond b (commit_answer last (length s.creds) p.slot count, committed (ended ends s) place p owner.current last.cred) (stale, given_up s place p)) (cond b (commit_answer last (length cs) p.slot count, committed (ended ends (with s cs)) place p owner.current last.cred) (stale, given_up (with s cs) place p))) [
-        | true ↦ committed_like place p owner last here now
+      let after = casts_after last.change owner in
+      elim (owner.current == p.base) as (λ b. AreAlike (cond b (commit_answer last (length s.creds) p.slot count, after (committed (ended ends s) place p owner.current last.cred)) (stale, given_up s place p)) (cond b (commit_answer last (length cs) p.slot count, after (committed (ended ends (with s cs)) place p owner.current last.cred)) (stale, given_up (with s cs) place p))) [
+        | true ↦ casts_like last.change owner _ _ (committed_like place p owner last here now)
         | false ↦ ended_like stale place p here
       ]
 
@@ -157,9 +202,11 @@ module _ (script : Script) (s : State) (cs : List SealedCred) (line : ℕ) (like
   commit_like label =
       tested (ok_or (position (λ p. p.label == label) s.prepared) (NoPrepared label)) _ _
       (λ place. found OfBase _ _ (NoPrepared label) _ _ refl (get_each _ s.prepared place refs.bases)
-      (λ p here. tested (ok_or p.changed (NoPrepared label)) _ _
+      (λ p here. tested (ok_or (option_and_then for_task p.changed) (NoPrepared label)) _ _
       (λ last. found OfTask _ _ (NoTask p.task) _ _ refl (find_each OfTask (λ t. t.number == p.task) s.tasks refs.currents)
-      (λ owner now. try_commit_like place p owner last here now))))
+      (λ owner now. tested (not_busy (begun_by s p.task)) _ _
+      (λ idle. tested (not_overridden owner) _ _
+      (λ own. try_commit_like place p owner last here now))))))
 
   pub abort_like : (label : ℕ) → DoneAlike (Abort label)
   abort_like label =
@@ -167,42 +214,180 @@ module _ (script : Script) (s : State) (cs : List SealedCred) (line : ℕ) (like
       (λ place. found OfBase _ _ (NoPrepared label) _ _ refl (get_each _ s.prepared place refs.bases)
       (λ p here. ended_like Done place p here))
 
+  -- ---- overrides
+
+  override_held_like : (owner : Task) → All Here owner.overrides → (held : Numbered) → Here held.number
+      → BothAre (override_held s owner held) (override_held (with s cs) owner held)
+  override_held_like owner old held here =
+      tested (fewer_or (length owner.overrides) DEPTH _) _ _
+      (λ few. leaves _ (lent s owner held.number) refl
+      (each_overriding refs owner.number _ (All-cons Here held.number owner.overrides here old)))
+
+  override_prepared_like : (owner : Task) → All Here owner.overrides → (label : ℕ)
+      → BothAre (override_prepared s owner label) (override_prepared (with s cs) owner label)
+  override_prepared_like owner old label =
+      tested (ok_or (position (λ p. p.label == label) s.prepared) (NoHold label)) _ _
+      (λ place. found OfBase _ _ (NoHold label) _ _ refl (get_each _ s.prepared place refs.bases)
+      (λ p here. tested (ok_or (for_access owner.number p) (NoHold label)) _ _
+      (λ last. tested (fewer_or (length owner.overrides) DEPTH _) _ _
+      (λ few. like_sealed (λ n. Sealed n p.slot)
+      (λ n. record (lent s owner n) { prepared = remove s.prepared place; deferred = s.deferred ++ p.base ∷ [] })
+      s.creds cs (record { cred = last.cred; slot = p.slot }) like.slots
+      (each_deferred
+      (each_prepared (each_overriding refs owner.number _ (All-cons Here (length s.creds) owner.overrides next old)) _
+      (All-remove OfBase s.prepared place refs.bases)) _
+      (All-push Here s.deferred p.base refs.deferred here))))))
+
+  pub override_like : (task label : ℕ) → DoneAlike (Override task label)
+  override_like task label =
+      found OfOverrides _ _ (NoTask task) _ _ refl (find_each OfOverrides (λ t. t.number == task) s.tasks refs.overrides)
+      (λ owner old. either OfCred (held_by s label) _ _ _ _ _ (same_held s cs label like) (held_by_each s Here label refs)
+      (override_held_like owner old) (override_prepared_like owner old label))
+
+  pub revert_like : (task : ℕ) → DoneAlike (Revert task)
+  revert_like task =
+      found OfOverrides _ _ (NoTask task) _ _ refl (find_each OfOverrides (λ t. t.number == task) s.tasks refs.overrides)
+      (λ owner old. found Here _ _ NotOverridden _ _ refl (get_each Here owner.overrides 0 old)
+      (λ newest here. leaves Done
+      (record s { tasks = with_overrides s.tasks task (drop 1 owner.overrides); deferred = s.deferred ++ newest ∷ [] }) refl
+      (each_deferred (each_overriding refs task _ (All-drop Here 1 owner.overrides old)) _
+      (All-push Here s.deferred newest refs.deferred here))))
+
+  -- ---- open files
+
+  pub open_like : (hold place : ℕ) (asked : Want) (fd : ℕ) → DoneAlike (OpenFile hold place asked fd)
+  open_like hold place asked fd =
+      found OfCred _ _ (NoHold hold) _ _ (same_held s cs hold like) (held_by_each s Here hold refs)
+      (λ held here. tested (none_or (open_of s fd) _) _ _
+      (λ new. tested (passed (checked held.cred (info_of script (place ∷ [])) asked)) _ _
+      (λ may. tested (fewer_or (length s.files) FILES _) _ _
+      (λ few. leaves Done (record s { files = s.files ++ record { fd = fd; opener = held.number; file = place } ∷ [] }) refl
+      (each_files refs _ (All-push OfFile s.files _ refs.openers here))))))
+
+  pub close_like : (fd : ℕ) → DoneAlike (CloseFile fd)
+  close_like fd =
+      tested (ok_or (position (λ f. f.fd == fd) s.files) Ebadf) _ _
+      (λ place. found OfFile _ _ Ebadf _ _ refl (get_each _ s.files place refs.openers)
+      (λ file here. leaves Done (record s { files = remove s.files place; deferred = s.deferred ++ file.opener ∷ [] }) refl
+      (each_deferred (each_files refs _ (All-remove OfFile s.files place refs.openers)) _
+      (All-push Here s.deferred file.opener refs.deferred here))))
+
+  -- ---- calls of a task
+
+  -- what is found of a task's current credential
+  own_like : (task : ℕ) (none : Answer) (f g : Task → Numbered → Result (Answer × State) Answer)
+      → ((owner : Task) (own : Numbered) → Here own.number → BothAre (f owner own) (g owner own))
+      → BothAre
+      (ok_or (task_of s task) none >>= (λ t. ok_or (numbered s.creds t.current) none >>= f t))
+      (ok_or (task_of s task) none >>= (λ t. ok_or (numbered cs t.current) none >>= g t))
+  own_like task none f g each =
+      found OfTask _ _ none _ _ refl (find_each OfTask (λ t. t.number == task) s.tasks refs.currents)
+      (λ owner now. found OfCred _ _ none _ _ (same_numbered s.creds cs owner.current now) (numbered_by s.creds owner.current Here now)
+      (each owner))
+
   pub begin_like : (task : ℕ) (call : IdCall) → DoneAlike (Begin task call)
   begin_like task call =
-      found OfCred _ _ (NoTask task) _ _ (same_current s cs task like) (current_by s Here task refs)
-      (λ old here. tested (by_rule (set_id old.cred call)) _ _
-      (λ new. in_slots s cs (λ now slot. (Began (length now.creds) slot 0, replaced now task old.number new slot)) like
-      (λ gone each slot. like_sealed (λ n. Began n slot 0)
-      (λ n. record s { tasks = with_current s.tasks task n; deferred = gone ++ old.number ∷ [] })
+      own_like task (NoTask task) _ _
+      (λ owner old here. tested (not_busy (cast_in s owner.process)) _ _
+      (λ idle. tested (none_or (cast_of s line) _) _ _
+      (λ unused. tested (not_overridden owner) _ _
+      (λ own. tested (by_rule (set_id old.cred call)) _ _
+      (λ new.
+      let others = others_of owner s.tasks in
+      let cast : Broadcast = record { number = line; process = owner.process; caller = task; call = call; waiting = others } in
+      in_slots s cs table_full
+      (λ now slot. (Began (length now.creds) slot (length others), record (replaced now task old.number new slot) { casts = with_cast now.casts cast }))
+      like (full_like s cs like.slots)
+      (λ gone each slot. like_sealed (λ n. Began n slot (length others))
+      (λ n. record s { tasks = with_current s.tasks task n; casts = with_cast s.casts cast; deferred = gone ++ old.number ∷ [] })
       s.creds cs (record { cred = new; slot = slot }) like.slots
-      (each_deferred (each_updated each task (length s.creds) next) _ (All-push Here gone old.number each.deferred here)))))
+      (each_casts
+      (each_deferred (each_updated each task (length s.creds) next) _ (All-push Here gone old.number each.deferred here))
+      _)))))))
+
+  -- the process ends
+  aborted_like : (cause : AbortCause) (task : ℕ) (cast : Broadcast) (gone : List ℕ) → EachRef Here (gave s gone)
+      → AreAlike (Aborted task cause, aborted cast (gave s gone)) (Aborted task cause, aborted cast (with (gave s gone) cs))
+  aborted_like cause task cast gone each =
+      leaves _ (aborted cast (gave s gone)) refl (each_casts (each_ended each (is_thread_of cast.process)) _)
+
+  follow_like : (cast : Broadcast) (task old : ℕ) (made : Result Credential Answer) → Here old
+      → AreAlike (follow s cast task old made) (follow (with s cs) cast task old made)
+  follow_like cast task old (Err refusal) here = aborted_like cause.Perm task cast s.deferred refs
+  follow_like cast task old (Ok new) here =
+      let left = length cast.waiting - 1 in
+      in_slots s cs (λ now. (Aborted task cause.Full, aborted cast now))
+      (λ now slot. (Acted task (length now.creds) slot left, record (replaced now task old new slot) { casts = waits_no_more task now.casts })) like
+      (aborted_like cause.Full task cast)
+      (λ gone each slot. like_sealed (λ n. Acted task n slot left)
+      (λ n. record s { tasks = with_current s.tasks task n; casts = waits_no_more task s.casts; deferred = gone ++ old ∷ [] })
+      s.creds cs (record { cred = new; slot = slot }) like.slots
+      (each_casts
+      (each_deferred (each_updated each task (length s.creds) next) _ (All-push Here gone old each.deferred here))
+      _))
+
+  pub act_like : (number : ℕ) → DoneAlike (Act number)
+  act_like number =
+      tested (ok_or (cast_of s number) (NoBroadcast number)) _ _
+      (λ cast. tested (ok_or (slice_get cast.waiting 0) (NoBroadcast number)) _ _
+      (λ task. own_like task (NoBroadcast number) _ _
+      (λ owner old here. follow_like cast task old.number (by_rule (set_id old.cred cast.call)) here)))
+
+  -- a task more, which shares this credential
+  child_like : (answer : Answer) (child process number : ℕ) (casts : List Broadcast) → Here number
+      → let after = record s { tasks = s.tasks ++ first_task child process number ∷ []; casts = casts } in
+      AreAlike (answer, after) (answer, with after cs)
+  child_like answer child process number casts here =
+      leaves answer (record s { tasks = s.tasks ++ first_task child process number ∷ []; casts = casts }) refl
+      (each_casts
+      (each_tasks refs _ (All-push OfTask s.tasks _ refs.currents here)
+      (All-push OfOverrides s.tasks _ refs.overrides (All-nil Here))) casts)
+
+  pub spawn_like : (task child : ℕ) → DoneAlike (Spawn task child)
+  spawn_like task child =
+      own_like task (NoTask task) _ _
+      (λ owner parent here. tested (not_busy (begun_by s task)) _ _
+      (λ idle. tested (none_or (task_of s child) _) _ _
+      (λ new. tested (not_overridden owner) _ _
+      (λ own. tested (fewer_or (length s.tasks) TASKS _) _ _
+      (λ few. child_like _ child owner.process parent.number (joined task child s.casts) here)))))
 
   pub fork_like : (task child process : ℕ) → DoneAlike (Fork task child process)
   fork_like task child process =
-      found OfCred _ _ (NoTask task) _ _ (same_current s cs task like) (current_by s Here task refs)
-      (λ parent here. tested (none_or (task_of s child) _) _ _
+      own_like task (NoTask task) _ _
+      (λ owner parent here. tested (not_busy (begun_by s task)) _ _
+      (λ idle. tested (none_or (task_of s child) _) _ _
       (λ new. tested (none_or (find (is_thread_of process) s.tasks) _) _ _
-      (λ unused. tested (fewer_or (length s.tasks) TASKS _) _ _
-      (λ few. leaves _ (record s { tasks = s.tasks ++ first_task child process parent.number ∷ [] }) refl
-      (each_tasks refs _ (All-push OfTask s.tasks _ refs.currents here)
-      (All-push (λ (t : Task). All Here t.overrides) s.tasks _ refs.overrides (All-nil Here)))))))
+      (λ unused. tested (not_overridden owner) _ _
+      (λ own. tested (fewer_or (length s.tasks) TASKS _) _ _
+      (λ few. child_like _ child process parent.number s.casts here))))))
 
   pub exit_like : (task : ℕ) → DoneAlike (Exit task)
   exit_like task =
       tested (ok_or (task_of s task) _) _ _
-      (λ owner. leaves Done (ended (is_task task) s) refl (each_ended refs (is_task task)))
+      (λ owner. tested (not_busy (begun_by s task)) _ _
+      (λ idle. tested (not_overridden owner) _ _
+      (λ own. leaves Done (record (ended (is_task task) s) { casts = waits_no_more task s.casts }) refl
+      (each_casts (each_ended refs (is_task task)) _))))
 
   pub done_like : (event : Event) → DoneAlike event
   done_like (Init task process user group ns) = init_like task process user group ns
   done_like (Take label task side) = take_like label task side
+  done_like (TakeFile label fd) = take_file_like label fd
   done_like (Release label) = release_like label
   done_like (Ask label query) = ask_like label query
+  done_like (Signal from hold to target) = signal_like from hold to target
   done_like (Prepare label task hold) = prepare_like label task hold
   done_like (Alter label change) = alter_like label change
   done_like (Commit label) = commit_like label
   done_like (Abort label) = abort_like label
+  done_like (Override task label) = override_like task label
+  done_like (Revert task) = revert_like task
   done_like (Begin task call) = begin_like task call
+  done_like (Act number) = act_like number
+  done_like (OpenFile hold place asked fd) = open_like hold place asked fd
+  done_like (CloseFile fd) = close_like fd
+  done_like (Spawn task child) = spawn_like task child
   done_like (Fork task child process) = fork_like task child process
   done_like (Exit task) = exit_like task
   done_like Sweep = leaves Done (swept s) refl (each_deferred refs _ (All-nil Here))
-  done_like event = refl

@@ -5,9 +5,10 @@ use Rattle.std.proofs.lemmas.List.{map-append}
 use Rattle.std.proofs.lemmas.List.Elements.{All-nil, All-weaker}
 use Rattle.std.proofs.lemmas.Option.{slice_get_past}
 use Rattle.cred_event.specs.declared.answer.Answer.{Answer}
-use Rattle.cred_model.specs.State.{State, SealedCred}
+use Rattle.cred_model.specs.State.{State, Broadcast, SealedCred}
 use Rattle.cred_model.specs.Slots.{refs, least_free, swept}
-use Rattle.cred_model.specs.Step.{◌>>=◌, in_slot, table_full, outcome}
+use Rattle.cred_model.specs.Moves.{◌>>=◌, in_slot, table_full}
+use Rattle.cred_model.specs.Step.{outcome}
 use Rattle.cred_model.specs.Like.{IsLike, AreAlike}
 use Rattle.cred_model.proofs.Referred.{EachRef, refs_each, each_deferred}
 use Rattle.cred_model.proofs.LikeReads.{with, Same, slots_of, each_same, same_length, same_free, same_past}
@@ -49,6 +50,16 @@ pub found : {A : Type 0} (P : A → Type 0) (o p : Option A) (answer : Answer) (
 found P o p answer f g same holds each =
     subst (λ p. BothAre (ok_or o answer >>= f) (ok_or p answer >>= g)) same (found_one P o answer f g holds each)
 
+-- what is done with what both find, or where they find nothing
+pub either : {A : Type 0} (P : A → Type 0) (o p : Option A) (f g : A → Result (Answer × State) Answer) (x y : Result (Answer × State) Answer)
+    → o ≡ p → IfSome o P → ((a : A) → P a → BothAre (f a) (g a)) → BothAre x y → BothAre (option_map_or f o x) (option_map_or g p y)
+either P o p f g x y same holds each none =
+    subst (λ p. BothAre (option_map_or f o x) (option_map_or g p y)) same
+    (elim o as (λ o. IfSome o P → BothAre (option_map_or f o x) (option_map_or g o y)) [
+      | None ↦ λ holds. none
+      | Some a ↦ λ holds. each a holds
+    ] holds)
+
 -- ---- what an event leaves
 
 -- a state that refers to nothing but what is the same in both
@@ -56,11 +67,27 @@ pub like_with : (t : State) (cs : List SealedCred) → slots_of t.creds ≡ slot
     → IsLike t (with t cs)
 like_with t cs slots each = record {
   tasks = refl;
+  casts = refl;
+  files = refl;
   holds = refl;
   prepared = refl;
   deferred = refl;
   slots = slots;
   creds = refs_each (Same t.creds cs) t each;
+}
+
+-- the same is done to the broadcasts of both
+pub like_casts : {a b : State} (f : List Broadcast → List Broadcast) → IsLike a b
+    → IsLike (record a { casts = f a.casts }) (record b { casts = f b.casts })
+like_casts f like = record {
+  tasks = like.tasks;
+  casts = ap f like.casts;
+  files = like.files;
+  holds = like.holds;
+  prepared = like.prepared;
+  deferred = like.deferred;
+  slots = like.slots;
+  creds = like.creds;
 }
 
 slots_past : (bs cs : List SealedCred) (x : SealedCred) → slots_of bs ≡ slots_of cs → slots_of (bs ++ x ∷ []) ≡ slots_of (cs ++ x ∷ [])
@@ -80,6 +107,8 @@ like_sealed answer t bs cs x same each =
       answers = refl;
       states = record {
         tasks = refl;
+        casts = refl;
+        files = refl;
         holds = refl;
         prepared = refl;
         deferred = refl;
@@ -101,31 +130,40 @@ same_next bs cs same =
 abbrev pub gave : State → List ℕ → State
 gave s numbers = record s { deferred = numbers }
 
-one_slot : (s : State) (cs : List SealedCred) (does : State → ℕ → Answer × State) → IsLike s (with s cs)
+-- where no slot is free
+pub full_like : (s : State) (cs : List SealedCred) → slots_of s.creds ≡ slots_of cs → (numbers : List ℕ)
+    → EachRef (Same s.creds cs) (gave s numbers)
+    → AreAlike (table_full (gave s numbers)) (table_full (with (gave s numbers) cs))
+full_like s cs slots numbers each = record { answers = refl; states = like_with (gave s numbers) cs slots each }
+
+one_slot : (s : State) (cs : List SealedCred) (full : State → Answer × State) (does : State → ℕ → Answer × State)
+    → slots_of s.creds ≡ slots_of cs → AreAlike (full s) (full (with s cs))
     → ((slot : ℕ) → AreAlike (does s slot) (does (with s cs) slot))
-    → AreAlike (option_map_or (does s) (least_free s) (table_full s)) (option_map_or (does (with s cs)) (least_free (with s cs)) (table_full (with s cs)))
-one_slot s cs does like each =
-    subst (λ o. AreAlike (option_map_or (does s) (least_free s) (table_full s)) (option_map_or (does (with s cs)) o (table_full (with s cs))))
-    (same_free s cs like.slots)
-    (elim (least_free s) as (λ o. AreAlike (option_map_or (does s) o (table_full s)) (option_map_or (does (with s cs)) o (table_full (with s cs)))) [
-      | None ↦ record { answers = refl; states = like }
+    → AreAlike (option_map_or (does s) (least_free s) (full s)) (option_map_or (does (with s cs)) (least_free (with s cs)) (full (with s cs)))
+one_slot s cs full does slots none each =
+    subst (λ o. AreAlike (option_map_or (does s) (least_free s) (full s)) (option_map_or (does (with s cs)) o (full (with s cs))))
+    (same_free s cs slots)
+    (elim (least_free s) as (λ o. AreAlike (option_map_or (does s) o (full s)) (option_map_or (does (with s cs)) o (full (with s cs)))) [
+      | None ↦ none
       | Some slot ↦ each slot
     ])
 
-abbrev taken_from : (State → ℕ → Answer × State) → State → Option ℕ → Answer × State
-taken_from does s free =
-    let now = cond (is_some free) s (swept s) in option_map_or (does now) (least_free now) (table_full now)
+abbrev taken_from : (State → Answer × State) → (State → ℕ → Answer × State) → State → Option ℕ → Answer × State
+taken_from full does s free =
+    let now = cond (is_some free) s (swept s) in option_map_or (does now) (least_free now) (full now)
 
 -- it does the same whether or not there was a sweep
-pub in_slots : (s : State) (cs : List SealedCred) (does : State → ℕ → Answer × State) → IsLike s (with s cs)
+pub in_slots : (s : State) (cs : List SealedCred) (full : State → Answer × State) (does : State → ℕ → Answer × State)
+    → IsLike s (with s cs)
+    → ((numbers : List ℕ) → EachRef (Same s.creds cs) (gave s numbers) → AreAlike (full (gave s numbers)) (full (with (gave s numbers) cs)))
     → ((numbers : List ℕ) → EachRef (Same s.creds cs) (gave s numbers) → (slot : ℕ)
     → AreAlike (does (gave s numbers) slot) (does (with (gave s numbers) cs) slot))
-    → AreAlike (in_slot s table_full does) (in_slot (with s cs) table_full does)
-in_slots s cs does like each =
+    → AreAlike (in_slot s full does) (in_slot (with s cs) full does)
+in_slots s cs full does like none each =
     let refs = each_same s cs like in
-    let none : EachRef (Same s.creds cs) (swept s) = each_deferred refs [] (All-nil (Same s.creds cs)) in
-    subst (λ o. AreAlike (taken_from does s (least_free s)) (taken_from does (with s cs) o)) (same_free s cs like.slots)
-    (elim (least_free s) as (λ o. AreAlike (taken_from does s o) (taken_from does (with s cs) o)) [
-      | None ↦ one_slot (swept s) cs does (like_with (swept s) cs like.slots none) (each [] none)
-      | Some slot ↦ one_slot s cs does like (each s.deferred refs)
+    let gone : EachRef (Same s.creds cs) (swept s) = each_deferred refs [] (All-nil (Same s.creds cs)) in
+    subst (λ o. AreAlike (taken_from full does s (least_free s)) (taken_from full does (with s cs) o)) (same_free s cs like.slots)
+    (elim (least_free s) as (λ o. AreAlike (taken_from full does s o) (taken_from full does (with s cs) o)) [
+      | None ↦ one_slot (swept s) cs full does like.slots (none [] gone) (each [] gone)
+      | Some slot ↦ one_slot s cs full does like.slots (none s.deferred refs) (each s.deferred refs)
     ])

@@ -15,18 +15,30 @@ use Rattle.cred_model.proofs.LikeEvents.{done_like}
 
 pub like_self : (s : State) → IsLike s s
 like_self s =
-    record { tasks = refl; holds = refl; prepared = refl; deferred = refl; slots = refl; creds = λ k d lt. refl }
+    record {
+      tasks = refl;
+      casts = refl;
+      files = refl;
+      holds = refl;
+      prepared = refl;
+      deferred = refl;
+      slots = refl;
+      creds = λ k d lt. refl;
+    }
 
 pub refs_same : (a b : State) → IsLike a b → refs a ≡ refs b
 refs_same a b like =
     ap (λ ts. refs (record a { tasks = ts })) like.tasks
-    ∙ ap (λ hs. refs (record a { tasks = b.tasks; holds = hs })) like.holds
-    ∙ ap (λ ps. refs (record a { tasks = b.tasks; holds = b.holds; prepared = ps })) like.prepared
+    ∙ ap (λ fs. refs (record a { tasks = b.tasks; files = fs })) like.files
+    ∙ ap (λ hs. refs (record a { tasks = b.tasks; files = b.files; holds = hs })) like.holds
+    ∙ ap (λ ps. refs (record b { prepared = ps; deferred = a.deferred; creds = a.creds })) like.prepared
     ∙ ap (λ ds. refs (record b { deferred = ds })) like.deferred
 
 pub like_sym : (a b : State) → IsLike a b → IsLike b a
 like_sym a b like = record {
   tasks = sym like.tasks;
+  casts = sym like.casts;
+  files = sym like.files;
   holds = sym like.holds;
   prepared = sym like.prepared;
   deferred = sym like.deferred;
@@ -40,6 +52,8 @@ like_trans a b c first second =
     = subst (All (λ n. slice_get b.creds n ≡ slice_get c.creds n)) (sym (refs_same a b first)) second.creds in
     record {
       tasks = first.tasks ∙ second.tasks;
+      casts = first.casts ∙ second.casts;
+      files = first.files ∙ second.files;
       holds = first.holds ∙ second.holds;
       prepared = first.prepared ∙ second.prepared;
       deferred = first.deferred ∙ second.deferred;
@@ -54,11 +68,22 @@ pub like_step : (script : Script) (a b : State) (line : ℕ) (event : Event) →
 like_step script a b line event like =
     let other : record a { creds = b.creds } ≡ b
     = ap (λ ts. record a { tasks = ts; creds = b.creds }) like.tasks
-    ∙ ap (λ hs. record a { tasks = b.tasks; holds = hs; creds = b.creds }) like.holds
-    ∙ ap (λ ps. record a { tasks = b.tasks; holds = b.holds; prepared = ps; creds = b.creds }) like.prepared
+    ∙ ap (λ xs. record a { tasks = b.tasks; casts = xs; creds = b.creds }) like.casts
+    ∙ ap (λ fs. record a { tasks = b.tasks; casts = b.casts; files = fs; creds = b.creds }) like.files
+    ∙ ap (λ hs. record b { holds = hs; prepared = a.prepared; deferred = a.deferred }) like.holds
+    ∙ ap (λ ps. record b { prepared = ps; deferred = a.deferred }) like.prepared
     ∙ ap (λ ds. record b { deferred = ds }) like.deferred in
     let with_creds : IsLike a (record a { creds = b.creds })
-    = record { tasks = refl; holds = refl; prepared = refl; deferred = refl; slots = like.slots; creds = like.creds } in
+    = record {
+      tasks = refl;
+      casts = refl;
+      files = refl;
+      holds = refl;
+      prepared = refl;
+      deferred = refl;
+      slots = like.slots;
+      creds = like.creds;
+    } in
     subst (λ b. AreAlike (step script a line event) (step script b line event)) other
     (outcome_like a (record a { creds = b.creds }) _ _ with_creds (done_like script a b.creds line with_creds event))
 

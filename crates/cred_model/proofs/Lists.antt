@@ -159,6 +159,11 @@ find-map p f (x ∷ xs) same =
       | false ↦ find-map p f xs same
     ]
 
+-- one that leaves their numbers
+pub find_changed : {X : Type 0} (f : X → ℕ) (g : X → X) (xs : List X) (wanted : ℕ) → ((x : X) → f (g x) ≡ f x)
+    → find (λ x. f x == wanted) (map g xs) ≡ option_map g (find (λ x. f x == wanted) xs)
+find_changed f g xs wanted same = find-map (λ x. f x == wanted) g xs (λ x. ap (λ n. n == wanted) (same x))
+
 -- the removal of the first of one number leaves the search for another
 pub find-remove_other : {X : Type 0} (f : X → ℕ) (xs : List X) (wanted other place : ℕ) (x : X)
     → position (λ x. f x == other) xs ≡ Some place → slice_get xs place ≡ Some x → other ≢ wanted
@@ -168,6 +173,12 @@ find-remove_other f xs wanted other place x at is differ =
     find-remove (λ x. f x == wanted) xs place x there.0 (let test = there.1 in grind (arith, nat_tests))
 
 -- ---- a list that grows at its end
+
+-- there is an element at each place
+pub slice_get_at : {X : Type 0} (xs : List X) (n : ℕ) → n < length xs → (x : X) × (slice_get xs n ≡ Some x)
+slice_get_at [] n lt = absurd (omega arith)
+slice_get_at (x ∷ xs) zero lt = (x, refl)
+slice_get_at (x ∷ xs) (suc n) lt = slice_get_at xs n (omega arith)
 
 pub slice_get-left : {X : Type 0} (xs ys : List X) (n : ℕ) → n < length xs → slice_get (xs ++ ys) n ≡ slice_get xs n
 slice_get-left [] ys n lt = absurd (omega arith)

@@ -1,14 +1,14 @@
 -- The events that a line makes name only what the line names.
-use Rattle.std.proofs.Common.{◌≡◌, ℕ, ◌<◌, List, [], All, IsSome, Option, Some, None, true, refl, subst}
-use Rattle.std.specs.Option.{IfSome, option_and_then}
+use Rattle.std.proofs.Common.{◌≡◌, ℕ, ◌<◌, List, [], All, IsSome, Option, Some, None, refl, subst}
+use Rattle.std.specs.Option.{IfSome, option_and_then, option_map_or}
 use Rattle.std.proofs.lemmas.List.Elements.{All-nil}
 use Rattle.cred_event.specs.declared.content.Content.{Content}
-use Rattle.cred_event.specs.declared.content.Content.TheVariants.{One, Id, Question, Change}
+use Rattle.cred_event.specs.declared.content.Content.TheVariants.{One, Question, Open, Change, Access}
 use Rattle.cred_event.specs.declared.content.Stage.{Stage}
-use Rattle.cred_event.specs.declared.content.Stage.TheVariants.{First, Asking, Preparing, Altering, Committing, Aborting, Releasing, Retrying}
+use Rattle.cred_event.specs.declared.content.Stage.TheVariants.{First, Asking, Opening, Altering}
 use Rattle.cred_event.specs.declared.event.Event.{Event}
 use Rattle.cred_model.specs.Script.{Namespace, chain_in}
-use Rattle.cred_model.specs.Named.{is_built, event_files, event_namespaces, IsEventOf, IsContentOf}
+use Rattle.cred_model.specs.Named.{event_files, event_namespaces, IsEventOf, IsContentOf}
 use Rattle.cred_model.specs.Course.{Course, event_in, event_at}
 
 no_files : (count : ℕ) → All (λ (file : ℕ). file < count) []
@@ -17,11 +17,11 @@ no_files count = All-nil (λ file. file < count)
 no_namespaces : (declared : List Namespace) → All (λ (namespace : ℕ). IsSome (chain_in declared namespace)) []
 no_namespaces declared = All-nil (λ namespace. IsSome (chain_in declared namespace))
 
--- an event that names nothing
-names_nothing : (count : ℕ) (declared : List Namespace) (event : Event) → is_built event ≡ true → event_files event ≡ [] → event_namespaces event ≡ []
-    → IsEventOf count declared event
-names_nothing count declared event built files namespaces = record {
-  built = built;
+-- no event, or one that names nothing
+names_nothing : (count : ℕ) (declared : List Namespace) (o : Option Event) → option_map_or event_files o [] ≡ []
+    → option_map_or event_namespaces o [] ≡ [] → IfSome o (IsEventOf count declared)
+names_nothing count declared None files namespaces = tt
+names_nothing count declared (Some event) files namespaces = record {
   files = rw files (no_files count);
   namespaces = rw namespaces (no_namespaces declared);
 }
@@ -29,21 +29,19 @@ names_nothing count declared event built files namespaces = record {
 stage_named : (count : ℕ) (declared : List Namespace) (line : ℕ) (content : Content) (stage : Stage) → IsContentOf count declared content
     → IfSome (event_in line content stage) (IsEventOf count declared)
 stage_named count declared line (One event) First of =
-    record { built = of.built; files = of.files; namespaces = of.namespaces }
-stage_named count declared line (Id task call) First of = names_nothing count declared _ refl refl refl
-stage_named count declared line (Question task query) First of = names_nothing count declared _ refl refl refl
+    record { files = of.files; namespaces = of.namespaces }
 stage_named count declared line (Question task query) Asking of =
-    record { built = refl; files = of.files; namespaces = no_namespaces declared }
-stage_named count declared line (Question task query) Releasing of = names_nothing count declared _ refl refl refl
-stage_named count declared line (Change task change) First of = names_nothing count declared _ refl refl refl
-stage_named count declared line (Change task change) Preparing of = names_nothing count declared _ refl refl refl
+    record { files = of.files; namespaces = no_namespaces declared }
+stage_named count declared line (Open task file want fd) Opening of =
+    record { files = of.files; namespaces = no_namespaces declared }
 stage_named count declared line (Change task change) Altering of =
-    record { built = of.built; files = of.files; namespaces = no_namespaces declared }
-stage_named count declared line (Change task change) Committing of = names_nothing count declared _ refl refl refl
-stage_named count declared line (Change task change) Aborting of = names_nothing count declared _ refl refl refl
-stage_named count declared line (Change task change) Releasing of = names_nothing count declared _ refl refl refl
-stage_named count declared line (Change task change) Retrying of = names_nothing count declared _ refl refl refl
-stage_named count declared line content stage of = tt
+    record { files = of.files; namespaces = no_namespaces declared }
+stage_named count declared line (Access task file want) Asking of =
+    record { files = of.files; namespaces = no_namespaces declared }
+stage_named count declared line content First of =
+    names_nothing count declared (event_in line content First) refl refl
+stage_named count declared line content stage of =
+    names_nothing count declared (event_in line content stage) refl refl
 
 course_named : (count : ℕ) (declared : List Namespace) (line : ℕ) (content : Content) (o : Option Stage) (event : Event) → IsContentOf count declared content
     → option_and_then (event_in line content) o ≡ Some event → IsEventOf count declared event
@@ -51,7 +49,7 @@ course_named count declared line content None event of is = cc
 course_named count declared line content (Some stage) event of is =
     subst (λ (o : Option Event). IfSome o (IsEventOf count declared)) is (stage_named count declared line content stage of)
 
--- an event that a line makes is of a kind that is built, and names only files and namespaces that its line names
+-- an event that a line makes names only files and namespaces that its line names
 pub event_named : (count : ℕ) (declared : List Namespace) (content : Content) (course : Course) (event : Event) → IsContentOf count declared content
     → event_at content course ≡ Some event → IsEventOf count declared event
 event_named count declared content course event = course_named count declared course.line content course.stage event

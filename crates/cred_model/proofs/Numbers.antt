@@ -1,12 +1,13 @@
 -- What stands under a number, and under the number of a task.
-use Rattle.std.proofs.Common.{◌≡◌, ◌==◌, ℕ, ◌<◌, List, [], ◌∷◌, ◌++◌, length, slice_get, Option, Some, None, true, false, cond, refl, sym, ap, ◌∙◌, arith}
+use Rattle.std.proofs.Common.{◌≡◌, ◌==◌, ℕ, ◌<◌, List, [], ◌∷◌, ◌++◌, length, slice_get, Option, Some, None, true, refl, sym, ap, ◌∙◌, arith}
 use Rattle.std.specs.List.{find}
 use Rattle.std.specs.Option.{option_map, option_and_then}
+use Rattle.std.proofs.lemmas.Bool.{cond_both}
 use Rattle.std.proofs.lemmas.Bool.Decides.{nat_tests}
 use Rattle.std.proofs.lemmas.Option.{slice_get_within}
 use Rattle.cred_model.specs.State.{State, SealedCred, Task, Prepared, Changed, Numbered, numbered, task_of, current_of}
-use Rattle.cred_model.specs.Step.{updated, with_current, changed}
-use Rattle.cred_model.proofs.Lists.{find-map, found, slice_get-left, slice_get-last}
+use Rattle.cred_model.specs.Moves.{updated, with_current, overriding, with_overrides, changed}
+use Rattle.cred_model.proofs.Lists.{find_changed, found, slice_get-left, slice_get-last}
 
 abbrev under : ℕ → SealedCred → Numbered
 under n sealed = record { number = n; cred = sealed.cred; slot = sealed.slot }
@@ -64,34 +65,52 @@ pub at_owner : (s : State) (task : ℕ) (c : Numbered) (at : IsCurrent s task c)
     → numbered s.creds at.owner.current ≡ Some c
 at_owner s task c at is = sym (ap (option_and_then (λ (t : Task). numbered s.creds t.current)) at.is) ∙ is
 
-pub owner_number : (s : State) (task : ℕ) (t : Task) → task_of s task ≡ Some t → t.number ≡ task
-owner_number s task t is =
-    let test = (found (λ (t : Task). Unit {0}) (λ (t : Task). t.number == task) s.tasks t is (λ k d lt. tt)).1 in
+-- a task's own number is the one that it was found by
+pub found_number : (tasks : List Task) (task : ℕ) (t : Task) → find (λ t. t.number == task) tasks ≡ Some t → t.number ≡ task
+found_number tasks task t is =
+    let test = (found (λ (t : Task). Unit {0}) (λ (t : Task). t.number == task) tasks t is (λ k d lt. tt)).1 in
     grind (arith, nat_tests)
+
+pub owner_number : (s : State) (task : ℕ) (t : Task) → task_of s task ≡ Some t → t.number ≡ task
+owner_number s task t is = found_number s.tasks task t is
 
 -- ---- the tasks, where one has another current credential
 
 pub updated_as : (P : Task → Type 0) (task n : ℕ) (t : Task) → P (record t { current = n }) → P t → P (updated task n t)
 updated_as P task n t new old =
-    elim (t.number == task) as (λ b. P (cond b (record t { current = n }) t)) [ true ↦ new | _ ↦ old ]
+    cond_both (t.number == task) (record t { current = n }) t P (λ is. new) (λ other. old)
 
 pub updated_number : (task n : ℕ) (t : Task) → (updated task n t).number ≡ t.number
 updated_number task n t = updated_as (λ r. r.number ≡ t.number) task n t refl refl
 
 pub updated_task : (tasks : List Task) (acting n task : ℕ)
     → find (λ t. t.number == task) (with_current tasks acting n) ≡ option_map (updated acting n) (find (λ t. t.number == task) tasks)
-updated_task tasks acting n task =
-    find-map (λ (t : Task). t.number == task) (updated acting n) tasks (λ t. ap (λ n. n == task) (updated_number acting n t))
+updated_task tasks acting n task = find_changed (λ (t : Task). t.number) (updated acting n) tasks task (updated_number acting n)
+
+-- ---- the tasks, where one acts with other credentials
+
+pub overriding_as : (P : Task → Type 0) (task : ℕ) (numbers : List ℕ) (t : Task) → P (record t { overrides = numbers }) → P t
+    → P (overriding task numbers t)
+overriding_as P task numbers t new old =
+    cond_both (t.number == task) (record t { overrides = numbers }) t P (λ is. new) (λ other. old)
+
+pub overriding_number : (task : ℕ) (numbers : List ℕ) (t : Task) → (overriding task numbers t).number ≡ t.number
+overriding_number task numbers t = overriding_as (λ r. r.number ≡ t.number) task numbers t refl refl
+
+pub overriding_current : (task : ℕ) (numbers : List ℕ) (t : Task) → (overriding task numbers t).current ≡ t.current
+overriding_current task numbers t = overriding_as (λ r. r.current ≡ t.current) task numbers t refl refl
+
+pub overriding_task : (tasks : List Task) (acting : ℕ) (numbers : List ℕ) (task : ℕ)
+    → find (λ t. t.number == task) (with_overrides tasks acting numbers) ≡ option_map (overriding acting numbers) (find (λ t. t.number == task) tasks)
+overriding_task tasks acting numbers task =
+    find_changed (λ (t : Task). t.number) (overriding acting numbers) tasks task (overriding_number acting numbers)
 
 -- ---- the prepared labels, where one has another change
 
 pub changed_as : (Q : Prepared → Type 0) (label : ℕ) (to : Changed) (p : Prepared)
     → ((p.label == label) ≡ true → Q (record p { changed = Some to })) → Q p → Q (changed label to p)
 changed_as Q label to p new old =
-    elim (p.label == label) as (λ b. (b ≡ true → Q (record p { changed = Some to })) → Q (cond b (record p { changed = Some to }) p)) [
-      | true ↦ λ new. new refl
-      | false ↦ λ new. old
-    ] new
+    cond_both (p.label == label) (record p { changed = Some to }) p Q new (λ other. old)
 
 pub changed_label : (label : ℕ) (to : Changed) (p : Prepared) → (changed label to p).label ≡ p.label
 changed_label label to p = changed_as (λ q. q.label ≡ p.label) label to p (λ test. refl) refl

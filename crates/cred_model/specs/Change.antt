@@ -7,11 +7,12 @@ use Rattle.cred_record.specs.File.{File}
 use Rattle.cred_record.specs.declared.gains.Gains.{Gains}
 use Rattle.cred_record.specs.declared.refusal.Denial.{Denial}
 use Rattle.cred_rules.specs.SetFs.{set_fs, old_fs}
+use Rattle.cred_rules.specs.Access.{access_credential}
 use Rattle.cred_rules.specs.Adjust.{adjust}
 use Rattle.cred_rules.specs.Exec.{Executed, NoExec, exec}
 use Rattle.cred_rules.specs.Exec.NoExec.{MayNotExecute, SpellsNothing, GivesTooLittle}
 use Rattle.cred_event.specs.declared.event.Change.{Change}
-use Rattle.cred_event.specs.declared.event.Change.TheVariants.{SetFs, Adjust, Exec}
+use Rattle.cred_event.specs.declared.event.Change.TheVariants.{SetFs, Adjust, Exec, Access}
 use Rattle.cred_event.specs.declared.answer.Answer.{Answer}
 use Rattle.cred_event.specs.declared.answer.Answer.TheVariants as answer
 use Rattle.cred_model.specs.Answers.{refusal}
@@ -55,13 +56,13 @@ executed None chain c = Err answer.Eacces
 executed (Some file) chain c = made_by_exec (exec c file chain)
 
 -- What a change makes of a base credential, or its refusal. It sees the file that it names, if any,
--- and the root ids of the base's namespace and of that one's ancestors. The change of access(2) is
--- not built yet: no line makes one, and no function is called with one.
+-- and the root ids of the base's namespace and of that one's ancestors. That of access(2) is never
+-- refused.
 abbrev pub by_change : Option File → List ℕ → Credential → Change → Result Made Answer
 by_change file chain c (SetFs kind id) = Ok (made (answer.Was (old_fs c kind)) (set_fs c kind id))
 by_change file chain c (Adjust call) = made_by_rule (adjust c call)
 by_change file chain c (Exec place) = executed file chain c
-by_change file chain c change = Err answer.Einval
+by_change file chain c Access = Ok (made answer.Done (access_credential c))
 
 -- what the permitted set gained, as the answer reports it
 abbrev pub gained : Answer → Caps

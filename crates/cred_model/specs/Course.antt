@@ -1,25 +1,34 @@
 -- The events that a line makes, one after another.
-use Rattle.std.specs.Prelude.{◌≡◌, ℕ, ◌+◌, ◌-◌, ◌*◌, Bool, true, false, nat_lt, Some, None, List, fold, if◌then◌else◌}
+use Rattle.std.specs.Prelude.{◌≡◌, ℕ, ◌+◌, ◌-◌, ◌*◌, ◌==◌, Bool, true, false, not, nat_lt, Some, None, List, fold, if◌then◌else◌}
 use Rattle.std.specs.declared.option.Option.{Option}
 use Rattle.std.specs.Option.{option_and_then, option_map_or}
 use Rattle.cred_event.specs.declared.content.Stage.{Stage}
-use Rattle.cred_event.specs.declared.content.Stage.TheVariants.{First, Asking, Preparing, Altering, Committing, Aborting, Releasing, Retrying}
+use Rattle.cred_event.specs.declared.content.Stage.TheVariants.{First, Acting, Asking, Opening, TakingTarget, Signalling, ReleasingTarget, Preparing, Altering, Committing, Aborting, Overriding, TakingAccess, ReleasingAccess, Reverting, Releasing, Retrying}
 use Rattle.cred_event.specs.declared.event.Event.{Event}
-use Rattle.cred_event.specs.declared.event.Event.TheVariants.{Take, Ask, Release, Prepare, Alter, Commit, Abort, Begin}
-use Rattle.cred_event.specs.declared.event.Side.TheVariants.{Subjective}
+use Rattle.cred_event.specs.declared.event.Event.TheVariants.{Take, TakeFile, Ask, Release, Prepare, Alter, Commit, Abort, Override, Revert, Begin, Act, OpenFile}
+use Rattle.cred_event.specs.declared.event.Event.TheVariants as event
+use Rattle.cred_event.specs.declared.event.Change.TheVariants as change
+use Rattle.cred_event.specs.declared.event.Query.TheVariants.{Capable, Check}
+use Rattle.cred_event.specs.declared.event.Side.TheVariants.{Subjective, Objective}
 use Rattle.cred_event.specs.declared.answer.Answer.{Answer}
-use Rattle.cred_event.specs.declared.answer.Answer.TheVariants.{Stale}
+use Rattle.cred_event.specs.declared.answer.Answer.TheVariants.{Began, Acted, Stale}
 use Rattle.cred_event.specs.declared.content.Content.{Content}
-use Rattle.cred_event.specs.declared.content.Content.TheVariants.{One, Id, Question, Change}
+use Rattle.cred_event.specs.declared.content.Content.TheVariants.{Nothing, One, Id, Question, Open, Fcap, Signal, Change, Access}
 use Rattle.cred_model.specs.Answers.{is_ok}
 
--- the labels that a line takes for itself: for what it holds, and for the new credential that it
--- prepares
+-- The labels that a line takes for itself: for what it holds first; for the new credential that it
+-- prepares, or the credential of the task that it signals; and for what access(2) asks by.
 abbrev pub hold_label : ℕ → ℕ
 hold_label line = 100000 + 10 * line
 
 abbrev pub new_label : ℕ → ℕ
 new_label line = 100001 + 10 * line
+
+abbrev pub target_label : ℕ → ℕ
+target_label line = 100001 + 10 * line
+
+abbrev pub access_label : ℕ → ℕ
+access_label line = 100002 + 10 * line
 
 -- how often a line tries to change a credential, at most
 abbrev pub TRIES : ℕ
@@ -34,11 +43,8 @@ pub record Course : Type 0 where
 
 -- the line makes events
 abbrev pub makes_events : Content → Bool
-makes_events (One event) = true
-makes_events (Id task call) = true
-makes_events (Question task query) = true
-makes_events (Change task change) = true
-makes_events content = false
+makes_events Nothing = false
+makes_events content = true
 
 -- a line before its first event
 abbrev pub start : ℕ → Content → Course
@@ -48,15 +54,33 @@ start line content = record {
   tries = 1;
 }
 
--- The event of a stage. A question takes hold of the credential that the task acts with, asks, and
--- lets go. A change takes hold of it too, prepares a new one from it, changes that, commits it, and
--- lets go.
+-- The event of a stage. A line takes hold of the credential that its task acts with, does what it is
+-- about, and lets go.
 abbrev pub event_in : ℕ → Content → Stage → Option Event
 event_in line (One event) First = Some event
+-- an id call: the task makes its step, and then the other threads of its process, one after another
 event_in line (Id task call) First = Some (Begin task call)
+event_in line (Id task call) Acting = Some (Act line)
+-- a question is asked of the hold
 event_in line (Question task query) First = Some (Take (hold_label line) task Subjective)
 event_in line (Question task query) Asking = Some (Ask (hold_label line) query)
 event_in line (Question task query) Releasing = Some (Release (hold_label line))
+-- a file is opened by the hold
+event_in line (Open task file want fd) First = Some (Take (hold_label line) task Subjective)
+event_in line (Open task file want fd) Opening = Some (OpenFile (hold_label line) file want fd)
+event_in line (Open task file want fd) Releasing = Some (Release (hold_label line))
+-- what the opener of an open file may do is asked of its credential
+event_in line (Fcap task fd cap) First = Some (TakeFile (hold_label line) fd)
+event_in line (Fcap task fd cap) Asking = Some (Ask (hold_label line) (Capable cap))
+event_in line (Fcap task fd cap) Releasing = Some (Release (hold_label line))
+-- a signal is decided on the hold and on the credential by which the target is acted on
+event_in line (Signal task to) First = Some (Take (hold_label line) task Subjective)
+event_in line (Signal task to) TakingTarget = Some (Take (target_label line) to Objective)
+event_in line (Signal task to) Signalling =
+    Some (event.Signal task (hold_label line) to (target_label line))
+event_in line (Signal task to) ReleasingTarget = Some (Release (target_label line))
+event_in line (Signal task to) Releasing = Some (Release (hold_label line))
+-- a new credential is prepared from the hold, changed, and committed
 event_in line (Change task change) First = Some (Take (hold_label line) task Subjective)
 event_in line (Change task change) Preparing =
     Some (Prepare (new_label line) task (hold_label line))
@@ -65,26 +89,67 @@ event_in line (Change task change) Committing = Some (Commit (new_label line))
 event_in line (Change task change) Aborting = Some (Abort (new_label line))
 event_in line (Change task change) Releasing = Some (Release (hold_label line))
 event_in line (Change task change) Retrying = Some (Release (hold_label line))
+-- access(2): the credential that it asks by is prepared from the hold, and overrides the task's own
+-- while the file is checked
+event_in line (Access task file want) First = Some (Take (hold_label line) task Subjective)
+event_in line (Access task file want) Preparing =
+    Some (Prepare (new_label line) task (hold_label line))
+event_in line (Access task file want) Altering = Some (Alter (new_label line) change.Access)
+event_in line (Access task file want) Overriding = Some (Override task (new_label line))
+event_in line (Access task file want) TakingAccess =
+    Some (Take (access_label line) task Subjective)
+event_in line (Access task file want) Asking = Some (Ask (access_label line) (Check file want))
+event_in line (Access task file want) ReleasingAccess = Some (Release (access_label line))
+event_in line (Access task file want) Reverting = Some (Revert task)
+event_in line (Access task file want) Aborting = Some (Abort (new_label line))
+event_in line (Access task file want) Releasing = Some (Release (hold_label line))
 event_in line content stage = None
 
 -- the next event of a line with this content, or none where it has ended
 abbrev pub event_at : Content → Course → Option Event
 event_at content course = option_and_then (event_in course.line content) course.stage
 
--- The stage after an answer. Where the hold is refused the line ends. A refusal after that leads to
--- the release of what was taken: first what is prepared, then what is held.
+-- the one stage after an answer that is no refusal, and the other after one that is
+abbrev pub either : Answer → Stage → Stage → Option Stage
+either answer next otherwise = Some (if is_ok answer then next else otherwise)
+
+-- the answer says that some threads still wait
+abbrev pub some_wait : Answer → Bool
+some_wait (Began cred slot left) = not (left == 0)
+some_wait (Acted task cred slot left) = not (left == 0)
+some_wait answer = false
+
+-- The stage after an answer. Where the first hold is refused the line ends. A refusal after that
+-- leads to the end of what was begun, the newest first: what overrides, what is prepared, what is
+-- held.
 abbrev pub next_stage : Content → Stage → Answer → Option Stage
+next_stage (Id task call) First answer = if some_wait answer then Some Acting else None
+next_stage (Id task call) Acting answer = if some_wait answer then Some Acting else None
 next_stage (Question task query) First answer = if is_ok answer then Some Asking else None
 next_stage (Question task query) Asking answer = Some Releasing
+next_stage (Open task file want fd) First answer = if is_ok answer then Some Opening else None
+next_stage (Open task file want fd) Opening answer = Some Releasing
+next_stage (Fcap task fd cap) First answer = if is_ok answer then Some Asking else None
+next_stage (Fcap task fd cap) Asking answer = Some Releasing
+next_stage (Signal task to) First answer = if is_ok answer then Some TakingTarget else None
+next_stage (Signal task to) TakingTarget answer = either answer Signalling Releasing
+next_stage (Signal task to) Signalling answer = Some ReleasingTarget
+next_stage (Signal task to) ReleasingTarget answer = Some Releasing
 next_stage (Change task change) First answer = if is_ok answer then Some Preparing else None
-next_stage (Change task change) Preparing answer =
-    Some (if is_ok answer then Altering else Releasing)
-next_stage (Change task change) Altering answer =
-    Some (if is_ok answer then Committing else Aborting)
-next_stage (Change task change) Committing answer =
-    Some (if is_ok answer then Releasing else Aborting)
+next_stage (Change task change) Preparing answer = either answer Altering Releasing
+next_stage (Change task change) Altering answer = either answer Committing Aborting
+next_stage (Change task change) Committing answer = either answer Releasing Aborting
 next_stage (Change task change) Aborting answer = Some Releasing
 next_stage (Change task change) Retrying answer = Some First
+next_stage (Access task file want) First answer = if is_ok answer then Some Preparing else None
+next_stage (Access task file want) Preparing answer = either answer Altering Releasing
+next_stage (Access task file want) Altering answer = Some Overriding
+next_stage (Access task file want) Overriding answer = either answer TakingAccess Aborting
+next_stage (Access task file want) TakingAccess answer = either answer Asking Reverting
+next_stage (Access task file want) Asking answer = Some ReleasingAccess
+next_stage (Access task file want) ReleasingAccess answer = Some Reverting
+next_stage (Access task file want) Reverting answer = Some Releasing
+next_stage (Access task file want) Aborting answer = Some Releasing
 next_stage content stage answer = None
 
 -- The commit came too late: the task has another credential by now, and what was prepared is gone.
@@ -110,18 +175,27 @@ after content course answer =
 -- How many events a try may still have from this stage on, at most. The release before another try
 -- counts with that try.
 abbrev pub most : Stage → ℕ
-most Retrying = 7
-most First = 6
-most Preparing = 5
-most Altering = 4
+most Retrying = 10
+most First = 9
+most Preparing = 8
+most Altering = 7
+most Overriding = 6
+most TakingAccess = 5
+most Asking = 4
+most ReleasingAccess = 3
+most Reverting = 2
+most TakingTarget = 4
+most Signalling = 3
+most ReleasingTarget = 2
 most Committing = 3
-most Asking = 2
+most Opening = 2
 most Aborting = 2
+most Acting = 1
 most Releasing = 1
 
 -- more events than one try has, with the release before it
 abbrev pub TRY_EVENTS : ℕ
-TRY_EVENTS = 8
+TRY_EVENTS = 11
 
 -- how many events the line may still make, at most
 abbrev pub left : Course → ℕ

@@ -3,8 +3,10 @@ pub mod Named
 pub mod State
 pub mod Slots
 pub mod Ends
+pub mod Casts
 pub mod Answers
 pub mod Change
+pub mod Moves
 pub mod Step
 pub mod Like
 pub mod Course

@@ -14,6 +14,7 @@ abbrev pub places : State → List (List ℕ)
 places s =
     map (λ t. t.current) s.tasks ∷
     flat_map (λ t. t.overrides) s.tasks ∷
+    map (λ f. f.opener) s.files ∷
     map (λ h. h.number) s.holds ∷
     map (λ p. p.base) s.prepared ∷
     []

@@ -1,10 +1,13 @@
 -- The state of the kernel (credentials(7); Documentation/security/credentials.rst).
 use Rattle.std.specs.Prelude.{ℕ, ◌==◌, List, [], find, slice_get}
 use Rattle.std.specs.declared.option.Option.{Option}
-use Rattle.std.specs.Option.{option_map, option_and_then}
+use Rattle.std.specs.Option.{option_map, option_and_then, unwrap_or}
 use Rattle.cred_record.specs.Credential.{Credential}
 use Rattle.cred_record.specs.declared.gains.Gains.{Gains}
+use Rattle.cred_record.specs.declared.id_call.IdCall.{IdCall}
 use Rattle.cred_event.specs.declared.event.Change.{Change}
+use Rattle.cred_event.specs.declared.event.Side.{Side}
+use Rattle.cred_event.specs.declared.event.Side.TheVariants.{Subjective, Objective}
 
 -- A task (a thread) belongs to a process, and has the number of its current credential and those of
 -- the credentials that it acts with in its place, the newest first.
@@ -36,16 +39,35 @@ pub record Prepared : Type 0 where
   pub slot : ℕ
   pub changed : Option Changed
 
+-- An open file has a descriptor, the number of the credential that it was opened by, and its place
+-- among the script's files.
+pub record OpenFile : Type 0 where
+  pub fd : ℕ
+  pub opener : ℕ
+  pub file : ℕ
+
+-- An open broadcast: an id call that a task has begun, and that the other threads of its process
+-- have to make too (nptl(7), "NPTL and the POSIX.1 requirement for process credentials"). It has the
+-- number of the line that began it, and the threads that still wait for their step, in rising order.
+pub record Broadcast : Type 0 where
+  pub number : ℕ
+  pub process : ℕ
+  pub caller : ℕ
+  pub call : IdCall
+  pub waiting : List ℕ
+
 -- A sealed credential stands in a slot.
 pub record SealedCred : Type 0 where
   pub cred : Credential
   pub slot : ℕ
 
--- The live tasks, the holds, the prepared labels, the numbers that were given up since the last
--- sweep, and all credentials that were ever sealed. The place of a credential in that list is its
--- number.
+-- The live tasks, the open broadcasts, the open files, the holds, the prepared labels, the numbers
+-- that were given up since the last sweep, and all credentials that were ever sealed. The place of a
+-- credential in that list is its number.
 pub record State : Type 0 where
   pub tasks : List Task
+  pub casts : List Broadcast
+  pub files : List OpenFile
   pub holds : List Hold
   pub prepared : List Prepared
   pub deferred : List ℕ
@@ -53,10 +75,33 @@ pub record State : Type 0 where
 
 -- the state before the first event
 abbrev pub opening : State
-opening = record { tasks = []; holds = []; prepared = []; deferred = []; creds = [] }
+opening = record {
+  tasks = [];
+  casts = [];
+  files = [];
+  holds = [];
+  prepared = [];
+  deferred = [];
+  creds = [];
+}
 
 abbrev pub task_of : State → ℕ → Option Task
 task_of s number = find (λ t. t.number == number) s.tasks
+
+-- the broadcast of this number
+abbrev pub cast_of : State → ℕ → Option Broadcast
+cast_of s number = find (λ b. b.number == number) s.casts
+
+-- the broadcast that is open in a process
+abbrev pub cast_in : State → ℕ → Option Broadcast
+cast_in s process = find (λ b. b.process == process) s.casts
+
+-- the broadcast that a task has begun, while it is open
+abbrev pub begun_by : State → ℕ → Option Broadcast
+begun_by s task = find (λ b. b.caller == task) s.casts
+
+abbrev pub open_of : State → ℕ → Option OpenFile
+open_of s fd = find (λ f. f.fd == fd) s.files
 
 abbrev pub hold_of : State → ℕ → Option Hold
 hold_of s label = find (λ h. h.label == label) s.holds
@@ -78,6 +123,26 @@ numbered creds number =
 -- the current credential of a task
 abbrev pub current_of : State → ℕ → Option Numbered
 current_of s task = option_and_then (λ t. numbered s.creds t.current) (task_of s task)
+
+-- The number of the credential that a task acts with: of its newest override, and where it has
+-- none, of its current credential.
+abbrev pub acting : Task → ℕ
+acting t = unwrap_or (slice_get t.overrides 0) t.current
+
+-- the number of a task's subjective credential, which it acts with, or of its objective one, which
+-- it is acted on by (Documentation/security/credentials.rst)
+abbrev pub number_on : Side → Task → ℕ
+number_on Subjective t = acting t
+number_on Objective t = t.current
+
+-- the subjective or the objective credential of a task
+abbrev pub credential_of : State → ℕ → Side → Option Numbered
+credential_of s task side =
+    option_and_then (λ t. numbered s.creds (number_on side t)) (task_of s task)
+
+-- the credential that the file of a descriptor was opened by
+abbrev pub opener_of : State → ℕ → Option Numbered
+opener_of s fd = option_and_then (λ f. numbered s.creds f.opener) (open_of s fd)
 
 -- the credential that a label holds
 abbrev pub held_by : State → ℕ → Option Numbered

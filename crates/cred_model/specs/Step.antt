@@ -1,133 +1,44 @@
 -- What each event answers, and the state after it.
-use Rattle.std.specs.Prelude.{ℕ, ◌==◌, nat_lt, Bool, false, [], ◌∷◌, ◌++◌, length, map, find, position, remove, slice_get, Result, Ok, Err, ok_or, is_some, Some, None, if◌then◌else◌, List, count_by}
+use Rattle.std.specs.Prelude.{ℕ, ◌-◌, ◌==◌, ◌&&◌, Bool, true, false, [], ◌∷◌, ◌++◌, length, drop, find, position, remove, slice_get, Result, Ok, Err, ok_or, Some, None, if◌then◌else◌, count_by}
 use Rattle.std.specs.declared.option.Option.{Option}
-use Rattle.std.specs.Option.{option_map_or}
+use Rattle.std.specs.Option.{option_and_then, option_map_or}
 use Rattle.cred_record.specs.Credential.{Credential, first_credential}
 use Rattle.cred_record.specs.declared.gains.Gains.{Gains}
 use Rattle.cred_record.specs.declared.id_call.IdCall.{IdCall}
+use Rattle.cred_record.specs.declared.want.Want.{Want}
+use Rattle.cred_rules.specs.Access.{may_signal}
 use Rattle.cred_rules.specs.SetId.{set_id}
 use Rattle.cred_event.specs.declared.event.Change.{Change}
-use Rattle.cred_event.specs.declared.event.Change.TheVariants.{Exec}
+use Rattle.cred_event.specs.declared.event.Change.TheVariants.{Exec, Access}
 use Rattle.cred_event.specs.declared.event.Event.{Event}
 use Rattle.cred_event.specs.declared.event.Query.{Query}
 use Rattle.cred_event.specs.declared.event.Side.{Side}
-use Rattle.cred_event.specs.declared.event.Event.TheVariants.{Init, Take, Release, Ask, Prepare, Alter, Commit, Abort, Begin, Fork, Exit, Sweep}
+use Rattle.cred_event.specs.declared.event.Event.TheVariants.{Init, Take, TakeFile, Release, Ask, Signal, Prepare, Alter, Commit, Abort, Override, Revert, Begin, Act, OpenFile, CloseFile, Spawn, Fork, Exit, Sweep}
 use Rattle.cred_event.specs.declared.answer.Answer.{Answer}
-use Rattle.cred_event.specs.declared.answer.Answer.TheVariants.{Done, Sealed, Kept, Executed, Began, Einval, NoTask, NoHold, NoPrepared, Exists, Stale, TooMany, TableFull}
+use Rattle.cred_event.specs.declared.answer.Answer.TheVariants.{Done, Sealed, Kept, Executed, Began, Acted, Eperm, Ebadf, NoTask, NoHold, NoPrepared, NoBroadcast, Exists, NotOverridden, TooDeep, Stale, TooMany, Aborted}
 use Rattle.cred_event.specs.declared.answer.Named.TheVariants as named
 use Rattle.cred_event.specs.declared.answer.Counted.TheVariants as counted
+use Rattle.cred_event.specs.declared.answer.AbortCause.TheVariants as cause
 use Rattle.cred_model.specs.Script.{Script, info_of, chain_of}
 use Rattle.cred_model.specs.Named.{query_files, change_files}
-use Rattle.cred_model.specs.State.{State, Task, Prepared, Changed, task_of, hold_of, prepared_of, numbered, current_of, held_by}
-use Rattle.cred_model.specs.Slots.{room, free, swept}
+use Rattle.cred_model.specs.State.{State, Task, Prepared, Changed, Broadcast, Numbered, task_of, cast_of, cast_in, begun_by, open_of, hold_of, prepared_of, numbered, credential_of, opener_of, held_by}
+use Rattle.cred_model.specs.Slots.{swept}
 use Rattle.cred_model.specs.Ends.{is_task, is_thread_of, is_beside, ended}
-use Rattle.cred_model.specs.Answers.{reply}
+use Rattle.cred_model.specs.Casts.{not_busy, others_of, with_cast, waits_no_more, joined, dropped}
+use Rattle.cred_model.specs.Answers.{checked, reply}
 use Rattle.cred_model.specs.Change.{by_change, by_rule}
-
--- how many tasks may live, how many holds and how many prepared labels may stand
-abbrev pub TASKS : ℕ
-TASKS = 64
-
-abbrev pub HOLDS : ℕ
-HOLDS = 512
-
-abbrev pub PREPARED : ℕ
-PREPARED = 64
-
--- An event's tests come in order: the first that refuses gives the answer.
-infixl 10 ◌>>=◌
-abbrev pub ◌>>=◌ : {A B : Type 0} → Result A Answer → (A → Result B Answer) → Result B Answer
-(Ok x) >>= f = f x
-(Err answer) >>= f = Err answer
-
--- refused with this answer where there is a value
-abbrev pub none_or : {A : Type 0} → Option A → Answer → Result (Unit {0}) Answer
-none_or found answer = if is_some found then Err answer else Ok tt
-
--- refused with this answer where there are as many as there may be
-abbrev pub fewer_or : ℕ → ℕ → Answer → Result (Unit {0}) Answer
-fewer_or count limit answer = if nat_lt count limit then Ok tt else Err answer
-
--- What happens where a slot is free, and where none is. The sweep that was made to find one stands
--- either way.
-abbrev pub in_slot : State → (State → Answer × State) → (State → ℕ → Answer × State)
-    → Answer × State
-in_slot s full does = option_map_or (does (room s)) (free s) (full (room s))
-
--- where no slot is free
-abbrev pub table_full : State → Answer × State
-table_full s = (TableFull, s)
-
--- the state in which one more credential is sealed
-abbrev pub sealed : State → Credential → ℕ → State
-sealed s c slot = record s { creds = s.creds ++ record { cred = c; slot = slot } ∷ [] }
-
--- the tasks, where this one has another current credential
-abbrev pub updated : ℕ → ℕ → Task → Task
-updated task number t = if t.number == task then record t { current = number } else t
-
-abbrev pub with_current : List Task → ℕ → ℕ → List Task
-with_current tasks task number = map (updated task number) tasks
-
--- a task that overrides nothing
-abbrev pub first_task : ℕ → ℕ → ℕ → Task
-first_task task process number =
-    record { number = task; process = process; current = number; overrides = [] }
-
--- A first task is created with its first credential.
-abbrev pub created : State → Task → Credential → ℕ → State
-created s task c slot =
-    let now = sealed s c slot in
-    record now { tasks = s.tasks ++ task ∷ [] }
-
--- The task's credential is replaced: the new one is sealed and becomes its current one, and the old
--- one is given up.
-abbrev pub replaced : State → ℕ → ℕ → Credential → ℕ → State
-replaced s task old c slot =
-    let now = sealed s c slot in
-    record now {
-      tasks = with_current s.tasks task (length s.creds);
-      deferred = s.deferred ++ old ∷ [];
-    }
-
--- A label prepares a new credential.
-abbrev pub preparing : State → Prepared → State
-preparing s p = record s { prepared = s.prepared ++ p ∷ [] }
-
--- the prepared labels, where this one was changed
-abbrev pub changed : ℕ → Changed → Prepared → Prepared
-changed label to p = if p.label == label then record p { changed = Some to } else p
-
-abbrev pub with_change : List Prepared → ℕ → Changed → List Prepared
-with_change prepared label to = map (changed label to) prepared
-
-abbrev pub altered : State → ℕ → Changed → State
-altered s label to = record s { prepared = with_change s.prepared label to }
-
--- The prepared label at this place is given up, and its slot with it: it no longer refers to its
--- base.
-abbrev pub given_up : State → ℕ → Prepared → State
-given_up s place p = record s {
-  prepared = remove s.prepared place;
-  deferred = s.deferred ++ p.base ∷ [];
-}
-
--- The prepared label at this place is committed: the credential is sealed in the slot that was kept
--- for it, and becomes the task's current one. The old one and the base are given up.
-abbrev pub committed : State → ℕ → Prepared → ℕ → Credential → State
-committed s place p old c =
-    let now = sealed s c p.slot in
-    record now {
-      tasks = with_current s.tasks p.task (length s.creds);
-      prepared = remove s.prepared place;
-      deferred = s.deferred ++ old ∷ p.base ∷ [];
-    }
+use Rattle.cred_model.specs.Moves.{TASKS, FILES, HOLDS, PREPARED, DEPTH, ◌>>=◌, none_or, fewer_or, passed, not_overridden, in_slot, table_full, first_task, created, replaced, with_overrides, holding, preparing, altered, given_up, committed, lent, overridden}
 
 -- The tasks that end with the commit of this change by its task: an execve ends all other threads
 -- of the process (execve(2)), and no other change ends any.
 abbrev pub ends_with : Change → Task → Task → Bool
 ends_with (Exec file) task t = is_beside task t
 ends_with change task t = false
+
+-- the state in which the broadcast of the task's process is dropped, if the change is an execve
+abbrev pub casts_after : Change → Task → State → State
+casts_after (Exec file) task s = record s { casts = dropped task.process s.casts }
+casts_after change task s = s
 
 -- what is answered where a change is committed, by what it was
 abbrev pub committed_by : Change → Gains → ℕ → ℕ → ℕ → Answer
@@ -146,13 +57,14 @@ try_commit s place p owner last =
     if owner.current == p.base
     then (
       commit_answer last (length s.creds) p.slot (count_by ends s.tasks),
-      committed (ended ends s) place p owner.current last.cred,
+      casts_after last.change owner (committed (ended ends s) place p owner.current last.cred),
     )
     else (Stale p.base owner.current, given_up s place p)
 
 -- init: a first task is created
 abbrev pub by_init : State → ℕ → ℕ → ℕ → ℕ → ℕ → Result (Answer × State) Answer
 by_init s task process user group ns = do
+  idle ← not_busy (cast_in s process)
   new ← none_or (task_of s task) (Exists named.Task task)
   few ← fewer_or (length s.tasks) TASKS (TooMany counted.Tasks)
   Ok (in_slot s table_full (λ s slot.
@@ -160,18 +72,25 @@ by_init s task process user group ns = do
       let first = first_task task process number in
       (Sealed number slot, created s first (first_credential user group ns) slot)))
 
--- A label takes hold of the credential that the task acts with, or is acted on by. No event
--- overrides a credential yet, so that is its current one either way.
-abbrev pub by_take : State → ℕ → ℕ → Side → Result (Answer × State) Answer
-by_take s label task side = do
-  taken ← ok_or (current_of s task) (NoTask task)
+-- a label takes hold of this credential
+abbrev pub take_hold : State → ℕ → Numbered → Result (Answer × State) Answer
+take_hold s label taken = do
   new ← none_or (hold_of s label) (Exists named.Label label)
   unprepared ← none_or (prepared_of s label) (Exists named.Label label)
   few ← fewer_or (length s.holds) HOLDS (TooMany counted.Holds)
-  Ok (
-    Sealed taken.number taken.slot,
-    record s { holds = s.holds ++ record { label = label; number = taken.number } ∷ [] },
-  )
+  Ok (Sealed taken.number taken.slot, holding s label taken.number)
+
+-- a label takes hold of the credential that the task acts with, or is acted on by
+abbrev pub by_take : State → ℕ → ℕ → Side → Result (Answer × State) Answer
+by_take s label task side = do
+  taken ← ok_or (credential_of s task side) (NoTask task)
+  take_hold s label taken
+
+-- a label takes hold of the credential that an open file was opened by
+abbrev pub by_take_file : State → ℕ → ℕ → Result (Answer × State) Answer
+by_take_file s label fd = do
+  taken ← ok_or (opener_of s fd) Ebadf
+  take_hold s label taken
 
 -- a label lets go
 abbrev pub by_release : State → ℕ → Result (Answer × State) Answer
@@ -186,10 +105,22 @@ by_ask script s label query = do
   held ← ok_or (held_by s label) (NoHold label)
   Ok (reply (info_of script (query_files query)) held.cred query, s)
 
+-- A task signals another: the sender's credential and the target's decide, and whether both are of
+-- one process (kill(2)).
+abbrev pub by_signal : State → ℕ → ℕ → ℕ → ℕ → Result (Answer × State) Answer
+by_signal s from hold to target = do
+  sender ← ok_or (task_of s from) (NoTask from)
+  receiver ← ok_or (task_of s to) (NoTask to)
+  own ← ok_or (held_by s hold) (NoHold hold)
+  other ← ok_or (held_by s target) (NoHold target)
+  let same = sender.process == receiver.process in
+      if may_signal own.cred other.cred same then Ok (Done, s) else Err Eperm
+
 -- a label prepares a new credential for a task, based on what another holds
 abbrev pub by_prepare : State → ℕ → ℕ → ℕ → Result (Answer × State) Answer
 by_prepare s label task hold = do
   owner ← ok_or (task_of s task) (NoTask task)
+  idle ← not_busy (begun_by s task)
   base ← ok_or (hold_of s hold) (NoHold hold)
   new ← none_or (hold_of s label) (Exists named.Label label)
   unprepared ← none_or (prepared_of s label) (Exists named.Label label)
@@ -217,13 +148,24 @@ by_alter script s label change = do
     altered s label (record { change = change; cred = made.cred; gains = made.gains }),
   )
 
+-- the change makes what access(2) asks by
+abbrev pub is_access : Change → Bool
+is_access Access = true
+is_access change = false
+
+-- what was changed, but for access(2), whose credential is never a task's current one
+abbrev pub for_task : Changed → Option Changed
+for_task last = if is_access last.change then None else Some last
+
 -- what a label prepared becomes the current credential of its task
 abbrev pub by_commit : State → ℕ → Result (Answer × State) Answer
 by_commit s label = do
   place ← ok_or (position (λ p. p.label == label) s.prepared) (NoPrepared label)
   p ← ok_or (slice_get s.prepared place) (NoPrepared label)
-  last ← ok_or p.changed (NoPrepared label)
+  last ← ok_or (option_and_then for_task p.changed) (NoPrepared label)
   owner ← ok_or (task_of s p.task) (NoTask p.task)
+  idle ← not_busy (begun_by s p.task)
+  own ← not_overridden owner
   Ok (try_commit s place p owner last)
 
 -- what a label prepared is given up
@@ -233,49 +175,178 @@ by_abort s label = do
   p ← ok_or (slice_get s.prepared place) (NoPrepared label)
   Ok (Done, given_up s place p)
 
--- A task makes an id call. No line makes a second thread of a process yet, so none is left that has
--- to follow.
-abbrev pub by_begin : State → ℕ → IdCall → Result (Answer × State) Answer
-by_begin s task call = do
-  old ← ok_or (current_of s task) (NoTask task)
-  new ← by_rule (set_id old.cred call)
-  Ok (in_slot s table_full (λ s slot.
-      (Began (length s.creds) slot 0, replaced s task old.number new slot)))
+-- what was changed for access(2) by a label that the task prepared
+abbrev pub for_access : ℕ → Prepared → Option Changed
+for_access task p =
+    option_and_then (λ last. if p.task == task && is_access last.change then Some last else None)
+    p.changed
 
--- fork: a new process, whose only thread shares the credential of the task that makes it
+-- The task acts with a credential that is sealed already.
+abbrev pub override_held : State → Task → Numbered → Result (Answer × State) Answer
+override_held s owner held = do
+  few ← fewer_or (length owner.overrides) DEPTH TooDeep
+  Ok (Sealed held.number held.slot, lent s owner held.number)
+
+-- The task acts with what it prepared for access(2): that is sealed, and its base is given up.
+abbrev pub override_prepared : State → Task → ℕ → Result (Answer × State) Answer
+override_prepared s owner label = do
+  place ← ok_or (position (λ p. p.label == label) s.prepared) (NoHold label)
+  p ← ok_or (slice_get s.prepared place) (NoHold label)
+  last ← ok_or (for_access owner.number p) (NoHold label)
+  few ← fewer_or (length owner.overrides) DEPTH TooDeep
+  Ok (Sealed (length s.creds) p.slot, overridden s place p owner last.cred)
+
+-- A task acts with another credential from now on: with one that a label holds, or with what it
+-- prepared for access(2). Its current credential stays.
+abbrev pub by_override : State → ℕ → ℕ → Result (Answer × State) Answer
+by_override s task label = do
+  owner ← ok_or (task_of s task) (NoTask task)
+  option_map_or (override_held s owner) (held_by s label) (override_prepared s owner label)
+
+-- a task acts again with the credential that it had before its newest override
+abbrev pub by_revert : State → ℕ → Result (Answer × State) Answer
+by_revert s task = do
+  owner ← ok_or (task_of s task) (NoTask task)
+  newest ← ok_or (slice_get owner.overrides 0) NotOverridden
+  Ok (
+    Done,
+    record s {
+      tasks = with_overrides s.tasks task (drop 1 owner.overrides);
+      deferred = s.deferred ++ newest ∷ [];
+    },
+  )
+
+-- A task makes an id call. The other threads of its process then wait for their step; where it has
+-- none, the broadcast is completed at once.
+abbrev pub by_begin : State → ℕ → ℕ → IdCall → Result (Answer × State) Answer
+by_begin s line task call = do
+  owner ← ok_or (task_of s task) (NoTask task)
+  old ← ok_or (numbered s.creds owner.current) (NoTask task)
+  idle ← not_busy (cast_in s owner.process)
+  new ← none_or (cast_of s line) (Exists named.Broadcast line)
+  own ← not_overridden owner
+  made ← by_rule (set_id old.cred call)
+  let others = others_of owner s.tasks in
+      let cast : Broadcast = record {
+        number = line;
+        process = owner.process;
+        caller = task;
+        call = call;
+        waiting = others;
+      } in
+      Ok (in_slot s table_full (λ s slot. (
+        Began (length s.creds) slot (length others),
+        record (replaced s task old.number made slot) { casts = with_cast s.casts cast },
+      )))
+
+-- A thread of the process can't follow: all its threads end, and the broadcast is dropped.
+abbrev pub aborted : Broadcast → State → State
+aborted cast s =
+    record (ended (is_thread_of cast.process) s) { casts = dropped cast.process s.casts }
+
+-- The waiting thread makes the same call on its own current credential. A refusal, and a want of a
+-- slot, end the process.
+abbrev pub follow : State → Broadcast → ℕ → ℕ → Result Credential Answer → Answer × State
+follow s cast task old (Err refusal) = (Aborted task cause.Perm, aborted cast s)
+follow s cast task old (Ok made) =
+    in_slot s (λ s. (Aborted task cause.Full, aborted cast s)) (λ s slot. (
+      Acted task (length s.creds) slot (length cast.waiting - 1),
+      record (replaced s task old made slot) { casts = waits_no_more task s.casts },
+    ))
+
+-- the least of the threads that wait in a broadcast makes its step
+abbrev pub by_act : State → ℕ → Result (Answer × State) Answer
+by_act s number = do
+  cast ← ok_or (cast_of s number) (NoBroadcast number)
+  task ← ok_or (slice_get cast.waiting 0) (NoBroadcast number)
+  owner ← ok_or (task_of s task) (NoBroadcast number)
+  old ← ok_or (numbered s.creds owner.current) (NoBroadcast number)
+  Ok (follow s cast task old.number (by_rule (set_id old.cred cast.call)))
+
+-- A file is opened under a descriptor: the credential that a label holds decides, and stays with it
+-- (open(2)).
+abbrev pub by_open : Script → State → ℕ → ℕ → Want → ℕ → Result (Answer × State) Answer
+by_open script s hold place asked fd = do
+  held ← ok_or (held_by s hold) (NoHold hold)
+  new ← none_or (open_of s fd) (Exists named.File fd)
+  may ← passed (checked held.cred (info_of script (place ∷ [])) asked)
+  few ← fewer_or (length s.files) FILES (TooMany counted.Files)
+  Ok (
+    Done,
+    record s { files = s.files ++ record { fd = fd; opener = held.number; file = place } ∷ [] },
+  )
+
+-- a descriptor is closed: its opener's credential is given up
+abbrev pub by_close : State → ℕ → Result (Answer × State) Answer
+by_close s fd = do
+  place ← ok_or (position (λ f. f.fd == fd) s.files) Ebadf
+  file ← ok_or (slice_get s.files place) Ebadf
+  Ok (Done, record s { files = remove s.files place; deferred = s.deferred ++ file.opener ∷ [] })
+
+-- spawn: a new thread of the process, which shares the credential of the task that creates it, and
+-- waits where that one waits
+abbrev pub by_spawn : State → ℕ → ℕ → Result (Answer × State) Answer
+by_spawn s task child = do
+  owner ← ok_or (task_of s task) (NoTask task)
+  parent ← ok_or (numbered s.creds owner.current) (NoTask task)
+  idle ← not_busy (begun_by s task)
+  new ← none_or (task_of s child) (Exists named.Task child)
+  own ← not_overridden owner
+  few ← fewer_or (length s.tasks) TASKS (TooMany counted.Tasks)
+  Ok (
+    Sealed parent.number parent.slot,
+    record s {
+      tasks = s.tasks ++ first_task child owner.process parent.number ∷ [];
+      casts = joined task child s.casts;
+    },
+  )
+
+-- fork: a new process, whose only thread shares the credential of the task that makes it, and waits
+-- nowhere
 abbrev pub by_fork : State → ℕ → ℕ → ℕ → Result (Answer × State) Answer
 by_fork s task child process = do
-  parent ← ok_or (current_of s task) (NoTask task)
+  owner ← ok_or (task_of s task) (NoTask task)
+  parent ← ok_or (numbered s.creds owner.current) (NoTask task)
+  idle ← not_busy (begun_by s task)
   new ← none_or (task_of s child) (Exists named.Task child)
   unused ← none_or (find (is_thread_of process) s.tasks) (Exists named.Process process)
+  own ← not_overridden owner
   few ← fewer_or (length s.tasks) TASKS (TooMany counted.Tasks)
   Ok (
     Sealed parent.number parent.slot,
     record s { tasks = s.tasks ++ first_task child process parent.number ∷ [] },
   )
 
--- exit: the task ends
+-- exit: the task ends, and waits no longer
 abbrev pub by_exit : State → ℕ → Result (Answer × State) Answer
 by_exit s task = do
   owner ← ok_or (task_of s task) (NoTask task)
-  Ok (Done, ended (is_task task) s)
+  idle ← not_busy (begun_by s task)
+  own ← not_overridden owner
+  Ok (Done, record (ended (is_task task) s) { casts = waits_no_more task s.casts })
 
--- What an event of a line does if nothing refuses it, with its answer. The other events are not
--- built yet: no line makes one, and no function is called with one.
+-- what an event of a line does if nothing refuses it, with its answer
 abbrev pub done : Script → State → ℕ → Event → Result (Answer × State) Answer
 done script s line (Init task process user group ns) = by_init s task process user group ns
 done script s line (Take label task side) = by_take s label task side
+done script s line (TakeFile label fd) = by_take_file s label fd
 done script s line (Release label) = by_release s label
 done script s line (Ask label query) = by_ask script s label query
+done script s line (Signal from hold to target) = by_signal s from hold to target
 done script s line (Prepare label task hold) = by_prepare s label task hold
 done script s line (Alter label change) = by_alter script s label change
 done script s line (Commit label) = by_commit s label
 done script s line (Abort label) = by_abort s label
-done script s line (Begin task call) = by_begin s task call
+done script s line (Override task label) = by_override s task label
+done script s line (Revert task) = by_revert s task
+done script s line (Begin task call) = by_begin s line task call
+done script s line (Act number) = by_act s number
+done script s line (OpenFile hold place asked fd) = by_open script s hold place asked fd
+done script s line (CloseFile fd) = by_close s fd
+done script s line (Spawn task child) = by_spawn s task child
 done script s line (Fork task child process) = by_fork s task child process
 done script s line (Exit task) = by_exit s task
 done script s line Sweep = Ok (Done, swept s)
-done script s line event = Err Einval
 
 -- A refusal leaves the state.
 abbrev pub outcome : State → Result (Answer × State) Answer → Answer × State

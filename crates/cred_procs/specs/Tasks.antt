@@ -7,7 +7,7 @@ use Rattle.std.specs.Option.{option_map_or, unwrap_or}
 use Rattle.cred_ids.specs.Ordered.{in_order}
 use Rattle.cred_model.specs.State.{Task}
 use Rattle.cred_model.specs.Ends.{is_task, is_thread_of, survivors, left_by}
-use Rattle.cred_model.specs.Step.{TASKS, first_task}
+use Rattle.cred_model.specs.Moves.{TASKS, first_task}
 use Rattle.cred_slots.specs.Stack.{DEPTH}
 
 -- What is true of the tasks at all times.

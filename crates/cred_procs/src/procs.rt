@@ -1,9 +1,9 @@
 //! The table of tasks.
-ghost use Rattle.std.specs.Prelude.{◌≡◌, ◌<◌, Bool, not, nat_lt, is_some, [], ◌∷◌, ◌++◌, drop, length, slice_get, false, None, IfOk, IfSome, OnOk, OnErr, if◌then◌else◌};
+ghost use Rattle.std.specs.Prelude.{◌≡◌, ◌<◌, Bool, not, nat_lt, is_some, [], ◌∷◌, ◌++◌, drop, length, slice_get, false, None, IfNone, IfOk, IfSome, OnOk, OnErr, if◌then◌else◌};
 ghost use Rattle.std.specs.Option.{option_map, IsSome};
 ghost use Rattle.cred_model.specs.Ends.{is_task, is_thread_of, is_beside, survivors, left_by};
 ghost use Rattle.cred_model.specs.State.{Task};
-ghost use Rattle.cred_model.specs.Step.{TASKS, first_task, with_current};
+ghost use Rattle.cred_model.specs.Moves.{TASKS, first_task, with_current};
 ghost use Rattle.cred_slots.specs.Stack.{DEPTH};
 ghost use Rattle.cred_procs.specs.Kept.{task_as};
 ghost use Rattle.cred_procs.specs.Tasks.{AreTasks, Ends, task_in, acting, those, threads_of, has_process, spawned, forked, overrides_of, with_overrides};
@@ -202,10 +202,12 @@ impl Procs {
     }
 
     /// A task goes back to the credential that it acted with before its newest override
-    /// (`revert_creds` in the kernel), whose number is returned. `None` where it has no override.
+    /// (`revert_creds` in the kernel). Returns the number of that override. `None` where it has no
+    /// override, and then nothing changes.
     pub fn pop_override(&mut self, task: u32) -> Option<u64>
         requires { IsSome (task_in self.old task) }
         ensures number { result ≡ slice_get (overrides_of self.old task) 0 }
+        ensures none { IfNone result (self.new ≡ self.old) }
         ensures tasks { self.new
             ≡ with_overrides self.old task (drop 1 (overrides_of self.old task)) }
     {
@@ -256,10 +258,11 @@ impl Procs {
     }
 
     /// The other threads of a task's process, in the order in which they were created.
-    fn others(&self, task: u32) -> Result<TaskList, NoMemory>
+    pub fn others(&self, task: u32) -> Result<TaskList, NoMemory>
         requires { IsSome (task_in self.now task) }
-        ensures { IfOk result (λ tasks. IfSome (task_in self.now task) (λ owner.
+        ensures others { IfOk result (λ tasks. IfSome (task_in self.now task) (λ owner.
             tasks ≡ those (is_beside owner) self.now)) }
+        ensures tasks { AreTasks self.now }
     {
         // It is there: the task is alive.
         let process = self.process_of(task).unwrap();
@@ -297,8 +300,8 @@ impl Procs {
         Ok(Ended { tasks, numbers })
     }
 
-    /// The table is without a task.
-    fn remove(&mut self, task: u32)
+    /// The table is without a task, also where it had none of that number.
+    pub fn remove(&mut self, task: u32)
         ensures { self.new ≡ survivors (is_task task) self.old }
     {
         if let Some(thread) = self.tasks.shift_remove(&task) {

@@ -9,7 +9,8 @@ use Rattle.cred_io.proofs.Known.{appends_more, appends_kept}
 use Rattle.cred_event.specs.declared.entry.Entry.{Entry}
 use Rattle.cred_io.specs.declared.sink.SinkRefusal.TheVariants as sink
 use Rattle.cred_model.specs.Script.{Script, SetupFirst}
-use Rattle.cred_model.specs.Journal.{IsSequence}
+use Rattle.cred_model.specs.Journal.{IsLegal, IsSequence}
+use Rattle.cred_laws.specs.Journals.{IsLawful}
 use Rattle.cred_laws.proofs.AnsweredLaws.{in_order_is_answered}
 use Rattle.cred_laws.proofs.Lawful.{lawful}
 use Rattle.cred_laws.proofs.OrderLaws.{sequence_is_legal}
@@ -72,19 +73,33 @@ flushed_entries a b c script journal at r ended all kept =
     let same : take at journal ≡ journal = take_all at journal ended in
     flushed a b c (text script journal) r (rw same at all) kept
 
+-- the laws of the journal in which all lines run whole and in order
+lawful_run : (script : Script) (journal : List Entry) → IsSequence script journal → IsLawful script journal
+lawful_run script journal run = lawful script journal (in_order_is_answered script journal run.in_order)
+
+-- a whole report that was written, of such a journal
+written_whole : (before after : Option (List ℕ)) (input : List ℕ) (script : Script) (journal : List Entry)
+    → script_of input ≡ Ok script → IsSequence script journal → IsLegal script journal → IsLawful script journal
+    → Appends before after (text script journal) → Reports before after input
+written_whole before after input script journal read run legal lawful all = record {
+  script = script;
+  read = read;
+  journal = journal;
+  run = run;
+  legal = legal;
+  lawful = lawful;
+  written = all;
+}
+
+-- a text that was refused isn't done
+refused_apart : (refusal : SinkRefusal) → finished (Err refusal) status.Done ≡ status.Done → ⊥
+refused_apart sink.Failed is = cc
+refused_apart sink.Memory is = cc
+
 -- a whole report that was written, and the laws of its journal
 pub reported : (before after : Option (List ℕ)) (input : List ℕ) (script : Script) (journal : List Entry) (r : Result (Unit {0}) SinkRefusal)
     → script_of input ≡ Ok script → SetupFirst script → IsSequence script journal → OnOk r (Appends before after (text script journal))
     → finished r status.Done ≡ status.Done → Reports before after input
 reported before after input script journal (Ok whole) read setup run all done =
-    record {
-      script = script;
-      read = read;
-      journal = journal;
-      run = run;
-      legal = sequence_is_legal script journal setup run;
-      lawful = lawful script journal (in_order_is_answered script journal run.in_order);
-      written = all;
-    }
-reported before after input script journal (Err sink.Failed) read setup run all done = cc
-reported before after input script journal (Err sink.Memory) read setup run all done = cc
+    written_whole before after input script journal read run (sequence_is_legal script journal setup run) (lawful_run script journal run) all
+reported before after input script journal (Err refusal) read setup run all done = absurd (refused_apart refusal done)

@@ -56,8 +56,9 @@ ReadsTooMuch before after =
 
 -- The input is a script, and the text of the journal in which its lines run whole and in order
 -- was written. It is one of the journals that the script may have. The laws hold of it: no slot in
--- use is rewritten, a hold keeps its credential, and no permitted set grows but by what its entry
--- says was gained.
+-- use is rewritten, a hold and an open file keep their credentials, each execve is the manual's, no
+-- permitted set grows but by what its entry says was gained, and a call that is completed is every
+-- thread's.
 pub record Reports (before after : Option (List ℕ)) (input : List ℕ) : Type 0 where
   pub script : Script
   pub read : script_of input ≡ Ok script

@@ -21,7 +21,6 @@ line_sound count declared ns line sound = record {
   lane = sound.lane;
   labels = sound.labels;
   content = record {
-    built = sound.content.built;
     files = sound.content.files;
     namespaces =
         All-weaker (λ number. IsSome (chain_in declared number)) (λ number. IsSome (chain_in (declared ++ ns ∷ []) number)) (still_there declared ns) (namespaces line.content)

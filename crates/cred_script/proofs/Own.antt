@@ -1,5 +1,5 @@
--- What is true of each line that the grammar gives: its labels are small, it is of a kind that is
--- built, and what it names is declared.
+-- What is true of each line that the grammar gives: its labels are small, and what it names
+-- is declared.
 use Rattle.std.proofs.Common.{◌≡◌, ℕ, ◌≤◌, ◌<◌, Bool, true, false, not, ◌&&◌, ◌==◌, nat_le, nat_lt, cond, List, [], ◌∷◌, length, Option, Some, None, is_some, Result, Ok, Err, ok_or, codes, refl, subst, arith}
 use Rattle.std.specs.List.{All, list_all}
 use Rattle.std.specs.Option.{IfSome, IsSome, option_and_then}
@@ -11,30 +11,32 @@ use Rattle.cred_event.specs.declared.event.Event.{Event}
 use Rattle.cred_event.specs.declared.event.Side.{Side}
 use Rattle.cred_event.specs.declared.content.Content.{Content}
 use Rattle.cred_model.specs.Script.{NamedFile, Namespace, chain_in}
-use Rattle.cred_model.specs.Named.{is_built, is_built_change, is_built_line, files, namespaces}
+use Rattle.cred_model.specs.Named.{files, namespaces}
 use Rattle.cred_spelling.specs.declared.names.Form.{Form}
 use Rattle.cred_spelling.specs.declared.names.Form.TheVariants as form
 use Rattle.cred_spelling.specs.declared.names.EventName.{EventName}
 use Rattle.cred_spelling.specs.declared.names.EventName.TheVariants as name
+use Rattle.cred_spelling.specs.declared.names.OtherName.{OtherName}
+use Rattle.cred_spelling.specs.declared.names.OtherName.TheVariants as other
 use Rattle.cred_spelling.specs.declared.names.CallName.{CallName}
 use Rattle.cred_spelling.specs.declared.names.CallName.TheVariants as call
-use Rattle.cred_spelling.specs.declared.names.ChangeName.{ChangeName}
-use Rattle.cred_spelling.specs.declared.names.ChangeName.TheVariants as change
 use Rattle.cred_spelling.specs.declared.reason.Reason.{Reason}
 use Rattle.cred_spelling.specs.declared.reason.Reason.TheVariants.{Word, Name, Byte}
 use Rattle.cred_spelling.specs.Lines.{is_printable}
-use Rattle.cred_spelling.specs.Names.{id_name, change_name, call_name, form_of}
-use Rattle.cred_spelling.specs.Spellings.{letter, number_of, within, id_of, arg_of, cap_of, set_of, label_of, task_of, process_of, namespace_of, new_namespace_of, parent_of}
+use Rattle.cred_spelling.specs.Names.{id_name, altered_name, call_name, form_of}
+use Rattle.cred_spelling.specs.Spellings.{letter, number_of, within, id_of, cap_of, label_of, task_of, process_of, descriptor_of, line_number_of, namespace_of, new_namespace_of, parent_of}
 use Rattle.cred_spelling.specs.Words.{◌>>=◌, words_of, is_comment, word_of, no_words, one_of, two_of, three_of, five_of}
 use Rattle.cred_script.specs.declared.forms.Parsed.{Parsed}
 use Rattle.cred_script.specs.declared.forms.Parsed.TheVariants.{Empty, File, Starts, Holds}
 use Rattle.cred_script.specs.declared.forms.Parsed.TheVariants as parsed
-use Rattle.cred_script.specs.Changes.{exec_of, change_of}
-use Rattle.cred_script.specs.Files.{FILES, place_of, file_at, has_room, file_of}
+use Rattle.cred_script.specs.Changes.{change_of}
+use Rattle.cred_script.specs.Files.{FILES, place_of, has_room, file_of}
 use Rattle.cred_script.specs.IdCalls.{id_call_of}
-use Rattle.cred_script.specs.Forms.{query_of, query_named, take_of, ask_of, alter_of, begin_of, event_of, fork_of, call_of, content_of, parse_form}
+use Rattle.cred_script.specs.Questions.{query_of, query_named, file_and_want}
+use Rattle.cred_script.specs.Calls.{open_of, other_of, call_of, content_of}
+use Rattle.cred_script.specs.Forms.{take_of, take_file_of, ask_of, alter_of, override_of, begin_of, event_of, parse_form}
 use Rattle.cred_script.specs.Grammar.{parse_full, parse_words, parse_line}
-use Rattle.cred_script.specs.Reading.{Reading, has_namespaces, has_files, uses_declared, has_names, in_new_process, in_order, admits}
+use Rattle.cred_script.specs.Reading.{Reading, has_namespaces, has_files, uses_declared, has_names, in_order, admits}
 use Rattle.cred_script.specs.Sound.{LAST_LABEL, event_labels, labels, IsNext, IsParsed}
 
 -- ---- what holds of a value, if there is one, through the steps that lead to it
@@ -102,6 +104,14 @@ label_first also (a ∷ []) = record { is = tt }
 label_first also (a ∷ b ∷ []) = after IsLabel _ _ _ (label_good a) (λ label fits. skip _ (word_of also b) _ (λ y. record { is = fits }))
 label_first also (a ∷ b ∷ c ∷ words) = record { is = tt }
 
+-- another word and a label
+label_second : {A : Type 0} (also : List ℕ → Option A) (words : List (List ℕ)) → Good (λ word. IsLabel word.1) (two_of also label_of words)
+unfolding two_of
+label_second also [] = record { is = tt }
+label_second also (a ∷ []) = record { is = tt }
+label_second also (a ∷ b ∷ []) = skip _ (word_of also a) _ (λ x. after IsLabel _ _ _ (label_good b) (λ label fits. record { is = fits }))
+label_second also (a ∷ b ∷ c ∷ words) = record { is = tt }
+
 -- a label, another word, and a label
 label_first_and_last : {B : Type 0} (also : List ℕ → Option B) (words : List (List ℕ)) → Good (λ word. IsLabel word.0 × IsLabel word.2) (three_of label_of also label_of words)
 unfolding three_of
@@ -114,9 +124,8 @@ label_first_and_last also (a ∷ b ∷ c ∷ d ∷ words) = record { is = tt }
 
 -- ---- events
 
-record OwnEvent (event : Event) : Type 0 where
-  labels : All IsLabel (event_labels event)
-  built : is_built event ≡ true
+abbrev OwnEvent : Event → Type 0
+OwnEvent event = All IsLabel (event_labels event)
 
 none : All IsLabel []
 none = All-nil IsLabel
@@ -125,87 +134,93 @@ one : (label : ℕ) → IsLabel label → All IsLabel (label ∷ [])
 one label fits = All-cons IsLabel label [] fits none
 
 -- an event of one label
-of_label : (event : Event) (label : ℕ) → event_labels event ≡ label ∷ [] → is_built event ≡ true → IsLabel label → Good OwnEvent (let r : Result Event Reason = Ok event in r)
-of_label event label labels_are built fits = record { is = record { labels = rw labels_are (one label fits); built = built } }
-
-own_exec : (files : List NamedFile) (words : List (List ℕ)) → Good (λ made. is_built_change made ≡ true) (exec_of files words)
-unfolding exec_of
-own_exec files [] = record { is = tt }
-own_exec files (word ∷ []) = skip _ (file_at files word) _ (λ file. record { is = refl })
-own_exec files (word ∷ more ∷ words) = record { is = tt }
-
-own_change : (files : List NamedFile) (kind : ChangeName) (words : List (List ℕ)) → Good (λ made. is_built_change made ≡ true) (change_of files kind words)
-unfolding change_of
-own_change files (change.SetFs kind) words = skip _ (one_of arg_of words) _ (λ id. record { is = refl })
-own_change files change.Capset words = skip _ (three_of set_of set_of set_of words) _ (λ sets. record { is = refl })
-own_change files change.BoundDrop words = skip _ (one_of cap_of words) _ (λ cap. record { is = refl })
-own_change files change.AmbRaise words = skip _ (one_of cap_of words) _ (λ cap. record { is = refl })
-own_change files change.AmbLower words = skip _ (one_of cap_of words) _ (λ cap. record { is = refl })
-own_change files change.AmbClear words = skip _ (no_words words) _ (λ end. record { is = refl })
-own_change files change.Bits words = skip _ (one_of number_of words) _ (λ number. record { is = refl })
-own_change files change.KeepCaps words = skip _ (one_of number_of words) _ (λ number. record { is = refl })
-own_change files change.NoNewPrivs words = skip _ (one_of number_of words) _ (λ number. record { is = refl })
-own_change files change.Exec words = own_exec files words
+of_label : (event : Event) (label : ℕ) → event_labels event ≡ label ∷ [] → IsLabel label → Good OwnEvent (let r : Result Event Reason = Ok event in r)
+of_label event label labels_are fits = record { is = rw labels_are (one label fits) }
 
 own_take : (side : Side) (words : List (List ℕ)) → Good OwnEvent (take_of side words)
 unfolding take_of
-own_take side words = after (λ word. IsLabel word.0) OwnEvent _ _ (label_first task_of words) (λ word fits. of_label _ word.0 refl refl fits)
+own_take side words = after (λ word. IsLabel word.0) OwnEvent _ _ (label_first task_of words) (λ word fits. of_label _ word.0 refl fits)
+
+own_take_file : (words : List (List ℕ)) → Good OwnEvent (take_file_of words)
+unfolding take_file_of
+own_take_file words = after (λ word. IsLabel word.0) OwnEvent _ _ (label_first descriptor_of words) (λ word fits. of_label _ word.0 refl fits)
 
 own_ask : (files : List NamedFile) (words : List (List ℕ)) → Good OwnEvent (ask_of files words)
 unfolding ask_of
 own_ask files [] = record { is = tt }
 own_ask files (hold ∷ []) = record { is = tt }
 own_ask files (hold ∷ asked ∷ words) =
-    skip OwnEvent (query_named files asked words) _ (λ query. after IsLabel OwnEvent _ _ (label_good hold) (λ label fits. of_label _ label refl refl fits))
+    skip OwnEvent (query_named files asked words) _ (λ query. after IsLabel OwnEvent _ _ (label_good hold) (λ label fits. of_label _ label refl fits))
 
 own_alter : (files : List NamedFile) (words : List (List ℕ)) → Good OwnEvent (alter_of files words)
 unfolding alter_of
 own_alter files [] = record { is = tt }
 own_alter files (prepared ∷ []) = record { is = tt }
 own_alter files (prepared ∷ changed ∷ words) =
-    skip OwnEvent (ok_or (change_name changed) Word) _ (λ kind. after (λ made. is_built_change made ≡ true) OwnEvent _ _ (own_change files kind words)
-    (λ made built. after IsLabel OwnEvent _ _ (label_good prepared) (λ label fits. of_label _ label refl built fits)))
+    skip OwnEvent (ok_or (altered_name changed) Word) _ (λ kind. skip OwnEvent (change_of files kind words) _
+    (λ made. after IsLabel OwnEvent _ _ (label_good prepared) (λ label fits. of_label _ label refl fits)))
+
+own_override : (words : List (List ℕ)) → Good OwnEvent (override_of words)
+unfolding override_of
+own_override words = after (λ word. IsLabel word.1) OwnEvent _ _ (label_second task_of words) (λ word fits. of_label _ word.1 refl fits)
 
 own_begin : (words : List (List ℕ)) → Good OwnEvent (begin_of words)
 unfolding begin_of
 own_begin [] = record { is = tt }
 own_begin (caller ∷ []) = record { is = tt }
 own_begin (caller ∷ called ∷ words) =
-    skip OwnEvent (ok_or (id_name called) Word) _ (λ kind. skip OwnEvent (id_call_of kind words) _ (λ made. skip OwnEvent (word_of task_of caller) _ (λ task. record { is = record { labels = none; built = refl } })))
+    skip OwnEvent (ok_or (id_name called) Word) _ (λ kind. skip OwnEvent (id_call_of kind words) _ (λ made. skip OwnEvent (word_of task_of caller) _ (λ task. record { is = none })))
 
 own_event : (files : List NamedFile) (event : EventName) (words : List (List ℕ)) → Good OwnEvent (event_of files event words)
 unfolding event_of
 own_event files name.Take words = own_take _ words
 own_event files name.TakeReal words = own_take _ words
-own_event files name.Release words = after IsLabel OwnEvent _ _ (one_label words) (λ label fits. of_label _ label refl refl fits)
+own_event files name.TakeFile words = own_take_file words
+own_event files name.Release words = after IsLabel OwnEvent _ _ (one_label words) (λ label fits. of_label _ label refl fits)
 own_event files name.Ask words = own_ask files words
 own_event files name.Prepare words =
     after (λ word. IsLabel word.0 × IsLabel word.2) OwnEvent _ _ (label_first_and_last task_of words)
-    (λ word fits. record { is = record { labels = All-cons IsLabel word.0 (word.2 ∷ []) fits.0 (one word.2 fits.1); built = refl } })
+    (λ word fits. record { is = All-cons IsLabel word.0 (word.2 ∷ []) fits.0 (one word.2 fits.1) })
 own_event files name.Alter words = own_alter files words
-own_event files name.Commit words = after IsLabel OwnEvent _ _ (one_label words) (λ label fits. of_label _ label refl refl fits)
-own_event files name.Abort words = after IsLabel OwnEvent _ _ (one_label words) (λ label fits. of_label _ label refl refl fits)
+own_event files name.Commit words = after IsLabel OwnEvent _ _ (one_label words) (λ label fits. of_label _ label refl fits)
+own_event files name.Abort words = after IsLabel OwnEvent _ _ (one_label words) (λ label fits. of_label _ label refl fits)
+own_event files name.Override words = own_override words
+own_event files name.Revert words = skip OwnEvent (one_of task_of words) _ (λ task. record { is = none })
 own_event files name.Begin words = own_begin words
-own_event files name.Sweep words = skip OwnEvent (no_words words) _ (λ end. record { is = record { labels = none; built = refl } })
+own_event files name.Act words = skip OwnEvent (one_of line_number_of words) _ (λ line. record { is = none })
+own_event files name.Sweep words = skip OwnEvent (no_words words) _ (λ end. record { is = none })
 
 -- ---- lines
 
-record OwnContent (content : Content) : Type 0 where
-  labels : All IsLabel (labels content)
-  built : is_built_line content ≡ true
+abbrev OwnContent : Content → Type 0
+OwnContent content = All IsLabel (labels content)
 
-own_fork : (task : ℕ) (words : List (List ℕ)) → Good OwnContent (fork_of task words)
-unfolding fork_of
-own_fork task words = skip OwnContent (two_of task_of process_of words) _ (λ word. record { is = record { labels = none; built = refl } })
+own_open : (files : List NamedFile) (task : ℕ) (words : List (List ℕ)) → Good OwnContent (open_of files task words)
+unfolding open_of
+own_open files task [] = record { is = tt }
+own_open files task (name ∷ []) = record { is = tt }
+own_open files task (name ∷ want ∷ []) = record { is = tt }
+own_open files task (name ∷ want ∷ descriptor ∷ []) =
+    skip OwnContent (file_and_want files (name ∷ want ∷ [])) _ (λ asked. skip OwnContent (word_of descriptor_of descriptor) _ (λ fd. record { is = none }))
+own_open files task (name ∷ want ∷ descriptor ∷ more ∷ words) = record { is = tt }
+
+own_other : (files : List NamedFile) (task : ℕ) (called : OtherName) (words : List (List ℕ)) → Good OwnContent (other_of files task called words)
+unfolding other_of
+own_other files task other.Open words = own_open files task words
+own_other files task other.Close words = skip OwnContent (one_of descriptor_of words) _ (λ fd. record { is = none })
+own_other files task other.Fcap words = skip OwnContent (two_of descriptor_of cap_of words) _ (λ word. record { is = none })
+own_other files task other.Access words = skip OwnContent (file_and_want files words) _ (λ asked. record { is = none })
+own_other files task other.Signal words = skip OwnContent (one_of task_of words) _ (λ to. record { is = none })
+own_other files task other.Spawn words = skip OwnContent (one_of task_of words) _ (λ child. record { is = none })
+own_other files task other.Fork words = skip OwnContent (two_of task_of process_of words) _ (λ word. record { is = none })
+own_other files task other.Exit words = skip OwnContent (no_words words) _ (λ end. record { is = none })
 
 own_call : (files : List NamedFile) (task : ℕ) (called : CallName) (words : List (List ℕ)) → Good OwnContent (call_of files task called words)
 unfolding call_of
-own_call files task (call.Id called) words = skip OwnContent (id_call_of called words) _ (λ made. record { is = record { labels = none; built = refl } })
-own_call files task (call.Change changed) words =
-    after (λ made. is_built_change made ≡ true) OwnContent _ _ (own_change files changed words) (λ made built. record { is = record { labels = none; built = built } })
-own_call files task (call.Question asked) words = skip OwnContent (query_of files asked words) _ (λ query. record { is = record { labels = none; built = refl } })
-own_call files task call.Fork words = own_fork task words
-own_call files task call.Exit words = skip OwnContent (no_words words) _ (λ end. record { is = record { labels = none; built = refl } })
+own_call files task (call.Id called) words = skip OwnContent (id_call_of called words) _ (λ made. record { is = none })
+own_call files task (call.Change changed) words = skip OwnContent (change_of files changed words) _ (λ made. record { is = none })
+own_call files task (call.Question asked) words = skip OwnContent (query_of files asked words) _ (λ query. record { is = none })
+own_call files task (call.Other called) words = own_other files task called words
 
 own_content : (files : List NamedFile) (task : ℕ) (words : List (List ℕ)) → Good OwnContent (content_of files task words)
 unfolding content_of
@@ -217,7 +232,7 @@ abbrev OwnLine : List NamedFile → Parsed → Type 0
 OwnLine declared Empty = Unit {0}
 OwnLine declared (File file) = length declared < FILES
 OwnLine declared (parsed.Namespace number root parent) = Unit {0}
-OwnLine declared (Starts process content) = OwnContent content
+OwnLine declared (Starts content) = OwnContent content
 OwnLine declared (Holds content) = OwnContent content
 
 room : (declared : List NamedFile) → Good (λ _. nat_lt (length declared) FILES ≡ true) (has_room declared)
@@ -229,11 +244,11 @@ own_file declared words = after _ _ _ _ (room declared) (λ end test. always _ (
 
 own_form : (declared : List NamedFile) (named : Form) (words : List (List ℕ)) → Good (OwnLine declared) (parse_form declared named words)
 unfolding parse_form
-own_form declared form.Init words = skip _ (five_of task_of process_of id_of id_of namespace_of words) _ (λ word. record { is = record { labels = none; built = refl } })
+own_form declared form.Init words = skip _ (five_of task_of process_of id_of id_of namespace_of words) _ (λ word. record { is = none })
 own_form declared form.File words = after _ _ _ _ (own_file declared words) (λ file few. record { is = few })
 own_form declared form.Namespace words = skip _ (three_of new_namespace_of id_of parent_of words) _ (λ word. record { is = tt })
 own_form declared (form.Task task) words = after _ _ _ _ (own_content declared task words) (λ content own. record { is = own })
-own_form declared (form.Event named) words = after _ _ _ _ (own_event declared named words) (λ event own. record { is = record { labels = own.labels; built = own.built } })
+own_form declared (form.Event named) words = after _ _ _ _ (own_event declared named words) (λ event own. record { is = own })
 
 -- ---- names
 
@@ -257,9 +272,8 @@ sound reading content own h =
     let parts = both (has_namespaces reading.namespaces content) (has_files reading.files content) h in
     record {
       lane = omega arith;
-      labels = own.labels;
+      labels = own;
       content = record {
-        built = own.built;
         files = all_among (length reading.files) (files content) parts.1;
         namespaces = all_declared reading.namespaces (namespaces content) parts.0;
       };
@@ -269,11 +283,11 @@ parsed_line : (reading : Reading) (line : Parsed) → OwnLine reading.files line
 parsed_line reading Empty own named = tt
 parsed_line reading (File file) own named = (own, no_place (place_of reading.files file.name) named)
 parsed_line reading (parsed.Namespace number root parent) own named = (both (is_some (chain_in reading.namespaces parent)) _ named).0
-parsed_line reading (Starts process content) own named = sound reading content own named
+parsed_line reading (Starts content) own named = sound reading content own named
 parsed_line reading (Holds content) own named = sound reading content own named
 
 admitted : (reading : Reading) (line : Parsed) → Good (λ _. has_names reading line ≡ true) (admits reading line)
-admitted reading line = skip _ (in_new_process reading line) _ (λ process. skip _ (in_order reading line) _ (λ order. tested (has_names reading line) Name))
+admitted reading line = skip _ (in_order reading line) _ (λ order. tested (has_names reading line) Name)
 
 full : (reading : Reading) (first : List ℕ) (words : List (List ℕ)) → Good (IsParsed reading) (parse_full reading first words)
 unfolding parse_full

@@ -16,7 +16,7 @@ longer_keep : (reading : Reading) (line : Parsed) → length (keep reading line)
 longer_keep reading Empty = rw (length-append reading.lines) refl
 longer_keep reading (File file) = rw (length-append reading.lines) refl
 longer_keep reading (parsed.Namespace number root parent) = rw (length-append reading.lines) refl
-longer_keep reading (Starts process content) = rw (length-append reading.lines) refl
+longer_keep reading (Starts content) = rw (length-append reading.lines) refl
 longer_keep reading (Holds content) = rw (length-append reading.lines) refl
 
 longer_by : (reading next : Reading) (found : Result Parsed Reason)

@@ -1,7 +1,7 @@
 -- The changes of a credential that a line names: their arguments.
 use Rattle.std.specs.Prelude.{ℕ, List, [], ◌∷◌, Result, Ok, Err}
 use Rattle.cred_event.specs.declared.event.Change.{Change}
-use Rattle.cred_event.specs.declared.event.Change.TheVariants.{SetFs, Adjust, Exec}
+use Rattle.cred_event.specs.declared.event.Change.TheVariants.{SetFs, Adjust, Exec, Access}
 use Rattle.cred_record.specs.declared.adj_call.AdjCall.TheVariants as call
 use Rattle.cred_model.specs.Script.{NamedFile}
 use Rattle.cred_spelling.specs.declared.names.ChangeName.{ChangeName}
@@ -45,3 +45,4 @@ change_of files name.NoNewPrivs words = do
   number ← one_of number_of words
   Ok (Adjust (call.NoNewPrivs number))
 change_of files name.Exec words = exec_of files words
+change_of files name.Access words = bare words Access

@@ -1,67 +1,41 @@
 -- The forms of a line: what its words are, and what it then declares or holds. Each definition
 -- takes the words that stand after the one that names the form. How many there are is asked before
 -- what they spell.
-use Rattle.std.specs.Prelude.{ℕ, List, [], ◌∷◌, Result, Ok, Err, ok_or}
+use Rattle.std.specs.Prelude.{ℕ, List, ◌∷◌, Result, Ok, Err, ok_or}
 use Rattle.cred_event.specs.declared.event.Event.{Event}
-use Rattle.cred_event.specs.declared.event.Event.TheVariants.{Init, Take, Release, Ask, Prepare, Alter, Commit, Abort, Begin, Fork, Exit, Sweep}
+use Rattle.cred_event.specs.declared.event.Event.TheVariants.{Init, Take, TakeFile, Release, Ask, Prepare, Alter, Commit, Abort, Override, Revert, Begin, Act, Sweep}
 use Rattle.cred_event.specs.declared.event.Side.{Side}
 use Rattle.cred_event.specs.declared.event.Side.TheVariants.{Subjective, Objective}
-use Rattle.cred_event.specs.declared.event.Query.{Query}
-use Rattle.cred_event.specs.declared.event.Query.TheVariants as query
-use Rattle.cred_event.specs.declared.content.Content.{Content}
-use Rattle.cred_event.specs.declared.content.Content.TheVariants.{One, Id, Change, Question}
+use Rattle.cred_event.specs.declared.content.Content.TheVariants.{One}
 use Rattle.cred_model.specs.Script.{NamedFile}
 use Rattle.cred_spelling.specs.declared.names.Form.{Form}
 use Rattle.cred_spelling.specs.declared.names.Form.TheVariants as form
 use Rattle.cred_spelling.specs.declared.names.EventName.{EventName}
 use Rattle.cred_spelling.specs.declared.names.EventName.TheVariants as name
-use Rattle.cred_spelling.specs.declared.names.QueryName.{QueryName}
-use Rattle.cred_spelling.specs.declared.names.QueryName.TheVariants as query_name
-use Rattle.cred_spelling.specs.declared.names.CallName.{CallName}
-use Rattle.cred_spelling.specs.declared.names.CallName.TheVariants as call
 use Rattle.cred_spelling.specs.declared.reason.Reason.{Reason}
 use Rattle.cred_spelling.specs.declared.reason.Reason.TheVariants.{Word, Count}
 use Rattle.cred_spelling.specs.Names as names
-use Rattle.cred_spelling.specs.Spellings.{id_of, cap_of, task_of, process_of, label_of, namespace_of, new_namespace_of, parent_of, want_of}
-use Rattle.cred_spelling.specs.Words.{◌>>=◌, word_of, no_words, bare, one_of, two_of, three_of, five_of}
+use Rattle.cred_spelling.specs.Spellings.{id_of, task_of, process_of, label_of, descriptor_of, line_number_of, namespace_of, new_namespace_of, parent_of}
+use Rattle.cred_spelling.specs.Words.{◌>>=◌, word_of, no_words, one_of, two_of, three_of, five_of}
 use Rattle.cred_script.specs.declared.forms.Parsed.{Parsed}
 use Rattle.cred_script.specs.declared.forms.Parsed.TheVariants.{File, Namespace, Starts, Holds}
-use Rattle.cred_script.specs.Files.{file_at, file_of}
+use Rattle.cred_script.specs.Files.{file_of}
 use Rattle.cred_script.specs.IdCalls.{id_call_of}
 use Rattle.cred_script.specs.Changes.{change_of}
-
--- a question, by its name
-unfoldable pub query_of : List NamedFile → QueryName → List (List ℕ) → Result Query Reason
-query_of files query_name.Ids words = bare words query.Ids
-query_of files query_name.Caps words = bare words query.Caps
-query_of files query_name.Groups words = bare words query.Groups
-query_of files query_name.Bits words = bare words query.Bits
-query_of files query_name.Capable words = do
-  cap ← one_of cap_of words
-  Ok (query.Capable cap)
-query_of files query_name.Bset words = do
-  cap ← one_of cap_of words
-  Ok (query.Bset cap)
-query_of files query_name.AmbIs words = do
-  cap ← one_of cap_of words
-  Ok (query.AmbIs cap)
-query_of files query_name.Check (name ∷ want ∷ []) = do
-  file ← file_at files name
-  wanted ← word_of want_of want
-  Ok (query.Check file wanted)
-query_of files query_name.Check words = Err Count
-
--- a question, by the word that names it
-unfoldable pub query_named : List NamedFile → List ℕ → List (List ℕ) → Result Query Reason
-query_named files word words = do
-  asked ← ok_or (names.query_name word) Word
-  query_of files asked words
+use Rattle.cred_script.specs.Questions.{query_named}
+use Rattle.cred_script.specs.Calls.{content_of}
 
 -- `take H T` and `takereal H T`
 unfoldable pub take_of : Side → List (List ℕ) → Result Event Reason
 take_of side words = do
   word ← two_of label_of task_of words
   Ok (Take word.0 word.1 side)
+
+-- `takefile H F`
+unfoldable pub take_file_of : List (List ℕ) → Result Event Reason
+take_file_of words = do
+  word ← two_of label_of descriptor_of words
+  Ok (TakeFile word.0 word.1)
 
 -- `ask H QUESTION`: the question is read before the label
 unfoldable pub ask_of : List NamedFile → List (List ℕ) → Result Event Reason
@@ -71,14 +45,20 @@ ask_of files (hold ∷ asked ∷ words) = do
   Ok (Ask label question)
 ask_of files words = Err Count
 
--- `change H CHANGE`: the change is read before the label
+-- `change H CHANGE`, `change H access`: the change is read before the label
 unfoldable pub alter_of : List NamedFile → List (List ℕ) → Result Event Reason
 alter_of files (prepared ∷ changed ∷ words) = do
-  kind ← ok_or (names.change_name changed) Word
+  kind ← ok_or (names.altered_name changed) Word
   change ← change_of files kind words
   label ← word_of label_of prepared
   Ok (Alter label change)
 alter_of files words = Err Count
+
+-- `override T H`
+unfoldable pub override_of : List (List ℕ) → Result Event Reason
+override_of words = do
+  word ← two_of task_of label_of words
+  Ok (Override word.0 word.1)
 
 -- `begin T CALL`: the call is read before the task
 unfoldable pub begin_of : List (List ℕ) → Result Event Reason
@@ -89,10 +69,12 @@ begin_of (caller ∷ called ∷ words) = do
   Ok (Begin task made)
 begin_of words = Err Count
 
--- An event, by its name. `prepare` has the new label, the task, and the hold that it is based on.
+-- An event, by its name. `prepare` has the new label, the task, and the hold that it is based on, `act` the
+-- number of the line that began the broadcast.
 unfoldable pub event_of : List NamedFile → EventName → List (List ℕ) → Result Event Reason
 event_of files name.Take words = take_of Subjective words
 event_of files name.TakeReal words = take_of Objective words
+event_of files name.TakeFile words = take_file_of words
 event_of files name.Release words = one_of label_of words >>= λ label. Ok (Release label)
 event_of files name.Ask words = ask_of files words
 event_of files name.Prepare words = do
@@ -101,35 +83,11 @@ event_of files name.Prepare words = do
 event_of files name.Alter words = alter_of files words
 event_of files name.Commit words = one_of label_of words >>= λ label. Ok (Commit label)
 event_of files name.Abort words = one_of label_of words >>= λ label. Ok (Abort label)
+event_of files name.Override words = override_of words
+event_of files name.Revert words = one_of task_of words >>= λ task. Ok (Revert task)
 event_of files name.Begin words = begin_of words
+event_of files name.Act words = one_of line_number_of words >>= λ line. Ok (Act line)
 event_of files name.Sweep words = no_words words >>= λ end. Ok Sweep
-
--- `fork T P`: the child, and its process
-unfoldable pub fork_of : ℕ → List (List ℕ) → Result Content Reason
-fork_of task words = do
-  word ← two_of task_of process_of words
-  Ok (One (Fork task word.0 word.1))
-
--- what the task does, by its name
-unfoldable pub call_of : List NamedFile → ℕ → CallName → List (List ℕ) → Result Content Reason
-call_of files task (call.Id called) words = do
-  made ← id_call_of called words
-  Ok (Id task made)
-call_of files task (call.Change changed) words = do
-  made ← change_of files changed words
-  Ok (Change task made)
-call_of files task (call.Question asked) words = do
-  question ← query_of files asked words
-  Ok (Question task question)
-call_of files task call.Fork words = fork_of task words
-call_of files task call.Exit words = bare words (One (Exit task))
-
--- a call or a question of the task: the line names it after the task
-unfoldable pub content_of : List NamedFile → ℕ → List (List ℕ) → Result Content Reason
-content_of files task [] = Err Word
-content_of files task (word ∷ words) = do
-  called ← ok_or (names.call_name word) Word
-  call_of files task called words
 
 -- A line of this form, where these files are declared before it. `init T P ID ID N` creates a
 -- first task, with its process, user, group and namespace. `ns NUM ID NUM` declares a namespace,
@@ -137,7 +95,7 @@ content_of files task (word ∷ words) = do
 unfoldable pub parse_form : List NamedFile → Form → List (List ℕ) → Result Parsed Reason
 parse_form files form.Init words = do
   word ← five_of task_of process_of id_of id_of namespace_of words
-  Ok (Starts word.1 (One (Init word.0 word.1 word.2 word.3 word.4)))
+  Ok (Starts (One (Init word.0 word.1 word.2 word.3 word.4)))
 parse_form files form.File words = do
   file ← file_of files words
   Ok (File file)

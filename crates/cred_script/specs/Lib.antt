@@ -4,6 +4,8 @@ pub mod Files
 pub mod Namespaces
 pub mod IdCalls
 pub mod Changes
+pub mod Questions
+pub mod Calls
 pub mod Forms
 pub mod Reading
 pub mod Grammar

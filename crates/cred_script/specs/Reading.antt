@@ -1,12 +1,12 @@
 -- What was read of a script before a line, what that asks of the line, and what the line adds.
-use Rattle.std.specs.Prelude.{ℕ, ◌==◌, Bool, true, false, not, ◌&&◌, nat_lt, List, [], ◌∷◌, ◌++◌, length, is_some, Result, Ok, Err, if◌then◌else◌}
-use Rattle.std.specs.List.{list_all, list_any}
+use Rattle.std.specs.Prelude.{Bool, true, false, not, ◌&&◌, nat_lt, List, [], ◌∷◌, ◌++◌, length, is_some, Result, Ok, Err, if◌then◌else◌}
+use Rattle.std.specs.List.{list_all}
 use Rattle.cred_event.specs.declared.content.Content.{Content}
 use Rattle.cred_event.specs.declared.content.Content.TheVariants.{Nothing}
 use Rattle.cred_model.specs.Script.{Line, NamedFile, Namespace, Script, chain_in}
 use Rattle.cred_model.specs.Named as named
 use Rattle.cred_spelling.specs.declared.reason.Reason.{Reason}
-use Rattle.cred_spelling.specs.declared.reason.Reason.TheVariants.{Word, Order, Name}
+use Rattle.cred_spelling.specs.declared.reason.Reason.TheVariants.{Order, Name}
 use Rattle.cred_spelling.specs.Words.{◌>>=◌}
 use Rattle.cred_script.specs.declared.forms.Parsed.{Parsed}
 use Rattle.cred_script.specs.declared.forms.Parsed.TheVariants.{Empty, File, Starts, Holds}
@@ -14,13 +14,12 @@ use Rattle.cred_script.specs.declared.forms.Parsed.TheVariants as parsed
 use Rattle.cred_script.specs.Files.{place_of}
 use Rattle.cred_script.specs.Namespaces.{with_namespace}
 
--- The files and the namespaces that are declared, the lines, the processes of the first tasks, and
--- whether a call or an event stands there, so that nothing more may be declared.
+-- The files and the namespaces that are declared, the lines, and whether a call or an event stands
+-- there, so that nothing more may be declared.
 pub record Reading : Type 0 where
   pub files : List NamedFile
   pub namespaces : List Namespace
   pub lines : List Line
-  pub processes : List ℕ
   pub is_used : Bool
 
 -- before the first line
@@ -29,7 +28,6 @@ nothing = record {
   files = [];
   namespaces = [];
   lines = [];
-  processes = [];
   is_used = false;
 }
 
@@ -41,20 +39,11 @@ script reading = record {
   lines = reading.lines;
 }
 
--- A process has one thread, so that an `init` line with a process of an earlier one is refused.
-abbrev pub starts_again : Reading → Parsed → Bool
-starts_again reading (Starts process content) =
-    list_any (λ started. started == process) reading.processes
-starts_again reading other = false
-
-abbrev pub in_new_process : Reading → Parsed → Result (Unit {0}) Reason
-in_new_process reading line = if starts_again reading line then Err Word else Ok tt
-
 -- Declarations stand before all calls and events.
 abbrev pub is_declaration : Parsed → Bool
 is_declaration (File file) = true
 is_declaration (parsed.Namespace number root parent) = true
-is_declaration (Starts process content) = true
+is_declaration (Starts content) = true
 is_declaration other = false
 
 -- no declaration stands after a call or an event
@@ -83,17 +72,15 @@ has_names reading (File file) = not (is_some (place_of reading.files file.name))
 has_names reading (parsed.Namespace number root parent) =
     is_some (chain_in reading.namespaces parent)
     && not (is_some (chain_in reading.namespaces number))
-has_names reading (Starts process content) = uses_declared reading content
+has_names reading (Starts content) = uses_declared reading content
 has_names reading (Holds content) = uses_declared reading content
 
 abbrev pub names_declared : Reading → Parsed → Result (Unit {0}) Reason
 names_declared reading line = if has_names reading line then Ok tt else Err Name
 
--- what a line may declare or hold after what was read: first the process, then the order, then the
--- names
+-- what a line may declare or hold after what was read: first the order, then the names
 abbrev pub admits : Reading → Parsed → Result (Unit {0}) Reason
 admits reading line = do
-  process ← in_new_process reading line
   order ← in_order reading line
   names_declared reading line
 
@@ -113,6 +100,5 @@ keep reading (parsed.Namespace number root parent) =
     record (push reading Nothing) {
       namespaces = with_namespace reading.namespaces number root parent;
     }
-keep reading (Starts process content) =
-    record (push reading content) { processes = reading.processes ++ process ∷ [] }
+keep reading (Starts content) = push reading content
 keep reading (Holds content) = record (push reading content) { is_used = true }

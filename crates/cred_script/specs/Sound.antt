@@ -60,7 +60,7 @@ IsParsed reading (File file) =
     (length reading.files < FILES) × (place_of reading.files file.name ≡ None)
 IsParsed reading (parsed.Namespace number root parent) =
     IsSome (chain_in reading.namespaces parent)
-IsParsed reading (Starts process content) = IsNext reading content
+IsParsed reading (Starts content) = IsNext reading content
 IsParsed reading (Holds content) = IsNext reading content
 
 -- what is true of the lines that were read, where so many files and these namespaces are declared

@@ -28,6 +28,7 @@ pub(crate) fn change_of(files: &Files, name: ChangeName, words: &[&[u8]]) -> Res
         ChangeName::KeepCaps => Ok(Change::Adjust(AdjCall::KeepCaps(one::<Number>(words)?))),
         ChangeName::NoNewPrivs => Ok(Change::Adjust(AdjCall::NoNewPrivs(one::<Number>(words)?))),
         ChangeName::Exec => exec_of(files, words),
+        ChangeName::Access => bare(words, Change::Access),
     }
 }
 

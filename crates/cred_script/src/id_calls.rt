@@ -10,7 +10,12 @@ use cred_spelling::{IdName, one, three, two, word};
 use std::alloc::Global;
 
 /// Any number of ids.
-fn ids(alloc: Global, words: &[&[u8]]) -> Result<Vec<Id>, LineRefusal>
+///
+/// # Errors
+///
+/// `LineRefusal::Bad` where a word is no id, `LineRefusal::Memory` where there is no memory for the
+/// list.
+pub fn ids(alloc: Global, words: &[&[u8]]) -> Result<Vec<Id>, LineRefusal>
     ensures { GivesLine (λ v. v.items) result (spec.ids (nows words.now)) }
 {
     let mut ids = Vec::with_capacity(alloc, words.len())?;
@@ -21,12 +26,13 @@ fn ids(alloc: Global, words: &[&[u8]]) -> Result<Vec<Id>, LineRefusal>
 }
 
 /// An id call, by its name.
+///
+/// # Errors
+///
+/// `LineRefusal::Bad` where the words are not its arguments, `LineRefusal::Memory` where there is
+/// no memory for a list of groups.
 #[tactic(auto, unfolding(crate::specs::IdCalls::id_call_of))]
-pub(crate) fn id_call_of(
-    alloc: Global,
-    name: IdName,
-    words: &[&[u8]],
-) -> Result<IdCall, LineRefusal>
+pub fn id_call_of(alloc: Global, name: IdName, words: &[&[u8]]) -> Result<IdCall, LineRefusal>
     ensures { GivesLine (λ call. call) result (spec.id_call_of name (nows words.now)) }
 {
     match name {

@@ -26,8 +26,6 @@ pub(crate) struct Reading {
     files: Files,
     namespaces: Namespaces,
     lines: Vec<ScriptLine>,
-    /// The processes of the first tasks.
-    processes: Vec<u32>,
     /// A call or an event stands there, so that nothing more may be declared.
     is_used: bool,
 }
@@ -43,7 +41,6 @@ impl Model for Reading {
       files = r.files;
       namespaces = r.namespaces;
       lines = r.lines.items;
-      processes = r.processes.items;
       is_used = r.is_used;
     } };
 
@@ -59,7 +56,6 @@ impl Reading {
             files: Files::new(alloc),
             namespaces: Namespaces::new(alloc),
             lines: Vec::new(alloc),
-            processes: Vec::new(alloc),
             is_used: false,
         }
     }
@@ -147,10 +143,7 @@ impl Reading {
                 self.namespaces.add(alloc, number, root, parent)?;
                 Ok(())
             }
-            Parsed::Starts { process, content } => {
-                self.processes.push(process)?;
-                self.push(content)
-            }
+            Parsed::Starts(content) => self.push(content),
             Parsed::Holds(content) => {
                 self.is_used = true;
                 self.push(content)
@@ -224,21 +217,8 @@ impl Reading {
     fn admits(&self, line: &Parsed) -> Result<(), Reason>
         ensures { Says (λ x. x) result (spec.admits self.now line.now) }
     {
-        self.in_new_process(line)?;
         self.in_order(line)?;
         self.names_declared(line)
-    }
-
-    /// A process has one thread: no two `init` lines name one.
-    fn in_new_process(&self, line: &Parsed) -> Result<(), Reason>
-        ensures { Says (λ x. x) result (spec.in_new_process self.now line.now) }
-    {
-        match line {
-            Parsed::Starts { process, .. } if self.processes.contains(process) => {
-                Err(Reason::Word)
-            }
-            _ => Ok(()),
-        }
     }
 
     /// No declaration stands after a call or an event.
@@ -246,7 +226,7 @@ impl Reading {
         ensures { Says (λ x. x) result (spec.in_order self.now line.now) }
     {
         match line {
-            Parsed::File(_) | Parsed::Namespace { .. } | Parsed::Starts { .. } if self.is_used => {
+            Parsed::File(_) | Parsed::Namespace { .. } | Parsed::Starts(_) if self.is_used => {
                 Err(Reason::Order)
             }
             _ => Ok(()),
@@ -263,7 +243,7 @@ impl Reading {
             Parsed::Namespace { number, parent, .. } => {
                 self.namespaces.has(*parent) && !self.namespaces.has(*number)
             }
-            Parsed::Starts { content, .. } | Parsed::Holds(content) => {
+            Parsed::Starts(content) | Parsed::Holds(content) => {
                 has_namespaces(&self.namespaces, content) && has_files(&self.files, content)
             }
         };

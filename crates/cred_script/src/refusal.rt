@@ -17,7 +17,7 @@ pub enum ScriptRefusal {
 
 /// Why a line holds nothing.
 #[derive(Clone, Copy)]
-pub(crate) enum LineRefusal {
+pub enum LineRefusal {
     /// It is bad.
     Bad(Reason),
     /// Memory ran out.

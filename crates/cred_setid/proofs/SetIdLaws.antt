@@ -74,7 +74,7 @@ and-right false b both = cc
 -- ---- what a rule gives
 
 -- a fact of the ids that a permitted call gives
-permitted-gives : (P : Ids4 → Type 0) (may : Bool) (ids new : Ids4) → (may ≡ true → P ids) → permitted may ids ≡ Ok new → P new
+pub permitted-gives : (P : Ids4 → Type 0) (may : Bool) (ids new : Ids4) → (may ≡ true → P ids) → permitted may ids ≡ Ok new → P new
 permitted-gives P true ids new holds same = let is : ids ≡ new = cc in subst P is (holds refl)
 permitted-gives P false ids new holds same = cc
 
@@ -133,21 +133,23 @@ with_user_ids-gid c ids =
     ]
 
 -- the user ids are those that the rule gave
-for_users-own : (c d : Credential) (r : Result Ids4 Denial) → ((new : Ids4) → r ≡ Ok new → AreOwn c.uid new) → for_users c r ≡ Ok d → AreOwn c.uid d.uid
-for_users-own c d (Ok ids) own same =
+pub for_users-gives : (P : Ids4 → Type 0) (c d : Credential) (r : Result Ids4 Denial) → ((new : Ids4) → r ≡ Ok new → P new)
+    → for_users c r ≡ Ok d → P d.uid
+for_users-gives P c d (Ok ids) holds same =
     let is : with_user_ids c ids ≡ d = cc in
-    subst (AreOwn c.uid) (sym (with_user_ids-uid c ids) ∙ ap (λ e. e.uid) is) (own ids refl)
-for_users-own c d (Err e) own same = cc
+    subst P (sym (with_user_ids-uid c ids) ∙ ap (λ e. e.uid) is) (holds ids refl)
+for_users-gives P c d (Err e) holds same = cc
 
 for_users-gid : (c d : Credential) (r : Result Ids4 Denial) → for_users c r ≡ Ok d → c.gid ≡ d.gid
 for_users-gid c d (Ok ids) same =
     let is : with_user_ids c ids ≡ d = cc in sym (with_user_ids-gid c ids) ∙ ap (λ e. e.gid) is
 for_users-gid c d (Err e) same = cc
 
-for_groups-own : (c d : Credential) (r : Result Ids4 Denial) → ((new : Ids4) → r ≡ Ok new → AreOwn c.gid new) → for_groups c r ≡ Ok d → AreOwn c.gid d.gid
-for_groups-own c d (Ok ids) own same =
-    let is : record c { gid = ids } ≡ d = cc in subst (AreOwn c.gid) (ap (λ e. e.gid) is) (own ids refl)
-for_groups-own c d (Err e) own same = cc
+pub for_groups-gives : (P : Ids4 → Type 0) (c d : Credential) (r : Result Ids4 Denial) → ((new : Ids4) → r ≡ Ok new → P new)
+    → for_groups c r ≡ Ok d → P d.gid
+for_groups-gives P c d (Ok ids) holds same =
+    let is : record c { gid = ids } ≡ d = cc in subst P (ap (λ e. e.gid) is) (holds ids refl)
+for_groups-gives P c d (Err e) holds same = cc
 
 for_groups-uid : (c d : Credential) (r : Result Ids4 Denial) → for_groups c r ≡ Ok d → c.uid ≡ d.uid
 for_groups-uid c d (Ok ids) same = let is : record c { gid = ids } ≡ d = cc in ap (λ e. e.uid) is
@@ -159,7 +161,7 @@ setgroups-cases P true true new d holds same = cc
 setgroups-cases P true false new d holds same = let is : new ≡ d = cc in subst P is holds
 
 -- what setgroups gives is the credential with other groups
-setgroups-gives : (P : Credential → Type 0) (c d : Credential) (list : List ℕ) → P (record c { groups = in_order list }) → after_setgroups c list ≡ Ok d → P d
+pub setgroups-gives : (P : Credential → Type 0) (c d : Credential) (list : List ℕ) → P (record c { groups = in_order list }) → after_setgroups c list ≡ Ok d → P d
 unfolding after_setgroups
 setgroups-gives P c d list holds same =
     setgroups-cases P (has_cap c SETGID) (nat_lt LIMIT (length list)) (record c { groups = in_order list }) d holds same
@@ -167,10 +169,10 @@ setgroups-gives P c d list holds same =
 -- ---- the laws
 
 pub user_ids_stay_own : UserIdsStayOwn
-user_ids_stay_own c d (SetUid a) without same = for_users-own c d _ (λ new is. setuid-own c.uid new a (ap (λ able. after_setuid able c.uid a) (sym without) ∙ is)) same
-user_ids_stay_own c d (SetEuid a) without same = for_users-own c d _ (λ new is. seteuid-own c.uid new a (ap (λ able. after_seteuid able c.uid a) (sym without) ∙ is)) same
-user_ids_stay_own c d (SetReuid a b) without same = for_users-own c d _ (λ new is. setreuid-own c.uid new a b (ap (λ able. after_setreuid able c.uid a b) (sym without) ∙ is)) same
-user_ids_stay_own c d (SetResuid a b s) without same = for_users-own c d _ (λ new is. setresuid-own c.uid new a b s (ap (λ able. after_setresuid able c.uid a b s) (sym without) ∙ is)) same
+user_ids_stay_own c d (SetUid a) without same = for_users-gives (AreOwn c.uid) c d _ (λ new is. setuid-own c.uid new a (ap (λ able. after_setuid able c.uid a) (sym without) ∙ is)) same
+user_ids_stay_own c d (SetEuid a) without same = for_users-gives (AreOwn c.uid) c d _ (λ new is. seteuid-own c.uid new a (ap (λ able. after_seteuid able c.uid a) (sym without) ∙ is)) same
+user_ids_stay_own c d (SetReuid a b) without same = for_users-gives (AreOwn c.uid) c d _ (λ new is. setreuid-own c.uid new a b (ap (λ able. after_setreuid able c.uid a b) (sym without) ∙ is)) same
+user_ids_stay_own c d (SetResuid a b s) without same = for_users-gives (AreOwn c.uid) c d _ (λ new is. setresuid-own c.uid new a b s (ap (λ able. after_setresuid able c.uid a b s) (sym without) ∙ is)) same
 user_ids_stay_own c d (SetGid a) without same = subst (AreOwn c.uid) (for_groups-uid c d _ same) (AreOwn-itself c.uid)
 user_ids_stay_own c d (SetEgid a) without same = subst (AreOwn c.uid) (for_groups-uid c d _ same) (AreOwn-itself c.uid)
 user_ids_stay_own c d (SetRegid a b) without same = subst (AreOwn c.uid) (for_groups-uid c d _ same) (AreOwn-itself c.uid)
@@ -182,10 +184,10 @@ group_ids_stay_own c d (SetUid a) without same = subst (AreOwn c.gid) (for_users
 group_ids_stay_own c d (SetEuid a) without same = subst (AreOwn c.gid) (for_users-gid c d _ same) (AreOwn-itself c.gid)
 group_ids_stay_own c d (SetReuid a b) without same = subst (AreOwn c.gid) (for_users-gid c d _ same) (AreOwn-itself c.gid)
 group_ids_stay_own c d (SetResuid a b s) without same = subst (AreOwn c.gid) (for_users-gid c d _ same) (AreOwn-itself c.gid)
-group_ids_stay_own c d (SetGid a) without same = for_groups-own c d _ (λ new is. setuid-own c.gid new a (ap (λ able. after_setuid able c.gid a) (sym without) ∙ is)) same
-group_ids_stay_own c d (SetEgid a) without same = for_groups-own c d _ (λ new is. seteuid-own c.gid new a (ap (λ able. after_seteuid able c.gid a) (sym without) ∙ is)) same
-group_ids_stay_own c d (SetRegid a b) without same = for_groups-own c d _ (λ new is. setreuid-own c.gid new a b (ap (λ able. after_setreuid able c.gid a b) (sym without) ∙ is)) same
-group_ids_stay_own c d (SetResgid a b s) without same = for_groups-own c d _ (λ new is. setresuid-own c.gid new a b s (ap (λ able. after_setresuid able c.gid a b s) (sym without) ∙ is)) same
+group_ids_stay_own c d (SetGid a) without same = for_groups-gives (AreOwn c.gid) c d _ (λ new is. setuid-own c.gid new a (ap (λ able. after_setuid able c.gid a) (sym without) ∙ is)) same
+group_ids_stay_own c d (SetEgid a) without same = for_groups-gives (AreOwn c.gid) c d _ (λ new is. seteuid-own c.gid new a (ap (λ able. after_seteuid able c.gid a) (sym without) ∙ is)) same
+group_ids_stay_own c d (SetRegid a b) without same = for_groups-gives (AreOwn c.gid) c d _ (λ new is. setreuid-own c.gid new a b (ap (λ able. after_setreuid able c.gid a b) (sym without) ∙ is)) same
+group_ids_stay_own c d (SetResgid a b s) without same = for_groups-gives (AreOwn c.gid) c d _ (λ new is. setresuid-own c.gid new a b s (ap (λ able. after_setresuid able c.gid a b s) (sym without) ∙ is)) same
 group_ids_stay_own c d (SetGroups list) without same = setgroups-gives (λ e. AreOwn c.gid e.gid) c d list (AreOwn-itself c.gid) same
 
 -- ---- the permitted set

@@ -1,153 +1,35 @@
 -- What each event changes.
-use Rattle.std.proofs.Common.{◌≡◌, ◌≢◌, ◌==◌, ◌<◌, ◌⊎◌, inl, inr, ℕ, List, [], ◌∷◌, ◌++◌, length, map, slice_get, Some, None, Ok, Bool, true, false, cond, refl, sym, ap, ◌∙◌, subst, position}
-use Rattle.std.specs.List.{All, Contains, count_by, find, remove}
+use Rattle.std.proofs.Common.{◌≡◌, ◌==◌, ◌⊎◌, inl, inr, ℕ, List, [], ◌∷◌, ◌++◌, length, slice_get, drop, Option, Some, None, true, false, cond, refl, sym, subst, position}
+use Rattle.std.specs.List.{All, Contains, count_by, remove}
+use Rattle.std.specs.Option.{option_and_then}
 use Rattle.std.proofs.lemmas.Bool.{eqb-true}
-use Rattle.std.proofs.lemmas.List.Elements.{All-append, All-cons, All-contains_itself, All-map, All-nil, All-push, All-weaker}
-use Rattle.std.proofs.lemmas.List.Quantifiers.{position-Some}
-use Rattle.cred_record.specs.Credential.{Credential, first_credential}
-use Rattle.cred_record.specs.declared.id_call.IdCall.{IdCall}
-use Rattle.cred_rules.specs.SetId.{set_id}
+use Rattle.std.proofs.lemmas.List.Elements.{All-append, All-cons, All-contains_itself, All-drop, All-nil, All-weaker}
+use Rattle.cred_record.specs.Credential.{first_credential}
+use Rattle.cred_record.specs.declared.want.Want.{Want}
+use Rattle.cred_rules.specs.Access.{may_signal}
 use Rattle.cred_event.specs.declared.event.Event.{Event}
-use Rattle.cred_event.specs.declared.event.Event.TheVariants.{Init, Take, Release, Ask, Prepare, Alter, Commit, Abort, Begin, Fork, Exit, Sweep}
+use Rattle.cred_event.specs.declared.event.Event.TheVariants.{Init, Take, TakeFile, Release, Ask, Signal, Prepare, Alter, Commit, Abort, Override, Revert, Begin, Act, OpenFile, CloseFile, Spawn, Fork, Exit, Sweep}
 use Rattle.cred_event.specs.declared.event.Change.{Change}
+use Rattle.cred_event.specs.declared.event.Change.TheVariants.{Exec}
 use Rattle.cred_event.specs.declared.event.Side.{Side}
 use Rattle.cred_event.specs.declared.answer.Answer.{Answer}
-use Rattle.cred_event.specs.declared.answer.Answer.TheVariants.{Done, Sealed, Kept, Began, Stale, TableFull}
+use Rattle.cred_event.specs.declared.answer.Answer.TheVariants.{Done, Sealed, Kept, Stale, TableFull}
 use Rattle.cred_model.specs.Script.{Script, info_of, chain_of}
-use Rattle.cred_model.specs.State.{State, Task, Hold, Prepared, Changed, Numbered, numbered, task_of, hold_of, prepared_of, held_by, current_of}
-use Rattle.cred_model.specs.Slots.{SLOTS, refs, kept, free}
+use Rattle.cred_model.specs.State.{State, Task, OpenFile as Open, Hold, Prepared, Changed, Numbered, numbered, task_of, cast_in, begun_by, open_of, hold_of, prepared_of, held_by, opener_of, credential_of}
+use Rattle.cred_model.specs.Slots.{refs}
 use Rattle.cred_model.specs.Named.{change_files}
+use Rattle.cred_model.specs.Answers.{checked}
 use Rattle.cred_model.specs.Change.{by_change}
-use Rattle.cred_model.specs.Ends.{is_task, is_thread_of, ended}
-use Rattle.cred_model.specs.Step.{TASKS, HOLDS, PREPARED, table_full, with_change, with_current, first_task, created, replaced, preparing, committed, given_up, ends_with, commit_answer, try_commit, step}
-use Rattle.cred_model.proofs.Numbers.{current_is}
-use Rattle.cred_model.proofs.Referred.{all_survive, each_ended}
-use Rattle.cred_model.proofs.Lists.{All-at, All-unmap, AllPairs-unmap, alone, at_place, others_differ}
-use Rattle.cred_sound.specs.Ledger.{IsClear, IsOrderly, ledger}
-use Rattle.cred_sound.proofs.Moves.{Apart}
-use Rattle.cred_sound.proofs.References.{IsFree, own_refs, owner_stands, current_stands, found_stands, held_stands, base_stands}
-use Rattle.cred_sound.proofs.Tests.{outcome_has, if_some, if_none, if_fewer, if_rule, if_ok, in_slots}
-use Rattle.cred_sound.proofs.Parts.{with_left, sealed_cred, Fits, Changes, TasksChange, HoldsChange, PreparedChange, SameCreds, Seals, ByCall, ByCommit, SameTasks, Creates, Forks, Renews, Exits, SameHolds, Takes, Releases, SamePrepared, Prepares, Alters, Ends}
-
--- ---- the references that are left
-
-still_left : (s : State) (left : List ℕ) → All (Contains (refs (with_left s left))) left
-still_left s left = (own_refs (with_left s left)).deferred
-
--- one more is given up
-gives_up : (s : State) (n : ℕ) → Contains (refs s) n → All (Contains (refs s)) (s.deferred ++ n ∷ [])
-gives_up s n has = All-push (Contains (refs s)) s.deferred n (still_left s s.deferred) has
-
--- ---- a slot that is taken
-
--- a free one
-fits_free : (s : State) (event : Event) (left : List ℕ) (t : State) (slot : ℕ) → kept t ≡ kept s → IsFree (with_left s left) slot
-    → Fits s event left t slot
-fits_free s event left t slot same free = record {
-  below = free.below;
-  clear = free.clear;
-  unkept = subst (All (λ k. k ≢ slot)) (sym same) free.unkept;
-  own = All-weaker (λ (p : Prepared). p.slot ≢ slot) (λ p. p.slot ≡ slot → event ≡ Commit p.label) (λ p other is. absurd (other is)) s.prepared
-      (All-unmap (λ k. k ≢ slot) (λ (p : Prepared). p.slot) s.prepared free.unkept);
-}
-
--- that of the label that is committed
-fits_own : (s t : State) (label place : ℕ) (p : Prepared) → kept t ≡ map (λ p. p.slot) (remove s.prepared place)
-    → position (λ p. p.label == label) s.prepared ≡ Some place → slice_get s.prepared place ≡ Some p → IsOrderly (ledger s)
-    → Fits s (Commit label) s.deferred t p.slot
-fits_own s t label place p rest at is order =
-    let slot_of : Prepared → ℕ = λ p. p.slot in
-    let apart = AllPairs-unmap Apart slot_of s.prepared order.own in
-    let there = position-Some (λ (p : Prepared). p.label == label) s.prepared place p at in
-    let test : (p.label == label) ≡ true = at_place (λ (p : Prepared). p.label == label) s.prepared place p is there.1 in
-    let one = All-at (λ (x : Prepared). All (λ (y : Prepared). y.slot ≡ x.slot → y ≡ x) s.prepared) s.prepared place p is (alone slot_of s.prepared apart) in
-    record {
-      below = All-at (λ p. p.slot < SLOTS) s.prepared place p is (All-unmap (λ k. k < SLOTS) slot_of s.prepared order.kept);
-      clear = All-at (λ p. IsClear (ledger s).slots p.slot (refs s)) s.prepared place p is
-          (All-unmap (λ k. IsClear (ledger s).slots k (refs s)) slot_of s.prepared order.clear);
-      unkept = subst (All (λ k. k ≢ p.slot)) (sym rest)
-          (All-map (λ k. k ≢ p.slot) slot_of (remove s.prepared place) (others_differ slot_of s.prepared place p is apart));
-      own = All-weaker (λ (q : Prepared). q.slot ≡ p.slot → q ≡ p) (λ q. q.slot ≡ p.slot → Commit label ≡ Commit q.label)
-          (λ q same kept. ap Commit (sym (ap (λ (q : Prepared). q.label) (same kept) ∙ eqb-true p.label label test))) s.prepared one;
-    }
-
--- ---- a change of one part, and of what hangs on it
-
--- the event is refused, only reads, or only sweeps
-still : (script : Script) (s : State) (event : Event) (answer : Answer) (left : List ℕ) → All (Contains s.deferred) left
-    → Changes script s event (answer, with_left s left)
-still script s event answer left fewer = record {
-  left = left;
-  fewer = fewer;
-  tasks = SameTasks refl;
-  holds = SameHolds refl;
-  prepared = SamePrepared refl;
-  creds = SameCreds refl;
-  deferred = still_left s left;
-}
-
-refused : (script : Script) (s : State) (event : Event) (answer : Answer) → Changes script s event (answer, s)
-refused script s event answer = still script s event answer s.deferred (All-contains_itself s.deferred)
-
--- a task is created, or has another credential, which is sealed in a free slot
-with_tasks : (script : Script) (s : State) (event : Event) (answer : Answer) (left : List ℕ) (tasks : List Task) (c : Credential)
-    (slot : ℕ) (deferred : List ℕ)
-    → let t = record s { tasks = tasks; deferred = deferred; creds = s.creds ++ sealed_cred c slot ∷ [] } in
-    All (Contains s.deferred) left → IsFree (with_left s left) slot → TasksChange s event (answer, t)
-    → All (Contains (refs (with_left s left))) deferred → Changes script s event (answer, t)
-with_tasks script s event answer left tasks c slot deferred fewer free change refer =
-    let t : State = record s { tasks = tasks; deferred = deferred; creds = s.creds ++ sealed_cred c slot ∷ [] } in
-    record {
-      left = left;
-      fewer = fewer;
-      tasks = change;
-      holds = SameHolds refl;
-      prepared = SamePrepared refl;
-      creds = Seals c slot refl (λ order. fits_free s event left t slot refl free);
-      deferred = refer;
-    }
-
--- a task is created or ends, and nothing is sealed
-only_tasks : (script : Script) (s : State) (event : Event) (answer : Answer) (tasks : List Task) (deferred : List ℕ)
-    → TasksChange s event (answer, record s { tasks = tasks; deferred = deferred }) → All (Contains (refs s)) deferred
-    → Changes script s event (answer, record s { tasks = tasks; deferred = deferred })
-only_tasks script s event answer tasks deferred change refer = record {
-  left = s.deferred;
-  fewer = All-contains_itself s.deferred;
-  tasks = change;
-  holds = SameHolds refl;
-  prepared = SamePrepared refl;
-  creds = SameCreds refl;
-  deferred = refer;
-}
-
-with_holds : (script : Script) (s : State) (event : Event) (answer : Answer) (holds : List Hold) (deferred : List ℕ)
-    → HoldsChange s event s.deferred (record s { holds = holds; deferred = deferred }) → All (Contains (refs s)) deferred
-    → Changes script s event (answer, record s { holds = holds; deferred = deferred })
-with_holds script s event answer holds deferred change refer = record {
-  left = s.deferred;
-  fewer = All-contains_itself s.deferred;
-  tasks = SameTasks refl;
-  holds = change;
-  prepared = SamePrepared refl;
-  creds = SameCreds refl;
-  deferred = refer;
-}
-
-with_prepared : (script : Script) (s : State) (event : Event) (answer : Answer) (left : List ℕ) (prepared : List Prepared)
-    (deferred : List ℕ) → All (Contains s.deferred) left
-    → PreparedChange script s event left (record s { prepared = prepared; deferred = deferred })
-    → All (Contains (refs (with_left s left))) deferred
-    → Changes script s event (answer, record s { prepared = prepared; deferred = deferred })
-with_prepared script s event answer left prepared deferred fewer change refer = record {
-  left = left;
-  fewer = fewer;
-  tasks = SameTasks refl;
-  holds = SameHolds refl;
-  prepared = change;
-  creds = SameCreds refl;
-  deferred = refer;
-}
+use Rattle.cred_model.specs.Ends.{ended}
+use Rattle.cred_model.specs.Moves.{TASKS, FILES, HOLDS, PREPARED, DEPTH, table_full, with_overrides, lent, overridden, with_change, first_task, created, preparing, committed, given_up}
+use Rattle.cred_model.specs.Step.{ends_with, casts_after, commit_answer, try_commit, take_hold, is_access, for_task, for_access, override_held, override_prepared, step}
+use Rattle.cred_model.proofs.Lists.{All-at}
+use Rattle.cred_sound.specs.Ledger.{SealsOf}
+use Rattle.cred_sound.proofs.References.{owner_stands, overrides_stand, credential_stands, opener_stands, held_by_stands, file_stands, found_stands, held_stands, base_stands}
+use Rattle.cred_sound.proofs.Tests.{IfAllowed, outcome_has, if_some, if_none, if_either, if_fewer, if_passed, if_idle, if_own, if_last, if_ok, in_slots}
+use Rattle.cred_sound.proofs.Parts.{with_left, Old, OldOrNew, grows, casts_left, Changes, Seals, ByCommit, Creates, Renews, Overrides, Stays, Adds, Removes, Prepares, Alters, Ends}
+use Rattle.cred_sound.proofs.OnePart.{still_left, gives_up, fits_own, still, refused, with_tasks, only_tasks, with_lists, with_prepared}
+use Rattle.cred_sound.proofs.Calls.{ended_stay, begin_changes, act_changes, spawn_changes, fork_changes, exit_changes}
 
 -- ---- the events
 
@@ -159,13 +41,26 @@ init_changes script s line task process user group ns =
     let first = first_task task process (length s.creds) in
     let c = first_credential user group ns in
     outcome_has Q s _ (refused script s event)
-    (if_none Q (task_of s task) _ _
+    (if_idle Q (cast_in s process) _
+    (λ idle. if_none Q (task_of s task) _ _
     (λ new. if_fewer Q (length s.tasks) TASKS _ _
     (in_slots Q s table_full (λ s slot. (Sealed (length s.creds) slot, created s (first_task task process (length s.creds)) c slot))
     (still script s event TableFull)
     (λ left slot fewer free.
-    with_tasks script s event (Sealed (length s.creds) slot) left (s.tasks ++ first ∷ []) c slot left fewer free
-    (Creates task process user group ns slot refl refl refl new) (still_left s left)))))
+    with_tasks script s event (Sealed (length s.creds) slot) left (s.tasks ++ first ∷ []) s.casts c slot left fewer free
+    (Creates task process user group ns slot refl refl refl new idle refl) (still_left s left))))))
+
+-- a label takes hold of what is referred to
+takes_hold : (script : Script) (s : State) (event : Event) (label : ℕ) (taken : Numbered) → Contains (refs s) taken.number
+    → IfAllowed (Changes script s event) (take_hold s label taken)
+takes_hold script s event label taken stands =
+    let Q = Changes script s event in
+    let hold : Hold = record { label = label; number = taken.number } in
+    if_none Q (hold_of s label) _ _
+    (λ new. if_none Q (prepared_of s label) _ _
+    (λ unprepared. if_fewer Q (length s.holds) HOLDS _ _
+    (with_lists script s event (Sealed taken.number taken.slot) s.files (s.holds ++ hold ∷ []) s.deferred (Stays refl)
+    (Adds hold refl new (unprepared, stands)) (still_left s s.deferred))))
 
 take_changes : (script : Script) (s : State) (line label task : ℕ) (side : Side)
     → Changes script s (Take label task side) (step script s line (Take label task side))
@@ -173,13 +68,17 @@ take_changes script s line label task side =
     let event = Take label task side in
     let Q = Changes script s event in
     outcome_has Q s _ (refused script s event)
-    (if_some Q (current_of s task) _ _
-    (λ taken is. if_none Q (hold_of s label) _ _
-    (λ new. if_none Q (prepared_of s label) _ _
-    (λ unprepared. if_fewer Q (length s.holds) HOLDS _ _
-    (let hold : Hold = record { label = label; number = taken.number } in
-    with_holds script s event (Sealed taken.number taken.slot) (s.holds ++ hold ∷ []) s.deferred
-    (Takes hold refl new unprepared (current_stands s task taken is)) (still_left s s.deferred))))))
+    (if_some Q (credential_of s task side) _ _
+    (λ taken is. takes_hold script s event label taken (credential_stands s task side taken is)))
+
+take_file_changes : (script : Script) (s : State) (line label fd : ℕ)
+    → Changes script s (TakeFile label fd) (step script s line (TakeFile label fd))
+take_file_changes script s line label fd =
+    let event = TakeFile label fd in
+    let Q = Changes script s event in
+    outcome_has Q s _ (refused script s event)
+    (if_some Q (opener_of s fd) _ _
+    (λ taken is. takes_hold script s event label taken (opener_stands s fd taken is)))
 
 release_changes : (script : Script) (s : State) (line label : ℕ) → Changes script s (Release label) (step script s line (Release label))
 release_changes script s line label =
@@ -189,8 +88,46 @@ release_changes script s line label =
     (if_some Q (position (λ h. h.label == label) s.holds) _ _
     (λ place at. if_some Q (slice_get s.holds place) _ _
     (λ hold is.
-    with_holds script s event Done (remove s.holds place) (s.deferred ++ hold.number ∷ [])
-    (Releases label place hold refl refl at is) (gives_up s hold.number (held_stands s place hold is)))))
+    with_lists script s event Done s.files (remove s.holds place) (s.deferred ++ hold.number ∷ []) (Stays refl)
+    (Removes label place hold refl refl at is) (gives_up s hold.number (held_stands s place hold is)))))
+
+open_changes : (script : Script) (s : State) (line hold place : ℕ) (asked : Want) (fd : ℕ)
+    → Changes script s (OpenFile hold place asked fd) (step script s line (OpenFile hold place asked fd))
+open_changes script s line hold place asked fd =
+    let event = OpenFile hold place asked fd in
+    let Q = Changes script s event in
+    outcome_has Q s _ (refused script s event)
+    (if_some Q (held_by s hold) _ _
+    (λ held is. if_none Q (open_of s fd) _ _
+    (λ new. if_passed Q (checked held.cred (info_of script (place ∷ [])) asked) _
+    (if_fewer Q (length s.files) FILES _ _
+    (let file : Open = record { fd = fd; opener = held.number; file = place } in
+    with_lists script s event Done (s.files ++ file ∷ []) s.holds s.deferred
+    (Adds file refl new (held_by_stands s hold held is)) (Stays refl) (still_left s s.deferred))))))
+
+close_changes : (script : Script) (s : State) (line fd : ℕ) → Changes script s (CloseFile fd) (step script s line (CloseFile fd))
+close_changes script s line fd =
+    let event = CloseFile fd in
+    let Q = Changes script s event in
+    outcome_has Q s _ (refused script s event)
+    (if_some Q (position (λ f. f.fd == fd) s.files) _ _
+    (λ place at. if_some Q (slice_get s.files place) _ _
+    (λ file is.
+    with_lists script s event Done (remove s.files place) s.holds (s.deferred ++ file.opener ∷ [])
+    (Removes fd place file refl refl at is) (Stays refl) (gives_up s file.opener (file_stands s place file is)))))
+
+signal_changes : (script : Script) (s : State) (line from hold to target : ℕ)
+    → Changes script s (Signal from hold to target) (step script s line (Signal from hold to target))
+signal_changes script s line from hold to target =
+    let event = Signal from hold to target in
+    let Q = Changes script s event in
+    outcome_has Q s _ (refused script s event)
+    (if_some Q (task_of s from) _ _
+    (λ sender is. if_some Q (task_of s to) _ _
+    (λ receiver there. if_some Q (held_by s hold) _ _
+    (λ own held. if_some Q (held_by s target) _ _
+    (λ other at. if_last Q (may_signal own.cred other.cred (sender.process == receiver.process)) _ _
+    (refused script s event Done))))))
 
 prepare_changes : (script : Script) (s : State) (line label task hold : ℕ)
     → Changes script s (Prepare label task hold) (step script s line (Prepare label task hold))
@@ -201,7 +138,8 @@ prepare_changes script s line label task hold =
     = λ slot base. record { label = label; task = task; base = base; slot = slot; changed = None } in
     outcome_has Q s _ (refused script s event)
     (if_some Q (task_of s task) _ _
-    (λ owner is. if_some Q (hold_of s hold) _ _
+    (λ owner is. if_idle Q (begun_by s task) _
+    (λ idle. if_some Q (hold_of s hold) _ _
     (λ base held. if_none Q (hold_of s label) _ _
     (λ new. if_none Q (prepared_of s label) _ _
     (λ unprepared. if_fewer Q (length s.prepared) PREPARED _ _
@@ -210,7 +148,7 @@ prepare_changes script s line label task hold =
     (λ left slot fewer free.
     with_prepared script s event (Kept slot) left (s.prepared ++ new_label slot base.number ∷ []) left fewer
     (Prepares (new_label slot base.number) refl refl new unprepared (found_stands (with_left s left) hold base held) free)
-    (still_left s left))))))))
+    (still_left s left)))))))))
 
 alter_changes : (script : Script) (s : State) (line label : ℕ) (change : Change)
     → Changes script s (Alter label change) (step script s line (Alter label change))
@@ -228,38 +166,41 @@ alter_changes script s line label change =
 
 -- what a label prepared is given up, by its abort or by a commit that is stale
 gives_up_prepared : (script : Script) (s : State) (event : Event) (answer : Answer) (label place : ℕ) (p : Prepared)
-    → (event ≡ Commit label) ⊎ (event ≡ Abort label) → position (λ p. p.label == label) s.prepared ≡ Some place
+    → SealsOf event label ⊎ (event ≡ Abort label) → position (λ p. p.label == label) s.prepared ≡ Some place
     → slice_get s.prepared place ≡ Some p → Changes script s event (answer, given_up s place p)
 gives_up_prepared script s event answer label place p ends at is =
     with_prepared script s event answer s.deferred (remove s.prepared place) (s.deferred ++ p.base ∷ []) (All-contains_itself s.deferred)
     (Ends label place p ends refl at is) (gives_up s p.base (base_stands s place p is))
 
--- what the tasks that end referred to
-ended_stay : (s : State) (ends : Task → Bool) → All (Contains (refs s)) (ended ends s).deferred
-ended_stay s ends = (each_ended (own_refs s) ends).deferred
+only_casts : (change : Change) (owner : Task) (t : State) → casts_after change owner t ≡ record t { casts = casts_left change owner t.casts }
+only_casts (Exec file) owner t = refl
+only_casts change owner t = refl
 
 commit_fresh : (script : Script) (s : State) (label place : ℕ) (p : Prepared) (last : Changed) (owner : Task)
     → position (λ p. p.label == label) s.prepared ≡ Some place → slice_get s.prepared place ≡ Some p
     → p.changed ≡ Some last → task_of s p.task ≡ Some owner → owner.current ≡ p.base
     → let ends = ends_with last.change owner in
     Changes script s (Commit label)
-    (commit_answer last (length s.creds) p.slot (count_by ends s.tasks), committed (ended ends s) place p owner.current last.cred)
+    (commit_answer last (length s.creds) p.slot (count_by ends s.tasks), casts_after last.change owner (committed (ended ends s) place p owner.current last.cred))
 commit_fresh script s label place p last owner at is changed found same =
-    let Stays = Contains (refs s) in
+    let Has = Contains (refs s) in
     let ends = ends_with last.change owner in
-    let t = committed (ended ends s) place p owner.current last.cred in
-    record {
+    let now = committed (ended ends s) place p owner.current last.cred in
+    let answer = commit_answer last (length s.creds) p.slot (count_by ends s.tasks) in
+    let t = record now { casts = casts_left last.change owner now.casts } in
+    subst (λ t. Changes script s (Commit label) (answer, t)) (sym (only_casts last.change owner now)) (record {
       left = s.deferred;
       fewer = All-contains_itself s.deferred;
       tasks = Renews p.task p.slot owner last.cred ends refl refl found
-          (ByCommit place p.slot (count_by ends s.tasks) p last is changed same refl refl);
-      holds = SameHolds refl;
+          (ByCommit label place p.slot (count_by ends s.tasks) p last refl is changed same refl refl refl refl);
+      files = Stays refl;
+      holds = Stays refl;
       prepared = Ends label place p (inl refl) refl at is;
-      creds = Seals last.cred p.slot refl (fits_own s t label place p refl at is);
-      deferred = All-append Stays (ended ends s).deferred (owner.current ∷ p.base ∷ []) (ended_stay s ends)
-          (All-cons Stays owner.current (p.base ∷ []) (owner_stands s p.task owner found)
-          (All-cons Stays p.base [] (base_stands s place p is) (All-nil Stays)));
-    }
+      creds = Seals last.cred p.slot refl (fits_own s (Commit label) t label place p refl refl at is);
+      deferred = All-append Has (ended ends s).deferred (owner.current ∷ p.base ∷ []) (ended_stay s ends)
+          (All-cons Has owner.current (p.base ∷ []) (owner_stands s p.task owner found)
+          (All-cons Has p.base [] (base_stands s place p is) (All-nil Has)));
+    })
 
 try_commit_changes : (script : Script) (s : State) (label place : ℕ) (p : Prepared) (last : Changed) (owner : Task)
     → position (λ p. p.label == label) s.prepared ≡ Some place → slice_get s.prepared place ≡ Some p
@@ -267,10 +208,19 @@ try_commit_changes : (script : Script) (s : State) (label place : ℕ) (p : Prep
     → Changes script s (Commit label) (try_commit s place p owner last)
 try_commit_changes script s label place p last owner at is changed found =
     let ends = ends_with last.change owner in
-    elim (owner.current == p.base) as (λ b. (b ≡ true → owner.current ≡ p.base) → Changes script s (Commit label) (cond {A = Answer × State} b (commit_answer last (length s.creds) p.slot (count_by ends s.tasks), committed (ended ends s) place p owner.current last.cred) (Stale p.base owner.current, given_up s place p))) [
+    elim (owner.current == p.base) as (λ b. (b ≡ true → owner.current ≡ p.base) → Changes script s (Commit label) (cond {A = Answer × State} b (commit_answer last (length s.creds) p.slot (count_by ends s.tasks), casts_after last.change owner (committed (ended ends s) place p owner.current last.cred)) (Stale p.base owner.current, given_up s place p))) [
       | true ↦ λ same. commit_fresh script s label place p last owner at is changed found (same refl)
       | false ↦ λ same. gives_up_prepared script s (Commit label) (Stale p.base owner.current) label place p (inl refl) at is
     ] (eqb-true owner.current p.base)
+
+-- what is committed is what was changed last
+pub changed_for_task : (changed : Option Changed) (last : Changed) → option_and_then for_task changed ≡ Some last → changed ≡ Some last
+changed_for_task None last is = cc
+changed_for_task (Some x) last is =
+    elim (is_access x.change) as (λ b. cond b None (Some x) ≡ Some last → Some x ≡ Some last) [
+      | true ↦ λ none. absurd (cc)
+      | false ↦ λ same. same
+    ] is
 
 commit_changes : (script : Script) (s : State) (line label : ℕ) → Changes script s (Commit label) (step script s line (Commit label))
 commit_changes script s line label =
@@ -278,9 +228,11 @@ commit_changes script s line label =
     outcome_has Q s _ (refused script s (Commit label))
     (if_some Q (position (λ p. p.label == label) s.prepared) _ _
     (λ place at. if_some Q (slice_get s.prepared place) _ _
-    (λ p is. if_some Q p.changed _ _
+    (λ p is. if_some Q (option_and_then for_task p.changed) _ _
     (λ last changed. if_some Q (task_of s p.task) _ _
-    (λ owner found. try_commit_changes script s label place p last owner at is changed found)))))
+    (λ owner found. if_idle Q (begun_by s p.task) _
+    (λ idle. if_own Q owner _
+    (try_commit_changes script s label place p last owner at is (changed_for_task p.changed last changed) found)))))))
 
 abort_changes : (script : Script) (s : State) (line label : ℕ) → Changes script s (Abort label) (step script s line (Abort label))
 abort_changes script s line label =
@@ -290,67 +242,98 @@ abort_changes script s line label =
     (λ place at. if_some Q (slice_get s.prepared place) _ _
     (λ p is. gives_up_prepared script s (Abort label) Done label place p (inr refl) at is)))
 
--- the caller's new credential is in the place of its old one, and no task ends
-renews_by_call : (s : State) (task : ℕ) (call : IdCall) (old : Numbered) (new : Credential) (slot : ℕ) (left : List ℕ)
-    → current_of s task ≡ Some old → set_id old.cred call ≡ Ok new
-    → TasksChange s (Begin task call) (Began (length s.creds) slot 0, replaced (with_left s left) task old.number new slot)
-renews_by_call s task call old new slot left is ruled =
-    let at = current_is s task old is in
-    Renews task slot at.owner new (λ t. false)
-    (ap (λ tasks. with_current tasks task (length s.creds)) (sym (all_survive s.tasks))) refl at.is
-    (ByCall call old is (sym at.number) ruled refl)
+-- ---- overrides
 
-begin_changes : (script : Script) (s : State) (line task : ℕ) (call : IdCall)
-    → Changes script s (Begin task call) (step script s line (Begin task call))
-begin_changes script s line task call =
-    let event = Begin task call in
+-- what a task's overrides refer to stands
+own_overrides : (s : State) (t : State) (task : ℕ) (owner : Task) → task_of s task ≡ Some owner → (left : List ℕ)
+    → All (OldOrNew s left t) owner.overrides
+own_overrides s t task owner is left =
+    All-weaker (Old s left) (OldOrNew s left t) (λ n has. inl has) owner.overrides (overrides_stand (with_left s left) task owner is)
+
+override_held_has : (script : Script) (s : State) (event : Event) (task label : ℕ) (owner : Task) (held : Numbered)
+    → task_of s task ≡ Some owner → held_by s label ≡ Some held
+    → IfAllowed (Changes script s event) (override_held s owner held)
+override_held_has script s event task label owner held found is =
+    let Q = Changes script s event in
+    let t = lent s owner held.number in
+    if_fewer Q (length owner.overrides) DEPTH _ _
+    (only_tasks script s event (Sealed held.number held.slot) s.deferred t.tasks s.casts s.deferred (All-contains_itself s.deferred)
+    (Overrides owner.number (held.number ∷ owner.overrides) refl
+    (λ left. All-cons (OldOrNew s left t) held.number owner.overrides (inl (held_by_stands (with_left s left) label held is))
+    (own_overrides s t task owner found left)) refl)
+    (still_left s s.deferred))
+
+override_prepared_has : (script : Script) (s : State) (task label : ℕ) (owner : Task) → task_of s task ≡ Some owner
+    → IfAllowed (Changes script s (Override task label)) (override_prepared s owner label)
+override_prepared_has script s task label owner found =
+    let event = Override task label in
+    let Q = Changes script s event in
+    if_some Q (position (λ p. p.label == label) s.prepared) _ _
+    (λ place at. if_some Q (slice_get s.prepared place) _ _
+    (λ p is. if_some Q (for_access owner.number p) _ _
+    (λ last changed. if_fewer Q (length owner.overrides) DEPTH _ _
+    (let t = overridden s place p owner last.cred in
+    record {
+      left = s.deferred;
+      fewer = All-contains_itself s.deferred;
+      tasks = Overrides owner.number (length s.creds ∷ owner.overrides) refl
+          (λ left. All-cons (OldOrNew s left t) (length s.creds) owner.overrides (inr (grows s t _ refl))
+          (own_overrides s t task owner found left)) refl;
+      files = Stays refl;
+      holds = Stays refl;
+      prepared = Ends label place p (inl refl) refl at is;
+      creds = Seals last.cred p.slot refl (fits_own s event t label place p refl refl at is);
+      deferred = gives_up s p.base (base_stands s place p is);
+    }))))
+
+override_changes : (script : Script) (s : State) (line task label : ℕ)
+    → Changes script s (Override task label) (step script s line (Override task label))
+override_changes script s line task label =
+    let event = Override task label in
     let Q = Changes script s event in
     outcome_has Q s _ (refused script s event)
-    (if_some Q (current_of s task) _ _
-    (λ old is. if_rule Q (set_id old.cred call) _
-    (λ new ruled. in_slots Q s table_full (λ s slot. (Began (length s.creds) slot 0, replaced s task old.number new slot))
-    (still script s event TableFull)
-    (λ left slot fewer free.
-    with_tasks script s event (Began (length s.creds) slot 0) left (with_current s.tasks task (length s.creds)) new slot
-    (left ++ old.number ∷ []) fewer free (renews_by_call s task call old new slot left is ruled)
-    (gives_up (with_left s left) old.number (current_stands (with_left s left) task old is))))))
+    (if_some Q (task_of s task) _ _
+    (λ owner found. if_either Q (held_by s label) _ _
+    (λ held is. override_held_has script s event task label owner held found is)
+    (λ none. override_prepared_has script s task label owner found)))
 
-fork_changes : (script : Script) (s : State) (line task child process : ℕ)
-    → Changes script s (Fork task child process) (step script s line (Fork task child process))
-fork_changes script s line task child process =
-    let event = Fork task child process in
+revert_changes : (script : Script) (s : State) (line task : ℕ) → Changes script s (Revert task) (step script s line (Revert task))
+revert_changes script s line task =
+    let event = Revert task in
     let Q = Changes script s event in
     outcome_has Q s _ (refused script s event)
-    (if_some Q (current_of s task) _ _
-    (λ parent is. if_none Q (task_of s child) _ _
-    (λ new. if_none Q (find (is_thread_of process) s.tasks) _ _
-    (λ unused. if_fewer Q (length s.tasks) TASKS _ _
-    (only_tasks script s event (Sealed parent.number parent.slot) (s.tasks ++ first_task child process parent.number ∷ []) s.deferred
-    (Forks task child process parent refl refl refl is new) (still_left s s.deferred))))))
-
-exit_changes : (script : Script) (s : State) (line task : ℕ) → Changes script s (Exit task) (step script s line (Exit task))
-exit_changes script s line task =
-    let event = Exit task in
-    outcome_has (Changes script s event) s _ (refused script s event)
-    (if_some (Changes script s event) (task_of s task) _ _
-    (λ owner is.
-    let after = ended (is_task task) s in
-    only_tasks script s event Done after.tasks after.deferred (Exits task refl refl refl) (ended_stay s (is_task task))))
+    (if_some Q (task_of s task) _ _
+    (λ owner found. if_some Q (slice_get owner.overrides 0) _ _
+    (λ newest is.
+    let tasks = with_overrides s.tasks task (drop 1 owner.overrides) in
+    let deferred = s.deferred ++ newest ∷ [] in
+    let t = record s { tasks = tasks; deferred = deferred } in
+    only_tasks script s event Done s.deferred tasks s.casts deferred (All-contains_itself s.deferred)
+    (Overrides task (drop 1 owner.overrides) refl
+    (λ left. All-drop (OldOrNew s left t) 1 owner.overrides (own_overrides s t task owner found left)) refl)
+    (gives_up s newest (All-at (Contains (refs s)) owner.overrides 0 newest is (overrides_stand s task owner found))))))
 
 -- what an event changes
 pub changes : (script : Script) (s : State) (line : ℕ) (event : Event) → Changes script s event (step script s line event)
 changes script s line (Init task process user group ns) = init_changes script s line task process user group ns
 changes script s line (Take label task side) = take_changes script s line label task side
+changes script s line (TakeFile label fd) = take_file_changes script s line label fd
 changes script s line (Release label) = release_changes script s line label
 changes script s line (Ask label query) =
     outcome_has (Changes script s (Ask label query)) s _ (refused script s (Ask label query))
     (if_some _ (held_by s label) _ _ (λ held is. refused script s (Ask label query) _))
+changes script s line (Signal from hold to target) = signal_changes script s line from hold to target
 changes script s line (Prepare label task hold) = prepare_changes script s line label task hold
 changes script s line (Alter label change) = alter_changes script s line label change
 changes script s line (Commit label) = commit_changes script s line label
 changes script s line (Abort label) = abort_changes script s line label
+changes script s line (Override task label) = override_changes script s line task label
+changes script s line (Revert task) = revert_changes script s line task
 changes script s line (Begin task call) = begin_changes script s line task call
+changes script s line (Act number) = act_changes script s line number
+changes script s line (OpenFile hold place asked fd) = open_changes script s line hold place asked fd
+changes script s line (CloseFile fd) = close_changes script s line fd
+changes script s line (Spawn task child) = spawn_changes script s line task child
 changes script s line (Fork task child process) = fork_changes script s line task child process
 changes script s line (Exit task) = exit_changes script s line task
 changes script s line Sweep = still script s Sweep Done [] (All-nil (Contains s.deferred))
-changes script s line event = refused script s event _

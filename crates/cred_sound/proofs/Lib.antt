@@ -2,7 +2,12 @@ pub mod Moves
 pub mod References
 pub mod Parts
 pub mod Tests
+pub mod OnePart
+pub mod Calls
 pub mod Events
 pub mod Unique
+pub mod Threads
+pub mod Opened
 pub mod Sound
 pub mod Survivors
+pub mod Few

@@ -1,21 +1,27 @@
 -- What an event may change, part by part.
-use Rattle.std.proofs.Common.{◌≡◌, ◌≢◌, ◌==◌, ◌⊎◌, Bool, ℕ, ◌<◌, List, [], ◌∷◌, ◌++◌, length, slice_get, Some, None, Ok, position}
-use Rattle.std.specs.List.{All, Contains, remove}
+use Rattle.std.proofs.Common.{◌≡◌, ◌≢◌, ◌==◌, ◌-◌, ◌⊎◌, Bool, false, ℕ, ◌<◌, List, [], ◌∷◌, ◌++◌, length, slice_get, Some, None, Ok, position, refl, ap, arith}
+use Rattle.std.specs.List.{All, Contains, find, remove}
+use Rattle.std.proofs.lemmas.List.{length_push}
 use Rattle.cred_record.specs.Credential.{Credential, first_credential}
 use Rattle.cred_record.specs.declared.id_call.IdCall.{IdCall}
 use Rattle.cred_rules.specs.SetId.{set_id}
-use Rattle.cred_caps.specs.Caps.{empty}
 use Rattle.cred_event.specs.declared.event.Event.{Event}
-use Rattle.cred_event.specs.declared.event.Event.TheVariants.{Init, Release, Commit, Abort, Fork, Exit}
+use Rattle.cred_event.specs.declared.event.Event.TheVariants.{Init, Release, Commit, Abort, Begin, Act, CloseFile, Spawn, Fork, Exit}
+use Rattle.cred_event.specs.declared.event.Change.{Change}
+use Rattle.cred_event.specs.declared.event.Change.TheVariants.{Exec}
 use Rattle.cred_event.specs.declared.answer.Answer.{Answer}
+use Rattle.cred_event.specs.declared.answer.Answer.TheVariants.{Began, Acted, Aborted}
+use Rattle.cred_event.specs.declared.answer.AbortCause.{AbortCause}
 use Rattle.cred_model.specs.Script.{Script, info_of, chain_of}
-use Rattle.cred_model.specs.State.{State, SealedCred, Task, Hold, Prepared, Changed, Numbered, numbered, task_of, hold_of, prepared_of, current_of}
+use Rattle.cred_model.specs.State.{State, SealedCred, Task, Broadcast, OpenFile, Hold, Prepared, Changed, Numbered, numbered, task_of, cast_of, cast_in, begun_by, hold_of, prepared_of, current_of}
 use Rattle.cred_model.specs.Slots.{SLOTS, refs, kept}
 use Rattle.cred_model.specs.Named.{change_files}
-use Rattle.cred_model.specs.Change.{by_change, gained}
-use Rattle.cred_model.specs.Ends.{is_task, survivors}
-use Rattle.cred_model.specs.Step.{with_change, with_current, first_task, commit_answer}
-use Rattle.cred_sound.specs.Ledger.{IsClear, IsOrderly, ledger}
+use Rattle.cred_model.specs.Change.{by_change}
+use Rattle.cred_model.specs.Ends.{is_task, is_thread_of, survivors}
+use Rattle.cred_model.specs.Casts.{others_of, with_cast, waits_no_more, joined, dropped}
+use Rattle.cred_model.specs.Moves.{with_change, with_current, with_overrides, first_task}
+use Rattle.cred_model.specs.Step.{commit_answer, ends_with}
+use Rattle.cred_sound.specs.Ledger.{IsClear, IsOrderly, SealsOf, ledger}
 use Rattle.cred_sound.proofs.References.{IsFree}
 
 -- The state, where only these of the deferred references are left: an event that takes a slot may
@@ -27,12 +33,12 @@ abbrev pub sealed_cred : Credential → ℕ → SealedCred
 sealed_cred c slot = record { cred = c; slot = slot }
 
 -- Nothing that is referred to stands in the slot, and no label keeps it: before the event none but
--- the one that it commits, and none after it.
+-- the one whose credential it seals, and none after it.
 pub record Fits (s : State) (event : Event) (left : List ℕ) (t : State) (slot : ℕ) : Type 0 where
   pub below : slot < SLOTS
   pub clear : IsClear (ledger s).slots slot (refs (with_left s left))
   pub unkept : All (λ k. k ≢ slot) (kept t)
-  pub own : All (λ p. p.slot ≡ slot → event ≡ Commit p.label) s.prepared
+  pub own : All (λ p. p.slot ≡ slot → SealsOf event p.label) s.prepared
 
 -- The sealed credentials: as they were, or one more.
 pub data CredsChange (s : State) (event : Event) (left : List ℕ) (t : State) : Type 0 where
@@ -40,52 +46,119 @@ pub data CredsChange (s : State) (event : Event) (left : List ℕ) (t : State) :
   Seals : (c : Credential) (slot : ℕ) → t.creds ≡ s.creds ++ sealed_cred c slot ∷ []
       → (IsOrderly (ledger s) → Fits s event left t slot) → CredsChange s event left t
 
--- Why a task's new credential comes in the place of its old one: it is what a call makes of that,
--- or what a label prepared.
-pub data Cause (s : State) (event : Event) (task : ℕ) (old : ℕ) (c : Credential) (answer : Answer) : Type 0 where
-  ByCall : (call : IdCall) (before : Numbered) → current_of s task ≡ Some before → old ≡ before.number
-      → set_id before.cred call ≡ Ok c → gained answer ≡ empty → Cause s event task old c answer
-  ByCommit : (place slot count : ℕ) (p : Prepared) (last : Changed) → slice_get s.prepared place ≡ Some p
-      → p.changed ≡ Some last → old ≡ p.base → c ≡ last.cred → answer ≡ commit_answer last (length s.creds) slot count
-      → Cause s event task old c answer
+-- one of the references before the event, or the number of a credential that it sealed
+abbrev pub Old : State → List ℕ → ℕ → Type 0
+Old s left n = Contains (refs (with_left s left)) n
 
--- The tasks: as they were, a first one more, one more that shares its parent's credential, one of
--- them with a new credential, perhaps after others have ended, or one less.
+abbrev pub IsNew : State → State → ℕ → Type 0
+IsNew s t n = (n ≡ length s.creds) × (length s.creds < length t.creds)
+
+abbrev pub OldOrNew : State → List ℕ → State → ℕ → Type 0
+OldOrNew s left t n = Old s left n ⊎ IsNew s t n
+
+pub grows : (s t : State) (new : SealedCred) → t.creds ≡ s.creds ++ new ∷ [] → IsNew s t (length s.creds)
+grows s t new creds =
+    let long = ap (λ (xs : List SealedCred). length xs) creds in (refl, omega (arith, length_push s.creds new))
+
+-- the call of a thread, which the others of its process are to follow
+abbrev pub begun : ℕ → Task → IdCall → List Task → Broadcast
+begun number owner call tasks = record {
+  number = number;
+  process = owner.process;
+  caller = owner.number;
+  call = call;
+  waiting = others_of owner tasks;
+}
+
+-- the broadcasts that are left where this change is committed
+abbrev pub casts_left : Change → Task → List Broadcast → List Broadcast
+casts_left (Exec file) owner casts = dropped owner.process casts
+casts_left change owner casts = casts
+
+-- Why a task's new credential comes in the place of its old one, and what becomes of the broadcasts:
+-- it is what a call makes of that, the task's own or one that it follows, or what a label prepared.
+pub data Cause (s : State) (event : Event) (task : ℕ) (owner : Task) (ends : Task → Bool) (c : Credential) (made : Answer × State) : Type 0 where
+  ByBegin : (call : IdCall) (before : Numbered) (number slot : ℕ) → event ≡ Begin task call → current_of s task ≡ Some before
+      → set_id before.cred call ≡ Ok c → cast_of s number ≡ None → cast_in s owner.process ≡ None → ends ≡ (λ t. false)
+      → made.1.casts ≡ with_cast s.casts (begun number owner call s.tasks)
+      → made.0 ≡ Began (length s.creds) slot (length (others_of owner s.tasks)) → Cause s event task owner ends c made
+  ByAct : (number slot : ℕ) (cast : Broadcast) (before : Numbered) → event ≡ Act number → cast_of s number ≡ Some cast
+      → slice_get cast.waiting 0 ≡ Some task → current_of s task ≡ Some before → set_id before.cred cast.call ≡ Ok c
+      → ends ≡ (λ t. false) → made.1.casts ≡ waits_no_more task s.casts
+      → made.0 ≡ Acted task (length s.creds) slot (length cast.waiting - 1) → Cause s event task owner ends c made
+  ByCommit : (label place slot count : ℕ) (p : Prepared) (last : Changed) → event ≡ Commit label → slice_get s.prepared place ≡ Some p
+      → p.changed ≡ Some last → owner.current ≡ p.base → c ≡ last.cred → ends ≡ ends_with last.change owner
+      → made.1.casts ≡ casts_left last.change owner s.casts → made.0 ≡ commit_answer last (length s.creds) slot count
+      → Cause s event task owner ends c made
+
+-- How a task is born that shares its parent's credential: as a thread of its process, which waits
+-- where it waits, or as the first of another process.
+pub data Birth (s : State) (event : Event) (task child process : ℕ) (made : Answer × State) : Type 0 where
+  BySpawn : (owner : Task) → event ≡ Spawn task child → task_of s task ≡ Some owner → process ≡ owner.process
+      → made.1.casts ≡ joined task child s.casts → Birth s event task child process made
+  ByFork : event ≡ Fork task child process → find (is_thread_of process) s.tasks ≡ None → made.1.casts ≡ s.casts
+      → Birth s event task child process made
+
+-- How tasks end, and no other has a new credential: a task exits, or all threads of a process end, as
+-- one of them can't follow.
+pub data Death (s : State) (event : Event) (ends : Task → Bool) (made : Answer × State) : Type 0 where
+  ByExit : (task : ℕ) → event ≡ Exit task → ends ≡ is_task task → begun_by s task ≡ None
+      → made.1.casts ≡ waits_no_more task s.casts → Death s event ends made
+  ByAbort : (number task : ℕ) (cause : AbortCause) (cast : Broadcast) → event ≡ Act number → ends ≡ is_thread_of cast.process
+      → made.1.casts ≡ dropped cast.process s.casts → made.0 ≡ Aborted task cause → Death s event ends made
+
+-- The tasks and the broadcasts: as they were, a first task more, one more that shares its parent's
+-- credential, one of them with a new credential, perhaps after others have ended, one that acts with
+-- other credentials, or fewer.
 pub data TasksChange (s : State) (event : Event) (made : Answer × State) : Type 0 where
-  SameTasks : made.1.tasks ≡ s.tasks → TasksChange s event made
+  SameTasks : made.1.tasks ≡ s.tasks → made.1.casts ≡ s.casts → TasksChange s event made
   Creates : (task process user group ns slot : ℕ) → event ≡ Init task process user group ns
       → made.1.tasks ≡ s.tasks ++ first_task task process (length s.creds) ∷ []
       → made.1.creds ≡ s.creds ++ sealed_cred (first_credential user group ns) slot ∷ [] → task_of s task ≡ None
-      → TasksChange s event made
-  Forks : (task child process : ℕ) (parent : Numbered) → event ≡ Fork task child process
+      → cast_in s process ≡ None → made.1.casts ≡ s.casts → TasksChange s event made
+  Shares : (task child process : ℕ) (parent : Numbered)
       → made.1.tasks ≡ s.tasks ++ first_task child process parent.number ∷ [] → made.1.creds ≡ s.creds
-      → current_of s task ≡ Some parent → task_of s child ≡ None → TasksChange s event made
+      → current_of s task ≡ Some parent → task_of s child ≡ None → Birth s event task child process made → TasksChange s event made
   Renews : (task slot : ℕ) (owner : Task) (c : Credential) (ends : Task → Bool)
       → made.1.tasks ≡ with_current (survivors ends s.tasks) task (length s.creds)
       → made.1.creds ≡ s.creds ++ sealed_cred c slot ∷ [] → task_of s task ≡ Some owner
-      → Cause s event task owner.current c made.0 → TasksChange s event made
-  Exits : (task : ℕ) → event ≡ Exit task → made.1.tasks ≡ survivors (is_task task) s.tasks → made.1.creds ≡ s.creds
+      → Cause s event task owner ends c made → TasksChange s event made
+  Overrides : (task : ℕ) (numbers : List ℕ) → made.1.tasks ≡ with_overrides s.tasks task numbers
+      → ((left : List ℕ) → All (OldOrNew s left made.1) numbers) → made.1.casts ≡ s.casts → TasksChange s event made
+  Fewer : (ends : Task → Bool) → made.1.tasks ≡ survivors ends s.tasks → made.1.creds ≡ s.creds → Death s event ends made
       → TasksChange s event made
 
--- The holds: as they were, one more, or one less.
-pub data HoldsChange (s : State) (event : Event) (left : List ℕ) (t : State) : Type 0 where
-  SameHolds : t.holds ≡ s.holds → HoldsChange s event left t
-  Takes : (hold : Hold) → t.holds ≡ s.holds ++ hold ∷ [] → hold_of s hold.label ≡ None → prepared_of s hold.label ≡ None
-      → Contains (refs (with_left s left)) hold.number → HoldsChange s event left t
-  Releases : (label place : ℕ) (hold : Hold) → event ≡ Release label → t.holds ≡ remove s.holds place
-      → position (λ h. h.label == label) s.holds ≡ Some place → slice_get s.holds place ≡ Some hold → HoldsChange s event left t
+-- A list of things that are found by a number: as it was, one more, or one less.
+pub data ListChange (X : Type 0) (name : X → ℕ) (IsNew : X → Type 0) (IsGone : ℕ → Type 0) (before : List X) (after : List X) : Type 0 where
+  Stays : after ≡ before → ListChange X name IsNew IsGone before after
+  Adds : (x : X) → after ≡ before ++ x ∷ [] → find (λ y. name y == name x) before ≡ None → IsNew x
+      → ListChange X name IsNew IsGone before after
+  Removes : (number place : ℕ) (x : X) → IsGone number → after ≡ remove before place → position (λ y. name y == number) before ≡ Some place
+      → slice_get before place ≡ Some x → ListChange X name IsNew IsGone before after
+
+-- the open files
+abbrev pub FilesChange : State → Event → List ℕ → State → Type 0
+FilesChange s event left t =
+    ListChange OpenFile (λ f. f.fd) (λ f. Old s left f.opener) (λ fd. event ≡ CloseFile fd) s.files t.files
+
+-- a new hold's label prepares nothing
+abbrev pub IsNewHold : State → List ℕ → Hold → Type 0
+IsNewHold s left hold = (prepared_of s hold.label ≡ None) × Old s left hold.number
+
+abbrev pub HoldsChange : State → Event → List ℕ → State → Type 0
+HoldsChange s event left t = ListChange Hold (λ h. h.label) (IsNewHold s left) (λ label. event ≡ Release label) s.holds t.holds
 
 -- The prepared labels: as they were, one more, one of them changed, or one less.
 pub data PreparedChange (script : Script) (s : State) (event : Event) (left : List ℕ) (t : State) : Type 0 where
   SamePrepared : t.prepared ≡ s.prepared → PreparedChange script s event left t
   Prepares : (p : Prepared) → t.prepared ≡ s.prepared ++ p ∷ [] → p.changed ≡ None → hold_of t p.label ≡ None
-      → prepared_of s p.label ≡ None → Contains (refs (with_left s left)) p.base → IsFree (with_left s left) p.slot
+      → prepared_of s p.label ≡ None → Old s left p.base → IsFree (with_left s left) p.slot
       → PreparedChange script s event left t
   Alters : (label : ℕ) (to : Changed) (p : Prepared) (base : Numbered) (answer : Answer)
       → t.prepared ≡ with_change s.prepared label to → prepared_of s label ≡ Some p → numbered s.creds p.base ≡ Some base
       → by_change (info_of script (change_files to.change)) (chain_of script base.cred.ns) base.cred to.change ≡ Ok (record { answer = answer; cred = to.cred; gains = to.gains })
       → PreparedChange script s event left t
-  Ends : (label place : ℕ) (p : Prepared) → (event ≡ Commit label) ⊎ (event ≡ Abort label)
+  Ends : (label place : ℕ) (p : Prepared) → SealsOf event label ⊎ (event ≡ Abort label)
       → t.prepared ≡ remove s.prepared place → position (λ p. p.label == label) s.prepared ≡ Some place
       → slice_get s.prepared place ≡ Some p → PreparedChange script s event left t
 
@@ -94,6 +167,7 @@ pub record Changes (script : Script) (s : State) (event : Event) (made : Answer 
   pub left : List ℕ
   pub fewer : All (Contains s.deferred) left
   pub tasks : TasksChange s event made
+  pub files : FilesChange s event left made.1
   pub holds : HoldsChange s event left made.1
   pub prepared : PreparedChange script s event left made.1
   pub creds : CredsChange s event left made.1

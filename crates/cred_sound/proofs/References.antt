@@ -6,10 +6,11 @@ use Rattle.std.proofs.lemmas.List.Elements.{All-contains_itself, All-weaker}
 use Rattle.std.proofs.lemmas.List.FromFn.{get_or-range_with_len, length-range_with_len}
 use Rattle.std.proofs.lemmas.Bool.{eqb-false}
 use Rattle.std.proofs.lemmas.Option.{slice_get-map}
-use Rattle.cred_model.specs.State.{State, SealedCred, Task, Hold, Prepared, Numbered, task_of, current_of, hold_of}
+use Rattle.cred_event.specs.declared.event.Side.{Side}
+use Rattle.cred_model.specs.State.{State, SealedCred, Task, OpenFile, Hold, Prepared, Numbered, task_of, current_of, credential_of, opener_of, hold_of, held_by}
 use Rattle.cred_model.specs.Slots.{SLOTS, refs, kept, stands_in, is_live, is_kept, slots, least_free}
 use Rattle.cred_model.proofs.Referred.{EachRef, each_ref}
-use Rattle.cred_model.proofs.LikeReads.{current_by}
+use Rattle.cred_model.proofs.LikeReads.{current_by, credential_by, opener_by, held_by_each}
 use Rattle.cred_model.proofs.Lists.{All-at, find_each, or_left, or_right, none_passes, found}
 use Rattle.cred_sound.specs.Ledger.{IsClear, ledger}
 
@@ -19,19 +20,44 @@ use Rattle.cred_sound.specs.Ledger.{IsClear, ledger}
 pub own_refs : (s : State) → EachRef (Contains (refs s)) s
 own_refs s = each_ref (Contains (refs s)) s (All-contains_itself (refs s))
 
+-- what holds of whatever is found
+if_found : {X : Type 0} (P : X → Type 0) (o : Option X) (x : X) → o ≡ Some x → IfSome o P → P x
+if_found P o x is each = subst (λ o. IfSome o P) is each
+
+abbrev Stands : State → Numbered → Type 0
+Stands s c = Contains (refs s) c.number
+
 pub current_stands : (s : State) (task : ℕ) (c : Numbered) → current_of s task ≡ Some c → Contains (refs s) c.number
-current_stands s task c is =
-    subst (λ o. IfSome o (λ (c : Numbered). Contains (refs s) c.number)) is (current_by s (Contains (refs s)) task (own_refs s))
+current_stands s task c is = if_found (Stands s) (current_of s task) c is (current_by s (Contains (refs s)) task (own_refs s))
+
+pub credential_stands : (s : State) (task : ℕ) (side : Side) (c : Numbered) → credential_of s task side ≡ Some c
+    → Contains (refs s) c.number
+credential_stands s task side c is =
+    if_found (Stands s) (credential_of s task side) c is (credential_by s (Contains (refs s)) task side (own_refs s))
+
+pub opener_stands : (s : State) (fd : ℕ) (c : Numbered) → opener_of s fd ≡ Some c → Contains (refs s) c.number
+opener_stands s fd c is = if_found (Stands s) (opener_of s fd) c is (opener_by s (Contains (refs s)) fd (own_refs s))
+
+pub held_by_stands : (s : State) (label : ℕ) (c : Numbered) → held_by s label ≡ Some c → Contains (refs s) c.number
+held_by_stands s label c is = if_found (Stands s) (held_by s label) c is (held_by_each s (Contains (refs s)) label (own_refs s))
 
 pub owner_stands : (s : State) (task : ℕ) (owner : Task) → task_of s task ≡ Some owner → Contains (refs s) owner.current
 owner_stands s task owner is =
-    subst (λ o. IfSome o (λ (t : Task). Contains (refs s) t.current)) is
+    if_found (λ (t : Task). Contains (refs s) t.current) (task_of s task) owner is
     (find_each (λ t. Contains (refs s) t.current) (λ (t : Task). t.number == task) s.tasks (own_refs s).currents)
+
+pub overrides_stand : (s : State) (task : ℕ) (owner : Task) → task_of s task ≡ Some owner → All (Contains (refs s)) owner.overrides
+overrides_stand s task owner is =
+    if_found (λ (t : Task). All (Contains (refs s)) t.overrides) (task_of s task) owner is
+    (find_each (λ t. All (Contains (refs s)) t.overrides) (λ (t : Task). t.number == task) s.tasks (own_refs s).overrides)
 
 pub found_stands : (s : State) (label : ℕ) (hold : Hold) → hold_of s label ≡ Some hold → Contains (refs s) hold.number
 found_stands s label hold is =
-    subst (λ o. IfSome o (λ (h : Hold). Contains (refs s) h.number)) is
+    if_found (λ (h : Hold). Contains (refs s) h.number) (hold_of s label) hold is
     (find_each (λ h. Contains (refs s) h.number) (λ (h : Hold). h.label == label) s.holds (own_refs s).holds)
+
+pub file_stands : (s : State) (place : ℕ) (file : OpenFile) → slice_get s.files place ≡ Some file → Contains (refs s) file.opener
+file_stands s place file is = All-at (λ f. Contains (refs s) f.opener) s.files place file is (own_refs s).openers
 
 pub held_stands : (s : State) (place : ℕ) (hold : Hold) → slice_get s.holds place ≡ Some hold → Contains (refs s) hold.number
 held_stands s place hold is = All-at (λ h. Contains (refs s) h.number) s.holds place hold is (own_refs s).holds

@@ -1,7 +1,7 @@
 -- Every state that a kernel comes to is sound.
-use Rattle.std.proofs.Common.{◌≡◌, ◌≢◌, ◌==◌, ◌⊎◌, inl, inr, not, ℕ, ◌<◌, List, [], ◌∷◌, ◌++◌, length, map, fold, None, refl, sym, ap, ◌∙◌, subst, arith}
+use Rattle.std.proofs.Common.{◌≡◌, ◌≢◌, ◌==◌, ◌⊎◌, inl, inr, not, ℕ, List, [], ◌∷◌, length, map, fold, None, refl, sym, ap, ◌∙◌, subst, arith}
 use Rattle.std.specs.List.{All, AllPairs, Contains, find, remove}
-use Rattle.std.proofs.lemmas.List.{length_push, length-map, map_push}
+use Rattle.std.proofs.lemmas.List.{length-map, map_push}
 use Rattle.std.proofs.lemmas.List.Elements.{All-contains, All-contains_itself, All-filter, All-map, All-nil, All-push, All-weaker}
 use Rattle.std.proofs.lemmas.List.Quantifiers.{all_pairs_remove}
 use Rattle.std.proofs.lemmas.Option.{slice_get_within}
@@ -9,37 +9,26 @@ use Rattle.cred_event.specs.declared.event.Event.{Event}
 use Rattle.cred_event.specs.declared.answer.Answer.{Answer}
 use Rattle.cred_event.specs.declared.entry.Entry.{Entry}
 use Rattle.cred_model.specs.Script.{Script}
-use Rattle.cred_model.specs.State.{State, SealedCred, Task, Prepared, opening}
+use Rattle.cred_model.specs.State.{State, SealedCred, Task, OpenFile, Hold, Prepared, opening}
 use Rattle.cred_model.specs.Slots.{in_use, refs, kept}
 use Rattle.cred_model.specs.Like.{IsLike}
-use Rattle.cred_model.specs.Ends.{is_task, survivors}
-use Rattle.cred_model.specs.Step.{updated, changed, step}
+use Rattle.cred_model.specs.Ends.{survivors}
+use Rattle.cred_model.specs.Moves.{updated, overriding, changed}
+use Rattle.cred_model.specs.Step.{step}
 use Rattle.cred_model.proofs.Lists.{All-kept, All-remove, All-unmap, AllPairs-map, AllPairs-unmap, map_same}
-use Rattle.cred_model.proofs.Numbers.{updated_as, changed_as}
+use Rattle.cred_model.proofs.Numbers.{updated_as, overriding_as, changed_as}
 use Rattle.cred_sound.specs.Ledger.{Ledger, ledger, referred, IsOrderly}
 use Rattle.cred_sound.specs.Sound.{IsSound, StatesAreSound}
 use Rattle.cred_sound.proofs.Moves.{Apart, fewer, keeps, seals}
 use Rattle.cred_model.proofs.Referred.{refs_each, each_deferred}
 use Rattle.cred_sound.proofs.References.{own_refs, current_stands}
-use Rattle.cred_sound.proofs.Parts.{with_left, Changes, CredsChange, TasksChange, HoldsChange, PreparedChange, SameCreds, Seals, SameTasks, Creates, Forks, Renews, Exits, SameHolds, Takes, Releases, SamePrepared, Prepares, Alters, Ends}
+use Rattle.cred_sound.proofs.Parts.{with_left, Old, OldOrNew, grows, Changes, CredsChange, TasksChange, ListChange, PreparedChange, SameCreds, Seals, SameTasks, Creates, Shares, Renews, Overrides, Fewer, Stays, Adds, Removes, SamePrepared, Prepares, Alters, Ends}
 use Rattle.cred_sound.proofs.Events.{changes}
-use Rattle.cred_sound.proofs.Unique.{tasks_differ, holds_differ, labels_differ, labels_unheld}
+use Rattle.cred_sound.specs.Casts.{IsUnderWay}
+use Rattle.cred_sound.proofs.Opened.{casts_open}
+use Rattle.cred_sound.proofs.Unique.{tasks_differ, list_differs, labels_differ, labels_unheld}
 
 -- ---- what is referred to after an event: what was before it, and the number of what it sealed
-
-abbrev Old : State → List ℕ → ℕ → Type 0
-Old s left n = Contains (refs (with_left s left)) n
-
--- the number of a credential that the event sealed
-abbrev IsNew : State → State → ℕ → Type 0
-IsNew s t n = (n ≡ length s.creds) × (length s.creds < length t.creds)
-
-abbrev OldOrNew : State → List ℕ → State → ℕ → Type 0
-OldOrNew s left t n = Old s left n ⊎ IsNew s t n
-
-grows : (s t : State) (new : SealedCred) → t.creds ≡ s.creds ++ new ∷ [] → IsNew s t (length s.creds)
-grows s t new creds =
-    let long = ap (λ (xs : List SealedCred). length xs) creds in (refl, omega (arith, length_push s.creds new))
 
 -- P holds of what the task refers to
 record Refers (P : ℕ → Type 0) (t : Task) : Type 0 where
@@ -48,12 +37,12 @@ record Refers (P : ℕ → Type 0) (t : Task) : Type 0 where
 
 tasks_refer : (s : State) (event : Event) (left : List ℕ) (made : Answer × State) → TasksChange s event made
     → All (Refers (OldOrNew s left made.1)) s.tasks → All (Refers (OldOrNew s left made.1)) made.1.tasks
-tasks_refer s event left made (SameTasks same) old = subst (All (Refers (OldOrNew s left made.1))) (sym same) old
-tasks_refer s event left made (Creates task process user group ns slot is tasks creds new) old =
+tasks_refer s event left made (SameTasks same casts) old = subst (All (Refers (OldOrNew s left made.1))) (sym same) old
+tasks_refer s event left made (Creates task process user group ns slot is tasks creds new idle casts) old =
     subst (All (Refers (OldOrNew s left made.1))) (sym tasks)
     (All-push (Refers (OldOrNew s left made.1)) s.tasks _ old
     (record { current = inr (grows s made.1 _ creds); overrides = All-nil (OldOrNew s left made.1) }))
-tasks_refer s event left made (Forks task child process parent is tasks creds current new) old =
+tasks_refer s event left made (Shares task child process parent tasks creds current new birth) old =
     subst (All (Refers (OldOrNew s left made.1))) (sym tasks)
     (All-push (Refers (OldOrNew s left made.1)) s.tasks _ old
     (record { current = inl (current_stands (with_left s left) task parent current); overrides = All-nil (OldOrNew s left made.1) }))
@@ -64,17 +53,23 @@ tasks_refer s event left made (Renews task slot owner c ends tasks creds found c
     (All-kept P (updated task (length s.creds)) rest
     (λ t one. updated_as P task (length s.creds) t (record { current = inr (grows s made.1 _ creds); overrides = one.overrides }) one)
     (All-filter (λ t. not (ends t)) P s.tasks old))
-tasks_refer s event left made (Exits task is tasks creds) old =
+tasks_refer s event left made (Overrides task numbers tasks refer casts) old =
     let P = Refers (OldOrNew s left made.1) in
-    subst (All P) (sym tasks) (All-filter (λ t. not (is_task task t)) P s.tasks old)
+    subst (All P) (sym tasks)
+    (All-kept P (overriding task numbers) s.tasks
+    (λ t one. overriding_as P task numbers t (record { current = one.current; overrides = refer left }) one) old)
+tasks_refer s event left made (Fewer ends tasks creds death) old =
+    let P = Refers (OldOrNew s left made.1) in
+    subst (All P) (sym tasks) (All-filter (λ t. not (ends t)) P s.tasks old)
 
-holds_refer : (s : State) (event : Event) (left : List ℕ) (t : State) → HoldsChange s event left t
-    → All (λ h. Old s left h.number) s.holds → All (λ h. Old s left h.number) t.holds
-holds_refer s event left t (SameHolds same) old = subst (All (λ h. Old s left h.number)) (sym same) old
-holds_refer s event left t (Takes hold holds new unprepared has) old =
-    subst (All (λ h. Old s left h.number)) (sym holds) (All-push (λ h. Old s left h.number) s.holds hold old has)
-holds_refer s event left t (Releases label place hold is holds at found) old =
-    subst (All (λ h. Old s left h.number)) (sym holds) (All-remove (λ h. Old s left h.number) s.holds place old)
+-- what is referred to by the things of a list
+list_refers : {X : Type 0} (name number : X → ℕ) (P : ℕ → Type 0) (IsNew : X → Type 0) (Gone : ℕ → Type 0) (xs ys : List X)
+    → ListChange X name IsNew Gone xs ys → ((x : X) → IsNew x → P (number x)) → All (λ x. P (number x)) xs → All (λ x. P (number x)) ys
+list_refers name number P IsNew Gone xs ys (Stays same) new old = subst (All (λ x. P (number x))) (sym same) old
+list_refers name number P IsNew Gone xs ys (Adds x more none is) new old =
+    subst (All (λ x. P (number x))) (sym more) (All-push (λ x. P (number x)) xs x old (new x is))
+list_refers name number P IsNew Gone xs ys (Removes gone place x ends less at found) new old =
+    subst (All (λ x. P (number x))) (sym less) (All-remove (λ x. P (number x)) xs place old)
 
 abbrev OfBase : State → List ℕ → Prepared → Type 0
 OfBase s left p = Old s left p.base
@@ -103,7 +98,8 @@ all_refer script s event made c =
     refs_each P made.1 (record {
       currents = λ k d lt. (tasks k d lt).current;
       overrides = λ k d lt. (tasks k d lt).overrides;
-      holds = λ k d lt. inl (holds_refer s event c.left made.1 c.holds old.holds k d lt);
+      openers = λ k d lt. inl (list_refers (λ (f : OpenFile). f.fd) (λ f. f.opener) (Old s c.left) _ _ _ _ c.files (λ f has. has) old.openers k d lt);
+      holds = λ k d lt. inl (list_refers (λ (h : Hold). h.label) (λ h. h.number) (Old s c.left) _ _ _ _ c.holds (λ h has. has.1) old.holds k d lt);
       bases = λ k d lt. inl (bases_refer script s event c.left made.1 c.prepared old.bases k d lt);
       deferred = weaker made.1.deferred c.deferred;
     })
@@ -187,13 +183,19 @@ changes_orderly script s event made c order =
 
 changes_sound : (script : Script) (s : State) (event : Event) (made : Answer × State) → Changes script s event made → IsSound s
     → IsSound made.1
-changes_sound script s event made c sound = record {
-  tasks = tasks_differ s event made c.tasks sound.tasks;
-  holds = holds_differ s event c.left made.1 c.holds sound.holds;
-  prepared = labels_differ script s event c.left made.1 c.prepared sound.prepared;
-  labels = labels_unheld script s event c.left made.1 c.holds c.prepared sound.labels;
-  slots = changes_orderly script s event made c sound.slots;
-}
+changes_sound script s event made c sound =
+    let open_now = casts_open s event made c.tasks sound in
+    record {
+      tasks = tasks_differ s event made c.tasks sound.tasks;
+      casts = open_now.apart.numbers;
+      processes = open_now.apart.processes;
+      under_way = open_now.under_way;
+      files = list_differs (λ (f : OpenFile). f.fd) _ _ s.files made.1.files c.files sound.files;
+      holds = list_differs (λ (h : Hold). h.label) _ _ s.holds made.1.holds c.holds sound.holds;
+      prepared = labels_differ script s event c.left made.1 c.prepared sound.prepared;
+      labels = labels_unheld script s event c.left made.1 c.holds c.prepared sound.labels;
+      slots = changes_orderly script s event made c sound.slots;
+    }
 
 pub step_sound : (script : Script) (s : State) (line : ℕ) (event : Event) → IsSound s → IsSound (step script s line event).1
 step_sound script s line event sound =
@@ -202,6 +204,10 @@ step_sound script s line event sound =
 pub opening_sound : IsSound opening
 opening_sound = record {
   tasks = λ i j d lt within. absurd (omega arith);
+  casts = λ i j d lt within. absurd (omega arith);
+  processes = λ i j d lt within. absurd (omega arith);
+  under_way = λ k d lt. absurd (omega arith);
+  files = λ i j d lt within. absurd (omega arith);
   holds = λ i j d lt within. absurd (omega arith);
   prepared = λ i j d lt within. absurd (omega arith);
   labels = λ k d lt. absurd (omega arith);
@@ -227,24 +233,29 @@ sound_after script journal = sound_from script journal opening opening_sound
 -- ---- states that are alike
 
 -- Soundness asks only for what is the same in both.
-same_sound : (a b : State) → a.tasks ≡ b.tasks → a.holds ≡ b.holds → a.prepared ≡ b.prepared → ledger a ≡ ledger b → IsSound b
-    → IsSound a
-same_sound a b tasks holds prepared same sound = record {
-  tasks = subst (AllPairs (λ a b. a.number ≢ b.number)) (sym tasks) sound.tasks;
-  holds = subst (AllPairs (λ a b. a.label ≢ b.label)) (sym holds) sound.holds;
-  prepared = subst (AllPairs (λ a b. a.label ≢ b.label)) (sym prepared) sound.prepared;
-  labels = subst (λ hs. All (λ p. find (λ h. h.label == p.label) hs ≡ None) a.prepared) (sym holds)
-      (subst (All (λ p. find (λ h. h.label == p.label) b.holds ≡ None)) (sym prepared) sound.labels);
+same_sound : (a b : State) → IsLike a b → ledger a ≡ ledger b → IsSound b → IsSound a
+same_sound a b like same sound = record {
+  tasks = subst (AllPairs (λ a b. a.number ≢ b.number)) (sym like.tasks) sound.tasks;
+  casts = subst (AllPairs (λ a b. a.number ≢ b.number)) (sym like.casts) sound.casts;
+  processes = subst (AllPairs (λ a b. a.process ≢ b.process)) (sym like.casts) sound.processes;
+  under_way = subst (λ ts. All (IsUnderWay ts) a.casts) (sym like.tasks)
+      (subst (All (IsUnderWay b.tasks)) (sym like.casts) sound.under_way);
+  files = subst (AllPairs (λ a b. a.fd ≢ b.fd)) (sym like.files) sound.files;
+  holds = subst (AllPairs (λ a b. a.label ≢ b.label)) (sym like.holds) sound.holds;
+  prepared = subst (AllPairs (λ a b. a.label ≢ b.label)) (sym like.prepared) sound.prepared;
+  labels = subst (λ hs. All (λ p. find (λ h. h.label == p.label) hs ≡ None) a.prepared) (sym like.holds)
+      (subst (All (λ p. find (λ h. h.label == p.label) b.holds ≡ None)) (sym like.prepared) sound.labels);
   slots = subst IsOrderly (sym same) sound.slots;
 }
 
 same_ledger : (a b : State) → IsLike a b → ledger a ≡ ledger b
 same_ledger a b like =
     ap (λ ts. ledger (record a { tasks = ts })) like.tasks
-    ∙ ap (λ hs. ledger (record a { tasks = b.tasks; holds = hs })) like.holds
-    ∙ ap (λ ps. ledger (record a { tasks = b.tasks; holds = b.holds; prepared = ps })) like.prepared
+    ∙ ap (λ fs. ledger (record a { tasks = b.tasks; files = fs })) like.files
+    ∙ ap (λ hs. ledger (record a { tasks = b.tasks; files = b.files; holds = hs })) like.holds
+    ∙ ap (λ ps. ledger (record b { prepared = ps; deferred = a.deferred; creds = a.creds })) like.prepared
     ∙ ap (λ ds. ledger (record b { deferred = ds; creds = a.creds })) like.deferred
     ∙ ap (λ slots. record (ledger b) { slots = slots }) like.slots
 
 pub like_sound : (a b : State) → IsLike a b → IsSound b → IsSound a
-like_sound a b like = same_sound a b like.tasks like.holds like.prepared (same_ledger a b like)
+like_sound a b like = same_sound a b like (same_ledger a b like)

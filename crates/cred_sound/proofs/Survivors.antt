@@ -1,12 +1,12 @@
 -- The tasks that go on where others end.
-use Rattle.std.proofs.Common.{◌≡◌, ◌≢◌, ◌==◌, not, ℕ, List, [], ◌∷◌, Option, Some, None, Bool, true, false, cond, refl, sym, ap, ◌∙◌}
-use Rattle.std.specs.List.{All, AllPairs, filter, find}
-use Rattle.std.proofs.lemmas.List.Elements.{All-filter, All-head, All-tail, All-weaker}
-use Rattle.std.proofs.lemmas.Bool.Decides.{nat_tests}
-use Rattle.std.proofs.lemmas.Bool.{eqb-false, eqb-true}
+use Rattle.std.proofs.Common.{◌≡◌, ◌≢◌, ◌==◌, not, ℕ, List, Option, Some, None, Bool, true, false, refl, sym, ap, ◌∙◌}
+use Rattle.std.specs.List.{All, AllPairs, find}
+use Rattle.std.proofs.lemmas.List.Elements.{All-filter}
+use Rattle.std.proofs.lemmas.Bool.{eqb-true}
 use Rattle.cred_model.specs.State.{Task}
 use Rattle.cred_model.specs.Ends.{survivors}
-use Rattle.cred_model.proofs.Lists.{Differ, alone, found, found_none, none_found}
+use Rattle.cred_model.proofs.Rising.{find-filter}
+use Rattle.cred_model.proofs.Lists.{alone, found, found_none, none_found}
 
 -- who isn't found among all isn't found among those that go on
 pub find_no_survivor : (ends : Task → Bool) (tasks : List Task) (task : ℕ) → find (λ t. t.number == task) tasks ≡ None
@@ -36,22 +36,7 @@ find_survivor ends tasks task t apart is =
 -- Who is found among all, and doesn't end, is found among those that go on.
 pub find_goes_on : (ends : Task → Bool) (tasks : List Task) (task : ℕ) (t : Task) → find (λ t. t.number == task) tasks ≡ Some t
     → ends t ≡ false → (find (λ t. t.number == task) (survivors ends tasks) ≡ Some t) × ((t.number == task) ≡ true)
-find_goes_on ends [] task t is on = cc
-find_goes_on ends (x ∷ xs) task t is on =
-    goes_on ends x xs task t (x.number == task) refl (ends x) refl is on (find_goes_on ends xs task t)
-  where
-    goes_on : (ends : Task → Bool) (x : Task) (xs : List Task) (task : ℕ) (t : Task) (b : Bool) → (x.number == task) ≡ b
-        → (e : Bool) → ends x ≡ e → cond b (Some x) (find (λ t. t.number == task) xs) ≡ Some t → ends t ≡ false
-        → (find (λ t. t.number == task) xs ≡ Some t → ends t ≡ false → (find (λ t. t.number == task) (survivors ends xs) ≡ Some t) × ((t.number == task) ≡ true))
-        → (find (λ t. t.number == task) (cond (not e) (x ∷ survivors ends xs) (survivors ends xs)) ≡ Some t) × ((t.number == task) ≡ true)
-    goes_on ends x xs task t true test e ending is on later =
-        let same : x ≡ t = cc in
-        let going : e ≡ false = sym ending ∙ ap ends same ∙ on in (
-          ap (λ e. find (λ (t : Task). t.number == task) (cond (not e) (x ∷ survivors ends xs) (survivors ends xs))) going
-              ∙ ap (λ b. cond b (Some x) (find (λ (t : Task). t.number == task) (survivors ends xs))) test ∙ ap Some same,
-          ap (λ (t : Task). t.number == task) (sym same) ∙ test,
-        )
-    goes_on ends x xs task t false test true ending is on later = later is on
-    goes_on ends x xs task t false test false ending is on later =
-        let rest = later is on in
-        (ap (λ b. cond b (Some x) (find (λ (t : Task). t.number == task) (survivors ends xs))) test ∙ rest.0, rest.1)
+find_goes_on ends tasks task t is on = (
+  find-filter (λ t. t.number == task) (λ t. not (ends t)) tasks t is (ap not on),
+  (found (λ (t : Task). Unit {0}) (λ t. t.number == task) tasks t is (λ k d lt. tt)).1,
+)

@@ -1,15 +1,18 @@
 -- How an event's tests lead to what it does.
-use Rattle.std.proofs.Common.{◌≡◌, ℕ, List, [], nat_lt, Option, Some, None, Result, Ok, Err, ok_or, Bool, true, false, cond, is_some, refl}
+use Rattle.std.proofs.Common.{◌≡◌, ◌==◌, ℕ, length, List, [], nat_lt, Option, Some, None, Result, Ok, Err, ok_or, Bool, true, false, cond, is_some, refl}
 use Rattle.std.specs.List.{All, Contains}
 use Rattle.std.specs.Option.{option_map_or}
 use Rattle.std.proofs.lemmas.List.Elements.{All-contains_itself, All-nil}
 use Rattle.cred_record.specs.Credential.{Credential}
 use Rattle.cred_record.specs.declared.refusal.Denial.{Denial}
 use Rattle.cred_event.specs.declared.answer.Answer.{Answer}
-use Rattle.cred_model.specs.State.{State}
+use Rattle.cred_model.specs.State.{State, Task, Broadcast}
 use Rattle.cred_model.specs.Slots.{least_free, swept}
+use Rattle.cred_model.specs.Casts.{not_busy}
+use Rattle.cred_model.specs.Answers.{is_ok}
 use Rattle.cred_model.specs.Change.{by_rule}
-use Rattle.cred_model.specs.Step.{◌>>=◌, none_or, fewer_or, in_slot, outcome}
+use Rattle.cred_model.specs.Moves.{◌>>=◌, none_or, fewer_or, passed, not_overridden, in_slot}
+use Rattle.cred_model.specs.Step.{outcome}
 use Rattle.cred_sound.proofs.References.{IsFree, free_slot}
 use Rattle.cred_sound.proofs.Parts.{with_left}
 
@@ -35,14 +38,42 @@ pub if_none : {A : Type 0} (Q : Answer × State → Type 0) (found : Option A) (
 if_none Q None answer f each = each refl
 if_none Q (Some x) answer f each = tt
 
-passed : (Q : Answer × State → Type 0) (test : Bool) (answer : Answer) (f : Unit {0} → Result (Answer × State) Answer)
+-- what is done with what is found, or where nothing is
+pub if_either : {A : Type 0} (Q : Answer × State → Type 0) (found : Option A) (f : A → Result (Answer × State) Answer)
+    (none : Result (Answer × State) Answer) → ((x : A) → found ≡ Some x → IfAllowed Q (f x)) → (found ≡ None → IfAllowed Q none)
+    → IfAllowed Q (option_map_or f found none)
+if_either Q None f none each otherwise = otherwise refl
+if_either Q (Some x) f none each otherwise = each x refl
+
+-- where a test is passed
+pub if_true : (Q : Answer × State → Type 0) (test : Bool) (answer : Answer) (f : Unit {0} → Result (Answer × State) Answer)
     → IfAllowed Q (f tt) → IfAllowed Q (cond test (Ok tt) (Err answer) >>= f)
-passed Q true answer f does = does
-passed Q false answer f does = tt
+if_true Q true answer f does = does
+if_true Q false answer f does = tt
 
 pub if_fewer : (Q : Answer × State → Type 0) (count limit : ℕ) (answer : Answer) (f : Unit {0} → Result (Answer × State) Answer)
     → IfAllowed Q (f tt) → IfAllowed Q (fewer_or count limit answer >>= f)
-if_fewer Q count limit answer f does = passed Q (nat_lt count limit) answer f does
+if_fewer Q count limit answer f does = if_true Q (nat_lt count limit) answer f does
+
+pub if_passed : (Q : Answer × State → Type 0) (answer : Answer) (f : Unit {0} → Result (Answer × State) Answer)
+    → IfAllowed Q (f tt) → IfAllowed Q (passed answer >>= f)
+if_passed Q answer f does = if_true Q (is_ok answer) answer f does
+
+-- where no broadcast is open
+pub if_idle : (Q : Answer × State → Type 0) (found : Option Broadcast) (f : Unit {0} → Result (Answer × State) Answer)
+    → (found ≡ None → IfAllowed Q (f tt)) → IfAllowed Q (not_busy found >>= f)
+if_idle Q None f each = each refl
+if_idle Q (Some cast) f each = tt
+
+pub if_own : (Q : Answer × State → Type 0) (t : Task) (f : Unit {0} → Result (Answer × State) Answer) → IfAllowed Q (f tt)
+    → IfAllowed Q (not_overridden t >>= f)
+if_own Q t f does = if_true Q (length t.overrides == 0) _ f does
+
+-- the last test
+pub if_last : (Q : Answer × State → Type 0) (test : Bool) (made : Answer × State) (answer : Answer) → Q made
+    → IfAllowed Q (cond test (Ok made) (Err answer))
+if_last Q true made answer has = has
+if_last Q false made answer has = tt
 
 pub if_rule : (Q : Answer × State → Type 0) (r : Result Credential Denial) (f : Credential → Result (Answer × State) Answer)
     → ((c : Credential) → r ≡ Ok c → IfAllowed Q (f c)) → IfAllowed Q (by_rule r >>= f)

@@ -13,11 +13,11 @@ use Rattle.cred_event.specs.declared.event.Event.{Event}
 use Rattle.cred_event.specs.declared.answer.Answer.{Answer}
 use Rattle.cred_model.specs.Script.{Script}
 use Rattle.cred_model.specs.State.{State, Task, Hold, Prepared}
-use Rattle.cred_model.specs.Ends.{is_task, survivors}
-use Rattle.cred_model.specs.Step.{updated, changed, first_task}
+use Rattle.cred_model.specs.Ends.{survivors}
+use Rattle.cred_model.specs.Moves.{updated, overriding, changed, first_task}
 use Rattle.cred_model.proofs.Lists.{All-kept, All-remove, AllPairs-map, AllPairs-weaker, Differ, found_none, none_found}
-use Rattle.cred_model.proofs.Numbers.{updated_number, changed_as, changed_label}
-use Rattle.cred_sound.proofs.Parts.{TasksChange, HoldsChange, PreparedChange, SameTasks, Creates, Forks, Renews, Exits, SameHolds, Takes, Releases, SamePrepared, Prepares, Alters, Ends}
+use Rattle.cred_model.proofs.Numbers.{updated_number, overriding_number, changed_as, changed_label}
+use Rattle.cred_sound.proofs.Parts.{ListChange, TasksChange, HoldsChange, PreparedChange, SameTasks, Creates, Shares, Renews, Overrides, Fewer, Stays, Adds, Removes, SamePrepared, Prepares, Alters, Ends}
 
 -- where none is found of a number, each has another
 pub none_has : {X : Type 0} (f : X → ℕ) (xs : List X) (n : ℕ) → find (λ x. f x == n) xs ≡ None → All (λ x. f x ≢ n) xs
@@ -33,38 +33,36 @@ differ-map f g xs same each =
 abbrev number_of : Task → ℕ
 number_of t = t.number
 
-abbrev held_as : Hold → ℕ
-held_as h = h.label
-
 abbrev prepared_as : Prepared → ℕ
 prepared_as p = p.label
 
 pub tasks_differ : (s : State) (event : Event) (made : Answer × State) → TasksChange s event made
     → AllPairs (Differ number_of) s.tasks → AllPairs (Differ number_of) made.1.tasks
-tasks_differ s event made (SameTasks same) differ = subst (AllPairs (Differ number_of)) (sym same) differ
-tasks_differ s event made (Creates task process user group ns slot is tasks creds new) differ =
+tasks_differ s event made (SameTasks same casts) differ = subst (AllPairs (Differ number_of)) (sym same) differ
+tasks_differ s event made (Creates task process user group ns slot is tasks creds new idle casts) differ =
     subst (AllPairs (Differ number_of)) (sym tasks)
     (all_pairs_push (Differ number_of) s.tasks (first_task task process _) differ (none_has number_of s.tasks task new))
-tasks_differ s event made (Forks task child process parent is tasks creds current new) differ =
+tasks_differ s event made (Shares task child process parent tasks creds current new birth) differ =
     subst (AllPairs (Differ number_of)) (sym tasks)
     (all_pairs_push (Differ number_of) s.tasks (first_task child process _) differ (none_has number_of s.tasks child new))
 tasks_differ s event made (Renews task slot owner c ends tasks creds found cause) differ =
     subst (AllPairs (Differ number_of)) (sym tasks)
     (differ-map number_of (updated task _) (survivors ends s.tasks) (updated_number task _)
     (AllPairs-filter (Differ number_of) (λ t. not (ends t)) s.tasks differ))
-tasks_differ s event made (Exits task is tasks creds) differ =
+tasks_differ s event made (Overrides task numbers tasks refer casts) differ =
     subst (AllPairs (Differ number_of)) (sym tasks)
-    (AllPairs-filter (Differ number_of) (λ t. not (is_task task t)) s.tasks differ)
+    (differ-map number_of (overriding task numbers) s.tasks (overriding_number task numbers) differ)
+tasks_differ s event made (Fewer ends tasks creds death) differ =
+    subst (AllPairs (Differ number_of)) (sym tasks)
+    (AllPairs-filter (Differ number_of) (λ t. not (ends t)) s.tasks differ)
 
-pub holds_differ : (s : State) (event : Event) (left : List ℕ) (t : State) → HoldsChange s event left t → AllPairs (Differ held_as) s.holds
-    → AllPairs (Differ held_as) t.holds
-holds_differ s event left t (SameHolds same) differ = subst (AllPairs (Differ held_as)) (sym same) differ
-holds_differ s event left t (Takes hold holds new unprepared stands) differ =
-    subst (AllPairs (Differ held_as)) (sym holds)
-    (all_pairs_push (Differ held_as) s.holds hold differ (none_has held_as s.holds hold.label new))
-holds_differ s event left t (Releases label place hold is holds at found) differ =
-    subst (AllPairs (Differ held_as)) (sym holds)
-    (all_pairs_remove (Differ held_as) s.holds place (slice_get_within s.holds place hold found) differ)
+pub list_differs : {X : Type 0} (name : X → ℕ) (IsNew : X → Type 0) (Gone : ℕ → Type 0) (xs ys : List X)
+    → ListChange X name IsNew Gone xs ys → AllPairs (Differ name) xs → AllPairs (Differ name) ys
+list_differs name IsNew Gone xs ys (Stays same) differ = subst (AllPairs (Differ name)) (sym same) differ
+list_differs name IsNew Gone xs ys (Adds x more new is) differ =
+    subst (AllPairs (Differ name)) (sym more) (all_pairs_push (Differ name) xs x differ (none_has name xs (name x) new))
+list_differs name IsNew Gone xs ys (Removes number place x ends less at found) differ =
+    subst (AllPairs (Differ name)) (sym less) (all_pairs_remove (Differ name) xs place (slice_get_within xs place x found) differ)
 
 pub labels_differ : (script : Script) (s : State) (event : Event) (left : List ℕ) (t : State)
     → PreparedChange script s event left t → AllPairs (Differ prepared_as) s.prepared → AllPairs (Differ prepared_as) t.prepared
@@ -100,12 +98,12 @@ not_held_without holds place p none =
 -- next to the other holds
 unheld_still : (s : State) (event : Event) (left : List ℕ) (t : State) → HoldsChange s event left t → All (IsNotHeld s.holds) s.prepared
     → All (IsNotHeld t.holds) s.prepared
-unheld_still s event left t (SameHolds same) unheld = subst (λ holds. All (IsNotHeld holds) s.prepared) (sym same) unheld
-unheld_still s event left t (Takes hold holds new unprepared stands) unheld =
-    let others = none_has prepared_as s.prepared hold.label unprepared in
+unheld_still s event left t (Stays same) unheld = subst (λ holds. All (IsNotHeld holds) s.prepared) (sym same) unheld
+unheld_still s event left t (Adds hold holds new is) unheld =
+    let others = none_has prepared_as s.prepared hold.label is.0 in
     subst (λ holds. All (IsNotHeld holds) s.prepared) (sym holds)
     (λ k d lt. not_held_with s.holds hold (get_or s.prepared k d) (others k d lt) (unheld k d lt))
-unheld_still s event left t (Releases label place hold is holds at found) unheld =
+unheld_still s event left t (Removes label place hold is holds at found) unheld =
     subst (λ holds. All (IsNotHeld holds) s.prepared) (sym holds)
     (All-weaker (IsNotHeld s.holds) (IsNotHeld (remove s.holds place)) (not_held_without s.holds place) s.prepared unheld)
 

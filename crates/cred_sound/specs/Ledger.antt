@@ -1,6 +1,8 @@
 -- What a state refers to, and the slots that it uses.
 use Rattle.std.specs.Prelude.{◌≡◌, ◌≢◌, ℕ, ◌<◌, List, ◌++◌, length, map, slice_get, Some, All, Contains}
 use Rattle.std.specs.List.{AllPairs}
+use Rattle.cred_event.specs.declared.event.Event.{Event}
+use Rattle.cred_event.specs.declared.event.Event.TheVariants.{Commit, Override}
 use Rattle.cred_model.specs.State.{State}
 use Rattle.cred_model.specs.Slots.{SLOTS, in_use, kept}
 
@@ -48,3 +50,9 @@ pub record IsOrderly (l : Ledger) : Type 0 where
   pub kept : All (λ slot. slot < SLOTS) l.kept
   pub own : AllPairs (λ a b. a ≢ b) l.kept
   pub clear : All (λ slot. IsClear l.slots slot (referred l)) l.kept
+
+-- the event seals what this label prepared: it commits that, or has it override the task's own
+abbrev pub SealsOf : Event → ℕ → Type 0
+SealsOf (Commit committed) label = committed ≡ label
+SealsOf (Override task overriding) label = overriding ≡ label
+SealsOf event label = ⊥

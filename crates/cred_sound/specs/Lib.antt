@@ -1,2 +1,4 @@
 pub mod Ledger
+pub mod Casts
 pub mod Sound
+pub mod Few

@@ -6,11 +6,18 @@ use Rattle.cred_model.specs.Script.{Script}
 use Rattle.cred_model.specs.State.{State, hold_of}
 use Rattle.cred_model.specs.Journal.{replay}
 use Rattle.cred_sound.specs.Ledger.{ledger, IsOrderly}
+use Rattle.cred_sound.specs.Casts.{IsUnderWay}
 
--- No two tasks have one number, no two holds one label, and no two prepared labels one label; nor
--- is a prepared label a hold's. The references and the slots are in order.
+-- No two tasks have one number, no two open files one descriptor, no two holds one label, and no two
+-- prepared labels one label; nor is a prepared label a hold's. A process has one open broadcast at
+-- most, no two broadcasts have one number, and each is under way. The references and the slots are
+-- in order.
 pub record IsSound (s : State) : Type 0 where
   pub tasks : AllPairs (λ a b. a.number ≢ b.number) s.tasks
+  pub casts : AllPairs (λ a b. a.number ≢ b.number) s.casts
+  pub processes : AllPairs (λ a b. a.process ≢ b.process) s.casts
+  pub under_way : All (IsUnderWay s.tasks) s.casts
+  pub files : AllPairs (λ a b. a.fd ≢ b.fd) s.files
   pub holds : AllPairs (λ a b. a.label ≢ b.label) s.holds
   pub prepared : AllPairs (λ a b. a.label ≢ b.label) s.prepared
   pub labels : All (λ p. hold_of s p.label ≡ None) s.prepared

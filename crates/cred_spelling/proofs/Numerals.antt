@@ -8,7 +8,7 @@ use Rattle.std.proofs.lemmas.Str.{IsUtf8-from_ascii}
 use Rattle.std.proofs.lemmas.Fmt.{IsAscii-from_digits}
 use Rattle.std.proofs.lemmas.Bool.Decides.{nat_tests}
 use Rattle.std.proofs.Math.Nat.{pow-le-pow_right}
-use Rattle.cred_spelling.specs.Spellings.{is_numeral, number_of, decimal_of}
+use Rattle.cred_spelling.specs.Spellings.{is_numeral, number_of, long_of, decimal_of}
 
 own : IsNumeralModel (λ ds. all_ascii_digits ds ≡ true) (digits_value 10)
 own = numerals_by_value _ tells_all_ascii_digits
@@ -29,22 +29,38 @@ none_if : (a b : Bool) (v : ℕ) → (a ≡ true → ⊥) → cond (a && b) (Som
 none_if true b v no_a = absurd (no_a refl)
 none_if false b v no_a = refl
 
-pub number_of_parsed : {E : Type 0} (bs : List ℕ) (r : Result ℕ E) → ParsesUnsigned 32 10 bs r → 1 ≤ length bs → 49 ≤ get_or bs 0 0 → result_ok r ≡ number_of bs
-number_of_parsed [] r h some low = absurd (omega arith)
-number_of_parsed (d ∷ ds) r h some low =
+-- the number that a word writes, if it is below a power of two
+abbrev below : ℕ → List ℕ → Option ℕ
+below bits word = cond (is_numeral word && nat_lt (digits_value 10 word) (2 ^ bits)) (Some (digits_value 10 word)) None
+
+below_parsed : {E : Type 0} (bits : ℕ) (bs : List ℕ) (r : Result ℕ E) → ParsesUnsigned bits 10 bs r → 1 ≤ length bs → 49 ≤ get_or bs 0 0 → result_ok r ≡ below bits bs
+below_parsed bits [] r h some low = absurd (omega arith)
+below_parsed bits (d ∷ ds) r h some low =
     let other : d ≢ 48 = λ e. omega arith in
     let plus : d ≢ 43 = λ e. omega arith in
-    let plain = parse_plain own 32 (d ∷ ds) r h plus in
+    let plain = parse_plain own bits (d ∷ ds) r h plus in
     rw (plain_numeral d ds other)
-    (parsed (d ∷ ds) (all_ascii_digits (d ∷ ds)) (nat_lt (digits_value 10 (d ∷ ds)) (2 ^ 32)) r (digits_value 10 (d ∷ ds)) _ plain
+    (parsed (d ∷ ds) (all_ascii_digits (d ∷ ds)) (nat_lt (digits_value 10 (d ∷ ds)) (2 ^ bits)) r (digits_value 10 (d ∷ ds)) _ plain
     (λ h. (h.0, (let small = h.2 in grind (arith, nat_tests)))) (λ a b. (a, omega arith, (let small = b in grind (arith, nat_tests)))))
 
-pub number_of_no_text : (bs : List ℕ) → (IsUtf8 bs → ⊥) → 1 ≤ length bs → 49 ≤ get_or bs 0 0 → number_of bs ≡ None
-number_of_no_text [] bad some low = absurd (omega arith)
-number_of_no_text (d ∷ ds) bad some low =
+below_no_text : (bits : ℕ) (bs : List ℕ) → (IsUtf8 bs → ⊥) → 1 ≤ length bs → 49 ≤ get_or bs 0 0 → below bits bs ≡ None
+below_no_text bits [] bad some low = absurd (omega arith)
+below_no_text bits (d ∷ ds) bad some low =
     let other : d ≢ 48 = λ e. omega arith in
     rw (plain_numeral d ds other)
     (none_if (all_ascii_digits (d ∷ ds)) _ _ (λ e. bad (IsUtf8-from_ascii (d ∷ ds) (IsAscii-from_digits (d ∷ ds) (own.to (d ∷ ds) e)))))
+
+pub number_of_parsed : {E : Type 0} (bs : List ℕ) (r : Result ℕ E) → ParsesUnsigned 32 10 bs r → 1 ≤ length bs → 49 ≤ get_or bs 0 0 → result_ok r ≡ number_of bs
+number_of_parsed bs r h some low = below_parsed 32 bs r h some low
+
+pub number_of_no_text : (bs : List ℕ) → (IsUtf8 bs → ⊥) → 1 ≤ length bs → 49 ≤ get_or bs 0 0 → number_of bs ≡ None
+number_of_no_text bs bad some low = below_no_text 32 bs bad some low
+
+pub long_of_parsed : {E : Type 0} (bs : List ℕ) (r : Result ℕ E) → ParsesUnsigned 64 10 bs r → 1 ≤ length bs → 49 ≤ get_or bs 0 0 → result_ok r ≡ long_of bs
+long_of_parsed bs r h some low = below_parsed 64 bs r h some low
+
+pub long_of_no_text : (bs : List ℕ) → (IsUtf8 bs → ⊥) → 1 ≤ length bs → 49 ≤ get_or bs 0 0 → long_of bs ≡ None
+long_of_no_text bs bad some low = below_no_text 64 bs bad some low
 
 -- what digits write that follow those of a number
 abbrev pub decimal_after : ℕ → List ℕ → Option ℕ

@@ -1,7 +1,8 @@
 -- The tables of keywords: which words may begin a line, and name a call, a change and a question.
-use Rattle.std.specs.Prelude.{ℕ, List, [], ◌∷◌, codes}
+use Rattle.std.specs.Prelude.{ℕ, List, [], ◌∷◌, Some, codes, if◌then◌else◌}
 use Rattle.std.specs.declared.option.Option.{Option}
 use Rattle.std.specs.Option.{option_map, option_or}
+use Rattle.std.specs.Str.{bytes_eq}
 use Rattle.cred_ids.specs.declared.id.Kind.TheVariants.{User, Group}
 use Rattle.cred_spelling.specs.declared.names.Form.{Form}
 use Rattle.cred_spelling.specs.declared.names.Form.TheVariants.{Init, File, Namespace, Task, Event}
@@ -12,6 +13,8 @@ use Rattle.cred_spelling.specs.declared.names.ChangeName.{ChangeName}
 use Rattle.cred_spelling.specs.declared.names.ChangeName.TheVariants as change
 use Rattle.cred_spelling.specs.declared.names.QueryName.{QueryName}
 use Rattle.cred_spelling.specs.declared.names.QueryName.TheVariants as query
+use Rattle.cred_spelling.specs.declared.names.OtherName.{OtherName}
+use Rattle.cred_spelling.specs.declared.names.OtherName.TheVariants as other
 use Rattle.cred_spelling.specs.declared.names.CallName.{CallName}
 use Rattle.cred_spelling.specs.declared.names.CallName.TheVariants as call
 use Rattle.cred_spelling.specs.Spellings.{task_of}
@@ -25,13 +28,17 @@ forms =
     (codes "ns", Namespace) ∷
     (codes "take", Event event.Take) ∷
     (codes "takereal", Event event.TakeReal) ∷
+    (codes "takefile", Event event.TakeFile) ∷
     (codes "drop", Event event.Release) ∷
     (codes "ask", Event event.Ask) ∷
     (codes "prepare", Event event.Prepare) ∷
     (codes "change", Event event.Alter) ∷
     (codes "commit", Event event.Commit) ∷
     (codes "abort", Event event.Abort) ∷
+    (codes "override", Event event.Override) ∷
+    (codes "revert", Event event.Revert) ∷
     (codes "begin", Event event.Begin) ∷
+    (codes "act", Event event.Act) ∷
     (codes "sweep", Event event.Sweep) ∷
     []
 
@@ -49,7 +56,7 @@ id_names =
     (codes "setgroups", id.SetGroups) ∷
     []
 
--- the changes of a credential
+-- the changes of a credential that a call makes
 unfoldable pub change_names : List (List ℕ × ChangeName)
 change_names =
     (codes "setfsuid", change.SetFs User) ∷
@@ -79,10 +86,16 @@ query_names =
     []
 
 -- the calls that are neither id calls, nor changes, nor questions
-unfoldable pub call_names : List (List ℕ × CallName)
-call_names =
-    (codes "fork", call.Fork) ∷
-    (codes "exit", call.Exit) ∷
+unfoldable pub other_names : List (List ℕ × OtherName)
+other_names =
+    (codes "open", other.Open) ∷
+    (codes "close", other.Close) ∷
+    (codes "fcap", other.Fcap) ∷
+    (codes "access", other.Access) ∷
+    (codes "signal", other.Signal) ∷
+    (codes "spawn", other.Spawn) ∷
+    (codes "fork", other.Fork) ∷
+    (codes "exit", other.Exit) ∷
     []
 
 -- what a line is by its first word: a call or a question of a task is named by the task
@@ -93,9 +106,15 @@ form_of word = option_or (option_map Task (task_of word)) (named forms word)
 abbrev pub id_name : List ℕ → Option IdName
 id_name word = named id_names word
 
--- the change that a word names
+-- the change that a call of this name makes
 abbrev pub change_name : List ℕ → Option ChangeName
 change_name word = named change_names word
+
+-- The change that an event of this name makes: that of a call, or what access(2) decides on. After
+-- a task `access` is that call.
+abbrev pub altered_name : List ℕ → Option ChangeName
+altered_name word =
+    if bytes_eq word (codes "access") then Some change.Access else change_name word
 
 -- the question that a word names
 abbrev pub query_name : List ℕ → Option QueryName
@@ -107,4 +126,4 @@ call_name word =
     option_or (option_map call.Question (query_name word))
     (option_or (option_map call.Id (id_name word))
     (option_or (option_map call.Change (change_name word))
-    (named call_names word)))
+    (option_map call.Other (named other_names word))))

@@ -34,6 +34,13 @@ number_of word =
     then Some (digits_value 10 word)
     else None
 
+-- a number, at most 18446744073709551615
+abbrev pub long_of : List ℕ → Option ℕ
+long_of word =
+    if is_numeral word && nat_lt (digits_value 10 word) (2 ^ 64)
+    then Some (digits_value 10 word)
+    else None
+
 -- an id: one number is none
 abbrev pub id_of : List ℕ → Option ℕ
 id_of word =
@@ -98,14 +105,18 @@ numbered letter least most (first ∷ digits) =
 abbrev pub letter : List ℕ → ℕ
 letter text = slice_index text 0
 
--- the last number of a task, a process or a label: greater labels are those that a line takes for
--- itself
+-- the last number of a task, a process, a label or a descriptor: greater labels are those that a
+-- line takes for itself
 abbrev pub LAST_NUMBER : ℕ
 LAST_NUMBER = 99999
 
 -- the last number of a namespace
 abbrev pub LAST_NAMESPACE : ℕ
 LAST_NAMESPACE = 15
+
+-- the last number of a line
+abbrev pub LAST_LINE : ℕ
+LAST_LINE = 20000
 
 -- a task, as `t1`
 abbrev pub task_of : List ℕ → Option ℕ
@@ -119,6 +130,10 @@ process_of word = numbered (letter (codes "p")) 1 LAST_NUMBER word
 abbrev pub label_of : List ℕ → Option ℕ
 label_of word = numbered (letter (codes "h")) 1 LAST_NUMBER word
 
+-- the descriptor of an open file, as `f1`
+abbrev pub descriptor_of : List ℕ → Option ℕ
+descriptor_of word = numbered (letter (codes "f")) 1 LAST_NUMBER word
+
 -- a namespace, as `n0`
 abbrev pub namespace_of : List ℕ → Option ℕ
 namespace_of word = numbered (letter (codes "n")) 0 LAST_NAMESPACE word
@@ -130,6 +145,10 @@ new_namespace_of word = number_within 1 LAST_NAMESPACE word
 -- the number of a namespace's parent
 abbrev pub parent_of : List ℕ → Option ℕ
 parent_of word = number_within 0 LAST_NAMESPACE word
+
+-- the number of a line
+abbrev pub line_number_of : List ℕ → Option ℕ
+line_number_of word = number_within 1 LAST_LINE word
 
 -- a letter of either case
 abbrev pub is_letter : ℕ → Bool

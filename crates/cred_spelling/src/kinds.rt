@@ -84,6 +84,19 @@ impl Spelling for Label {
     }
 }
 
+/// The descriptor of an open file, as `f1`.
+pub enum Descriptor {}
+
+impl Spelling for Descriptor {
+    type Value = u32;
+
+    ghost spelled = { spec.descriptor_of };
+
+    fn of(word: &[u8]) -> Option<u32> {
+        spellings::descriptor_of(word)
+    }
+}
+
 /// A namespace, as `n0`.
 pub enum Namespace {}
 
@@ -120,6 +133,19 @@ impl Spelling for Parent {
 
     fn of(word: &[u8]) -> Option<u32> {
         spellings::parent_of(word)
+    }
+}
+
+/// The number of a line, from 1 to 20,000.
+pub enum LineNumber {}
+
+impl Spelling for LineNumber {
+    type Value = u32;
+
+    ghost spelled = { spec.line_number_of };
+
+    fn of(word: &[u8]) -> Option<u32> {
+        spellings::line_number_of(word)
     }
 }
 

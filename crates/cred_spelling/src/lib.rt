@@ -10,6 +10,7 @@ mod bytes;
 mod file_name;
 mod kinds;
 mod lines;
+mod long;
 mod names;
 mod reason;
 mod spellings;
@@ -18,12 +19,17 @@ mod words;
 
 pub use bytes::bytes_of;
 pub use file_name::name_of;
-pub use kinds::{Cap, Label, Namespace, NewNamespace, Number, Parent, Process, Spelling, Task};
+pub use kinds::{
+    Cap, Descriptor, Label, LineNumber, Namespace, NewNamespace, Number, Parent, Process, Spelling,
+    Task,
+};
 pub use lines::{first_line, line_count};
+pub use long::long_of;
 pub use names::{
-    CallName, ChangeName, EventName, Form, IdName, QueryName, call_name, change_name, form_of,
-    id_name, query_name,
+    CallName, ChangeName, EventName, Form, IdName, OtherName, QueryName, altered_name, call_name,
+    change_name, form_of, id_name, query_name,
 };
 pub use reason::Reason;
 pub use spellings::{is, mode_of};
+pub use table::named;
 pub use words::{bare, five, is_comment, no_words, one, split_into, three, two, word};

@@ -2,7 +2,7 @@
 ghost use Rattle.std.specs.Prelude.{◌≡◌};
 ghost use Rattle.cred_spelling.specs.Names as spec;
 
-use crate::spellings::task_of;
+use crate::spellings::{is, task_of};
 use crate::table::named;
 use cred_ids::Kind;
 
@@ -28,6 +28,8 @@ pub enum EventName {
     Take,
     /// A label takes hold of the credential that a task is acted on by.
     TakeReal,
+    /// A label takes hold of the credential that an open file was opened by.
+    TakeFile,
     /// A label lets go.
     Release,
     /// A question about what a label holds.
@@ -40,8 +42,14 @@ pub enum EventName {
     Commit,
     /// A prepared credential is given up.
     Abort,
+    /// A task acts with another credential.
+    Override,
+    /// A task acts with what it did before.
+    Revert,
     /// A task begins a call.
     Begin,
+    /// The next thread that waits takes its step in a call.
+    Act,
     /// All that was given up is let go.
     Sweep,
 }
@@ -73,6 +81,8 @@ pub enum ChangeName {
     KeepCaps,
     NoNewPrivs,
     Exec,
+    /// What access(2) decides on, which is an event's alone.
+    Access,
 }
 
 /// The questions that a line may name.
@@ -88,29 +98,46 @@ pub enum QueryName {
     Check,
 }
 
+/// The calls that a line may name which are neither id calls, nor changes, nor questions.
+#[derive(Clone, Copy)]
+pub enum OtherName {
+    Open,
+    Close,
+    /// A question about the opener of a file.
+    Fcap,
+    Access,
+    Signal,
+    Spawn,
+    Fork,
+    Exit,
+}
+
 /// What a task may do on a line of its own.
 #[derive(Clone, Copy)]
 pub enum CallName {
     Id(IdName),
     Change(ChangeName),
     Question(QueryName),
-    Fork,
-    Exit,
+    Other(OtherName),
 }
 
-static FORMS: [(&str, Form); 13] = [
+static FORMS: [(&str, Form); 17] = [
     ("init", Form::Init),
     ("file", Form::File),
     ("ns", Form::Namespace),
     ("take", Form::Event(EventName::Take)),
     ("takereal", Form::Event(EventName::TakeReal)),
+    ("takefile", Form::Event(EventName::TakeFile)),
     ("drop", Form::Event(EventName::Release)),
     ("ask", Form::Event(EventName::Ask)),
     ("prepare", Form::Event(EventName::Prepare)),
     ("change", Form::Event(EventName::Alter)),
     ("commit", Form::Event(EventName::Commit)),
     ("abort", Form::Event(EventName::Abort)),
+    ("override", Form::Event(EventName::Override)),
+    ("revert", Form::Event(EventName::Revert)),
     ("begin", Form::Event(EventName::Begin)),
+    ("act", Form::Event(EventName::Act)),
     ("sweep", Form::Event(EventName::Sweep)),
 ];
 
@@ -151,7 +178,16 @@ static QUERY_NAMES: [(&str, QueryName); 8] = [
     ("check", QueryName::Check),
 ];
 
-static CALL_NAMES: [(&str, CallName); 2] = [("fork", CallName::Fork), ("exit", CallName::Exit)];
+static OTHER_NAMES: [(&str, OtherName); 8] = [
+    ("open", OtherName::Open),
+    ("close", OtherName::Close),
+    ("fcap", OtherName::Fcap),
+    ("access", OtherName::Access),
+    ("signal", OtherName::Signal),
+    ("spawn", OtherName::Spawn),
+    ("fork", OtherName::Fork),
+    ("exit", OtherName::Exit),
+];
 
 /// The form that a line's first word names: a call or a question of a task is named by the task.
 #[tactic(auto, unfolding(crate::specs::Names::forms))]
@@ -172,12 +208,23 @@ pub fn id_name(word: &[u8]) -> Option<IdName>
     named(&ID_NAMES, word)
 }
 
-/// The change of a credential that the word names.
+/// The change of a credential that a call of this name makes.
 #[tactic(auto, unfolding(crate::specs::Names::change_names))]
 pub fn change_name(word: &[u8]) -> Option<ChangeName>
     ensures { result ≡ spec.change_name word.now }
 {
     named(&CHANGE_NAMES, word)
+}
+
+/// The change of a credential that an event of this name makes: that of a call, or what access(2)
+/// decides on. After a task `access` is that call.
+pub fn altered_name(word: &[u8]) -> Option<ChangeName>
+    ensures { result ≡ spec.altered_name word.now }
+{
+    if is(word, "access") {
+        return Some(ChangeName::Access);
+    }
+    change_name(word)
 }
 
 /// The question that the word names.
@@ -189,7 +236,7 @@ pub fn query_name(word: &[u8]) -> Option<QueryName>
 }
 
 /// What a task does on a line of its own, by its name.
-#[tactic(auto, unfolding(crate::specs::Names::call_names))]
+#[tactic(auto, unfolding(crate::specs::Names::other_names))]
 pub fn call_name(word: &[u8]) -> Option<CallName>
     ensures { result ≡ spec.call_name word.now }
 {
@@ -202,5 +249,5 @@ pub fn call_name(word: &[u8]) -> Option<CallName>
     if let Some(name) = change_name(word) {
         return Some(CallName::Change(name));
     }
-    named(&CALL_NAMES, word)
+    Some(CallName::Other(named(&OTHER_NAMES, word)?))
 }

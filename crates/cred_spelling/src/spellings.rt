@@ -11,12 +11,15 @@ use cred_ids::{Arg, Id};
 use cred_record::{FileKind, Want};
 use std::str;
 
-/// The last number of a task, a process or a label. Greater labels are those that a line takes for
-/// itself.
+/// The last number of a task, a process, a label or a descriptor. Greater labels are those that a
+/// line takes for itself.
 const LAST_NUMBER: u32 = 99999;
 
 /// The last number of a namespace.
 const LAST_NAMESPACE: u32 = 15;
+
+/// The last number of a line.
+const LAST_LINE: u32 = 20_000;
 
 /// Whether the word is this text.
 pub fn is(word: &[u8], text: &str) -> bool
@@ -179,6 +182,13 @@ pub(crate) fn label_of(word: &[u8]) -> Option<u32>
     numbered(b'h', 1, LAST_NUMBER, word)
 }
 
+/// The descriptor of an open file, as `f1`.
+pub(crate) fn descriptor_of(word: &[u8]) -> Option<u32>
+    ensures { result ≡ spec.descriptor_of word.now }
+{
+    numbered(b'f', 1, LAST_NUMBER, word)
+}
+
 /// A namespace, as `n0`.
 pub(crate) fn namespace_of(word: &[u8]) -> Option<u32>
     ensures { result ≡ spec.namespace_of word.now }
@@ -198,6 +208,13 @@ pub(crate) fn parent_of(word: &[u8]) -> Option<u32>
     ensures { result ≡ spec.parent_of word.now }
 {
     number_within(0, LAST_NAMESPACE, word)
+}
+
+/// The number of a line.
+pub(crate) fn line_number_of(word: &[u8]) -> Option<u32>
+    ensures { result ≡ spec.line_number_of word.now }
+{
+    number_within(1, LAST_LINE, word)
 }
 
 /// A letter, and a number from the least to the most.

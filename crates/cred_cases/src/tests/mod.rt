@@ -2,11 +2,13 @@
 mod access;
 mod adjust;
 mod caps;
+mod casts;
 mod course;
 mod decide;
 mod exec;
 mod exec_pages;
 mod filecap;
+mod files;
 mod hold;
 mod ids;
 mod io;

@@ -48,7 +48,8 @@ const ROWS: [Among; 13] = [
         // A file with the effective flag must get all that it permits; one without it may get less.
         "file ping reg 0 0 0755 caps 0100000200200000000000000000000000000000\n\
          file pong reg 0 0 0755 caps 0000000200200000000000000000000000000000\n\
-         init t1 p1 0 0 n0\nt1 capdrop 13\nt1 setresuid 1000 1000 1000\nt1 exec ping\nt1 exec pong\n",
+         init t1 p1 0 0 n0\nt1 capdrop 13\nt1 setresuid 1000 1000 1000\nt1 exec ping\n\
+         t1 exec pong\n",
         &[
             "6 change h100061 exec ping -> eperm",
             "6 abort h100061 -> ok",

@@ -1,5 +1,6 @@
 //! What the reader answers at the edges of the grammar.
 mod files;
+mod opens;
 mod tasks;
 
 use cred_script::{Reason, Script, ScriptRefusal, line_count, read};
@@ -126,7 +127,7 @@ fn declares_nothing_after_a_use(rt: HostRuntime) -> Result<(), Fail> {
 /// Each of these lines has a word that may not stand at its place.
 const BAD_WORDS: &str = "sweeps
 t1
-t1 spawn t2
+t1 spawns t2
 t0 ids
 t01 ids
 t100000 ids
@@ -164,11 +165,9 @@ t1 ambis CAP_ALL
 t1 securebits 4294967296
 t1 keepcaps 0x1
 t1 nonewprivs -1
-t1 open x r f1
 t1 change h1 ambclear
 ask h1 ambclear
 ask t1 bits
-change h1 access x r
 change h1 ids
 change h1 setuid 0
 change t1 ambclear

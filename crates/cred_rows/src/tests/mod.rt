@@ -1,15 +1,21 @@
 //! The examples, a module for each kind.
 mod among;
+mod casts;
 mod changes;
 mod checks;
 mod copies;
+mod counted;
 mod decoding;
 mod ends;
 mod execs;
 mod grammar;
 mod lasts;
+mod limits;
+mod overrides;
+mod reading;
 mod refused;
 mod rows;
 mod runs;
 mod sizes;
 mod texts;
+mod threads;

@@ -9,7 +9,7 @@ use Rattle.cred_model.specs.Named.{IsEventOf, IsContentOf}
 use Rattle.cred_model.proofs.Names.{event_named}
 use Rattle.cred_book.proofs.cursor.next_event.Goals as goal
 
--- the event of a line is of a built kind, and names what is declared
+-- the event of a line names what is declared
 named : (count : ℕ) (declared : List Namespace) (content : Content) (course : Course) (found : Result (Option Event) NoMemory) → IsContentOf count declared content
     → IfOk found (λ event. event ≡ event_at content course) → IfOk found (λ event. IfSome event (IsEventOf count declared))
 named count declared content course (Ok (Some event)) of is = event_named count declared content course event of (sym is)

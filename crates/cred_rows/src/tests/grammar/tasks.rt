@@ -1,4 +1,5 @@
-//! Lines that declare user namespaces and first tasks, and lines that fork, exit and execve.
+//! Lines that declare user namespaces and first tasks, lines that create a thread, fork, exit and
+//! execve, and lines of a broadcast.
 use crate::tests::grammar::{Answered, answer, first_other, held_by, script_of};
 use cred_script::Reason;
 use std::test::Fail;
@@ -7,10 +8,16 @@ use std::test::Fail;
 const GOOD_LINES: &str = "ns 1 0 0
 ns 15 4294967294 0
  ns  2  1000  0
+t1 spawn t2
+ t1  spawn  t99999
+t1 spawn t1
 t1 fork t2 p2
 t1 fork t99999 p99999
 t1 exit
- t1  exit ";
+ t1  exit 
+act 1
+act 20000
+ act  7 ";
 
 /// Each of these lines has a word that may not stand at its place.
 const BAD_WORDS: &str = "ns 0 0 0
@@ -22,6 +29,10 @@ ns 1 -1 0
 ns 1 0 16
 ns 1 0 n0
 ns 1 0 -1
+t1 spawn t0
+t1 spawn t100000
+t1 spawn p2
+t1 spawn 2
 t1 fork t0 p2
 t1 fork t2 p0
 t1 fork p2 t2
@@ -30,19 +41,36 @@ t1 exec 1a
 t1 exec a/b
 change h1 exec 1a
 change h0 exec a
+spawn t1 t2
 fork t1 t2 p2
 exit t1
 exec a
+begin t1 spawn t2
 begin t1 fork t2 p2
 begin t1 exec a
 ask h1 exit
-change h1 exit";
+change h1 exit
+act 0
+act 20001
+act 01
+act 4294967296
+act -1
+act x
+act t1
+acts 1
+t1 act 1
+begin t1 act 1
+ask h1 act 1
+change h1 act";
 
 /// Each of these lines has too many words, or too few, whatever they spell.
 const BAD_COUNTS: &str = "ns
 ns 1 0
 ns 0 x
 ns 0 x 16 x
+t1 spawn
+t1 spawn x x
+t1 spawn t2 p1
 t1 fork
 t1 fork x
 t1 fork x x x
@@ -50,7 +78,10 @@ t1 exit 1
 t1 exec
 t1 exec 1a b
 change h1 exec
-change x exec 1a b";
+change x exec 1a b
+act
+act 0 x
+act 4 4";
 
 #[test]
 fn reads_lines_of_namespaces_and_processes(rt: HostRuntime) -> Result<(), Fail> {
@@ -63,7 +94,7 @@ fn reads_lines_of_namespaces_and_processes(rt: HostRuntime) -> Result<(), Fail> 
 }
 
 /// Scripts, with the number of their lines or the first bad one.
-const NAMES: [(&str, Answered); 25] = [
+const NAMES: [(&str, Answered); 28] = [
     // A parent is the initial namespace, or one that is declared before.
     (
         "ns 15 1000 0\nns 1 0 15\nns 2 7 1\ninit t1 p1 0 0 n2",
@@ -87,25 +118,28 @@ const NAMES: [(&str, Answered); 25] = [
     ("t1 fork t2 p2\nns 1 0 2", Err((2, Reason::Order))),
     ("sweep\nns 1 0", Err((2, Reason::Count))),
     ("sweep\nns 16 0 0", Err((2, Reason::Word))),
-    // Each first task has a process of its own; the task may be one that is there.
+    // A first task's process may be one that has threads, and the task one that is there.
     ("init t1 p1 0 0 n0\ninit t1 p2 0 0 n0", Ok(2)),
+    ("init t1 p1 0 0 n0\ninit t1 p1 0 0 n0", Ok(2)),
+    ("init t1 p1 0 0 n0\ninit t2 p1 0 0 n0", Ok(2)),
     (
-        "init t1 p1 0 0 n0\ninit t2 p1 0 0 n0",
-        Err((2, Reason::Word)),
+        "init t1 p1 0 0 n0\ninit t2 p2 0 0 n0\ninit t3 p1 5 6 n0",
+        Ok(3),
     ),
     (
         "init t1 p1 0 0 n0\ninit t2 p2 0 0 n0\ninit t3 p1 0 0 n9",
-        Err((3, Reason::Word)),
+        Err((3, Reason::Name)),
     ),
     (
         "init t1 p1 0 0 n0\nsweep\ninit t2 p1 0 0 n0",
-        Err((3, Reason::Word)),
+        Err((3, Reason::Order)),
     ),
     ("init t1 p1 0 0 n0\ninit t2 p1 0 0", Err((2, Reason::Count))),
     (
         "init t1 p1 0 0 n0\nt1 fork t2 p2\ninit t3 p2 0 0 n0",
         Err((3, Reason::Order)),
     ),
+    ("act 1\nns 1 0 0", Err((2, Reason::Order))),
     // What is executed is a declared file.
     (
         "file a reg 0 0 0755\ninit t1 p1 0 0 n0\nt1 exec a\nchange h1 exec a",
@@ -132,10 +166,10 @@ fn asks_for_namespaces_processes_and_files(rt: HostRuntime) -> Result<(), Fail> 
 /// Namespaces, a file that is not executed and one that is, and lines that name them.
 const DECLARED: &str = "ns 3 1000 0\nns 7 2000 3\nns 1 5 0\nfile b reg 0 0 0755\n\
     file a reg 0 0 0755\ninit t1 p2 5 6 n7\ninit t2 p1 0 0 n0\nt1 fork t3 p4\nt5 exit\n\
-    t1 exec a\nchange h6 exec b\n";
+    t1 exec a\nchange h6 exec b\nt1 spawn t7\nact 20000\n";
 
 /// What those lines hold.
-const HELD: [&str; 11] = [
+const HELD: [&str; 13] = [
     "Nothing",
     "Nothing",
     "Nothing",
@@ -147,10 +181,12 @@ const HELD: [&str; 11] = [
     "One(Exit { task: 5 })",
     "Change { task: 1, change: Exec { file: 1 } }",
     "One(Alter { label: 6, change: Exec { file: 0 } })",
+    "One(Spawn { task: 1, child: 7 })",
+    "One(Act { cast: 20000 })",
 ];
 
 #[test]
-fn keeps_what_forks_and_execves_hold(rt: HostRuntime) -> Result<(), Fail> {
+fn keeps_what_lines_of_tasks_hold(rt: HostRuntime) -> Result<(), Fail> {
     let script = script_of(rt.alloc(), DECLARED)?;
     for (number, want) in (1..).zip(HELD) {
         let (_, got) = held_by(rt.alloc(), &script, number)?;

@@ -1,5 +1,6 @@
-use Rattle.std.proofs.Common.{◌≡◌, length, Some, None, is_some, refl, sym, ap, ◌∙◌, subst, arith}
+use Rattle.std.proofs.Common.{◌≡◌, length, Option, Some, None, is_some, refl, sym, ap, ◌∙◌, subst, arith}
 use Rattle.std.specs.Option.{IfSome, option_and_then}
+use Rattle.cred_event.specs.declared.event.Event.{Event}
 use Rattle.cred_model.specs.Script.{Script, Line}
 use Rattle.cred_model.specs.Course as model
 use Rattle.cred_model.specs.Course.{Course, event_at}
@@ -9,7 +10,6 @@ use Rattle.cred_script.specs.Grammar.{line_at}
 use Rattle.cred_book.specs.Book.{Recorded, with_event, answer_of, next_of}
 use Rattle.cred_book.specs.Cursor.{Passes}
 use Rattle.cred_book.proofs.Cursors.{Moves, moves_by, due, over, makes_more, makes_ended, next_of-setup, next-setup, next-other}
-use Rattle.cred_book.proofs.Labelling.{if_some}
 use Rattle.cred_book.proofs.book.Book.next.Goals as goal
 
 pub returns-then-lane-ne0-clause-lane : goal.returns-then-lane-ne0-clause-lane
@@ -34,7 +34,9 @@ returns-in_default c =
 
 pub enter-requires-clause-kind : goal.enter-requires-clause-kind
 enter-requires-clause-kind c =
-    rw (← c.self.view_is) (if_some (IsEventOf (length c.self.inside.script.files) c.self.inside.script.namespaces) _ c.in-Some-2.event c.in-Some-2.is c.in_ok-event.ensures.named)
+    rw (← c.self.view_is)
+    (subst (λ (o : Option Event). IfSome o (IsEventOf (length c.self.inside.script.files) c.self.inside.script.namespaces)) c.in-Some-2.is
+    c.in_ok-event.ensures.named)
 
 pub returns-in_default-2 : goal.returns-in_default-2
 returns-in_default-2 c =

@@ -21,8 +21,8 @@ by_process task process ts tasks (Some owner) at is these =
     ∙ ap (λ (n : ℕ). filter (is_other n) (members ts owner.process)) (sym number)
     ∙ sym (those-beside owner ts)
 
-pub returns : goal.returns
-returns c =
+pub returns-clause-others : goal.returns-clause-others
+returns-clause-others c =
     let ts = tasks_of c.self.inside.tasks.entries in
     let process = c.unwrap-process.result in
     let is : option_map (λ t. t.process) (task_in c.args.self.now c.args.task) ≡ Some process = sym c.process_of.ensures ∙ c.unwrap-process.ensures in

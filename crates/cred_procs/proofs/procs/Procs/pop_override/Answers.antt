@@ -1,8 +1,9 @@
-use Rattle.std.proofs.Common.{◌≡◌, ℕ, ◌≤◌, ◌∙◌, List, drop, length, sym, ap, nat_eq, Some, arith, length-drop}
+use Rattle.std.proofs.Common.{◌≡◌, ℕ, ◌≤◌, ◌∙◌, List, [], ◌∷◌, drop, length, slice_get, sym, ap, refl, nat_eq, Option, None, Some, arith, length-drop}
 use Rattle.std.specs.Map.{lookup}
-use Rattle.std.specs.Option.{option_copied_mut}
-use Rattle.cred_slots.specs.Stack.{DEPTH}
-use Rattle.cred_procs.proofs.Writes.{is_there, is_shallow, overrides_is, written_overrides, kept_overrides}
+use Rattle.std.specs.Option.{IfNone, option_copied_mut}
+use Rattle.cred_model.specs.Moves.{DEPTH}
+use Rattle.cred_procs.specs.Kept.{tasks_of}
+use Rattle.cred_procs.proofs.Writes.{is_there, is_shallow, overrides_is, written_overrides, kept_overrides, unwritten}
 use Rattle.cred_procs.proofs.procs.Procs.pop_override.Goals as goal
 
 pub unwrap-thread-requires : goal.unwrap-thread-requires
@@ -33,3 +34,23 @@ returns-clause-tasks c =
     let found : lookup (nat_eq c.args.task) es ≡ Some v = sym c.get_mut.ensures.value ∙ ap option_copied_mut c.unwrap-thread.ensures in
     rw (← c.self.view_is, overrides_is c.args.task v es found)
     (written_overrides c.args.task v es _ found c.get_mut.ensures.unique c.pop.new.self (drop 1 v.overrides) c.pop.ensures.stack (c.get_mut.follows.holds _).0)
+
+-- where there is no newest, none is taken off
+all_left : (found : Option ℕ) (overrides : List ℕ) → found ≡ slice_get overrides 0 → IfNone found (drop 1 overrides ≡ overrides)
+all_left None [] is = refl
+all_left None (n ∷ ns) is = cc
+all_left (Some n) overrides is = tt
+
+if_none : {P Q : Type 0} (found : Option ℕ) → (P → Q) → IfNone found P → IfNone found Q
+if_none None then is = then is
+if_none (Some n) then is = is
+
+pub returns-clause-none : goal.returns-clause-none
+returns-clause-none c =
+    let v = c.unwrap-thread.result.now in
+    let es = c.self.inside.tasks.entries in
+    let found : lookup (nat_eq c.args.task) es ≡ Some v = sym c.get_mut.ensures.value ∙ ap option_copied_mut c.unwrap-thread.ensures in
+    rw (← c.self.view_is)
+    (if_none c.pop.result
+    (λ same. ap tasks_of (unwritten c.args.task v es _ found c.pop.new.self (c.pop.ensures.stack ∙ same) (c.get_mut.follows.holds _).0))
+    (all_left c.pop.result v.overrides c.pop.ensures.number))

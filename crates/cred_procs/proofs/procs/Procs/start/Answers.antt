@@ -5,7 +5,7 @@ use Rattle.std.proofs.lemmas.List.{map-append}
 use Rattle.indexmap.specs.IndexMap.{IndexMap, insert_entry}
 use Rattle.indexmap.proofs.CallerLemmas.{insert_entry-new}
 use Rattle.cred_model.specs.State.{Task}
-use Rattle.cred_model.specs.Step.{TASKS, first_task}
+use Rattle.cred_model.specs.Moves.{TASKS, first_task}
 use Rattle.cred_procs.specs.declared.thread.Thread.{Thread}
 use Rattle.cred_procs.specs.Kept.{task_as, tasks_of, IsKept}
 use Rattle.cred_procs.specs.Tasks.{task_in}

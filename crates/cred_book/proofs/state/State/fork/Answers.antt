@@ -1,8 +1,0 @@
-use Rattle.std.proofs.Common.{sym}
-use Rattle.cred_book.proofs.Sealing.{current-held, referred_to}
-use Rattle.cred_book.proofs.state.State.fork.Goals as goal
-
-pub add-requires-clause-referred : goal.add-requires-clause-referred
-add-requires-clause-referred c =
-    let has = rw (← c.self.view_is) at c.in-Some.ensures in
-    referred_to c.self.inside.slots c.reserve.new.self _ _ c.in_ok-reserve.ensures.ok (current-held c.self.invariant c.args.task _ (sym has))

@@ -1,0 +1,4 @@
+pub mod Kept
+pub mod Joined
+pub mod Waiting
+pub mod Conditions

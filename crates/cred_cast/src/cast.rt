@@ -1,0 +1,83 @@
+//! One broadcast.
+ghost use Rattle.std.specs.Prelude.{◌≡◌, ◌<◌, ℕ, ◌+◌, length, [], ◌∷◌, ◌++◌, IfOk, OnOk, OnErr};
+ghost use Rattle.std.specs.List.{AllPairs};
+ghost use Rattle.cred_ids.specs.Ordered.{in_order};
+ghost use Rattle.cred_model.specs.Casts.{waits_in, without};
+
+use cred_ids::NoMemory;
+use cred_record::IdCall;
+use std::alloc::Global;
+use std::marker::Model;
+
+/// A call that every thread of a process makes, one after another: the line that began it, the
+/// process, the thread that made it first, and those that still have to make it, in rising order.
+#[derive(Drop, Debug)]
+pub struct Cast {
+    pub number: u32,
+    pub process: u32,
+    pub caller: u32,
+    pub call: IdCall,
+    pub waiting: Vec<u32>,
+}
+
+impl Model for Cast {
+    ghost use Rattle.cred_model.specs.State.{Broadcast};
+
+    ghost Value = { Broadcast };
+
+    ghost view = { λ c. record {
+      number = c.number;
+      process = c.process;
+      caller = c.caller;
+      call = c.call;
+      waiting = c.waiting.items;
+    } };
+}
+
+impl Cast {
+    /// Whether a task waits.
+    pub fn waits(&self, task: u32) -> bool
+        ensures { result ≡ waits_in task self.now }
+    {
+        self.waiting.contains(&task)
+    }
+
+    /// How many wait beside one of them.
+    pub fn others(&self) -> u32
+        requires some { 0 < length self.now.waiting }
+        requires rising { AllPairs (λ m n. m < n) self.now.waiting }
+        ensures { result + 1 ≡ length self.now.waiting }
+    {
+        // No two of them are one, so that the greatest bounds how many they are.
+        let greatest = *self.waiting.last().unwrap();
+        prove!(self.waiting.len() - 1 <= greatest as usize);
+        (self.waiting.len() - 1) as u32
+    }
+
+    /// A task waits too. If an allocation fails, nothing changes.
+    pub fn join(&mut self, task: u32) -> Result<(), NoMemory>
+        ensures ok { OnOk result (self.new
+            ≡ record self.old { waiting = in_order (self.old.waiting ++ task ∷ []) }) }
+        ensures err { OnErr result (self.new ≡ self.old) }
+    {
+        self.waiting.push(task)?;
+        self.waiting.sort_unstable();
+        Ok(())
+    }
+
+    /// A task waits no more.
+    pub fn leave(&mut self, task: u32)
+        ensures { self.new ≡ without task self.old }
+    {
+        self.waiting.retain(|other| *other != task);
+    }
+}
+
+/// These tasks in rising order.
+pub fn rising(alloc: Global, tasks: &[u32]) -> Result<Vec<u32>, NoMemory>
+    ensures { IfOk result (λ rising. rising.items ≡ in_order tasks.now) }
+{
+    let mut rising = Vec::from_slice(alloc, tasks)?;
+    rising.sort_unstable();
+    Ok(rising)
+}

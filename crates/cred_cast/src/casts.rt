@@ -1,0 +1,184 @@
+//! The table of open broadcasts.
+ghost use Rattle.std.specs.Prelude.{◌≡◌, ◌≢◌, ℕ, ◌+◌, ◌<◌, [], All, length, is_some, slice_get, true, None, IfOk, IfSome, OnOk, OnErr};
+ghost use Rattle.std.specs.List.{AllPairs};
+ghost use Rattle.std.specs.Option.{IsSomeAnd, option_and_then, option_map};
+ghost use Rattle.cred_ids.specs.Ordered.{in_order};
+ghost use Rattle.cred_model.specs.Casts.{waits_in, with_cast, waits_no_more, joined, dropped};
+ghost use Rattle.cred_cast.specs.Casts.{cast_under, cast_within, cast_by, WaitsNowhere, AreCasts};
+
+use crate::cast::{Cast, rising};
+use cred_ids::NoMemory;
+use cred_record::IdCall;
+use std::alloc::Global;
+use std::marker::Model;
+
+/// The open broadcasts, in the order in which they were begun. No two are open in one process, so
+/// that there are at most half as many as there may be tasks (32), and each call goes through
+/// them. After `NoMemory` the table is as it was.
+#[derive(Drop, Debug)]
+pub struct Casts {
+    casts: Vec<Cast>,
+    alloc: Global,
+}
+
+impl Model for Casts {
+    ghost use Rattle.std.specs.Prelude.{List};
+    ghost use Rattle.cred_model.specs.State.{Broadcast};
+    ghost use Rattle.cred_cast.specs.Casts.{AreCasts};
+
+    ghost Value = { List Broadcast };
+
+    ghost view = { λ c. c.casts.items };
+
+    ghost invariant = { λ c. AreCasts c.casts.items };
+}
+
+impl Casts {
+    /// No broadcast.
+    pub fn new(alloc: Global) -> Result<Casts, NoMemory>
+        ensures { IfOk result (λ casts. casts ≡ []) }
+    {
+        Ok(Casts {
+            casts: Vec::new(alloc),
+            alloc,
+        })
+    }
+
+    /// A broadcast is begun: its caller has made the call, and these other threads of the process
+    /// wait for their step. Where there is none, it is completed and isn't open.
+    pub fn begin(
+        &mut self,
+        number: u32,
+        process: u32,
+        caller: u32,
+        call: IdCall,
+        waiting: &[u32],
+    ) -> Result<(), NoMemory>
+        requires new { cast_under self.old number ≡ None }
+        requires one { cast_within self.old process ≡ None }
+        requires once { AllPairs (λ a b. a ≢ b) waiting.now }
+        requires only_here { All (WaitsNowhere self.old) waiting.now }
+        ensures ok { OnOk result (self.new ≡ with_cast self.old (record {
+          number = number;
+          process = process;
+          caller = caller;
+          call = call;
+          waiting = in_order waiting.now;
+        })) }
+        ensures err { OnErr result (self.new ≡ self.old) }
+    {
+        if waiting.is_empty() {
+            return Ok(());
+        }
+        let waiting = rising(self.alloc, waiting)?;
+        self.casts.push(Cast {
+            number,
+            process,
+            caller,
+            call,
+            waiting,
+        })?;
+        Ok(())
+    }
+
+    /// The least task that waits in a broadcast. `None` just where none of that number is open.
+    pub fn next(&self, number: u32) -> Option<u32>
+        ensures next { result
+            ≡ option_and_then (λ b. slice_get b.waiting 0) (cast_under self.now number) }
+        ensures none { is_some result ≡ is_some (cast_under self.now number) }
+        ensures casts { AreCasts self.now }
+    {
+        self.cast(number)?.waiting.first().copied()
+    }
+
+    /// A task has made its step: it waits no more. Returns how many still wait in the broadcast;
+    /// at 0 it is completed and closed.
+    pub fn acted(&mut self, number: u32, task: u32) -> u32
+        requires { IsSomeAnd (cast_under self.old number) (λ b. waits_in task b ≡ true) }
+        ensures left { IfSome (cast_under self.old number) (λ b. result + 1 ≡ length b.waiting) }
+        ensures casts { self.new ≡ waits_no_more task self.old }
+    {
+        // It is there: the task waits in it.
+        let left = self.cast(number).unwrap().others();
+        leave(&mut self.casts, task);
+        left
+    }
+
+    /// A task has created a thread, which waits where its creator waits.
+    pub fn born(&mut self, parent: u32, child: u32) -> Result<(), NoMemory>
+        requires { WaitsNowhere self.old child }
+        ensures ok { OnOk result (self.new ≡ joined parent child self.old) }
+        ensures err { OnErr result (self.new ≡ self.old) }
+    {
+        let Some(place) = self.casts.iter().position(|cast| cast.waits(parent)) else {
+            return Ok(());
+        };
+        self.casts[place].join(child)
+    }
+
+    /// A task has ended: it waits no more. A broadcast that nobody waits in any more is completed
+    /// and closed.
+    pub fn gone(&mut self, task: u32)
+        ensures { self.new ≡ waits_no_more task self.old }
+    {
+        leave(&mut self.casts, task);
+    }
+
+    /// The broadcast of a process is dropped, as when one of its threads calls execve(2). Where
+    /// none is open, nothing changes.
+    pub fn dropped(&mut self, process: u32)
+        ensures { self.new ≡ dropped process self.old }
+    {
+        self.casts.retain(|cast| cast.process != process);
+    }
+
+    /// The number of the broadcast that is open in a process. `None` where none is.
+    pub fn open_in(&self, process: u32) -> Option<u32>
+        ensures number { result ≡ option_map (λ b. b.number) (cast_within self.now process) }
+        ensures casts { AreCasts self.now }
+    {
+        let found = self.casts.iter().find(|cast| cast.process == process);
+        Some(found?.number)
+    }
+
+    /// The number of the open broadcast that a task has begun. `None` where it has begun none.
+    pub fn begun_by(&self, task: u32) -> Option<u32>
+        ensures { result ≡ option_map (λ b. b.number) (cast_by self.now task) }
+    {
+        let found = self.casts.iter().find(|cast| cast.caller == task);
+        Some(found?.number)
+    }
+
+    /// The task that made the call of a broadcast first. `None` where none of that number is open.
+    pub fn caller_of(&self, number: u32) -> Option<u32>
+        ensures { result ≡ option_map (λ b. b.caller) (cast_under self.now number) }
+    {
+        Some(self.cast(number)?.caller)
+    }
+
+    /// The call that every thread of a broadcast makes. `None` where none of that number is open.
+    pub fn call(&self, number: u32) -> Option<&IdCall>
+        ensures { option_map (λ c. c.now) result
+            ≡ option_map (λ b. b.call) (cast_under self.now number) }
+    {
+        Some(&self.cast(number)?.call)
+    }
+
+    /// The broadcast of a number. `None` where none of that number is open.
+    fn cast(&self, number: u32) -> Option<&Cast>
+        ensures found { option_map (λ c. c.now) result ≡ cast_under self.now number }
+        ensures casts { AreCasts self.now }
+    {
+        self.casts.iter().find(|cast| cast.number == number)
+    }
+}
+
+/// A task waits no more, and the broadcasts that nobody waits in any more are closed.
+fn leave(casts: &mut Vec<Cast>, task: u32)
+    ensures { casts.new.items ≡ waits_no_more task casts.old.items }
+{
+    for cast in casts.iter_mut() {
+        cast.leave(task);
+    }
+    casts.retain(|cast| !cast.waiting.is_empty());
+}

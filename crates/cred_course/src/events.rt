@@ -1,0 +1,217 @@
+//! The event of each stage of a line.
+ghost use Rattle.std.specs.Prelude.{◌≡◌, ◌≤◌, ℕ, Some, IfOk, OnErr, IfSome};
+ghost use Rattle.cred_event.specs.Lists.{BeginsSetGroups};
+ghost use Rattle.cred_event.specs.declared.content.Content.TheVariants as content;
+ghost use Rattle.cred_event.specs.declared.event.Event.TheVariants as event;
+ghost use Rattle.cred_event.specs.declared.event.Side.TheVariants.{Subjective};
+ghost use Rattle.cred_model.specs.Course as spec;
+
+use cred_event::{Change, Content, Event, LINE_LIMIT, Query, Side, Stage, copy_event};
+use cred_ids::NoMemory;
+use cred_record::Want;
+
+/// Whether a line with this content makes events.
+pub(crate) fn makes_events(content: &Content) -> bool
+    ensures { result ≡ spec.makes_events content.now }
+{
+    !matches!(content, Content::Nothing)
+}
+
+/// The event of a stage, or none where a line with this content has no such stage.
+pub(crate) fn event_in(
+    line: u32,
+    content: &Content,
+    stage: Stage,
+) -> Result<Option<Event>, NoMemory>
+    requires { line ≤ LINE_LIMIT }
+    ensures event { IfOk result (λ event. event ≡ spec.event_in line content.now stage) }
+    ensures refusal { OnErr result (IfSome (spec.event_in line content.now stage) BeginsSetGroups) }
+{
+    Ok(match (content, stage) {
+        (Content::One(event), Stage::First) => Some(copy_event(event)?),
+        (Content::Id { task, call }, Stage::First) => Some(Event::Begin {
+            task: *task,
+            call: call.copy()?,
+        }),
+        (Content::Id { .. }, Stage::Acting) => Some(Event::Act { cast: line }),
+        (Content::Question { task, query }, _) => question_event(line, *task, *query, stage),
+        (
+            Content::Open {
+                task,
+                file,
+                want,
+                fd,
+            },
+            _,
+        ) => { open_event(line, *task, *file, *want, *fd, stage) }
+        (Content::Fcap { fd, cap, .. }, _) => fcap_event(line, *fd, *cap, stage),
+        (Content::Signal { task, to }, _) => signal_event(line, *task, *to, stage),
+        (Content::Change { task, change }, _) => change_event(line, *task, *change, stage),
+        (Content::Access { task, file, want }, _) => {
+            access_event(line, *task, *file, *want, stage)
+        }
+        _ => None,
+    })
+}
+
+/// The label of what a line holds.
+fn hold_label(line: u32) -> u32
+    requires { line ≤ LINE_LIMIT }
+    ensures { result ≡ spec.hold_label line }
+{
+    100_000 + 10 * line
+}
+
+/// The label of the new credential that a line prepares.
+fn new_label(line: u32) -> u32
+    requires { line ≤ LINE_LIMIT }
+    ensures { result ≡ spec.new_label line }
+{
+    100_001 + 10 * line
+}
+
+/// The label of what a line holds of the task that it signals. A line that signals prepares
+/// nothing.
+fn target_label(line: u32) -> u32
+    requires { line ≤ LINE_LIMIT }
+    ensures { result ≡ spec.target_label line }
+{
+    100_001 + 10 * line
+}
+
+/// The label of what access(2) asks by.
+fn access_label(line: u32) -> u32
+    requires { line ≤ LINE_LIMIT }
+    ensures { result ≡ spec.access_label line }
+{
+    100_002 + 10 * line
+}
+
+/// The label takes hold of the credential that the task acts with.
+fn take(label: u32, task: u32) -> Option<Event>
+    ensures { result ≡ Some (event.Take label task Subjective) }
+{
+    Some(Event::Take {
+        label,
+        task,
+        side: Side::Subjective,
+    })
+}
+
+fn question_event(line: u32, task: u32, query: Query, stage: Stage) -> Option<Event>
+    requires { line ≤ LINE_LIMIT }
+    ensures { result ≡ spec.event_in line (content.Question task query) stage }
+{
+    let label = hold_label(line);
+    match stage {
+        Stage::First => take(label, task),
+        Stage::Asking => Some(Event::Ask { label, query }),
+        Stage::Releasing => Some(Event::Release { label }),
+        _ => None,
+    }
+}
+
+fn open_event(line: u32, task: u32, file: u32, want: Want, fd: u32, stage: Stage) -> Option<Event>
+    requires { line ≤ LINE_LIMIT }
+    ensures { result ≡ spec.event_in line (content.Open task file want fd) stage }
+{
+    let hold = hold_label(line);
+    match stage {
+        Stage::First => take(hold, task),
+        Stage::Opening => Some(Event::OpenFile {
+            hold,
+            file,
+            want,
+            fd,
+        }),
+        Stage::Releasing => Some(Event::Release { label: hold }),
+        _ => None,
+    }
+}
+
+/// None of them names the task.
+fn fcap_event(line: u32, fd: u32, cap: u32, stage: Stage) -> Option<Event>
+    requires { line ≤ LINE_LIMIT }
+    ensures { (task : ℕ) → result ≡ spec.event_in line (content.Fcap task fd cap) stage }
+{
+    let label = hold_label(line);
+    match stage {
+        Stage::First => Some(Event::TakeFile { label, fd }),
+        Stage::Asking => Some(Event::Ask {
+            label,
+            query: Query::Capable(cap),
+        }),
+        Stage::Releasing => Some(Event::Release { label }),
+        _ => None,
+    }
+}
+
+fn signal_event(line: u32, task: u32, to: u32, stage: Stage) -> Option<Event>
+    requires { line ≤ LINE_LIMIT }
+    ensures { result ≡ spec.event_in line (content.Signal task to) stage }
+{
+    let hold = hold_label(line);
+    let target = target_label(line);
+    match stage {
+        Stage::First => take(hold, task),
+        Stage::TakingTarget => Some(Event::Take {
+            label: target,
+            task: to,
+            side: Side::Objective,
+        }),
+        Stage::Signalling => Some(Event::Signal {
+            from: task,
+            hold,
+            to,
+            target,
+        }),
+        Stage::ReleasingTarget => Some(Event::Release { label: target }),
+        Stage::Releasing => Some(Event::Release { label: hold }),
+        _ => None,
+    }
+}
+
+fn change_event(line: u32, task: u32, change: Change, stage: Stage) -> Option<Event>
+    requires { line ≤ LINE_LIMIT }
+    ensures { result ≡ spec.event_in line (content.Change task change) stage }
+{
+    let hold = hold_label(line);
+    let label = new_label(line);
+    match stage {
+        Stage::First => take(hold, task),
+        Stage::Preparing => Some(Event::Prepare { label, task, hold }),
+        Stage::Altering => Some(Event::Alter { label, change }),
+        Stage::Committing => Some(Event::Commit { label }),
+        Stage::Aborting => Some(Event::Abort { label }),
+        Stage::Releasing | Stage::Retrying => Some(Event::Release { label: hold }),
+        _ => None,
+    }
+}
+
+fn access_event(line: u32, task: u32, file: u32, want: Want, stage: Stage) -> Option<Event>
+    requires { line ≤ LINE_LIMIT }
+    ensures { result ≡ spec.event_in line (content.Access task file want) stage }
+{
+    let hold = hold_label(line);
+    let label = new_label(line);
+    let access = access_label(line);
+    match stage {
+        Stage::First => take(hold, task),
+        Stage::Preparing => Some(Event::Prepare { label, task, hold }),
+        Stage::Altering => Some(Event::Alter {
+            label,
+            change: Change::Access,
+        }),
+        Stage::Overriding => Some(Event::Override { task, label }),
+        Stage::TakingAccess => take(access, task),
+        Stage::Asking => Some(Event::Ask {
+            label: access,
+            query: Query::Check { file, want },
+        }),
+        Stage::ReleasingAccess => Some(Event::Release { label: access }),
+        Stage::Reverting => Some(Event::Revert { task }),
+        Stage::Aborting => Some(Event::Abort { label }),
+        Stage::Releasing => Some(Event::Release { label: hold }),
+        _ => None,
+    }
+}

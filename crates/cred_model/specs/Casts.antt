@@ -1,0 +1,52 @@
+-- Broadcasts: who waits, and when one is closed (nptl(7)).
+use Rattle.std.specs.Prelude.{ℕ, ◌==◌, Bool, not, List, [], ◌∷◌, ◌++◌, length, map, None, Some, Result, Ok, Err, if◌then◌else◌}
+use Rattle.std.specs.declared.option.Option.{Option}
+use Rattle.std.specs.List.{filter, list_any}
+use Rattle.cred_ids.specs.Ordered.{in_order}
+use Rattle.cred_event.specs.declared.answer.Answer.{Answer}
+use Rattle.cred_event.specs.declared.answer.Answer.TheVariants.{Busy}
+use Rattle.cred_model.specs.State.{Task, Broadcast}
+use Rattle.cred_model.specs.Ends.{is_beside}
+
+-- refused while this broadcast is open
+abbrev pub not_busy : Option Broadcast → Result (Unit {0}) Answer
+not_busy None = Ok tt
+not_busy (Some cast) = Err (Busy cast.number)
+
+-- the other threads of a task's process, in rising order
+abbrev pub others_of : Task → List Task → List ℕ
+others_of task tasks = in_order (map (λ t. t.number) (filter (is_beside task) tasks))
+
+-- the task waits in the broadcast
+abbrev pub waits_in : ℕ → Broadcast → Bool
+waits_in task cast = list_any (λ n. n == task) cast.waiting
+
+-- Somebody waits. A broadcast in which nobody does is completed, and is open no longer.
+abbrev pub is_open : Broadcast → Bool
+is_open cast = not (length cast.waiting == 0)
+
+-- one broadcast more, if anybody waits in it
+abbrev pub with_cast : List Broadcast → Broadcast → List Broadcast
+with_cast casts cast = casts ++ filter is_open (cast ∷ [])
+
+-- a broadcast in which this task doesn't wait
+abbrev pub without : ℕ → Broadcast → Broadcast
+without task cast = record cast { waiting = filter (λ n. not (n == task)) cast.waiting }
+
+-- The task waits no longer, since it has made its step or has ended.
+abbrev pub waits_no_more : ℕ → List Broadcast → List Broadcast
+waits_no_more task casts = filter is_open (map (without task) casts)
+
+-- a broadcast in which a new thread waits, if the thread that created it does
+abbrev pub with_child : ℕ → ℕ → Broadcast → Broadcast
+with_child parent child cast =
+    if waits_in parent cast
+    then record cast { waiting = in_order (cast.waiting ++ child ∷ []) }
+    else cast
+
+abbrev pub joined : ℕ → ℕ → List Broadcast → List Broadcast
+joined parent child casts = map (with_child parent child) casts
+
+-- the broadcast of the process is dropped
+abbrev pub dropped : ℕ → List Broadcast → List Broadcast
+dropped process casts = filter (λ cast. not (cast.process == process)) casts

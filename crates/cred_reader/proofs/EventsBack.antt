@@ -1,0 +1,290 @@
+-- Events that were printed, read back.
+use Rattle.std.proofs.Common.{◌≡◌, ℕ, List, [], ◌∷◌, ◌++◌, All, codes, refl, append_assoc, decimal}
+use Rattle.std.proofs.lemmas.List.{append-nil}
+use Rattle.cred_record.specs.declared.want.Want.{Want}
+use Rattle.cred_record.specs.declared.id_call.IdCall.{IdCall}
+use Rattle.cred_event.specs.declared.event.Side.TheVariants.{Subjective, Objective}
+use Rattle.cred_event.specs.declared.event.Change.{Change}
+use Rattle.cred_event.specs.declared.event.Query.{Query}
+use Rattle.cred_event.specs.declared.event.Event.{Event}
+use Rattle.cred_event.specs.declared.event.Event.TheVariants as event
+use Rattle.cred_model.specs.Named.{query_files, change_files, event_files}
+use Rattle.cred_model.specs.Script.{Script}
+use Rattle.cred_spelling.specs.Words as words
+use Rattle.cred_report.specs.Questions.{file_text, want_text}
+use Rattle.cred_report.specs.Events.{event_text}
+use Rattle.cred_reader.specs.Events as spec
+use Rattle.cred_reader.specs.Fits.{IsFile, FitsEvent}
+use Rattle.cred_reader.proofs.Back.{IsBack, alone}
+use Rattle.cred_reader.proofs.Words.{spaced}
+use Rattle.cred_reader.proofs.Numbers.{long_number, number_back, id_number, id_back, decimal_inner, decimal_plain}
+use Rattle.cred_reader.proofs.WordsBack.{want_back, want_plain, file_back, file_plain, ns_number, namespace_back}
+use Rattle.cred_reader.proofs.Parts.{query_back, change_back, call_back}
+
+-- the event's text is read as the event
+abbrev pub EventBack : Script → Event → Type 0
+EventBack script event =
+    IsBack (event_text script event) (λ first rest. spec.event_of script.files (first ∷ rest)) event
+
+init_back : (script : Script) (task : ℕ) (process : ℕ) (user : ℕ) (group : ℕ) (ns : ℕ) → FitsEvent (event.Init task process user group ns)
+    → EventBack script (event.Init task process user group ns)
+unfolding spec.event_of spec.event_names spec.event_named spec.task_event spec.init_of words.two_of words.three_of words.five_of
+init_back script task process user group ns fits = record {
+  first = codes "init";
+  rest = (116 ∷ decimal task) ∷ (112 ∷ decimal process) ∷ (decimal user) ∷ (decimal group) ∷ (110 ∷ decimal ns) ∷ [];
+  spaced = simp (append_assoc, append-nil);
+  plain = rw (decimal_inner task (long_number task fits.0), decimal_inner process (long_number process fits.1), decimal_plain user (long_number user (id_number user fits.2)), decimal_plain group (long_number group (id_number group fits.3)), decimal_inner ns (long_number ns (ns_number ns fits.4))) refl;
+  read = rw (number_back task fits.0, number_back process fits.1, id_back user fits.2, id_back group fits.3, namespace_back ns fits.4) refl;
+}
+
+take_back : (script : Script) (label : ℕ) (task : ℕ) → FitsEvent (event.Take label task Subjective)
+    → EventBack script (event.Take label task Subjective)
+unfolding spec.event_of spec.event_names spec.event_named spec.label_event spec.take_of words.two_of
+take_back script label task fits = record {
+  first = codes "take";
+  rest = (104 ∷ decimal label) ∷ (116 ∷ decimal task) ∷ [];
+  spaced = simp (append_assoc, append-nil);
+  plain = rw (decimal_inner label (long_number label fits.0), decimal_inner task (long_number task fits.1)) refl;
+  read = rw (number_back label fits.0, number_back task fits.1) refl;
+}
+
+takereal_back : (script : Script) (label : ℕ) (task : ℕ) → FitsEvent (event.Take label task Objective)
+    → EventBack script (event.Take label task Objective)
+unfolding spec.event_of spec.event_names spec.event_named spec.label_event spec.take_of words.two_of
+takereal_back script label task fits = record {
+  first = codes "takereal";
+  rest = (104 ∷ decimal label) ∷ (116 ∷ decimal task) ∷ [];
+  spaced = simp (append_assoc, append-nil);
+  plain = rw (decimal_inner label (long_number label fits.0), decimal_inner task (long_number task fits.1)) refl;
+  read = rw (number_back label fits.0, number_back task fits.1) refl;
+}
+
+takefile_back : (script : Script) (label : ℕ) (fd : ℕ) → FitsEvent (event.TakeFile label fd)
+    → EventBack script (event.TakeFile label fd)
+unfolding spec.event_of spec.event_names spec.event_named spec.label_event words.two_of
+takefile_back script label fd fits = record {
+  first = codes "takefile";
+  rest = (104 ∷ decimal label) ∷ (102 ∷ decimal fd) ∷ [];
+  spaced = simp (append_assoc, append-nil);
+  plain = rw (decimal_inner label (long_number label fits.0), decimal_inner fd (long_number fd fits.1)) refl;
+  read = rw (number_back label fits.0, number_back fd fits.1) refl;
+}
+
+release_back : (script : Script) (label : ℕ) → FitsEvent (event.Release label)
+    → EventBack script (event.Release label)
+unfolding spec.event_of spec.event_names spec.event_named spec.label_event
+release_back script label fits = record {
+  first = codes "drop";
+  rest = (104 ∷ decimal label) ∷ [];
+  spaced = simp (append_assoc, append-nil);
+  plain = rw (decimal_inner label (long_number label fits)) refl;
+  read = rw (number_back label fits) refl;
+}
+
+ask_back : (script : Script) (label : ℕ) (query : Query) → FitsEvent (event.Ask label query) → All (IsFile script) (query_files query)
+    → EventBack script (event.Ask label query)
+unfolding spec.event_of spec.event_names spec.event_named spec.label_event spec.ask_of
+ask_back script label query fits own =
+    let back = query_back script query fits.1 own in
+    record {
+      first = codes "ask";
+      rest = (104 ∷ decimal label) ∷ back.first ∷ back.rest;
+      spaced = let e = back.spaced in simp append_assoc (cc);
+      plain = rw (decimal_inner label (long_number label fits.0)) back.plain;
+      read = rw (number_back label fits.0, back.read) refl;
+    }
+
+signal_back : (script : Script) (from : ℕ) (hold : ℕ) (to : ℕ) (target : ℕ) → FitsEvent (event.Signal from hold to target)
+    → EventBack script (event.Signal from hold to target)
+unfolding spec.event_of spec.event_names spec.event_named spec.task_event spec.signal_of words.two_of
+signal_back script from hold to target fits = record {
+  first = codes "signal";
+  rest = (116 ∷ decimal from) ∷ (104 ∷ decimal hold) ∷ (116 ∷ decimal to) ∷ (104 ∷ decimal target) ∷ [];
+  spaced = simp (append_assoc, append-nil);
+  plain = rw (decimal_inner from (long_number from fits.0), decimal_inner hold (long_number hold fits.1), decimal_inner to (long_number to fits.2), decimal_inner target (long_number target fits.3)) refl;
+  read = rw (number_back from fits.0, number_back hold fits.1, number_back to fits.2, number_back target fits.3) refl;
+}
+
+prepare_back : (script : Script) (label : ℕ) (task : ℕ) (hold : ℕ) → FitsEvent (event.Prepare label task hold)
+    → EventBack script (event.Prepare label task hold)
+unfolding spec.event_of spec.event_names spec.event_named spec.label_event words.three_of
+prepare_back script label task hold fits = record {
+  first = codes "prepare";
+  rest = (104 ∷ decimal label) ∷ (116 ∷ decimal task) ∷ (104 ∷ decimal hold) ∷ [];
+  spaced = simp (append_assoc, append-nil);
+  plain = rw (decimal_inner label (long_number label fits.0), decimal_inner task (long_number task fits.1), decimal_inner hold (long_number hold fits.2)) refl;
+  read = rw (number_back label fits.0, number_back task fits.1, number_back hold fits.2) refl;
+}
+
+alter_back : (script : Script) (label : ℕ) (change : Change) → FitsEvent (event.Alter label change) → All (IsFile script) (change_files change)
+    → EventBack script (event.Alter label change)
+unfolding spec.event_of spec.event_names spec.event_named spec.label_event spec.alter_of
+alter_back script label change fits own =
+    let back = change_back script change fits.1 own in
+    record {
+      first = codes "change";
+      rest = (104 ∷ decimal label) ∷ back.first ∷ back.rest;
+      spaced = let e = back.spaced in simp append_assoc (cc);
+      plain = rw (decimal_inner label (long_number label fits.0)) back.plain;
+      read = rw (number_back label fits.0, back.read) refl;
+    }
+
+commit_back : (script : Script) (label : ℕ) → FitsEvent (event.Commit label)
+    → EventBack script (event.Commit label)
+unfolding spec.event_of spec.event_names spec.event_named spec.label_event
+commit_back script label fits = record {
+  first = codes "commit";
+  rest = (104 ∷ decimal label) ∷ [];
+  spaced = simp (append_assoc, append-nil);
+  plain = rw (decimal_inner label (long_number label fits)) refl;
+  read = rw (number_back label fits) refl;
+}
+
+abort_back : (script : Script) (label : ℕ) → FitsEvent (event.Abort label)
+    → EventBack script (event.Abort label)
+unfolding spec.event_of spec.event_names spec.event_named spec.label_event
+abort_back script label fits = record {
+  first = codes "abort";
+  rest = (104 ∷ decimal label) ∷ [];
+  spaced = simp (append_assoc, append-nil);
+  plain = rw (decimal_inner label (long_number label fits)) refl;
+  read = rw (number_back label fits) refl;
+}
+
+override_back : (script : Script) (task : ℕ) (label : ℕ) → FitsEvent (event.Override task label)
+    → EventBack script (event.Override task label)
+unfolding spec.event_of spec.event_names spec.event_named spec.task_event words.two_of
+override_back script task label fits = record {
+  first = codes "override";
+  rest = (116 ∷ decimal task) ∷ (104 ∷ decimal label) ∷ [];
+  spaced = simp (append_assoc, append-nil);
+  plain = rw (decimal_inner task (long_number task fits.0), decimal_inner label (long_number label fits.1)) refl;
+  read = rw (number_back task fits.0, number_back label fits.1) refl;
+}
+
+revert_back : (script : Script) (task : ℕ) → FitsEvent (event.Revert task)
+    → EventBack script (event.Revert task)
+unfolding spec.event_of spec.event_names spec.event_named spec.task_event
+revert_back script task fits = record {
+  first = codes "revert";
+  rest = (116 ∷ decimal task) ∷ [];
+  spaced = simp (append_assoc, append-nil);
+  plain = rw (decimal_inner task (long_number task fits)) refl;
+  read = rw (number_back task fits) refl;
+}
+
+begin_back : (script : Script) (task : ℕ) (call : IdCall) → FitsEvent (event.Begin task call)
+    → EventBack script (event.Begin task call)
+unfolding spec.event_of spec.event_names spec.event_named spec.task_event spec.begin_of
+begin_back script task call fits =
+    let back = call_back script call fits.1 in
+    record {
+      first = codes "begin";
+      rest = (116 ∷ decimal task) ∷ back.first ∷ back.rest;
+      spaced = let e = back.spaced in simp append_assoc (cc);
+      plain = rw (decimal_inner task (long_number task fits.0)) back.plain;
+      read = rw (number_back task fits.0, back.read) refl;
+    }
+
+act_back : (script : Script) (cast : ℕ) → FitsEvent (event.Act cast)
+    → EventBack script (event.Act cast)
+unfolding spec.event_of spec.event_names spec.event_named
+act_back script cast fits = record {
+  first = codes "act";
+  rest = (decimal cast) ∷ [];
+  spaced = simp (append_assoc, append-nil);
+  plain = rw (decimal_plain cast (long_number cast fits)) refl;
+  read = rw (number_back cast fits) refl;
+}
+
+open_words : (hold file want fd : List ℕ) → 32 ∷ (codes "open h" ++ hold ++ codes " " ++ file ++ codes " " ++ want ++ codes " f" ++ fd) ≡ spaced (codes "open" ∷ (104 ∷ hold) ∷ file ∷ want ∷ (102 ∷ fd) ∷ [])
+open_words hold file want fd = simp (append_assoc, append-nil)
+
+open_back : (script : Script) (hold : ℕ) (file : ℕ) (want : Want) (fd : ℕ) → FitsEvent (event.OpenFile hold file want fd) → IsFile script file
+    → EventBack script (event.OpenFile hold file want fd)
+unfolding spec.event_of spec.event_names spec.event_named spec.label_event spec.open_of words.two_of
+open_back script hold file want fd fits own = record {
+  first = codes "open";
+  rest = (104 ∷ decimal hold) ∷ (file_text script file) ∷ (want_text want) ∷ (102 ∷ decimal fd) ∷ [];
+  spaced = open_words (decimal hold) (file_text script file) (want_text want) (decimal fd);
+  plain = rw (decimal_inner hold (long_number hold fits.0), file_plain script file own, want_plain want fits.1, decimal_inner fd (long_number fd fits.2)) refl;
+  read = rw (number_back hold fits.0, file_back script file own, want_back want fits.1, number_back fd fits.2) refl;
+}
+
+close_back : (script : Script) (fd : ℕ) → FitsEvent (event.CloseFile fd)
+    → EventBack script (event.CloseFile fd)
+unfolding spec.event_of spec.event_names spec.event_named
+close_back script fd fits = record {
+  first = codes "close";
+  rest = (102 ∷ decimal fd) ∷ [];
+  spaced = simp (append_assoc, append-nil);
+  plain = rw (decimal_inner fd (long_number fd fits)) refl;
+  read = rw (number_back fd fits) refl;
+}
+
+spawn_back : (script : Script) (task : ℕ) (child : ℕ) → FitsEvent (event.Spawn task child)
+    → EventBack script (event.Spawn task child)
+unfolding spec.event_of spec.event_names spec.event_named spec.task_event words.two_of
+spawn_back script task child fits = record {
+  first = codes "spawn";
+  rest = (116 ∷ decimal task) ∷ (116 ∷ decimal child) ∷ [];
+  spaced = simp (append_assoc, append-nil);
+  plain = rw (decimal_inner task (long_number task fits.0), decimal_inner child (long_number child fits.1)) refl;
+  read = rw (number_back task fits.0, number_back child fits.1) refl;
+}
+
+fork_back : (script : Script) (task : ℕ) (child : ℕ) (process : ℕ) → FitsEvent (event.Fork task child process)
+    → EventBack script (event.Fork task child process)
+unfolding spec.event_of spec.event_names spec.event_named spec.task_event words.three_of
+fork_back script task child process fits = record {
+  first = codes "fork";
+  rest = (116 ∷ decimal task) ∷ (116 ∷ decimal child) ∷ (112 ∷ decimal process) ∷ [];
+  spaced = simp (append_assoc, append-nil);
+  plain = rw (decimal_inner task (long_number task fits.0), decimal_inner child (long_number child fits.1), decimal_inner process (long_number process fits.2)) refl;
+  read = rw (number_back task fits.0, number_back child fits.1, number_back process fits.2) refl;
+}
+
+exit_back : (script : Script) (task : ℕ) → FitsEvent (event.Exit task)
+    → EventBack script (event.Exit task)
+unfolding spec.event_of spec.event_names spec.event_named spec.task_event
+exit_back script task fits = record {
+  first = codes "exit";
+  rest = (116 ∷ decimal task) ∷ [];
+  spaced = simp (append_assoc, append-nil);
+  plain = rw (decimal_inner task (long_number task fits)) refl;
+  read = rw (number_back task fits) refl;
+}
+
+sweep_back : (script : Script) → FitsEvent (event.Sweep)
+    → EventBack script (event.Sweep)
+unfolding spec.event_of spec.event_names spec.event_named
+sweep_back script fits = record {
+  first = codes "sweep";
+  rest = [];
+  spaced = refl;
+  plain = refl;
+  read = refl;
+}
+
+pub event_back : (script : Script) (event : Event) → FitsEvent event → All (IsFile script) (event_files event) → EventBack script event
+event_back script (event.Init task process user group ns) fits own = init_back script task process user group ns fits
+event_back script (event.Take label task Subjective) fits own = take_back script label task fits
+event_back script (event.Take label task Objective) fits own = takereal_back script label task fits
+event_back script (event.TakeFile label fd) fits own = takefile_back script label fd fits
+event_back script (event.Release label) fits own = release_back script label fits
+event_back script (event.Ask label query) fits own = ask_back script label query fits own
+event_back script (event.Signal from hold to target) fits own = signal_back script from hold to target fits
+event_back script (event.Prepare label task hold) fits own = prepare_back script label task hold fits
+event_back script (event.Alter label change) fits own = alter_back script label change fits own
+event_back script (event.Commit label) fits own = commit_back script label fits
+event_back script (event.Abort label) fits own = abort_back script label fits
+event_back script (event.Override task label) fits own = override_back script task label fits
+event_back script (event.Revert task) fits own = revert_back script task fits
+event_back script (event.Begin task call) fits own = begin_back script task call fits
+event_back script (event.Act cast) fits own = act_back script cast fits
+event_back script (event.OpenFile hold file want fd) fits own = open_back script hold file want fd fits (alone (IsFile script) file own)
+event_back script (event.CloseFile fd) fits own = close_back script fd fits
+event_back script (event.Spawn task child) fits own = spawn_back script task child fits
+event_back script (event.Fork task child process) fits own = fork_back script task child process fits
+event_back script (event.Exit task) fits own = exit_back script task fits
+event_back script event.Sweep fits own = sweep_back script fits

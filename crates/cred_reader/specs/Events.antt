@@ -1,0 +1,169 @@
+-- The event that words are the text of.
+use Rattle.std.specs.Prelude.{ℕ, List, [], ◌∷◌, codes, Result, Ok, Err, ok_or}
+use Rattle.std.specs.declared.option.Option.{Option}
+use Rattle.cred_event.specs.declared.event.Side.{Side}
+use Rattle.cred_event.specs.declared.event.Side.TheVariants.{Subjective, Objective}
+use Rattle.cred_record.specs.declared.id_call.IdCall.{IdCall}
+use Rattle.cred_event.specs.declared.event.Change.{Change}
+use Rattle.cred_event.specs.declared.event.Event.{Event}
+use Rattle.cred_event.specs.declared.event.Event.TheVariants as event
+use Rattle.cred_model.specs.Script.{NamedFile}
+use Rattle.cred_spelling.specs.declared.reason.Reason.{Reason}
+use Rattle.cred_spelling.specs.declared.reason.Reason.TheVariants.{Word, Count}
+use Rattle.cred_spelling.specs.Names.{id_name, altered_name}
+use Rattle.cred_spelling.specs.Spellings.{id_of, number_of, namespace_of, want_of}
+use Rattle.cred_spelling.specs.Table.{named}
+use Rattle.cred_spelling.specs.Words.{◌>>=◌, word_of, no_words, one_of, two_of, three_of, five_of}
+use Rattle.cred_script.specs.Changes.{change_of}
+use Rattle.cred_script.specs.Files.{file_at}
+use Rattle.cred_script.specs.Questions.{query_named}
+use Rattle.cred_script.specs.IdCalls.{id_call_of}
+use Rattle.cred_reader.specs.declared.names.EventName.{EventName}
+use Rattle.cred_reader.specs.declared.names.EventName.TheVariants as name
+use Rattle.cred_reader.specs.declared.names.LabelEvent.{LabelEvent}
+use Rattle.cred_reader.specs.declared.names.LabelEvent.TheVariants as by_label
+use Rattle.cred_reader.specs.declared.names.TaskEvent.{TaskEvent}
+use Rattle.cred_reader.specs.declared.names.TaskEvent.TheVariants as by_task
+use Rattle.cred_reader.specs.Kinds.{task_of, process_of, label_of, fd_of}
+
+-- what an event's text begins with
+unfoldable pub event_names : List (List ℕ × EventName)
+event_names =
+    (codes "init", name.Task by_task.Init) ∷
+    (codes "take", name.Label by_label.Take) ∷
+    (codes "takereal", name.Label by_label.TakeReal) ∷
+    (codes "takefile", name.Label by_label.TakeFile) ∷
+    (codes "drop", name.Label by_label.Release) ∷
+    (codes "ask", name.Label by_label.Ask) ∷
+    (codes "signal", name.Task by_task.Signal) ∷
+    (codes "prepare", name.Label by_label.Prepare) ∷
+    (codes "change", name.Label by_label.Alter) ∷
+    (codes "commit", name.Label by_label.Commit) ∷
+    (codes "abort", name.Label by_label.Abort) ∷
+    (codes "override", name.Task by_task.Override) ∷
+    (codes "revert", name.Task by_task.Revert) ∷
+    (codes "begin", name.Task by_task.Begin) ∷
+    (codes "act", name.Act) ∷
+    (codes "open", name.Label by_label.OpenFile) ∷
+    (codes "close", name.CloseFile) ∷
+    (codes "spawn", name.Task by_task.Spawn) ∷
+    (codes "fork", name.Task by_task.Fork) ∷
+    (codes "exit", name.Task by_task.Exit) ∷
+    (codes "sweep", name.Sweep) ∷
+    []
+
+abbrev pub event_name : List ℕ → Option EventName
+event_name word = named event_names word
+
+-- a new task, with its process, its ids and its namespace
+unfoldable pub init_of : List (List ℕ) → Result Event Reason
+init_of words = do
+  word ← five_of task_of process_of id_of id_of namespace_of words
+  Ok (event.Init word.0 word.1 word.2 word.3 word.4)
+
+-- a label, and the task whose credential it takes
+unfoldable pub take_of : Side → List (List ℕ) → Result Event Reason
+take_of side words = do
+  word ← two_of label_of task_of words
+  Ok (event.Take word.0 word.1 side)
+
+-- a label, and a question
+unfoldable pub ask_of : List NamedFile → List (List ℕ) → Result Event Reason
+ask_of files (hold ∷ asked ∷ words) = do
+  label ← word_of label_of hold
+  query ← query_named files asked words
+  Ok (event.Ask label query)
+ask_of files words = Err Count
+
+-- two tasks, each with the label that holds its credential
+unfoldable pub signal_of : List (List ℕ) → Result Event Reason
+signal_of (from ∷ hold ∷ words) = do
+  sender ← two_of task_of label_of (from ∷ hold ∷ [])
+  other ← two_of task_of label_of words
+  Ok (event.Signal sender.0 sender.1 other.0 other.1)
+signal_of words = Err Count
+
+-- a change, by the word that names it
+unfoldable pub change_named : List NamedFile → List ℕ → List (List ℕ) → Result Change Reason
+change_named files name words = do
+  kind ← ok_or (altered_name name) Word
+  change_of files kind words
+
+-- a label, and a change
+unfoldable pub alter_of : List NamedFile → List (List ℕ) → Result Event Reason
+alter_of files (prepared ∷ changed ∷ words) = do
+  label ← word_of label_of prepared
+  change ← change_named files changed words
+  Ok (event.Alter label change)
+alter_of files words = Err Count
+
+-- an id call, by the word that names it
+unfoldable pub call_named : List ℕ → List (List ℕ) → Result IdCall Reason
+call_named name words = ok_or (id_name name) Word >>= λ kind. id_call_of kind words
+
+-- a task, and an id call
+unfoldable pub begin_of : List (List ℕ) → Result Event Reason
+begin_of (caller ∷ called ∷ words) = do
+  task ← word_of task_of caller
+  call ← call_named called words
+  Ok (event.Begin task call)
+begin_of words = Err Count
+
+-- a hold, a file, what is wanted of it, and a descriptor
+unfoldable pub open_of : List NamedFile → List (List ℕ) → Result Event Reason
+open_of files (hold ∷ name ∷ words) = do
+  label ← word_of label_of hold
+  file ← file_at files name
+  word ← two_of want_of fd_of words
+  Ok (event.OpenFile label file word.0 word.1)
+open_of files words = Err Count
+
+-- an event whose text has a label behind its first word, by its name
+unfoldable pub label_event : List NamedFile → LabelEvent → List (List ℕ) → Result Event Reason
+label_event files by_label.Take words = take_of Subjective words
+label_event files by_label.TakeReal words = take_of Objective words
+label_event files by_label.TakeFile words = do
+  word ← two_of label_of fd_of words
+  Ok (event.TakeFile word.0 word.1)
+label_event files by_label.Release words =
+    one_of label_of words >>= λ label. Ok (event.Release label)
+label_event files by_label.Ask words = ask_of files words
+label_event files by_label.Prepare words = do
+  word ← three_of label_of task_of label_of words
+  Ok (event.Prepare word.0 word.1 word.2)
+label_event files by_label.Alter words = alter_of files words
+label_event files by_label.Commit words = one_of label_of words >>= λ label. Ok (event.Commit label)
+label_event files by_label.Abort words = one_of label_of words >>= λ label. Ok (event.Abort label)
+label_event files by_label.OpenFile words = open_of files words
+
+-- an event whose text has a task behind its first word, by its name
+unfoldable pub task_event : TaskEvent → List (List ℕ) → Result Event Reason
+task_event by_task.Init words = init_of words
+task_event by_task.Signal words = signal_of words
+task_event by_task.Override words = do
+  word ← two_of task_of label_of words
+  Ok (event.Override word.0 word.1)
+task_event by_task.Revert words = one_of task_of words >>= λ task. Ok (event.Revert task)
+task_event by_task.Begin words = begin_of words
+task_event by_task.Spawn words = do
+  word ← two_of task_of task_of words
+  Ok (event.Spawn word.0 word.1)
+task_event by_task.Fork words = do
+  word ← three_of task_of task_of process_of words
+  Ok (event.Fork word.0 word.1 word.2)
+task_event by_task.Exit words = one_of task_of words >>= λ task. Ok (event.Exit task)
+
+-- an event, by its name and the words behind it
+unfoldable pub event_named : List NamedFile → EventName → List (List ℕ) → Result Event Reason
+event_named files (name.Label kind) words = label_event files kind words
+event_named files (name.Task kind) words = task_event kind words
+event_named files name.Act words = one_of number_of words >>= λ cast. Ok (event.Act cast)
+event_named files name.CloseFile words = one_of fd_of words >>= λ fd. Ok (event.CloseFile fd)
+event_named files name.Sweep words = no_words words >>= λ end. Ok event.Sweep
+
+-- the event that the words are the text of
+unfoldable pub event_of : List NamedFile → List (List ℕ) → Result Event Reason
+event_of files [] = Err Count
+event_of files (word ∷ words) = do
+  name ← ok_or (event_name word) Word
+  event_named files name words

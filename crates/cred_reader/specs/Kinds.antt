@@ -1,0 +1,48 @@
+-- The words of entries that scripts spell otherwise: the numbers of tasks, processes, labels and
+-- descriptors may be any, and there are numbers of credentials and of slots, and flags.
+use Rattle.std.specs.Prelude.{ℕ, Bool, true, false, ◌==◌, nat_le, List, [], ◌∷◌, codes, Some, None, if◌then◌else◌}
+use Rattle.std.specs.declared.option.Option.{Option}
+use Rattle.std.specs.Option.{option_and_then}
+use Rattle.cred_spelling.specs.Spellings.{letter, number_of, long_of}
+use Rattle.cred_spelling.specs.Table.{named}
+
+-- a letter, and what the word behind it spells
+abbrev pub behind : ℕ → (List ℕ → Option ℕ) → List ℕ → Option ℕ
+behind letter spelled [] = None
+behind letter spelled (first ∷ digits) = if first == letter then spelled digits else None
+
+-- a task, as `t1`
+abbrev pub task_of : List ℕ → Option ℕ
+task_of word = behind (letter (codes "t")) number_of word
+
+-- a process, as `p1`
+abbrev pub process_of : List ℕ → Option ℕ
+process_of word = behind (letter (codes "p")) number_of word
+
+-- a label, as `h100030`
+abbrev pub label_of : List ℕ → Option ℕ
+label_of word = behind (letter (codes "h")) number_of word
+
+-- a descriptor, as `f1`
+abbrev pub fd_of : List ℕ → Option ℕ
+fd_of word = behind (letter (codes "f")) number_of word
+
+-- a slot, as `s1`
+abbrev pub slot_of : List ℕ → Option ℕ
+slot_of word = behind (letter (codes "s")) number_of word
+
+-- a sealed credential, as `c1`
+abbrev pub cred_of : List ℕ → Option ℕ
+cred_of word = behind (letter (codes "c")) long_of word
+
+-- a flag
+unfoldable pub flags : List (List ℕ × Bool)
+flags = (codes "0", false) ∷ (codes "1", true) ∷ []
+
+abbrev pub flag_of : List ℕ → Option Bool
+flag_of word = named flags word
+
+-- securebits
+abbrev pub bits_of : List ℕ → Option ℕ
+bits_of word =
+    option_and_then (λ bits. if nat_le bits 255 then Some bits else None) (number_of word)

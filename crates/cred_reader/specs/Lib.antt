@@ -1,0 +1,7 @@
+pub mod Rows
+pub mod Fits
+pub mod Kinds
+pub mod Events
+pub mod Answers
+pub mod Entry
+pub mod Once

@@ -1,0 +1,12 @@
+-- What a text says is said once.
+use Rattle.std.specs.Prelude.{◌≡◌}
+use Rattle.cred_event.specs.declared.entry.Entry.{Entry}
+use Rattle.cred_model.specs.Script.{Script}
+use Rattle.cred_report.specs.Text.{entry_text}
+use Rattle.cred_reader.specs.Fits.{Fits}
+
+-- fitting entries with one text are one
+abbrev pub TextsDiffer : Type 0
+TextsDiffer =
+    (script : Script) → (a b : Entry) → Fits script a → Fits script b
+    → entry_text script a ≡ entry_text script b → a ≡ b

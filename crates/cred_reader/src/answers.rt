@@ -1,0 +1,216 @@
+//! The answer that words are the text of, for an event.
+ghost use Rattle.std.specs.Prelude.{◌≡◌};
+ghost use Rattle.cred_spelling.specs.Read.{Says, nows};
+ghost use Rattle.cred_script.specs.Read.{GivesLine};
+ghost use Rattle.cred_reader.specs.Answers as spec;
+
+use crate::kinds::{Bits, Cred, Flag, Slot, Task};
+use crate::refusals::refusal_of;
+use cred_caps::CapSet;
+use cred_event::{Answer, Event, Query, Told};
+use cred_ids::{Id, Ids4};
+use cred_record::{Gains, IdList};
+use cred_script::{LineRefusal, Script, ids};
+use cred_spelling::{Number, Reason, five, is, one, three, two, word};
+use std::alloc::Global;
+
+/// What an event is told: how the words behind `ok` are read.
+#[derive(Clone, Copy)]
+pub enum Tells {
+    /// It asks nothing, or whether something is allowed.
+    Nothing,
+    /// Ids of users, then of groups.
+    Ids,
+    /// Five sets of capabilities.
+    Caps,
+    /// A list of groups.
+    Groups,
+    /// Securebits, and a flag.
+    Bits,
+    /// A flag.
+    Flag,
+}
+
+/// What the event is told.
+pub(crate) fn told_by(event: &Event) -> Tells
+    ensures { result ≡ spec.told_by event.now }
+{
+    match event {
+        Event::Ask { query, .. } => query_tells(*query),
+        _ => Tells::Nothing,
+    }
+}
+
+fn query_tells(query: Query) -> Tells
+    ensures { result ≡ spec.query_tells query }
+{
+    match query {
+        Query::Ids => Tells::Ids,
+        Query::Caps => Tells::Caps,
+        Query::Groups => Tells::Groups,
+        Query::Bits => Tells::Bits,
+        Query::Capable(_) | Query::Bset(_) | Query::AmbIs(_) => Tells::Flag,
+        Query::Check { .. } => Tells::Nothing,
+    }
+}
+
+/// Ids of users and ids of groups, four of each.
+#[tactic(auto, unfolding(crate::specs::Answers::ids_told))]
+fn ids_told(words: &[&[u8]]) -> Result<Answer, Reason>
+    ensures { Says (λ answer. answer) result (spec.ids_told (nows words.now)) }
+{
+    match words {
+        [a, b, c, words @ ..] => {
+            let (real, effective, saved) = three::<Id, Id, Id>(&[*a, *b, *c])?;
+            let (fs, group, effective_group, saved_group, fs_group) = five::<Id, Id, Id, Id, Id>(
+                words,
+            )?;
+            Ok(Answer::Told(Told::Ids {
+                uid: Ids4 {
+                    real,
+                    effective,
+                    saved,
+                    fs,
+                },
+                gid: Ids4 {
+                    real: group,
+                    effective: effective_group,
+                    saved: saved_group,
+                    fs: fs_group,
+                },
+            }))
+        }
+        _ => Err(Reason::Count),
+    }
+}
+
+/// The task that followed a broadcast, its new credential, and how many are left.
+#[tactic(auto, unfolding(crate::specs::Answers::acted))]
+fn acted(words: &[&[u8]]) -> Result<Answer, Reason>
+    ensures { Says (λ answer. answer) result (spec.acted (nows words.now)) }
+{
+    match words {
+        [task, a, b, _left, number] => {
+            let (task, cred) = two::<Task, Cred>(&[*task, *a])?;
+            let (slot, left) = two::<Slot, Number>(&[*b, *number])?;
+            Ok(Answer::Acted {
+                task,
+                cred,
+                slot,
+                left,
+            })
+        }
+        _ => Err(Reason::Count),
+    }
+}
+
+/// A sealed credential and its slot, and what came of it.
+#[tactic(auto, unfolding(crate::specs::Answers::longest))]
+fn longest(words: &[&[u8]]) -> Result<Answer, Reason>
+    ensures { Says (λ answer. answer) result (spec.longest (nows words.now)) }
+{
+    match words {
+        [a, b, _left, number] => {
+            let (cred, slot, left) = three::<Cred, Slot, Number>(&[*a, *b, *number])?;
+            Ok(Answer::Began { cred, slot, left })
+        }
+        [a, b, _ended, number, _gain, words @ ..] => {
+            let (cred, slot, ended) = three::<Cred, Slot, Number>(&[*a, *b, *number])?;
+            let (file, inherit, root) = three::<CapSet, CapSet, CapSet>(words)?;
+            Ok(Answer::Executed {
+                cred,
+                slot,
+                ended,
+                gains: Gains {
+                    file,
+                    inherit,
+                    root,
+                },
+            })
+        }
+        _ => Err(Reason::Count),
+    }
+}
+
+/// The answers of more than two words: one alone has five.
+#[tactic(auto, unfolding(crate::specs::Answers::longer))]
+fn longer(words: &[&[u8]]) -> Result<Answer, Reason>
+    ensures { Says (λ answer. answer) result (spec.longer (nows words.now)) }
+{
+    if words.len() == 5 {
+        acted(words)
+    } else {
+        longest(words)
+    }
+}
+
+/// `ok` and no value, or values that no question is told.
+#[tactic(auto, unfolding(crate::specs::Answers::plain))]
+fn plain(words: &[&[u8]]) -> Result<Answer, Reason>
+    ensures { Says (λ answer. answer) result (spec.plain (nows words.now)) }
+{
+    match words {
+        [] => Ok(Answer::Done),
+        [slot] => Ok(Answer::Kept {
+            slot: word::<Slot>(slot)?,
+        }),
+        [a, b] => {
+            if is(a, "was") {
+                return Ok(Answer::Was {
+                    previous: word::<Id>(b)?,
+                });
+            }
+            let (cred, slot) = two::<Cred, Slot>(&[*a, *b])?;
+            Ok(Answer::Sealed { cred, slot })
+        }
+        _ => longer(words),
+    }
+}
+
+/// What stands behind `ok`.
+#[tactic(auto, unfolding(crate::specs::Answers::ok_words))]
+fn ok_words(alloc: Global, told: Tells, words: &[&[u8]]) -> Result<Answer, LineRefusal>
+    ensures { GivesLine (λ answer. answer) result (spec.ok_words told (nows words.now)) }
+{
+    match told {
+        Tells::Nothing => Ok(plain(words)?),
+        Tells::Ids => Ok(ids_told(words)?),
+        Tells::Caps => {
+            let (perm, inh, eff, bound, amb) = five::<CapSet, CapSet, CapSet, CapSet, CapSet>(
+                words,
+            )?;
+            Ok(Answer::Told(Told::Caps {
+                perm,
+                inh,
+                eff,
+                bound,
+                amb,
+            }))
+        }
+        Tells::Groups => {
+            let groups = IdList::from_vec(ids(alloc, words)?);
+            Ok(Answer::Told(Told::Groups(groups)))
+        }
+        Tells::Bits => {
+            let (bits, nnp) = two::<Bits, Flag>(words)?;
+            Ok(Answer::Told(Told::Bits { bits, nnp }))
+        }
+        Tells::Flag => Ok(Answer::Told(Told::Flag(one::<Flag>(words)?))),
+    }
+}
+
+/// The answer to an event that is told this.
+#[tactic(auto, unfolding(crate::specs::Answers::answer_of))]
+pub(crate) fn answer_of(alloc: Global, told: Tells, words: &[&[u8]]) -> Result<Answer, LineRefusal>
+    ensures { GivesLine (λ answer. answer) result (spec.answer_of told (nows words.now)) }
+{
+    match words {
+        [name, rest @ ..] => {
+            if is(name, "ok") {
+                return ok_words(alloc, told, rest);
+            }
+            Ok(refusal_of(words)?)
+        }
+        [] => Err(LineRefusal::Bad(Reason::Count)),
+    }
+}

@@ -1,0 +1,254 @@
+//! The event that words are the text of.
+ghost use Rattle.cred_spelling.specs.Read.{Says, nows};
+ghost use Rattle.cred_script.specs.Read.{GivesLine};
+ghost use Rattle.cred_reader.specs.Events as spec;
+
+use crate::kinds::{Fd, Label, Process, Task};
+use crate::names::{EventName, LabelEvent, TaskEvent, event_name};
+use cred_event::{Change, Event, Side};
+use cred_ids::Id;
+use cred_record::{IdCall, Want};
+use cred_script::{LineRefusal, Script, id_call_of};
+use cred_spelling::{
+    Namespace, Number, Reason, altered_name, five, id_name, no_words, one, three, two, word,
+};
+use std::alloc::Global;
+
+/// A first task, with its process, its ids and its namespace.
+#[tactic(auto, unfolding(crate::specs::Events::init_of))]
+fn init_of(words: &[&[u8]]) -> Result<Event, Reason>
+    ensures { Says (λ event. event) result (spec.init_of (nows words.now)) }
+{
+    let (task, process, user, group, ns) = five::<Task, Process, Id, Id, Namespace>(words)?;
+    Ok(Event::Init {
+        task,
+        process,
+        user,
+        group,
+        ns,
+    })
+}
+
+/// A label, and the task whose credential it takes.
+#[tactic(auto, unfolding(crate::specs::Events::take_of))]
+fn take_of(side: Side, words: &[&[u8]]) -> Result<Event, Reason>
+    ensures { Says (λ event. event) result (spec.take_of side (nows words.now)) }
+{
+    let (label, task) = two::<Label, Task>(words)?;
+    Ok(Event::Take { label, task, side })
+}
+
+/// A label, and a question.
+#[tactic(auto, unfolding(crate::specs::Events::ask_of))]
+fn ask_of(script: &Script, words: &[&[u8]]) -> Result<Event, Reason>
+    ensures { Says (λ event. event) result (spec.ask_of script.now.files (nows words.now)) }
+{
+    match words {
+        [hold, asked, words @ ..] => {
+            let label = word::<Label>(hold)?;
+            let query = script.query(asked, words)?;
+            Ok(Event::Ask { label, query })
+        }
+        _ => Err(Reason::Count),
+    }
+}
+
+/// Two tasks, each with the label that holds its credential.
+#[tactic(auto, unfolding(crate::specs::Events::signal_of))]
+fn signal_of(words: &[&[u8]]) -> Result<Event, Reason>
+    ensures { Says (λ event. event) result (spec.signal_of (nows words.now)) }
+{
+    match words {
+        [from, hold, words @ ..] => {
+            let (from, hold) = two::<Task, Label>(&[*from, *hold])?;
+            let (to, target) = two::<Task, Label>(words)?;
+            Ok(Event::Signal {
+                from,
+                hold,
+                to,
+                target,
+            })
+        }
+        _ => Err(Reason::Count),
+    }
+}
+
+/// A change, by the word that names it.
+#[tactic(auto, unfolding(crate::specs::Events::change_named))]
+fn change_named(script: &Script, name: &[u8], words: &[&[u8]]) -> Result<Change, Reason>
+    ensures { Says (λ change. change) result
+        (spec.change_named script.now.files name.now (nows words.now)) }
+{
+    script.change(altered_name(name).ok_or(Reason::Word)?, words)
+}
+
+/// A label, and a change.
+#[tactic(auto, unfolding(crate::specs::Events::alter_of))]
+fn alter_of(script: &Script, words: &[&[u8]]) -> Result<Event, Reason>
+    ensures { Says (λ event. event) result (spec.alter_of script.now.files (nows words.now)) }
+{
+    match words {
+        [prepared, changed, words @ ..] => {
+            let label = word::<Label>(prepared)?;
+            let change = change_named(script, changed, words)?;
+            Ok(Event::Alter { label, change })
+        }
+        _ => Err(Reason::Count),
+    }
+}
+
+/// An id call, by the word that names it.
+#[tactic(auto, unfolding(crate::specs::Events::call_named))]
+fn call_named(alloc: Global, name: &[u8], words: &[&[u8]]) -> Result<IdCall, LineRefusal>
+    ensures { GivesLine (λ call. call) result (spec.call_named name.now (nows words.now)) }
+{
+    id_call_of(alloc, id_name(name).ok_or(Reason::Word)?, words)
+}
+
+/// A task, and an id call.
+#[tactic(auto, unfolding(crate::specs::Events::begin_of))]
+fn begin_of(alloc: Global, words: &[&[u8]]) -> Result<Event, LineRefusal>
+    ensures { GivesLine (λ event. event) result (spec.begin_of (nows words.now)) }
+{
+    match words {
+        [caller, called, words @ ..] => {
+            let task = word::<Task>(caller)?;
+            let call = call_named(alloc, called, words)?;
+            Ok(Event::Begin { task, call })
+        }
+        _ => Err(LineRefusal::Bad(Reason::Count)),
+    }
+}
+
+/// A hold, a file, what is wanted of it, and a descriptor.
+#[tactic(auto, unfolding(crate::specs::Events::open_of))]
+fn open_of(script: &Script, words: &[&[u8]]) -> Result<Event, Reason>
+    ensures { Says (λ event. event) result (spec.open_of script.now.files (nows words.now)) }
+{
+    match words {
+        [hold, name, words @ ..] => {
+            let hold = word::<Label>(hold)?;
+            let file = script.file_at(name)?;
+            let (want, fd) = two::<Want, Fd>(words)?;
+            Ok(Event::OpenFile {
+                hold,
+                file,
+                want,
+                fd,
+            })
+        }
+        _ => Err(Reason::Count),
+    }
+}
+
+/// An event whose text has a label behind its first word, by its name.
+#[tactic(auto, unfolding(crate::specs::Events::label_event))]
+fn label_event(script: &Script, name: LabelEvent, words: &[&[u8]]) -> Result<Event, Reason>
+    ensures { Says (λ event. event) result
+        (spec.label_event script.now.files name (nows words.now)) }
+{
+    match name {
+        LabelEvent::Take => take_of(Side::Subjective, words),
+        LabelEvent::TakeReal => take_of(Side::Objective, words),
+        LabelEvent::TakeFile => {
+            let (label, fd) = two::<Label, Fd>(words)?;
+            Ok(Event::TakeFile { label, fd })
+        }
+        LabelEvent::Release => Ok(Event::Release {
+            label: one::<Label>(words)?,
+        }),
+        LabelEvent::Ask => ask_of(script, words),
+        LabelEvent::Prepare => {
+            let (label, task, hold) = three::<Label, Task, Label>(words)?;
+            Ok(Event::Prepare { label, task, hold })
+        }
+        LabelEvent::Alter => alter_of(script, words),
+        LabelEvent::Commit => Ok(Event::Commit {
+            label: one::<Label>(words)?,
+        }),
+        LabelEvent::Abort => Ok(Event::Abort {
+            label: one::<Label>(words)?,
+        }),
+        LabelEvent::OpenFile => open_of(script, words),
+    }
+}
+
+/// An event whose text has a task behind its first word, by its name.
+#[tactic(auto, unfolding(crate::specs::Events::task_event))]
+fn task_event(alloc: Global, name: TaskEvent, words: &[&[u8]]) -> Result<Event, LineRefusal>
+    ensures { GivesLine (λ event. event) result (spec.task_event name (nows words.now)) }
+{
+    match name {
+        TaskEvent::Init => Ok(init_of(words)?),
+        TaskEvent::Signal => Ok(signal_of(words)?),
+        TaskEvent::Override => {
+            let (task, label) = two::<Task, Label>(words)?;
+            Ok(Event::Override { task, label })
+        }
+        TaskEvent::Revert => Ok(Event::Revert {
+            task: one::<Task>(words)?,
+        }),
+        TaskEvent::Begin => begin_of(alloc, words),
+        TaskEvent::Spawn => {
+            let (task, child) = two::<Task, Task>(words)?;
+            Ok(Event::Spawn { task, child })
+        }
+        TaskEvent::Fork => {
+            let (task, child, process) = three::<Task, Task, Process>(words)?;
+            Ok(Event::Fork {
+                task,
+                child,
+                process,
+            })
+        }
+        TaskEvent::Exit => Ok(Event::Exit {
+            task: one::<Task>(words)?,
+        }),
+    }
+}
+
+/// An event, by its name and the words behind it.
+#[tactic(auto, unfolding(crate::specs::Events::event_named))]
+fn event_named(
+    alloc: Global,
+    script: &Script,
+    name: EventName,
+    words: &[&[u8]],
+) -> Result<Event, LineRefusal>
+    ensures { GivesLine (λ event. event) result
+        (spec.event_named script.now.files name (nows words.now)) }
+{
+    match name {
+        EventName::Label(name) => Ok(label_event(script, name, words)?),
+        EventName::Task(name) => task_event(alloc, name, words),
+        EventName::Act => Ok(Event::Act {
+            cast: one::<Number>(words)?,
+        }),
+        EventName::CloseFile => Ok(Event::CloseFile {
+            fd: one::<Fd>(words)?,
+        }),
+        EventName::Sweep => {
+            no_words(words)?;
+            Ok(Event::Sweep)
+        }
+    }
+}
+
+/// The event that the words are the text of.
+#[tactic(auto, unfolding(crate::specs::Events::event_of))]
+pub(crate) fn event_of(
+    alloc: Global,
+    script: &Script,
+    words: &[&[u8]],
+) -> Result<Event, LineRefusal>
+    ensures { GivesLine (λ event. event) result
+        (spec.event_of script.now.files (nows words.now)) }
+{
+    match words {
+        [name, words @ ..] => {
+            let name = event_name(name).ok_or(Reason::Word)?;
+            event_named(alloc, script, name, words)
+        }
+        [] => Err(LineRefusal::Bad(Reason::Count)),
+    }
+}

@@ -1,0 +1,134 @@
+//! The kinds of words that entries have and scripts spell otherwise.
+ghost use Rattle.std.specs.Prelude.{◌≡◌};
+ghost use Rattle.cred_spelling.specs.Spellings.{number_of};
+ghost use Rattle.cred_reader.specs.Kinds as spec;
+
+use cred_caps::SecureBits;
+use cred_spelling::{Number, Spelling, long_of, named};
+
+/// The number behind a letter.
+fn behind(letter: u8, word: &[u8]) -> Option<u32>
+    ensures { result ≡ spec.behind letter number_of word.now }
+{
+    match word {
+        [first, digits @ ..] if *first == letter => Number::of(digits),
+        _ => None,
+    }
+}
+
+/// A task, as `t1`.
+pub(crate) enum Task {}
+
+impl Spelling for Task {
+    type Value = u32;
+
+    ghost spelled = { spec.task_of };
+
+    fn of(word: &[u8]) -> Option<u32> {
+        behind(b't', word)
+    }
+}
+
+/// A process, as `p1`.
+pub(crate) enum Process {}
+
+impl Spelling for Process {
+    type Value = u32;
+
+    ghost spelled = { spec.process_of };
+
+    fn of(word: &[u8]) -> Option<u32> {
+        behind(b'p', word)
+    }
+}
+
+/// A label, as `h100030`.
+pub(crate) enum Label {}
+
+impl Spelling for Label {
+    type Value = u32;
+
+    ghost spelled = { spec.label_of };
+
+    fn of(word: &[u8]) -> Option<u32> {
+        behind(b'h', word)
+    }
+}
+
+/// A descriptor, as `f1`.
+pub(crate) enum Fd {}
+
+impl Spelling for Fd {
+    type Value = u32;
+
+    ghost spelled = { spec.fd_of };
+
+    fn of(word: &[u8]) -> Option<u32> {
+        behind(b'f', word)
+    }
+}
+
+/// A slot, as `s1`.
+pub(crate) enum Slot {}
+
+impl Spelling for Slot {
+    type Value = u32;
+
+    ghost spelled = { spec.slot_of };
+
+    fn of(word: &[u8]) -> Option<u32> {
+        behind(b's', word)
+    }
+}
+
+/// A sealed credential, as `c1`.
+pub(crate) enum Cred {}
+
+impl Spelling for Cred {
+    type Value = u64;
+
+    ghost spelled = { spec.cred_of };
+
+    fn of(word: &[u8]) -> Option<u64> {
+        match word {
+            [b'c', digits @ ..] => long_of(digits),
+            _ => None,
+        }
+    }
+}
+
+static FLAGS: [(&str, bool); 2] = [("0", false), ("1", true)];
+
+/// The flag that the word is.
+#[tactic(auto, unfolding(crate::specs::Kinds::flags))]
+fn flag_of(word: &[u8]) -> Option<bool>
+    ensures { result ≡ spec.flag_of word.now }
+{
+    named(&FLAGS, word)
+}
+
+/// A flag, as `0` or `1`.
+pub(crate) enum Flag {}
+
+impl Spelling for Flag {
+    type Value = bool;
+
+    ghost spelled = { spec.flag_of };
+
+    fn of(word: &[u8]) -> Option<bool> {
+        flag_of(word)
+    }
+}
+
+/// Securebits, as their number.
+pub(crate) enum Bits {}
+
+impl Spelling for Bits {
+    type Value = SecureBits;
+
+    ghost spelled = { spec.bits_of };
+
+    fn of(word: &[u8]) -> Option<SecureBits> {
+        SecureBits::new(Number::of(word)?)
+    }
+}

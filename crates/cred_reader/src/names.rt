@@ -1,0 +1,77 @@
+//! What the text of an event begins with.
+ghost use Rattle.std.specs.Prelude.{◌≡◌};
+ghost use Rattle.cred_reader.specs.Events as spec;
+
+use cred_spelling::named;
+
+/// The events of a report, by the word that their text begins with.
+#[derive(Clone, Copy)]
+pub enum EventName {
+    /// A label stands behind the word.
+    Label(LabelEvent),
+    /// A task stands behind the word.
+    Task(TaskEvent),
+    Act,
+    CloseFile,
+    Sweep,
+}
+
+/// The events whose text has a label behind its first word.
+#[derive(Clone, Copy)]
+pub enum LabelEvent {
+    Take,
+    TakeReal,
+    TakeFile,
+    Release,
+    Ask,
+    Prepare,
+    Alter,
+    Commit,
+    Abort,
+    OpenFile,
+}
+
+/// The events whose text has a task behind its first word.
+#[derive(Clone, Copy)]
+pub enum TaskEvent {
+    Init,
+    Signal,
+    Override,
+    Revert,
+    Begin,
+    Spawn,
+    Fork,
+    Exit,
+}
+
+static EVENT_NAMES: [(&str, EventName); 21] = [
+    ("init", EventName::Task(TaskEvent::Init)),
+    ("take", EventName::Label(LabelEvent::Take)),
+    ("takereal", EventName::Label(LabelEvent::TakeReal)),
+    ("takefile", EventName::Label(LabelEvent::TakeFile)),
+    ("drop", EventName::Label(LabelEvent::Release)),
+    ("ask", EventName::Label(LabelEvent::Ask)),
+    ("signal", EventName::Task(TaskEvent::Signal)),
+    ("prepare", EventName::Label(LabelEvent::Prepare)),
+    ("change", EventName::Label(LabelEvent::Alter)),
+    ("commit", EventName::Label(LabelEvent::Commit)),
+    ("abort", EventName::Label(LabelEvent::Abort)),
+    ("override", EventName::Task(TaskEvent::Override)),
+    ("revert", EventName::Task(TaskEvent::Revert)),
+    ("begin", EventName::Task(TaskEvent::Begin)),
+    ("act", EventName::Act),
+    ("open", EventName::Label(LabelEvent::OpenFile)),
+    ("close", EventName::CloseFile),
+    ("spawn", EventName::Task(TaskEvent::Spawn)),
+    ("fork", EventName::Task(TaskEvent::Fork)),
+    ("exit", EventName::Task(TaskEvent::Exit)),
+    ("sweep", EventName::Sweep),
+];
+
+/// The event that the word names.
+#[tactic(auto, unfolding(crate::specs::Events::event_names))]
+pub(crate) fn event_name(word: &[u8]) -> Option<EventName>
+    ensures { result ≡ spec.event_name word.now }
+{
+    named(&EVENT_NAMES, word)
+}

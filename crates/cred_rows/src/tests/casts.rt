@@ -1,0 +1,139 @@
+//! What an open broadcast refuses and no script reaches, by the book's own call: a first task in
+//! its process, and another broadcast under its number.
+ghost use Rattle.std.specs.Prelude.{ℕ, List, IfOk};
+ghost use Rattle.cred_model.specs.Named.{IsEventOf};
+ghost use Rattle.cred_model.specs.Script.{Namespace};
+
+use cred_book::{Book, run};
+use cred_event::Event;
+use cred_ids::{Arg, Id};
+use cred_record::IdCall;
+use cred_report::print;
+use cred_script::read;
+use std::alloc::Global;
+use std::test::Fail;
+
+/// Two processes of two threads each. The second thread of the first one waits for its step.
+const SCRIPT: &str = "init t1 p1 0 0 n0\ninit t2 p1 0 0 n0\ninit t3 p2 0 0 n0\ninit t4 p2 0 0 n0\n\
+    begin t1 setgid 7\n";
+
+/// An event that an open broadcast may refuse, or the next step in the broadcast of a line.
+#[derive(Clone, Copy)]
+enum Call {
+    Init { task: u32, process: u32 },
+    Begin { task: u32 },
+    Act { cast: u32 },
+}
+
+/// A line and its event, the text of its entry, and how many references there are to the first
+/// slots then; to all others there are none.
+type Row = (u32, Call, &'static str, [u64; 8]);
+
+const ROWS: [Row; 7] = [
+    (
+        6,
+        Call::Init {
+            task: 5,
+            process: 1,
+        },
+        "6 init t5 p1 0 0 n0 -> busy 5\n",
+        [1, 1, 1, 1, 1, 0, 0, 0],
+    ),
+    // An open broadcast is told before a task that is there, and before another of its number.
+    (
+        6,
+        Call::Init {
+            task: 1,
+            process: 1,
+        },
+        "6 init t1 p1 0 0 n0 -> busy 5\n",
+        [1, 1, 1, 1, 1, 0, 0, 0],
+    ),
+    (
+        5,
+        Call::Begin { task: 2 },
+        "5 begin t2 setgid 7 -> busy 5\n",
+        [1, 1, 1, 1, 1, 0, 0, 0],
+    ),
+    (
+        5,
+        Call::Begin { task: 3 },
+        "5 begin t3 setgid 7 -> exists k5\n",
+        [1, 1, 1, 1, 1, 0, 0, 0],
+    ),
+    // None of them has left anything.
+    (
+        6,
+        Call::Act { cast: 5 },
+        "6 act 5 -> ok t2 c5 s5 left 0\n",
+        [1, 1, 1, 1, 1, 1, 0, 0],
+    ),
+    (
+        6,
+        Call::Init {
+            task: 5,
+            process: 1,
+        },
+        "6 init t5 p1 0 0 n0 -> ok c6 s6\n",
+        [1, 1, 1, 1, 1, 1, 1, 0],
+    ),
+    (
+        5,
+        Call::Begin { task: 3 },
+        "5 begin t3 setgid 7 -> ok c7 s7 left 1\n",
+        [1; 8],
+    ),
+];
+
+fn event_of(call: Call) -> Result<Event, Fail>
+    ensures { IfOk result (λ event.
+        (files : ℕ) (declared : List Namespace) → IsEventOf files declared event) }
+{
+    let root = Id::new(0).ok_or("root")?;
+    match call {
+        Call::Init { task, process } => Ok(Event::Init {
+            task,
+            process,
+            user: root,
+            group: root,
+            ns: 0,
+        }),
+        Call::Begin { task } => Ok(Event::Begin {
+            task,
+            call: IdCall::SetGid(Arg::of(7)),
+        }),
+        Call::Act { cast } => Ok(Event::Act { cast }),
+    }
+}
+
+/// Whether the entry that the event of a line gets has this text.
+fn is_entered(
+    alloc: Global,
+    book: &mut Book,
+    line: u32,
+    call: Call,
+    text: &str,
+) -> Result<bool, Fail> {
+    book.event(line, event_of(call)?)?;
+    let entry = book.journal().last().ok_or("an entry")?;
+    let printed = print(alloc, book.script(), entry)?;
+    Ok(printed.items() == text.as_bytes())
+}
+
+/// Whether there are so many references to the first slots, and none to the others.
+fn are_used(book: &Book, first: &[u64]) -> bool {
+    (0..256).all(|slot| {
+        let uses = first.get(slot as usize).copied().unwrap_or(0);
+        book.uses(slot) == uses
+    })
+}
+
+#[test]
+fn refusals_of_an_open_broadcast_leave_the_state(rt: HostRuntime) -> Result<(), Fail> {
+    let mut book = run(rt.alloc(), read(rt.alloc(), SCRIPT.as_bytes())?)?;
+    for (line, call, text, first) in ROWS {
+        let is_entered = is_entered(rt.alloc(), &mut book, line, call, text)?;
+        assert!(rt; is_entered && are_used(&book, &first), "{text}");
+    }
+    Ok(())
+}

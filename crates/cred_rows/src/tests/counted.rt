@@ -1,0 +1,187 @@
+//! Some 300 scripts of threads and broadcasts, each walked through by hand: every refusal of the
+//! state, every number and slot in the answers, and at the end how many references there are to
+//! each slot are compared with plain lists.
+mod labels;
+mod lists;
+mod refusals;
+mod scripts;
+mod tasks;
+mod walk;
+
+use crate::tests::counted::lists::{Lists, SLOTS};
+use crate::tests::counted::scripts::script_of;
+use cred_book::{Book, run};
+use cred_event::{AbortCause, Answer, Entry, Event};
+use cred_ids::NoMemory;
+use cred_script::{line_count, read};
+use std::alloc::Global;
+use std::test::Fail;
+
+/// How many scripts there are.
+const SCRIPTS: u32 = 300;
+
+/// What the scripts have to reach.
+#[derive(Clone, Copy, PartialEq, Eq, Debug)]
+enum Reached {
+    Aborted,
+    EndedByExec,
+    WaitingExit,
+    WaitingBirth,
+    Followed,
+    SlotsTakenAgain,
+    TooDeep,
+    Overridden,
+    NotOverridden,
+    Stale,
+    NoBroadcast,
+    BusyPrepare,
+    BusyCommit,
+    BusySpawn,
+    BusyFork,
+    BusyExit,
+    BusyBegin,
+}
+
+const ALL: [Reached; 17] = [
+    Reached::Aborted,
+    Reached::EndedByExec,
+    Reached::WaitingExit,
+    Reached::WaitingBirth,
+    Reached::Followed,
+    Reached::SlotsTakenAgain,
+    Reached::TooDeep,
+    Reached::Overridden,
+    Reached::NotOverridden,
+    Reached::Stale,
+    Reached::NoBroadcast,
+    Reached::BusyPrepare,
+    Reached::BusyCommit,
+    Reached::BusySpawn,
+    Reached::BusyFork,
+    Reached::BusyExit,
+    Reached::BusyBegin,
+];
+
+/// What an entry reaches where the lists are so.
+fn reached_by(lists: &Lists, entry: &Entry) -> Option<Reached> {
+    match (&entry.event, &entry.answer) {
+        (
+            _,
+            Answer::Aborted {
+                cause: AbortCause::Perm,
+                ..
+            },
+        ) => Some(Reached::Aborted),
+        (_, Answer::Executed { ended, .. }) if *ended > 1 => Some(Reached::EndedByExec),
+        (Event::Exit { task }, Answer::Done) if lists.waits(*task) => Some(Reached::WaitingExit),
+        (Event::Spawn { task, .. }, Answer::Sealed { .. }) if lists.waits(*task) => {
+            Some(Reached::WaitingBirth)
+        }
+        (_, Answer::Acted { left: 0, .. }) => Some(Reached::Followed),
+        (_, Answer::Began { cred, .. }) if *cred >= u64::from(SLOTS) => {
+            Some(Reached::SlotsTakenAgain)
+        }
+        (_, Answer::TooDeep) => Some(Reached::TooDeep),
+        (_, Answer::Overridden(_)) => Some(Reached::Overridden),
+        (_, Answer::NotOverridden) => Some(Reached::NotOverridden),
+        (_, Answer::Stale { .. }) => Some(Reached::Stale),
+        (_, Answer::NoBroadcast(_)) => Some(Reached::NoBroadcast),
+        (event, Answer::Busy(_)) => busy_at(event),
+        _ => None,
+    }
+}
+
+/// What an event reaches that an open broadcast refuses.
+fn busy_at(event: &Event) -> Option<Reached> {
+    match event {
+        Event::Prepare { .. } => Some(Reached::BusyPrepare),
+        Event::Commit { .. } => Some(Reached::BusyCommit),
+        Event::Spawn { .. } => Some(Reached::BusySpawn),
+        Event::Fork { .. } => Some(Reached::BusyFork),
+        Event::Exit { .. } => Some(Reached::BusyExit),
+        Event::Begin { .. } => Some(Reached::BusyBegin),
+        _ => None,
+    }
+}
+
+/// Adds what an entry reaches, if nothing reached it before.
+fn note(reached: &mut Vec<Reached>, lists: &Lists, entry: &Entry) -> Result<(), NoMemory> {
+    if let Some(mark) = reached_by(lists, entry) {
+        if !reached.contains(&mark) {
+            reached.push(mark)?;
+        }
+    }
+    Ok(())
+}
+
+/// What is otherwise than in the lists: an entry, by its place, or the references to a slot.
+#[derive(Clone, Copy, PartialEq, Eq, Debug)]
+enum Other {
+    Entry(usize),
+    Slot(u32),
+}
+
+/// How many references there are to this slot.
+fn count_of(used: &[u32], slot: u32) -> u64 {
+    used.iter().filter(|own| **own == slot).count() as u64
+}
+
+/// The book of the run of a script.
+fn ran(alloc: Global, text: &str) -> Result<Book, Fail> {
+    if line_count(text.as_bytes()) > 20000 {
+        return Err(Fail::from("too many lines"));
+    }
+    let script = read(alloc, text.as_bytes())?;
+    Ok(run(alloc, script)?)
+}
+
+/// The first entry, by its place, that the lists don't give so.
+fn first_entry(
+    journal: &[Entry],
+    lists: &mut Lists,
+    reached: &mut Vec<Reached>,
+) -> Result<Option<usize>, NoMemory> {
+    for (place, entry) in journal.iter().enumerate() {
+        note(reached, lists, entry)?;
+        if !lists.follows(entry)? {
+            return Ok(Some(place));
+        }
+    }
+    Ok(None)
+}
+
+/// The first slot to which there are not so many references.
+fn first_slot(book: &Book, used: &[u32]) -> Option<u32> {
+    (0..SLOTS).find(|slot| book.uses(*slot) != count_of(used, *slot))
+}
+
+/// What is otherwise first in the run of a script.
+fn first_other(
+    alloc: Global,
+    book: &Book,
+    reached: &mut Vec<Reached>,
+) -> Result<Option<Other>, NoMemory> {
+    let mut lists = Lists::new(alloc);
+    if let Some(place) = first_entry(book.journal(), &mut lists, reached)? {
+        return Ok(Some(Other::Entry(place)));
+    }
+    let used = lists.used()?;
+    match first_slot(book, &used) {
+        Some(slot) => Ok(Some(Other::Slot(slot))),
+        None => Ok(None),
+    }
+}
+
+#[test]
+fn references_are_counted(rt: HostRuntime) -> Result<(), Fail> {
+    let mut reached = Vec::new(rt.alloc());
+    for number in 0..SCRIPTS {
+        let text = script_of(rt.alloc(), number)?;
+        let book = ran(rt.alloc(), text.as_str())?;
+        let other = first_other(rt.alloc(), &book, &mut reached)?;
+        assert!(rt; other.is_none(), "{number}: {other:?} in\n{text}");
+    }
+    let missing = ALL.iter().find(|mark| !reached.contains(mark)).copied();
+    assert_eq!(rt; missing, None);
+    Ok(())
+}

@@ -1,0 +1,168 @@
+//! Texts of entries, read and printed again; and texts that are those of none.
+use cred_event::{Answer, Entry, Told};
+use cred_reader::read;
+use cred_report::print;
+use cred_script::Script;
+use std::alloc::Global;
+use std::test::Fail;
+
+fn script(alloc: Global) -> Result<Script, &'static str> {
+    let text = b"ns 3 0 0\nfile svc reg 0 0 0755\nfile log reg 0 0 0644\ninit t1 p1 0 0 n0\n";
+    cred_script::read(alloc, text).map_err(|_| "a script")
+}
+
+/// Each event once, and each answer.
+static TEXTS: [&str; 70] = [
+    "1 init t1 p1 0 0 n0 -> ok c0 s0\n",
+    "4294967295 init t4294967295 p0 4294967294 0 n3 -> exists t4294967295\n",
+    "1 init t1 p1 0 0 n0 -> busy 3\n",
+    "1 init t1 p1 0 0 n0 -> too many tasks\n",
+    "1 init t1 p1 0 0 n0 -> table full\n",
+    "3 take h100030 t1 -> ok c18446744073709551615 s255\n",
+    "3 take h1 t2 -> no task t2\n",
+    "3 takereal h1 t2 -> exists h1\n",
+    "3 takereal h1 t2 -> too many holds\n",
+    "3 takefile h1 f2 -> ok c1 s1\n",
+    "3 takefile h1 f2 -> ebadf\n",
+    "3 drop h100030 -> ok\n",
+    "3 drop h100030 -> no hold h100030\n",
+    "4 ask h1 ids -> ok 1 2 3 4 5 6 7 8\n",
+    "4 ask h1 caps -> ok 0 0 400 1ffffffffff 0\n",
+    "4 ask h1 groups -> ok\n",
+    "4 ask h1 groups -> ok 10\n",
+    "4 ask h1 groups -> ok 30 10 20 10\n",
+    "4 ask h1 bits -> ok 255 1\n",
+    "4 ask h1 capable 41 -> einval\n",
+    "4 ask h1 capable 21 -> ok 1\n",
+    "4 ask h1 bset 21 -> ok 0\n",
+    "4 ask h1 ambis 21 -> ok 0\n",
+    "4 ask h1 check svc rx -> ok\n",
+    "4 ask h1 check log rwx -> eacces\n",
+    "5 signal t1 h1 t2 h2 -> ok\n",
+    "5 signal t1 h1 t2 h2 -> eperm\n",
+    "6 prepare h2 t1 h1 -> ok s5\n",
+    "6 prepare h2 t1 h1 -> too many prepared\n",
+    "7 change h2 setfsuid 1000 -> ok was 0\n",
+    "7 change h2 setfsgid -1 -> ok was 4294967294\n",
+    "7 change h2 capset 400 0 1ffffffffff -> ok\n",
+    "7 change h2 capdrop 41 -> einval\n",
+    "7 change h2 ambraise 10 -> eperm\n",
+    "7 change h2 amblower 10 -> ok\n",
+    "7 change h2 ambclear -> ok\n",
+    "7 change h2 securebits 4294967295 -> eperm\n",
+    "7 change h2 keepcaps 1 -> ok\n",
+    "7 change h2 nonewprivs 1 -> no prepared h2\n",
+    "7 change h2 exec svc -> eacces\n",
+    "7 change h2 access -> ok\n",
+    "8 commit h2 -> ok c5 s5\n",
+    "8 commit h2 -> ok c5 s5 ended 2 gain 400 0 1ffffffffff\n",
+    "8 commit h2 -> stale c1 c2\n",
+    "8 commit h2 -> overridden 1\n",
+    "9 abort h2 -> ok\n",
+    "10 override t1 h1 -> too deep\n",
+    "10 override t1 h1 -> ok c1 s1\n",
+    "11 revert t1 -> not overridden\n",
+    "12 begin t1 setuid 1000 -> ok c2 s2 left 0\n",
+    "12 begin t1 seteuid -1 -> eperm\n",
+    "12 begin t1 setreuid 1 -1 -> exists k12\n",
+    "12 begin t1 setresuid 1 2 3 -> busy 11\n",
+    "12 begin t1 setgid 1 -> ok c2 s2 left 3\n",
+    "12 begin t1 setegid 1 -> ok c2 s2 left 3\n",
+    "12 begin t1 setregid 1 2 -> ok c2 s2 left 3\n",
+    "12 begin t1 setresgid 1 2 3 -> ok c2 s2 left 3\n",
+    "12 begin t1 setgroups -> ok c2 s2 left 0\n",
+    "12 begin t1 setgroups 30 10 20 -> einval\n",
+    "13 act 12 -> ok t2 c3 s3 left 1\n",
+    "13 act 12 -> aborted t2 eperm\n",
+    "13 act 12 -> no broadcast 12\n",
+    "13 act 12 -> aborted t2 full\n",
+    "14 open h1 log rw f7 -> too many files\n",
+    "14 open h1 log w f7 -> exists f7\n",
+    "14 close f7 -> ok\n",
+    "15 spawn t1 t2 -> ok c1 s1\n",
+    "15 fork t1 t2 p2 -> exists p2\n",
+    "16 exit t1 -> ok\n",
+    "17 sweep -> ok\n",
+];
+
+/// Texts that are those of no entry.
+static NONE: [&str; 28] = [
+    "",
+    "\n",
+    "17 sweep -> ok",
+    "17 sweep -> ok\n\n",
+    "17 sweep -> ok \n",
+    " 17 sweep -> ok\n",
+    "17  sweep -> ok\n",
+    "017 sweep -> ok\n",
+    "4294967296 sweep -> ok\n",
+    "17 sweep ok\n",
+    "17 sweep -> eperm\n",
+    "17 sweep -> ok c0 s0\n",
+    "17 sweep now -> ok\n",
+    "1 init t1 p1 0 0 n1 -> ok c0 s0\n",
+    "1 init t1 p1 4294967295 0 n0 -> ok c0 s0\n",
+    "3 take h1 t01 -> ok c0 s0\n",
+    "3 take h1 t1 -> ok c18446744073709551616 s0\n",
+    "4 ask h1 ids -> ok 1 2 3 4 5 6 7\n",
+    "4 ask h1 caps -> ok 0 0 0 1FFFFFFFFFF 0\n",
+    "4 ask h1 caps -> ok 0 0 0 20000000000 0\n",
+    "4 ask h1 bits -> ok 256 0\n",
+    "4 ask h1 capable CAP_KILL -> ok 0\n",
+    "4 ask h1 capable 40 -> einval\n",
+    "4 ask h1 bset 41 -> ok 0\n",
+    "4 ask h1 check ghost r -> ok\n",
+    "7 change h2 setfsuid 1000 -> ok\n",
+    "8 commit h2 -> ok c5 s5 ended 2 gains 400 0 0\n",
+    "13 act 12 -> aborted t2 late\n",
+];
+
+/// Whether the text is read as an entry that prints as it again.
+fn comes_back(alloc: Global, script: &Script, text: &str) -> Result<bool, Fail> {
+    match read(alloc, script, text.as_bytes())? {
+        Some(entry) => {
+            let printed = print(alloc, script, &entry)?;
+            Ok(printed.items() == text.as_bytes())
+        }
+        None => Ok(false),
+    }
+}
+
+#[test]
+fn entries_come_back(rt: HostRuntime) -> Result<(), Fail> {
+    let script = script(rt.alloc())?;
+    for text in &TEXTS {
+        assert!(rt; comes_back(rt.alloc(), &script, text)?);
+    }
+    Ok(())
+}
+
+#[test]
+fn other_texts_are_no_entries(rt: HostRuntime) -> Result<(), Fail> {
+    let script = script(rt.alloc())?;
+    for text in &NONE {
+        assert!(rt; read(rt.alloc(), &script, text.as_bytes())?.is_none());
+    }
+    Ok(())
+}
+
+fn answer(alloc: Global, text: &[u8]) -> Result<Option<Answer>, Fail> {
+    let script = script(alloc)?;
+    let entry: Option<Entry> = read(alloc, &script, text)?;
+    match entry {
+        Some(entry) => Ok(Some(entry.answer)),
+        None => Ok(None),
+    }
+}
+
+/// `ok` says no more than the event lets it say.
+#[test]
+fn the_event_reads_the_answer(rt: HostRuntime) -> Result<(), Fail> {
+    let done = answer(rt.alloc(), b"3 drop h1 -> ok\n")?;
+    assert!(rt; matches!(&done, Some(Answer::Done)));
+    let told = answer(rt.alloc(), b"4 ask h1 groups -> ok\n")?;
+    assert!(rt; matches!(&told, Some(Answer::Told(Told::Groups(_)))));
+    let flag = answer(rt.alloc(), b"4 ask h1 capable 1 -> ok 1\n")?;
+    assert!(rt; matches!(&flag, Some(Answer::Told(Told::Flag(true)))));
+    Ok(())
+}

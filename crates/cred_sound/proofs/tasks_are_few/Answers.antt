@@ -1,0 +1,5 @@
+use Rattle.cred_sound.proofs.Few.{few_after}
+use Rattle.cred_sound.proofs.tasks_are_few.Goals as goal
+
+pub returns : goal.returns
+returns c = few_after

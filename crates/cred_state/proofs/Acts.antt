@@ -1,0 +1,202 @@
+-- A thread that waits makes its step in a broadcast, or its process ends.
+use Rattle.std.proofs.Common.{◌≡◌, ℕ, ◌+◌, ◌-◌, ◌==◌, List, ◌++◌, ◌⊎◌, length, slice_get, slice_set, Option, None, Some, is_some, Result, Ok, Err, IfOk, OnOk, inl, inr, refl, sym, ap, ◌∙◌, subst, arith}
+use Rattle.std.specs.Option.{IfSome, IsSome, option_and_then, option_map}
+use Rattle.cred_record.specs.Credential.{Credential}
+use Rattle.cred_record.specs.Answer.{AnswersBy}
+use Rattle.cred_record.specs.declared.refusal.Denial.{Denial}
+use Rattle.cred_record.specs.declared.refusal.Refusal.{Refusal}
+use Rattle.cred_record.specs.declared.refusal.Refusal.TheVariants as refusal
+use Rattle.cred_rules.specs.SetId.{set_id}
+use Rattle.cred_event.specs.declared.answer.AbortCause.{AbortCause}
+use Rattle.cred_event.specs.declared.answer.AbortCause.TheVariants.{Perm, Full}
+use Rattle.cred_event.specs.declared.answer.Answer.{Answer}
+use Rattle.cred_event.specs.declared.answer.Answer.TheVariants.{Acted, Aborted, NoBroadcast}
+use Rattle.cred_model.specs.State.{State, Task, Broadcast, Numbered, numbered, cast_of, current_of, task_of}
+use Rattle.cred_model.specs.Casts.{dropped, waits_no_more}
+use Rattle.cred_model.specs.Ends.{is_thread_of, survivors, left_by}
+use Rattle.cred_model.specs.Like.{IsOutcomeLike}
+use Rattle.cred_model.specs.Moves.{in_slot, with_current, replaced}
+use Rattle.cred_model.specs.Step.{aborted, by_act, outcome}
+use Rattle.cred_model.proofs.Likes.{does_same}
+use Rattle.cred_model.proofs.Lists.{found}
+use Rattle.cred_sound.specs.Casts.{IsThread, IsUnderWay}
+use Rattle.cred_sound.specs.Sound.{IsSound}
+use Rattle.cred_sound.proofs.Threads.{thread_is, waits_at}
+use Rattle.cred_cast.proofs.Conditions.{least_waits}
+use Rattle.cred_slots.specs.Table.{Table, SLOTS, IsSameBag}
+use Rattle.cred_slots.specs.Table as table
+use Rattle.cred_state.specs.Begin.{at_abort, table_at}
+use Rattle.cred_state.specs.Kept.{Parts, state_of, IsKept, Seals}
+use Rattle.cred_state.proofs.Begins.{replaced_kept, replaced_made, counts_next}
+use Rattle.cred_state.proofs.Broadcasts.{kept_casts}
+use Rattle.cred_state.proofs.Ending.{DropsAll, drops_all, ended_kept, ended_is}
+use Rattle.cred_state.proofs.InUse.{Differ}
+use Rattle.cred_state.proofs.Places.{if_some}
+use Rattle.cred_state.proofs.Sealing.{Drops, roomy, in_free_or, in_none_or}
+
+-- ---- what was found
+
+pub some_mapped : {X Y Z : Type 0} (f : X → Z) (g : Y → Z) (x : Option X) (y : Option Y) (b : Y) → option_map f x ≡ option_map g y → y ≡ Some b → IsSome x
+some_mapped f g None y b is at = let none : None ≡ Some (g b) = is ∙ ap (option_map g) at in cc
+some_mapped f g (Some x) y b is at = refl
+
+pub mapped_is : {X Y Z : Type 0} (f : X → Z) (g : Y → Z) (x : Option X) (y : Option Y) (a : X) (b : Y) → option_map f x ≡ option_map g y → x ≡ Some a → y ≡ Some b
+    → f a ≡ g b
+mapped_is f g x y a b is here there =
+    let both : Some (f a) ≡ Some (g b) = sym (ap (option_map f) here) ∙ is ∙ ap (option_map g) there in cc
+
+-- The least task that waits in the broadcast of this number is this one, which is alive and of the broadcast's process.
+pub record IsNext (s : State) (number task : ℕ) : Type 0 where
+  pub cast : Broadcast
+  pub found : cast_of s number ≡ Some cast
+  pub least : slice_get cast.waiting 0 ≡ Some task
+  pub owner : Task
+  pub lives : task_of s task ≡ Some owner
+  pub of : owner.process ≡ cast.process
+
+-- so it is alive
+pub next-lives : {s : State} {number task : ℕ} → IsNext s number task → IsSome (task_of s task)
+next-lives next = ap is_some next.lives
+
+pub next_is : (s : State) (number task : ℕ) → IsSound s → Some task ≡ option_and_then (λ b. slice_get b.waiting 0) (cast_of s number) → IsNext s number task
+next_is s number task sound is = by (cast_of s number) refl is
+  where
+    by : (opened : Option Broadcast) → cast_of s number ≡ opened → Some task ≡ option_and_then (λ (b : Broadcast). slice_get b.waiting 0) opened → IsNext s number task
+    by None at is = cc
+    by (Some cast) at is =
+        let under_way = (found (IsUnderWay s.tasks) (λ (b : Broadcast). b.number == number) s.casts cast at sound.under_way).0 in
+        let waits = least_waits cast task (sym is) in
+        let thread = thread_is s.tasks cast.process task (waits_at (IsThread s.tasks cast.process) task cast.waiting under_way.waiting waits) in
+        record { cast = cast; found = at; least = sym is; owner = thread.task; lives = thread.is; of = thread.of }
+
+-- ---- what the tests lead to
+
+pub act_none : (s : State) (number : ℕ) → None ≡ option_and_then (λ b. slice_get b.waiting 0) (cast_of s number)
+    → IsOutcomeLike (outcome s (by_act s number)) (NoBroadcast number) s
+act_none s number none = does_same _ _ _ (by (cast_of s number) refl none)
+  where
+    by : (opened : Option Broadcast) → cast_of s number ≡ opened → None ≡ option_and_then (λ (b : Broadcast). slice_get b.waiting 0) opened
+        → outcome s (by_act s number) ≡ (NoBroadcast number, s)
+    by None at none = rw at refl
+    by (Some cast) at none = rw (at, ← none) refl
+
+act_does : (task old : ℕ) (new : Credential) (cast : Broadcast) → State → ℕ → Answer × State
+act_does task old new cast s slot =
+    (Acted task (length s.creds) slot (length cast.waiting - 1), record (replaced s task old new slot) { casts = waits_no_more task s.casts })
+
+module _ (s : State) (number task : ℕ) (next : IsNext s number task) where
+  own_of : (found : Option Numbered) → current_of s task ≡ found → numbered s.creds next.owner.current ≡ found
+  own_of found has = sym (ap (option_and_then (λ (t : Task). numbered s.creds t.current)) next.lives) ∙ has
+
+  pub act_without : current_of s task ≡ None → IsOutcomeLike (outcome s (by_act s number)) (NoBroadcast number) s
+  act_without none = does_same _ _ _ (rw (next.found, next.least, next.lives, own_of None none) refl)
+
+  module _ (old : Numbered) (has : current_of s task ≡ Some old) where
+    pub act_refused : (denial : Denial) → set_id old.cred next.cast.call ≡ Err denial → outcome s (by_act s number) ≡ (Aborted task Perm, aborted next.cast s)
+    act_refused denial rule = rw (next.found, next.least, next.lives, own_of (Some old) has, rule) refl
+
+    act_tests : (new : Credential) → set_id old.cred next.cast.call ≡ Ok new
+        → outcome s (by_act s number) ≡ in_slot s (λ r. (Aborted task Full, aborted next.cast r)) (act_does task old.number new next.cast)
+    unfolding act_does
+    act_tests new rule = rw (next.found, next.least, next.lives, own_of (Some old) has, rule) refl
+
+-- ---- a process that ends
+
+abort_table : (cause : AbortCause) (parts : Parts) (store : List (Option Credential)) (t : Table)
+    → at_abort cause (state_of parts store t) ≡ state_of parts store (table_at cause t)
+abort_table Perm parts store t = refl
+abort_table Full parts store t = refl
+
+pub abort_keeps : (cause : AbortCause) {parts : Parts} {store : List (Option Credential)} {t : Table} → IsKept parts store t → IsKept parts store (table_at cause t)
+abort_keeps Perm is = is
+abort_keeps Full is = record {
+  counted = record { counts = is.counted.counts; keeps = is.counted.keeps };
+  filled = is.filled;
+}
+
+-- what is held stays so
+pub abort_held : (cause : AbortCause) (t : Table) → (table_at cause t).held ≡ t.held
+abort_held Perm t = refl
+abort_held Full t = refl
+
+-- where an allocation wasn't what failed, and no credential was made, the call's rule denies it
+pub denied : {X : Type 0} (given : Result X Denial) (why : Refusal) → AnswersBy (Err why) given → (why ≡ refusal.Perm) ⊎ (why ≡ refusal.Invalid)
+    → (denial : Denial) × (given ≡ Err denial)
+denied (Ok x) why (inl is) other = cc
+denied (Ok x) why (inr is) (inl other) = cc
+denied (Ok x) why (inr is) (inr other) = cc
+denied (Err denial) why is other = (denial, refl)
+
+-- the act, where it ended the process: what was left before the end is the state in which it was made
+pub aborts_so : {E : Type 0} (s left : State) (number task : ℕ) (cause : AbortCause) (after : State) (next : IsNext s number task) (made : Result Answer E)
+    → left ≡ s
+    → IfOk made (λ answer. answer ≡ Aborted task cause)
+    → OnOk made (IfSome (task_of left task) (λ owner. (cast : Broadcast) → cast.process ≡ owner.process → after ≡ aborted cast (at_abort cause left)))
+    → outcome s (by_act s number) ≡ (Aborted task cause, aborted next.cast (at_abort cause s))
+    → IfOk made (λ answer. IsOutcomeLike (outcome s (by_act s number)) answer after)
+aborts_so s left number task cause after next (Ok answer) same is ends gives =
+    let Ends : State → Task → Type 0 = λ x owner. (cast : Broadcast) → cast.process ≡ owner.process → after ≡ aborted cast (at_abort cause x) in
+    let ended = subst (λ (x : State). IfSome (task_of x task) (Ends x)) same ends in
+    let end = if_some (Ends s) (task_of s task) next.owner next.lives ended next.cast (sym next.of) in
+    does_same _ _ _
+    (gives ∙ ap (λ (r : State). (Aborted task cause, r)) (sym end) ∙ ap (λ (a : Answer). (a, after)) (sym is))
+aborts_so s left number task cause after next (Err e) same is ends gives = tt
+
+-- more room to spare in the table changes nothing
+pub same_spare : (parts : Parts) (store : List (Option Credential)) (t : Table) {r : Table} {m : ℕ} → r ≡ record t { spare = m } → state_of parts store r ≡ state_of parts store t
+same_spare parts store t is = ap (λ (x : Table). state_of parts store x) is
+
+-- what all threads of the process referred to was given up, after the sweep if there was one
+pub ends_all : (cause : AbortCause) (t : Table) {swept after : Table} {given numbers : List ℕ} → swept ≡ table_at cause t → given ≡ numbers
+    → IsSameBag swept.held (given ++ after.held) → after ≡ record swept { held = after.held; deferred = swept.deferred ++ given }
+    → DropsAll (table_at cause t) after numbers
+ends_all cause t {swept = swept} is same held made = drops_all (table_at cause t) {r = swept} {m = (table_at cause t).spare} is same held made
+
+module _ {parts : Parts} {store : List (Option Credential)} {t : Table} (is : IsKept parts store t) (cause : AbortCause) (process : ℕ)
+    (after : Table) (all : DropsAll (table_at cause t) after (left_by (is_thread_of process) parts.tasks)) where
+  abbrev left : Parts
+  left = record parts { tasks = survivors (is_thread_of process) parts.tasks; casts = dropped process parts.casts }
+
+  pub process_kept : IsKept left store after
+  process_kept = kept_casts (ended_kept (abort_keeps cause is) (is_thread_of process) after all) (dropped process parts.casts)
+
+  pub process_ended : (cast : Broadcast) → cast.process ≡ process → state_of left store after ≡ aborted cast (at_abort cause (state_of parts store t))
+  process_ended cast of =
+      let ends : ℕ → State → State = λ p r. aborted (record cast { process = p }) r in
+      sym (ap (λ (r : State). aborted cast r) (abort_table cause parts store t)
+      ∙ ap (λ (p : ℕ). ends p (state_of parts store (table_at cause t))) of
+      ∙ ap (λ (r : State). record r { casts = dropped process parts.casts }) (ended_is (abort_keeps cause is) (is_thread_of process) after all))
+
+-- ---- a step
+
+module _ {parts : Parts} {store : List (Option Credential)} {t : Table} (is : IsKept parts store t) (number task : ℕ) (next : IsNext (state_of parts store t) number task)
+    (old : Numbered) (current : current_of (state_of parts store t) task ≡ Some old) (new : Credential) (rule : set_id old.cred next.cast.call ≡ Ok new) where
+  abbrev s : State
+  s = state_of parts store t
+
+  pub act_full : table.free t ≡ None → outcome s (by_act s number) ≡ (Aborted task Full, aborted next.cast (at_abort Full s))
+  act_full none =
+      act_tests s number task next old current new rule
+      ∙ in_none_or is (λ r. (Aborted task Full, aborted next.cast r)) (act_does task old.number new next.cast) none
+
+  -- the new credential is sealed in the table `between`, and the old one is given up after it
+  module _ {between after : Table} {sealed slot : ℕ} (long : length store ≡ SLOTS) (seals : Seals t between sealed slot) (distinct : Differ parts.tasks)
+      (late : Drops between after old.number) where
+    abbrev pub end : Parts
+    end = record parts { tasks = with_current parts.tasks task sealed; casts = waits_no_more task parts.casts }
+
+    pub act_kept : IsKept end (slice_set store slot (Some new)) after
+    act_kept = replaced_kept is after task old new current long seals distinct late (waits_no_more task parts.casts)
+
+    pub act_sealed : (left : ℕ) → left + 1 ≡ length next.cast.waiting
+        → IsOutcomeLike (outcome s (by_act s number)) (Acted task sealed slot left) (state_of end (slice_set store slot (Some new)) after)
+    unfolding act_does
+    act_sealed left many =
+        let casts = waits_no_more task parts.casts in
+        let made : ℕ → State = λ n. record (replaced (roomy is) task old.number new slot) { tasks = with_current parts.tasks task n; casts = casts } in
+        let fewer : length next.cast.waiting - 1 ≡ left = omega (arith, many) in
+        replaced_made is after task old new current long seals distinct late casts
+        (act_tests s number task next old current new rule
+        ∙ in_free_or is (λ r. (Aborted task Full, aborted next.cast r)) (act_does task old.number new next.cast) slot seals.takes
+        ∙ ap (λ (n : ℕ). (Acted task n slot (length next.cast.waiting - 1), made n)) (counts_next is after task old new current long seals distinct late)
+        ∙ ap (λ (k : ℕ). (Acted task sealed slot k, made sealed)) fewer)

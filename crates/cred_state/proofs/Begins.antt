@@ -1,0 +1,195 @@
+-- A task makes an id call, and the other threads of its process wait.
+use Rattle.std.proofs.Common.{◌≡◌, ◌≢◌, ◌==◌, ◌<◌, ◌≤◌, ◌^◌, ℕ, Bool, true, not, filter, find, is_some, List, [], ◌∷◌, ◌++◌, length, slice_set, Option, None, Some, Ok, Err, refl, sym, ap, ◌∙◌, subst, arith}
+use Rattle.std.specs.List.{All, AllPairs}
+use Rattle.std.specs.Option.{option_and_then}
+use Rattle.std.proofs.lemmas.List.{length-map}
+use Rattle.std.proofs.lemmas.List.Elements.{All-map}
+use Rattle.std.proofs.lemmas.List.Filters.{length-filter_both}
+use Rattle.std.proofs.lemmas.List.Kept.{AllPairs-filter}
+use Rattle.cred_ids.specs.Ordered.{in_order}
+use Rattle.cred_record.specs.Credential.{Credential}
+use Rattle.cred_record.specs.declared.id_call.IdCall.{IdCall}
+use Rattle.cred_record.specs.declared.refusal.Denial.{Denial}
+use Rattle.cred_rules.specs.SetId.{set_id}
+use Rattle.cred_event.specs.declared.answer.Answer.{Answer}
+use Rattle.cred_event.specs.declared.answer.Answer.TheVariants.{Began, Busy, Exists, NoTask, Overridden, TableFull}
+use Rattle.cred_event.specs.declared.answer.Named.TheVariants as named
+use Rattle.cred_model.specs.State.{State, Task, Broadcast, Numbered, numbered, task_of, current_of, cast_in, cast_of}
+use Rattle.cred_model.specs.Ends.{is_beside}
+use Rattle.cred_model.specs.Answers.{refusal}
+use Rattle.cred_model.specs.Casts.{not_busy, with_cast}
+use Rattle.cred_model.specs.Like.{IsOutcomeLike}
+use Rattle.cred_model.specs.Moves.{TASKS, in_slot, table_full, not_overridden, with_current, replaced}
+use Rattle.cred_model.specs.Step.{by_begin, outcome}
+use Rattle.cred_model.proofs.Lists.{AllPairs-map}
+use Rattle.cred_model.proofs.Numbers.{current_is}
+use Rattle.cred_model.proofs.Rising.{All-passed}
+use Rattle.cred_model.proofs.Likes.{does_same}
+use Rattle.cred_sound.specs.Casts.{IsThread}
+use Rattle.cred_sound.specs.Sound.{IsSound}
+use Rattle.cred_sound.proofs.Threads.{beside_is, finds_itself, is_thread}
+use Rattle.cred_cast.specs.Casts.{WaitsNowhere}
+use Rattle.cred_cast.proofs.Conditions.{idle_waits_nowhere}
+use Rattle.cred_procs.specs.Tasks.{those}
+use Rattle.cred_slots.specs.Table.{Table, SLOTS, IsSameBag, IsAlone}
+use Rattle.cred_slots.specs.Table as table
+use Rattle.cred_state.specs.Begin.{MayBegin, cast_begun}
+use Rattle.cred_state.specs.Kept.{Parts, AreFilled, state_of, IsKept, Seals}
+use Rattle.cred_state.proofs.Bags.{bag-other}
+use Rattle.cred_state.proofs.Broadcasts.{kept_casts, like_casts}
+use Rattle.cred_state.proofs.Owners.{own_none}
+use Rattle.cred_state.proofs.Sealing.{roomy, in_free, in_none, keeps_same, Drops, alone_later}
+use Rattle.cred_state.proofs.InUse.{Differ, in_use-updated}
+use Rattle.cred_state.proofs.Stored.{does_made, length-creds_in, filled-put, stored_like}
+
+begin_does : (task old : ℕ) (new : Credential) (cast : Broadcast) → State → ℕ → Answer × State
+begin_does task old new cast s slot =
+    (Began (length s.creds) slot (length cast.waiting), record (replaced s task old new slot) { casts = with_cast s.casts cast })
+
+-- ---- the others, who wait
+
+-- the broadcast that was entered is that of the call
+pub begun_casts : (casts now : List Broadcast) (tasks : List Task) (line task : ℕ) (owner : Task) {process : ℕ} {call copied : IdCall} {waiting : List ℕ}
+    → process ≡ owner.process → copied ≡ call → waiting ≡ those (is_beside owner) tasks
+    → now ≡ with_cast casts (record { number = line; process = process; caller = task; call = copied; waiting = in_order waiting })
+    → now ≡ with_cast casts (cast_begun line task call owner tasks)
+begun_casts casts now tasks line task owner {call = call} {copied = copied} {waiting = waiting} of same these is =
+    let cast : ℕ → IdCall → List ℕ → Broadcast
+    = λ p k ns. record { number = line; process = p; caller = task; call = k; waiting = in_order ns } in
+    is
+    ∙ ap (λ (p : ℕ). with_cast casts (cast p copied waiting)) of
+    ∙ ap (λ (k : IdCall). with_cast casts (cast owner.process k waiting)) same
+    ∙ ap (λ (ns : List ℕ). with_cast casts (cast owner.process call ns)) these
+
+module _ (s : State) (owner : Task) (sound : IsSound s) where
+  -- no two of the others are one
+  pub others_apart : AllPairs (λ a b. a ≢ b) (those (is_beside owner) s.tasks)
+  others_apart =
+      AllPairs-map (λ a b. a ≢ b) (λ (t : Task). t.number) (filter (is_beside owner) s.tasks)
+      (AllPairs-filter (λ (a b : Task). a.number ≢ b.number) (is_beside owner) s.tasks sound.tasks)
+
+  in_process : (t : Task) → is_beside owner t ≡ true → find (λ u. u.number == t.number) s.tasks ≡ Some t → IsThread s.tasks owner.process t.number
+  in_process t beside found =
+      is_thread s.tasks owner.process t.number (record { task = t; is = found; of = (beside_is owner t beside).0 })
+
+  -- where no broadcast is open in the process, none of them waits
+  pub others_nowhere : cast_in s owner.process ≡ None → All (WaitsNowhere s.casts) (those (is_beside owner) s.tasks)
+  others_nowhere idle =
+      let Found : Task → Type 0 = λ t. find (λ u. u.number == t.number) s.tasks ≡ Some t in
+      All-map (WaitsNowhere s.casts) (λ (t : Task). t.number) (filter (is_beside owner) s.tasks)
+      (All-passed (is_beside owner) Found (λ t. WaitsNowhere s.casts t.number) s.tasks
+      (λ t beside found. idle_waits_nowhere s owner.process t.number sound idle (in_process t beside found))
+      (finds_itself (λ (t : Task). t.number) s.tasks sound.tasks))
+
+-- They are few.
+pub few_those : (passes : Task → Bool) (tasks : List Task) → length tasks ≤ TASKS → length (those passes tasks) < 2 ^ 32
+few_those passes tasks few =
+    let all = length-filter_both passes (λ t. not (passes t)) (λ t. refl) tasks in
+    let same = length-map (filter passes tasks) (λ (t : Task). t.number) in
+    omega (arith, few, all, same)
+
+-- ---- the call
+
+module _ (s : State) (line task : ℕ) (call : IdCall) (old : Numbered) (may : MayBegin s line task old) where
+  own_number : numbered s.creds may.owner.current ≡ Some old
+  own_number = sym (ap (option_and_then (λ (t : Task). numbered s.creds t.current)) may.lives) ∙ may.has
+
+  pub begin_refused : (denial : Denial) → set_id old.cred call ≡ Err denial → outcome s (by_begin s line task call) ≡ (refusal denial, s)
+  begin_refused denial rule = rw (may.lives, own_number, may.idle, may.new, may.own, rule) refl
+
+  begin_tests : (new : Credential) → set_id old.cred call ≡ Ok new
+      → outcome s (by_begin s line task call)
+      ≡ in_slot s table_full (begin_does task old.number new (cast_begun line task call may.owner s.tasks))
+  unfolding begin_does
+  begin_tests new rule = rw (may.lives, own_number, may.idle, may.new, may.own, rule) refl
+
+-- what refuses the call before its own rule is asked
+module _ (s : State) (line task : ℕ) (call : IdCall) where
+  pub begin_without : current_of s task ≡ None → outcome s (by_begin s line task call) ≡ (NoTask task, s)
+  begin_without none = own_none s task _ none
+
+  module _ (old : Numbered) (has : current_of s task ≡ Some old) (owner : Task) (lives : task_of s task ≡ Some owner) where
+    own_there : numbered s.creds owner.current ≡ Some old
+    own_there = sym (ap (option_and_then (λ (t : Task). numbered s.creds t.current)) lives) ∙ has
+
+    pub begin_busy : (number : ℕ) → not_busy (cast_in s owner.process) ≡ Err (Busy number) → outcome s (by_begin s line task call) ≡ (Busy number, s)
+    begin_busy number busy = rw (lives, own_there, busy) refl
+
+    module _ (idle : cast_in s owner.process ≡ None) where
+      pub begin_exists : is_some (cast_of s line) ≡ true → outcome s (by_begin s line task call) ≡ (Exists named.Broadcast line, s)
+      begin_exists there = rw (lives, own_there, idle, there) refl
+
+      pub begin_overridden : cast_of s line ≡ None → (depth : ℕ) → not_overridden owner ≡ Err (Overridden depth)
+          → outcome s (by_begin s line task call) ≡ (Overridden depth, s)
+      begin_overridden new depth over = rw (lives, own_there, idle, new, over) refl
+
+module _ {parts : Parts} {store : List (Option Credential)} {t : Table} (is : IsKept parts store t)
+    (after : Table) (task : ℕ) (old : Numbered) (new : Credential) (has : current_of (state_of parts store t) task ≡ Some old) where
+  abbrev s : State
+  s = state_of parts store t
+
+  pub begin_full : (line : ℕ) (call : IdCall) → MayBegin s line task old → set_id old.cred call ≡ Ok new → table.free t ≡ None
+      → state_of parts store (table.room t) ≡ state_of parts store after
+      → IsOutcomeLike (outcome s (by_begin s line task call)) TableFull (state_of parts store after)
+  begin_full line call may rule none makes =
+      does_same _ _ _
+      (begin_tests s line task call old may new rule
+      ∙ in_none is (begin_does task old.number new (cast_begun line task call may.owner parts.tasks)) after none makes)
+
+  -- the new credential is sealed in the table `between`, and the old one is given up after it
+  module _ {between : Table} {number slot : ℕ} (long : length store ≡ SLOTS) (seals : Seals t between number slot) (distinct : Differ parts.tasks)
+      (late : Drops between after old.number) where
+    abbrev pub updated : List Task
+    updated = with_current parts.tasks task number
+
+    abbrev pub put : List (Option Credential)
+    put = slice_set store slot (Some new)
+
+    sealed_is : after.sealed ≡ t.sealed ++ slot ∷ []
+    sealed_is = late.sealed ∙ seals.sealed
+
+    updated_kept : IsKept (record parts { tasks = updated }) put after
+    updated_kept =
+        let u = current_is s task old has in
+        record {
+          counted = record {
+            counts = bag-other is.counted.counts seals.held (subst (λ (n : ℕ). IsSameBag between.held (n ∷ after.held)) u.number late.held)
+                (in_use-updated s task number u.owner distinct u.is);
+            keeps = keeps_same t after _ is.counted.keeps (late.kept ∙ seals.kept);
+          };
+          filled = subst (λ (ss : List ℕ). AreFilled put ss) (sym sealed_is) (filled-put store slot new t.sealed long seals.in_table is.filled);
+        }
+
+    pub replaced_kept : (casts : List Broadcast) → IsKept (record parts { tasks = updated; casts = casts }) put after
+    replaced_kept casts = kept_casts updated_kept casts
+
+    -- the state in which the credential is sealed under this number, if these broadcasts are open
+    abbrev made : List Broadcast → ℕ → State
+    made casts n = record (replaced (roomy is) task old.number new slot) { tasks = with_current parts.tasks task n; casts = casts }
+
+    pub replaced_made : {gives : Answer × State} {answer : Answer} (casts : List Broadcast) → gives ≡ (answer, made casts number)
+        → IsOutcomeLike gives answer (state_of (record parts { tasks = updated; casts = casts }) put after)
+    replaced_made casts gives =
+        does_made gives
+        (like_casts
+        (stored_like store after t.sealed new slot (made parts.casts number) updated_kept sealed_is long seals.in_table
+        (subst (λ (n : ℕ). IsAlone after n slot) seals.counted (alone_later late seals.alone)) refl
+        (late.deferred ∙ ap (λ (ds : List ℕ). ds ++ old.number ∷ []) seals.deferred) refl)
+        casts)
+
+    -- the number that is sealed is the count of the credentials
+    pub counts_next : length (roomy is).creds ≡ number
+    counts_next = length-creds_in store t.sealed ∙ sym seals.counted
+
+    pub begin_sealed : (line : ℕ) (call : IdCall) (may : MayBegin s line task old) (count : ℕ) → set_id old.cred call ≡ Ok new
+        → count ≡ length (cast_begun line task call may.owner parts.tasks).waiting
+        → IsOutcomeLike (outcome s (by_begin s line task call)) (Began number slot count)
+        (state_of (record parts { tasks = updated; casts = with_cast parts.casts (cast_begun line task call may.owner parts.tasks) }) put after)
+    unfolding begin_does
+    begin_sealed line call may count rule many =
+        let cast = cast_begun line task call may.owner parts.tasks in
+        let casts = with_cast parts.casts cast in
+        replaced_made casts
+        (begin_tests s line task call old may new rule ∙ in_free is (begin_does task old.number new cast) slot seals.takes
+        ∙ ap (λ (n : ℕ). (Began n slot (length cast.waiting), made casts n)) counts_next
+        ∙ ap (λ (k : ℕ). (Began number slot k, made casts number)) (sym many))

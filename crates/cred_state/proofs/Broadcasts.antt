@@ -1,0 +1,50 @@
+-- What the open broadcasts refuse, and what stays the same where only they change.
+use Rattle.std.proofs.Common.{◌≡◌, ℕ, true, is_some, List, Option, None, Some, Result, Ok, Err, refl, sym, ap, ◌∙◌}
+use Rattle.std.specs.Option.{MatchOption, option_map}
+use Rattle.cred_record.specs.Credential.{Credential}
+use Rattle.cred_event.specs.declared.answer.Answer.{Answer}
+use Rattle.cred_event.specs.declared.answer.Answer.TheVariants.{Busy}
+use Rattle.cred_model.specs.State.{State, Broadcast}
+use Rattle.cred_model.specs.Casts.{not_busy}
+use Rattle.cred_model.specs.Like.{IsLike}
+use Rattle.cred_slots.specs.Table.{Table}
+use Rattle.cred_state.specs.Kept.{Parts, IsKept}
+
+-- the number of the broadcast that was found, if one was
+pub busy_by : (found : Option Broadcast) (number : Option ℕ) → number ≡ option_map (λ b. b.number) found
+    → MatchOption number (not_busy found ≡ Ok tt) (λ n. not_busy found ≡ Err (Busy n))
+busy_by None None is = refl
+busy_by None (Some n) is = cc
+busy_by (Some b) None is = cc
+busy_by (Some b) (Some n) is =
+    let refused : ℕ → Result (Unit {0}) Answer = λ k. Err (Busy k) in
+    let same : b.number ≡ n = cc in
+    ap refused same
+
+-- Broadcasts refer to nothing.
+pub kept_casts : {parts : Parts} {store : List (Option Credential)} {t : Table} → IsKept parts store t → (casts : List Broadcast)
+    → IsKept (record parts { casts = casts }) store t
+kept_casts is casts = record { counted = is.counted; filled = is.filled }
+
+-- States that are alike stay so where both have these broadcasts.
+pub like_casts : {a b : State} → IsLike a b → (casts : List Broadcast) → IsLike (record a { casts = casts }) (record b { casts = casts })
+like_casts like casts = record {
+  tasks = like.tasks;
+  casts = refl;
+  files = like.files;
+  holds = like.holds;
+  prepared = like.prepared;
+  deferred = like.deferred;
+  slots = like.slots;
+  creds = like.creds;
+}
+
+-- where none was found by a number that it has, there is none
+pub none_open : {X : Type 0} (f : Broadcast → X) (found : Option Broadcast) → None ≡ option_map f found → found ≡ None
+none_open f None none = refl
+none_open f (Some b) none = cc
+
+-- and where one was found, there is one
+pub some_open : {X : Type 0} (f : Broadcast → X) (found : Option Broadcast) {seen : Option X} → seen ≡ option_map f found → is_some seen ≡ true → is_some found ≡ true
+some_open f None is there = sym (ap is_some is) ∙ there
+some_open f (Some b) is there = refl

@@ -1,0 +1,94 @@
+-- A first task is created.
+use Rattle.std.proofs.Common.{◌≡◌, ℕ, ◌<◌, Bool, true, false, not, ◌==◌, nat_lt, List, [], ◌∷◌, ◌++◌, find, length, slice_set, Option, None, Some, Ok, refl, sym, ap, ◌∙◌, subst, arith}
+use Rattle.std.specs.Option.{IsSome, MatchOption}
+use Rattle.std.proofs.lemmas.Bool.Decides.{nat_tests}
+use Rattle.cred_record.specs.Credential.{Credential, first_credential}
+use Rattle.cred_event.specs.declared.answer.Answer.{Answer}
+use Rattle.cred_event.specs.declared.answer.Answer.TheVariants.{Sealed, TableFull}
+use Rattle.cred_model.specs.State.{State, Task, cast_in}
+use Rattle.cred_model.specs.Casts.{not_busy}
+use Rattle.cred_model.specs.Like.{IsOutcomeLike}
+use Rattle.cred_model.specs.Moves.{in_slot, table_full, first_task, created}
+use Rattle.cred_model.specs.Step.{by_init, outcome}
+use Rattle.cred_model.proofs.Likes.{does_same}
+use Rattle.cred_slots.specs.Table.{Table, SLOTS, IsAlone}
+use Rattle.cred_slots.specs.Table as table
+use Rattle.cred_state.specs.Kept.{Parts, AreFilled, state_of, IsKept, Seals}
+use Rattle.cred_state.proofs.Bags.{bag-more}
+use Rattle.cred_state.proofs.Sealing.{roomy, in_free, in_none, keeps_same}
+use Rattle.cred_state.proofs.InUse.{in_use-task}
+use Rattle.cred_state.proofs.Stored.{does_made, length-creds_in, filled-put, stored_like}
+
+-- ---- what the tests have found
+
+pub few_by_test : (n : ℕ) (test : Bool) → test ≡ not (nat_lt n 64) → test ≡ false → n < 64
+few_by_test n test is few = grind (arith, nat_tests)
+
+-- Where a slot is free, one is sealed.
+pub is_sealed : (t after : Table) (found : Option (ℕ × ℕ)) → MatchOption found ((table.free t ≡ None) × (after ≡ table.room t)) (λ sealing. Seals t after sealing.0 sealing.1)
+    → (table.free t ≡ None → ⊥) → IsSome found
+is_sealed t after None is some = absurd (some is.0)
+is_sealed t after (Some sealing) is some = refl
+
+pub sealed_there : (t after : Table) (found : Option (ℕ × ℕ)) (number slot : ℕ) → found ≡ Some (number, slot)
+    → MatchOption found ((table.free t ≡ None) × (after ≡ table.room t)) (λ sealing. Seals t after sealing.0 sealing.1) → Seals t after number slot
+sealed_there t after found number slot is seals =
+    subst (λ (o : Option (ℕ × ℕ)). MatchOption o ((table.free t ≡ None) × (after ≡ table.room t)) (λ sealing. Seals t after sealing.0 sealing.1)) is seals
+
+-- the task was entered with the number that was sealed after that
+pub started : (tasks after : List Task) (task process next number : ℕ) → after ≡ tasks ++ first_task task process next ∷ [] → next ≡ number
+    → after ≡ tasks ++ first_task task process number ∷ []
+started tasks after task process next number is same = is ∙ ap (λ (n : ℕ). tasks ++ first_task task process n ∷ []) same
+
+init_does : (task process user group ns : ℕ) → State → ℕ → Answer × State
+init_does task process user group ns s slot =
+    let number = length s.creds in
+    (Sealed number slot, created s (first_task task process number) (first_credential user group ns) slot)
+
+few_tasks : (n : ℕ) → n < 64 → nat_lt n 64 ≡ true
+few_tasks n few = grind (arith, nat_tests)
+
+init_tests : (s : State) (task process user group ns : ℕ) → not_busy (cast_in s process) ≡ Ok tt → find (λ t. t.number == task) s.tasks ≡ None → length s.tasks < 64
+    → outcome s (by_init s task process user group ns) ≡ in_slot s table_full (init_does task process user group ns)
+unfolding init_does
+init_tests s task process user group ns idle new few = rw (idle, new, few_tasks (length s.tasks) few) refl
+
+module _ {parts : Parts} {store : List (Option Credential)} {t : Table} (is : IsKept parts store t)
+    (after : Table) (task process user group ns : ℕ) where
+  abbrev s : State
+  s = state_of parts store t
+
+  pub init_full : not_busy (cast_in s process) ≡ Ok tt → find (λ u. u.number == task) parts.tasks ≡ None → length parts.tasks < 64 → table.free t ≡ None
+      → state_of parts store (table.room t) ≡ state_of parts store after
+      → IsOutcomeLike (outcome s (by_init s task process user group ns)) TableFull (state_of parts store after)
+  init_full idle new few none makes =
+      does_same _ _ _ (init_tests s task process user group ns idle new few ∙ in_none is (init_does task process user group ns) after none makes)
+
+  module _ {number slot : ℕ} (long : length store ≡ SLOTS) (seals : Seals t after number slot) where
+    abbrev pub first : List Task
+    first = parts.tasks ++ first_task task process number ∷ []
+
+    abbrev pub put : List (Option Credential)
+    put = slice_set store slot (Some (first_credential user group ns))
+
+    pub init_kept : IsKept (record parts { tasks = first }) put after
+    init_kept = record {
+      counted = record {
+        counts = bag-more is.counted.counts seals.held (in_use-task s (first_task task process number) refl);
+        keeps = keeps_same t after _ is.counted.keeps seals.kept;
+      };
+      filled = subst (λ (ss : List ℕ). AreFilled put ss) (sym seals.sealed)
+          (filled-put store slot (first_credential user group ns) t.sealed long seals.in_table is.filled);
+    }
+
+    pub init_sealed : not_busy (cast_in s process) ≡ Ok tt → find (λ u. u.number == task) parts.tasks ≡ None → length parts.tasks < 64
+        → IsOutcomeLike (outcome s (by_init s task process user group ns)) (Sealed number slot) (state_of (record parts { tasks = first }) put after)
+    unfolding init_does
+    init_sealed idle new few =
+        let c = first_credential user group ns in
+        let count = length-creds_in store t.sealed ∙ sym seals.counted in
+        does_made
+        (init_tests s task process user group ns idle new few ∙ in_free is (init_does task process user group ns) slot seals.takes
+        ∙ ap (λ (n : ℕ). (Sealed n slot, created (roomy is) (first_task task process n) c slot)) count)
+        (stored_like store after t.sealed c slot (created (roomy is) (first_task task process number) c slot) init_kept seals.sealed long seals.in_table
+        (subst (λ (n : ℕ). IsAlone after n slot) seals.counted seals.alone) refl seals.deferred refl)

@@ -1,0 +1,19 @@
+use Rattle.cred_state.proofs.Opening.{opener-held, close_kept, close_done}
+use Rattle.cred_state.proofs.Sealing.{drops}
+use Rattle.cred_state.proofs.state.State.close_file.Goals as goal
+
+pub drop_later-requires : goal.drop_later-requires
+drop_later-requires c = opener-held c.self.invariant c.in-Some.ensures.place _ c.in-Some.ensures.there
+
+pub invariant_of-self-2 : goal.invariant_of-self-2
+invariant_of-self-2 c =
+    let gone = c.in-Some.ensures in
+    rw gone.left
+    (close_kept c.self.invariant c.drop_later.new.self gone.place _ gone.there (drops c.drop_later.ensures.held c.drop_later.ensures.table))
+
+pub returns : goal.returns
+returns c =
+    let gone = c.in-Some.ensures in
+    rw (← c.self.view_is, gone.left)
+    (close_done c.self.invariant c.drop_later.new.self gone.place _ gone.there (drops c.drop_later.ensures.held c.drop_later.ensures.table)
+    c.args.fd gone.found)

@@ -1,0 +1,169 @@
+use Rattle.std.proofs.Common.{◌≡◌, ℕ, length, slice_set, is_some, Some, refl, sym, ap, ◌∙◌, subst}
+use Rattle.cred_event.specs.declared.event.Change.{Change}
+use Rattle.cred_model.specs.State.{Changed}
+use Rattle.cred_model.specs.Moves.{with_current}
+use Rattle.cred_model.specs.Step.{is_access}
+use Rattle.cred_slots.specs.Table.{Table}
+use Rattle.cred_procs.specs.Tasks.{task_in}
+use Rattle.cred_state.specs.Kept.{SealsKept, casts_left, parts_of, state_of}
+use Rattle.cred_state.proofs.Commits.{commit_none, commit_no_task, commit_busy, commit_overridden, commit_stale, goes_on, owner-held, base-held_still, slot-kept_still, commit_kept, commit_done}
+use Rattle.cred_state.proofs.Ending.{EndsWith, ends_so, ended-held}
+use Rattle.cred_state.proofs.Labels.{same_label}
+use Rattle.cred_state.proofs.Owners.{has_process_of, owner_of, owner_process, own_owner, over_owner}
+use Rattle.cred_state.proofs.Sealing.{drops}
+use Rattle.cred_state.proofs.state.State.commit.Goals as goal
+
+pub returns-in_default-clause-ok : goal.returns-in_default-clause-ok
+returns-in_default-clause-ok c = rw (← c.self.view_is) (commit_none _ c.args.label c.in_default.ensures)
+
+pub returns-in_default-current-clause-ok : goal.returns-in_default-current-clause-ok
+returns-in_default-current-clause-ok c =
+    let ready = c.in-Some.ensures in
+    rw (← c.self.view_is) (commit_no_task _ c.args.label _ ready.last ready.found refl (ap is_access ready.by ∙ ready.for_task) c.in_default-current.ensures)
+
+pub returns-in-Some-begun-clause-ok : goal.returns-in-Some-begun-clause-ok
+returns-in-Some-begun-clause-ok c =
+    let ready = c.in-Some.ensures in
+    let busy = rw (← c.self.view_is) at c.in-Some-begun.ensures in
+    let t = c.self.inside in
+    let s = state_of (parts_of t.tasks t.casts t.files t.holds t.prepared) t.store t.slots in
+    rw (← c.self.view_is)
+    (let own = owner_of s c.in-Some.field-0.task c.in-Some-current.now c.in-Some-current.ensures in
+    commit_busy s c.args.label _ ready.last ready.found refl (ap is_access ready.by ∙ ready.for_task) c.in-Some-begun.cast own.0 own.1 busy)
+
+pub returns-in-Some-overridden-clause-ok : goal.returns-in-Some-overridden-clause-ok
+returns-in-Some-overridden-clause-ok c =
+    let ready = c.in-Some.ensures in
+    let over = rw (← c.self.view_is) at c.in-Some-overridden.ensures in
+    let idle = rw (← c.self.view_is) at c.in_default-begun.ensures in
+    let t = c.self.inside in
+    let s = state_of (parts_of t.tasks t.casts t.files t.holds t.prepared) t.store t.slots in
+    rw (← c.self.view_is)
+    (let own = owner_of s c.in-Some.field-0.task c.in-Some-current.now c.in-Some-current.ensures in
+    commit_overridden s c.args.label _ ready.last ready.found refl (ap is_access ready.by ∙ ready.for_task) c.in-Some-overridden.depth own.0 own.1 idle
+    (over_owner s c.in-Some.field-0.task c.in-Some-overridden.depth own.0 own.1 over))
+
+pub returns-then-now-base-clause-ok : goal.returns-then-now-base-clause-ok
+returns-then-now-base-clause-ok c =
+    let ready = c.in-Some.ensures in
+    let allowed = rw (← c.self.view_is) at c.in_default-overridden.ensures in
+    let idle = rw (← c.self.view_is) at c.in_default-begun.ensures in
+    let aborts = rw (← c.self.view_is) at c.abort.ensures in
+    let t = c.self.inside in
+    let s = state_of (parts_of t.tasks t.casts t.files t.holds t.prepared) t.store t.slots in
+    rw (← c.self.view_is)
+    (let own = owner_of s c.in-Some.field-0.task c.in-Some-current.now c.in-Some-current.ensures in
+    commit_stale s c.args.label _ ready.last ready.found refl (ap is_access ready.by ∙ ready.for_task) c.abort.new.self c.abort.result c.in-Some-current.now own.0 own.1 own.2 idle
+    (own_owner s c.in-Some.field-0.task own.0 own.1 allowed) c.if-now-base.true aborts)
+
+pub unwrap-process-requires : goal.unwrap-process-requires
+unwrap-process-requires c = has_process_of c.self.inside.tasks c.in-Some.field-0.task c.in-Some-current.now c.in-Some-current.ensures c.process_of.ensures
+
+pub drop_all-requires : goal.drop_all-requires
+drop_all-requires c =
+    ended-held c.self.invariant c.in-Some.field-0.change c.end_with.new.tasks c.in_ok-ended.ended.tasks c.in_ok-ended.ended.numbers c.items.result.now c.reserve.new.self.held
+    (task_in c.self.inside.tasks c.in-Some.field-0.task) c.in-Some-current.ensures c.in_ok-ended.ensures.ended c.items.ensures
+    (ap (λ (x : Table). x.held) c.in_ok-reserve.ensures.ok)
+
+pub drop_later-requires : goal.drop_later-requires
+drop_later-requires c =
+    let t = c.self.inside in
+    let ready = c.in-Some.field-0 in
+    let now = c.in-Some-current.now in
+    let e = ends_so ready.change t.tasks c.end_with.new.tasks t.slots ready.task now c.in-Some-current.ensures c.in_ok-ended.ensures.ended
+    c.in_ok-reserve.ensures.ok c.items.ensures c.drop_all.ensures.held c.drop_all.ensures.table in
+    owner-held c.self.invariant ready.change now ready.task e
+
+pub seal_kept-number-requires-clause-slot : goal.seal_kept-number-requires-clause-slot
+seal_kept-number-requires-clause-slot c =
+    let t = c.self.inside in
+    let ready = c.in-Some.field-0 in
+    let now = c.in-Some-current.now in
+    let e = ends_so ready.change t.tasks c.end_with.new.tasks t.slots ready.task now c.in-Some-current.ensures c.in_ok-ended.ensures.ended
+    c.in_ok-reserve.ensures.ok c.items.ensures c.drop_all.ensures.held c.drop_all.ensures.table in
+    let gives = c.finish-last.ensures in
+    let same = same_label t.prepared c.finish-last.new.self c.args.label ready.task ready.base c.finish-last.result.0.base c.finish-last.result.0.slot ready.change
+    c.finish-last.result.1 c.in-Some.ensures gives in
+    let own = subst (λ (n : ℕ). EndsWith ready.change t.tasks c.end_with.new.tasks t.slots c.drop_all.new.slots n now c.in_ok-ended.ended.tasks) (sym same.0) e in
+    let less = drops c.drop_later.ensures.held c.drop_later.ensures.table in
+    slot-kept_still c.self.invariant gives.gives.place _ gives.gives.there ready.change now own less
+
+pub seal_kept-number-requires-clause-base : goal.seal_kept-number-requires-clause-base
+seal_kept-number-requires-clause-base c =
+    let t = c.self.inside in
+    let ready = c.in-Some.field-0 in
+    let now = c.in-Some-current.now in
+    let e = ends_so ready.change t.tasks c.end_with.new.tasks t.slots ready.task now c.in-Some-current.ensures c.in_ok-ended.ensures.ended
+    c.in_ok-reserve.ensures.ok c.items.ensures c.drop_all.ensures.held c.drop_all.ensures.table in
+    let gives = c.finish-last.ensures in
+    let same = same_label t.prepared c.finish-last.new.self c.args.label ready.task ready.base c.finish-last.result.0.base c.finish-last.result.0.slot ready.change
+    c.finish-last.result.1 c.in-Some.ensures gives in
+    let own = subst (λ (n : ℕ). EndsWith ready.change t.tasks c.end_with.new.tasks t.slots c.drop_all.new.slots n now c.in_ok-ended.ended.tasks) (sym same.0) e in
+    let less = drops c.drop_later.ensures.held c.drop_later.ensures.table in
+    base-held_still c.self.invariant gives.gives.place _ gives.gives.there ready.change now own less (c.if-now-base.false ∙ sym same.1)
+
+pub set_current-requires : goal.set_current-requires
+set_current-requires c =
+    let t = c.self.inside in
+    let ready = c.in-Some.field-0 in
+    let now = c.in-Some-current.now in
+    let e = ends_so ready.change t.tasks c.end_with.new.tasks t.slots ready.task now c.in-Some-current.ensures c.in_ok-ended.ensures.ended
+    c.in_ok-reserve.ensures.ok c.items.ensures c.drop_all.ensures.held c.drop_all.ensures.table in
+    ap is_some (goes_on e)
+
+pub invariant_of-self-2 : goal.invariant_of-self-2
+invariant_of-self-2 c =
+    let t = c.self.inside in
+    let ready = c.in-Some.field-0 in
+    let now = c.in-Some-current.now in
+    let e = ends_so ready.change t.tasks c.end_with.new.tasks t.slots ready.task now c.in-Some-current.ensures c.in_ok-ended.ensures.ended
+    c.in_ok-reserve.ensures.ok c.items.ensures c.drop_all.ensures.held c.drop_all.ensures.table in
+    let gives = c.finish-last.ensures in
+    let same = same_label t.prepared c.finish-last.new.self c.args.label ready.task ready.base c.finish-last.result.0.base c.finish-last.result.0.slot ready.change
+    c.finish-last.result.1 c.in-Some.ensures gives in
+    let own = subst (λ (n : ℕ). EndsWith ready.change t.tasks c.end_with.new.tasks t.slots c.drop_all.new.slots n now c.in_ok-ended.ended.tasks) (sym same.0) e in
+    let less = drops c.drop_later.ensures.held c.drop_later.ensures.table in
+    let sound = rw (← c.self.view_is) at c.requires in
+    let seals : SealsKept c.drop_later.new.self c.seal_kept-number.new.slots c.seal_kept-number.result c.finish-last.result.0.base c.finish-last.result.0.slot
+    = c.seal_kept-number.ensures.sealed in
+    let tasks : c.set_current.new.self ≡ with_current c.end_with.new.tasks gives.task c.seal_kept-number.result
+    = c.set_current.ensures.tasks ∙ ap (λ (n : ℕ). with_current c.end_with.new.tasks n c.seal_kept-number.result) (sym same.0) in
+    let store = c.seal_kept-number.ensures.stored ∙ ap (λ (x : Changed). slice_set t.store c.finish-last.result.0.slot (Some x.cred)) c.last.view_is in
+    let change : c.last.inside.change ≡ ready.change = ap (λ (x : Changed). x.change) c.last.view_is ∙ same.2 in
+    let process = owner_process t.tasks ready.task c.unwrap-process.result e.owner e.lives c.unwrap-process.ensures c.process_of.ensures in
+    let casts : c.drop_cast.new.casts ≡ casts_left ready.change e.owner.process t.casts
+    = c.drop_cast.ensures ∙ ap (λ (x : Change). casts_left x c.unwrap-process.result t.casts) change ∙ ap (λ (n : ℕ). casts_left ready.change n t.casts) process in
+    rw (tasks, casts, gives.gives.left, store)
+    (commit_kept c.self.invariant gives.gives.place _ gives.gives.there ready.change now own less c.seal_kept-number.new.slots c.seal_kept-number.ensures.places
+    c.finish-last.result.1 seals sound.tasks sound.slots.own)
+
+pub returns-clause-ok : goal.returns-clause-ok
+returns-clause-ok c =
+    let t = c.self.inside in
+    let ready = c.in-Some.field-0 in
+    let now = c.in-Some-current.now in
+    let e = ends_so ready.change t.tasks c.end_with.new.tasks t.slots ready.task now c.in-Some-current.ensures c.in_ok-ended.ensures.ended
+    c.in_ok-reserve.ensures.ok c.items.ensures c.drop_all.ensures.held c.drop_all.ensures.table in
+    let gives = c.finish-last.ensures in
+    let same = same_label t.prepared c.finish-last.new.self c.args.label ready.task ready.base c.finish-last.result.0.base c.finish-last.result.0.slot ready.change
+    c.finish-last.result.1 c.in-Some.ensures gives in
+    let own = subst (λ (n : ℕ). EndsWith ready.change t.tasks c.end_with.new.tasks t.slots c.drop_all.new.slots n now c.in_ok-ended.ended.tasks) (sym same.0) e in
+    let less = drops c.drop_later.ensures.held c.drop_later.ensures.table in
+    let sound = rw (← c.self.view_is) at c.requires in
+    let seals : SealsKept c.drop_later.new.self c.seal_kept-number.new.slots c.seal_kept-number.result c.finish-last.result.0.base c.finish-last.result.0.slot
+    = c.seal_kept-number.ensures.sealed in
+    let tasks : c.set_current.new.self ≡ with_current c.end_with.new.tasks gives.task c.seal_kept-number.result
+    = c.set_current.ensures.tasks ∙ ap (λ (n : ℕ). with_current c.end_with.new.tasks n c.seal_kept-number.result) (sym same.0) in
+    let store = c.seal_kept-number.ensures.stored ∙ ap (λ (x : Changed). slice_set t.store c.finish-last.result.0.slot (Some x.cred)) c.last.view_is in
+    let allowed = rw (← c.self.view_is) at c.in_default-overridden.ensures in
+    let idle = rw (← c.self.view_is) at c.in_default-begun.ensures in
+    let gains : c.last.inside.gains ≡ c.finish-last.result.1.gains = ap (λ (x : Changed). x.gains) c.last.view_is in
+    let change : c.last.inside.change ≡ ready.change = ap (λ (x : Changed). x.change) c.last.view_is ∙ same.2 in
+    let process = owner_process t.tasks ready.task c.unwrap-process.result e.owner e.lives c.unwrap-process.ensures c.process_of.ensures in
+    let casts : c.drop_cast.new.casts ≡ casts_left ready.change e.owner.process t.casts
+    = c.drop_cast.ensures ∙ ap (λ (x : Change). casts_left x c.unwrap-process.result t.casts) change ∙ ap (λ (n : ℕ). casts_left ready.change n t.casts) process in
+    rw (← c.self.view_is, tasks, casts, gives.gives.left, store, c.committed_by.ensures, gains, change)
+    (commit_done c.self.invariant gives.gives.place _ gives.gives.there ready.change now own less c.seal_kept-number.new.slots c.seal_kept-number.ensures.places
+    c.finish-last.result.1 seals sound.tasks sound.slots.own c.args.label (length c.items-2.result.now) gives.gives.found refl
+    (ap is_access same.2 ∙ c.in-Some.ensures.for_task) (rw same.0 idle) (own_owner (state_of (parts_of t.tasks t.casts t.files t.holds t.prepared) t.store t.slots) gives.task own.owner own.lives (rw same.0 allowed)) same.2 (c.if-now-base.false ∙ sym same.1)
+    (ap length c.items-2.ensures))

@@ -1,0 +1,49 @@
+use Rattle.std.proofs.Common.{◌≡◌, length, slice_set, Some, sym, ◌∙◌, arith}
+use Rattle.std.proofs.lemmas.Grind.{common_steps}
+use Rattle.cred_record.specs.Credential.{first_credential}
+use Rattle.cred_state.specs.Kept.{parts_of}
+use Rattle.cred_state.proofs.Free.{full_swept}
+use Rattle.cred_state.proofs.Inits.{init_full, init_kept, init_sealed, few_by_test, is_sealed, sealed_there, started}
+use Rattle.cred_state.proofs.Places.{none_by_test, none_by_other, some_by_test}
+use Rattle.cred_state.proofs.Sealing.{none_spare, roomy_spare, seals_spare}
+use Rattle.cred_state.proofs.state.State.init.Goals as goal
+
+pub returns-then-is_none-clause-ok : goal.returns-then-is_none-clause-ok
+returns-then-is_none-clause-ok c =
+    let t = c.self.inside in
+    let idle = rw (← c.self.view_is) at c.in_default.ensures in
+    let new = none_by_test _ c.alive.result c.alive.ensures c.if-alive.false in
+    let few = few_by_test (length t.tasks) c.full.result c.full.ensures.full c.if-full.false in
+    let none = sym c.free_slot.ensures ∙ none_by_other c.free_slot.result c.is_none.result c.is_none.ensures c.if-is_none.true in
+    rw (← c.self.view_is)
+    (init_full c.self.invariant c.sweep.new.self c.args.number c.args.process c.args.user c.args.group c.args.ns idle new few
+    (none_spare t.slots c.in_ok-reserve.ensures.ok none)
+    (roomy_spare (parts_of t.tasks t.casts t.files t.holds t.prepared) t.store t.slots _ _ _ c.in_ok-reserve.ensures.ok (c.sweep.ensures ∙ sym (full_swept c.reserve.new.self none))))
+
+pub unwrap-current-requires : goal.unwrap-current-requires
+unwrap-current-requires c =
+    is_sealed c.reserve.new.self c.seal_next.new.slots c.seal_next.result c.seal_next.ensures
+    (λ none. some_by_test c.free_slot.result c.is_none.result c.is_none.ensures c.if-is_none.false (c.free_slot.ensures ∙ none))
+
+pub invariant_of-self-2 : goal.invariant_of-self-2
+invariant_of-self-2 c =
+    let t = c.self.inside in
+    let seals = sealed_there c.reserve.new.self c.seal_next.new.slots c.seal_next.result _ _ c.unwrap-current.ensures c.seal_next.ensures in
+    let tasks = started t.tasks c.start.new.self c.args.number c.args.process _ _ c.in_ok-start.ensures.ok (c.next_number-next.ensures ∙ sym seals.counted) in
+    let store : c.put.new.self ≡ slice_set t.store c.unwrap-current.result.1 (Some (first_credential c.args.user c.args.group c.args.ns)) = grind (arith, common_steps) in
+    rw (tasks, store)
+    (init_kept c.self.invariant c.seal_next.new.slots c.args.number c.args.process c.args.user c.args.group c.args.ns
+    c.put.ensures.long (seals_spare c.in_ok-reserve.ensures.ok seals))
+
+pub returns-clause-ok : goal.returns-clause-ok
+returns-clause-ok c =
+    let t = c.self.inside in
+    let seals = sealed_there c.reserve.new.self c.seal_next.new.slots c.seal_next.result _ _ c.unwrap-current.ensures c.seal_next.ensures in
+    let tasks = started t.tasks c.start.new.self c.args.number c.args.process _ _ c.in_ok-start.ensures.ok (c.next_number-next.ensures ∙ sym seals.counted) in
+    let store : c.put.new.self ≡ slice_set t.store c.unwrap-current.result.1 (Some (first_credential c.args.user c.args.group c.args.ns)) = grind (arith, common_steps) in
+    let idle = rw (← c.self.view_is) at c.in_default.ensures in
+    let new = none_by_test _ c.alive.result c.alive.ensures c.if-alive.false in
+    let few = few_by_test (length t.tasks) c.full.result c.full.ensures.full c.if-full.false in
+    rw (← c.self.view_is, tasks, store)
+    (init_sealed c.self.invariant c.seal_next.new.slots c.args.number c.args.process c.args.user c.args.group c.args.ns
+    c.put.ensures.long (seals_spare c.in_ok-reserve.ensures.ok seals) idle new few)

@@ -1,0 +1,22 @@
+use Rattle.std.proofs.Common.{refl, sym}
+use Rattle.cred_state.specs.Kept.{parts_of, state_of}
+use Rattle.cred_state.proofs.Bags.{bag-at}
+use Rattle.cred_state.proofs.InUse.{in_use-file}
+use Rattle.cred_state.proofs.Sealing.{kept_more, referred_to}
+use Rattle.cred_state.proofs.Standing.{held-in_use}
+use Rattle.cred_state.proofs.state.State.open_file.Goals as goal
+
+pub add-requires-2-clause-referred : goal.add-requires-2-clause-referred
+add-requires-2-clause-referred c =
+    let t = c.self.inside in
+    let s = state_of (parts_of t.tasks t.casts t.files t.holds t.prepared) t.store t.slots in
+    let has = rw (← c.self.view_is) at c.in-Some.ensures in
+    referred_to t.slots c.reserve.new.self _ _ c.in_ok-reserve.ensures.ok
+    (bag-at c.in-Some.field-0.number c.self.invariant.counted.counts (held-in_use s c.args.hold _ (sym has)))
+
+pub invariant_of-self-2 : goal.invariant_of-self-2
+invariant_of-self-2 c =
+    let t = c.self.inside in
+    let s = state_of (parts_of t.tasks t.casts t.files t.holds t.prepared) t.store t.slots in
+    rw c.in_ok-add.ensures.ok
+    (kept_more c.self.invariant c.in_ok-reserve.ensures.ok c.add-2.ensures.held c.add-2.ensures.table (in_use-file s _) refl)

@@ -1,0 +1,19 @@
+use Rattle.cred_state.proofs.Holding.{hold-held, release_kept, release_done}
+use Rattle.cred_state.proofs.Sealing.{drops}
+use Rattle.cred_state.proofs.state.State.release.Goals as goal
+
+pub drop_later-requires : goal.drop_later-requires
+drop_later-requires c = hold-held c.self.invariant c.in-Some.ensures.place _ c.in-Some.ensures.held
+
+pub invariant_of-self-2 : goal.invariant_of-self-2
+invariant_of-self-2 c =
+    let gone = c.in-Some.ensures in
+    rw gone.left
+    (release_kept c.self.invariant c.drop_later.new.self gone.place _ gone.held (drops c.drop_later.ensures.held c.drop_later.ensures.table))
+
+pub returns : goal.returns
+returns c =
+    let gone = c.in-Some.ensures in
+    rw (← c.self.view_is, gone.left)
+    (release_done c.self.invariant c.drop_later.new.self gone.place _ gone.held (drops c.drop_later.ensures.held c.drop_later.ensures.table)
+    c.args.label gone.found)

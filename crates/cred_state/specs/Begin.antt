@@ -1,0 +1,41 @@
+-- When a task may make an id call that its process's other threads follow (nptl(7)).
+use Rattle.std.specs.Prelude.{◌≡◌, ℕ, List, Ok, Some, None}
+use Rattle.cred_record.specs.declared.id_call.IdCall.{IdCall}
+use Rattle.cred_event.specs.declared.answer.AbortCause.{AbortCause}
+use Rattle.cred_event.specs.declared.answer.AbortCause.TheVariants.{Perm, Full}
+use Rattle.cred_model.specs.State.{State, Task, Broadcast, Numbered, task_of, current_of, cast_of, cast_in}
+use Rattle.cred_model.specs.Slots.{swept}
+use Rattle.cred_model.specs.Casts.{others_of}
+use Rattle.cred_model.specs.Moves.{not_overridden}
+use Rattle.cred_slots.specs.Table.{Table}
+use Rattle.cred_slots.specs.Table as table
+
+-- The task is alive and acts with its current credential, which is this one. No broadcast is open
+-- in its process, and none has the line's number.
+pub record MayBegin (s : State) (line task : ℕ) (now : Numbered) : Type 0 where
+  pub owner : Task
+  pub lives : task_of s task ≡ Some owner
+  pub has : current_of s task ≡ Some now
+  pub idle : cast_in s owner.process ≡ None
+  pub new : cast_of s line ≡ None
+  pub own : not_overridden owner ≡ Ok tt
+
+-- the state that a task which couldn't follow a call left: a sweep is made before a want of a slot
+abbrev pub at_abort : AbortCause → State → State
+at_abort Perm s = s
+at_abort Full s = swept s
+
+-- and the table of its slots
+abbrev pub table_at : AbortCause → Table → Table
+table_at Perm t = t
+table_at Full t = table.swept t
+
+-- the broadcast of a task's call, in which the other threads of its process wait
+abbrev pub cast_begun : ℕ → ℕ → IdCall → Task → List Task → Broadcast
+cast_begun line task call owner tasks = record {
+  number = line;
+  process = owner.process;
+  caller = task;
+  call = call;
+  waiting = others_of owner tasks;
+}

@@ -1,0 +1,5 @@
+pub mod Begin
+pub mod Holds
+pub mod Kept
+pub mod Labelled
+pub mod Prepared

@@ -1,0 +1,17 @@
+//! The state of the kernel: the tasks, the open broadcasts, the open files, the holds and the
+//! prepared labels, each in a table of its own, and the credentials in 256 places, with a table of
+//! slots that counts the references to them. One call makes one event.
+#![tactic(auto)]
+
+mod casts;
+mod ends;
+mod files;
+mod holds;
+mod labelled;
+mod prepared;
+mod seal;
+pub mod state;
+mod store;
+mod table;
+
+pub use state::State;

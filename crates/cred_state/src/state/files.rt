@@ -1,0 +1,95 @@
+//! The events on open files.
+ghost use Rattle.std.specs.Prelude.{◌≡◌, IfOk, OnErr};
+ghost use Rattle.std.specs.Option.{option_map};
+ghost use Rattle.cred_model.specs.State.{opener_of};
+ghost use Rattle.cred_model.specs.Like.{Gives};
+ghost use Rattle.cred_model.specs.Step.{by_close, by_open, by_take_file};
+ghost use Rattle.cred_state.specs.Kept.{seen_numbered};
+
+use crate::files::may_open;
+use crate::state::State;
+use crate::table::{Numbered, sealed_at};
+use cred_event::{Answer, Counted, Named};
+use cred_ids::NoMemory;
+use cred_record::Want;
+use cred_script::Script;
+
+impl State {
+    /// The file is opened under the descriptor, by the credential that the hold has (open(2)). The
+    /// refusals leave the state.
+    ///
+    /// # Errors
+    ///
+    /// `NoMemory` if an allocation of room for the file or for its reference fails: the state is as
+    /// it was.
+    pub fn open_file(
+        &mut self,
+        script: &Script,
+        hold: u32,
+        file: u32,
+        want: Want,
+        fd: u32,
+    ) -> Result<Answer, NoMemory>
+        ensures ok { IfOk result (λ answer.
+            Gives self.old (by_open script.now self.old hold file want fd) answer self.new) }
+        ensures err { OnErr result (self.new ≡ self.old) }
+    {
+        let Some(Numbered { number, cred, .. }) = self.held(hold) else {
+            return Ok(Answer::NoHold(hold));
+        };
+        if self.files.has(fd) {
+            return Ok(Answer::Exists {
+                what: Named::File,
+                number: fd,
+            });
+        }
+        if !may_open(script, cred, file, want) {
+            return Ok(Answer::Eacces);
+        }
+        if self.files.full() {
+            return Ok(Answer::TooMany(Counted::Files));
+        }
+        self.slots.reserve()?;
+        self.files.add(fd, number, file)?;
+        self.slots.add(number);
+        Ok(Answer::Done)
+    }
+
+    /// The descriptor is closed, and its opener's credential given up (close(2)). `Ebadf` leaves
+    /// the state.
+    pub fn close_file(&mut self, fd: u32) -> Answer
+        ensures { Gives self.old (by_close self.old fd) result self.new }
+    {
+        let Some(opener) = self.files.remove(fd) else {
+            return Answer::Ebadf;
+        };
+        self.slots.drop_later(opener);
+        Answer::Done
+    }
+
+    /// The label takes hold of the credential that the open file was opened by. The refusals leave
+    /// the state.
+    ///
+    /// # Errors
+    ///
+    /// `NoMemory` if an allocation of room for the hold or for its reference fails: the state is as
+    /// it was.
+    pub fn take_file(&mut self, label: u32, fd: u32) -> Result<Answer, NoMemory>
+        ensures ok { IfOk result (λ answer.
+            Gives self.old (by_take_file self.old label fd) answer self.new) }
+        ensures err { OnErr result (self.new ≡ self.old) }
+    {
+        let Some(Numbered { number, slot, .. }) = self.opener(fd) else {
+            return Ok(Answer::Ebadf);
+        };
+        self.take_hold(label, number, slot)
+    }
+
+    /// The credential that the file of a descriptor was opened by.
+    fn opener(&self, fd: u32) -> Option<Numbered<'_>>
+        ensures { option_map seen_numbered result ≡ opener_of self.now fd }
+    {
+        let number = self.files.opener(fd)?;
+        sealed_at(&self.store, &self.slots, number)
+    }
+}

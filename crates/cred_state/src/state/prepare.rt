@@ -1,0 +1,184 @@
+//! The events on prepared labels.
+ghost use Rattle.std.specs.Prelude.{◌≡◌, IfOk, OnErr};
+ghost use Rattle.std.specs.Option.{option_map, option_and_then};
+ghost use Rattle.cred_model.specs.State.{prepared_of, numbered};
+ghost use Rattle.cred_model.specs.Like.{Gives, GivesLike};
+ghost use Rattle.cred_sound.specs.Sound.{IsSound};
+ghost use Rattle.cred_model.specs.Step.{by_abort, by_alter, by_commit, by_prepare};
+ghost use Rattle.cred_state.specs.Kept.{seen_numbered};
+
+use crate::ends::{committed_by, drop_cast, end_with};
+use crate::files::{chain_of, executed_file};
+use crate::prepared::{Changed, Ended, Preparation, Ready};
+use crate::seal::{drop_all, seal_kept};
+use crate::state::State;
+use crate::table::{Numbered, sealed_at};
+use cred_decide::{Made, change as change_of};
+use cred_event::{Answer, Change, Counted, Named};
+use cred_ids::NoMemory;
+use cred_script::Script;
+
+/// How many prepared labels may stand.
+const PREPARED: usize = 64;
+
+impl State {
+    /// The label prepares a new credential for the task, based on the one that the hold has, and
+    /// keeps the slot that the new one will stand in. `NoTask`, `Busy`, `NoHold`, `Exists` and
+    /// `TooMany` leave the state; `TableFull` leaves it swept.
+    ///
+    /// # Errors
+    ///
+    /// `NoMemory` if an allocation of room for the label or for its reference fails: the state is
+    /// as it was.
+    pub fn prepare(&mut self, label: u32, task: u32, hold: u32) -> Result<Answer, NoMemory>
+        ensures ok { IfOk result (λ answer.
+            Gives self.old (by_prepare self.old label task hold) answer self.new) }
+        ensures err { OnErr result (self.new ≡ self.old) }
+    {
+        if !self.tasks.alive(task) {
+            return Ok(Answer::NoTask(task));
+        }
+        if let Some(cast) = self.begun(task) {
+            return Ok(Answer::Busy(cast));
+        }
+        let Some(base) = self.holds.get(hold) else {
+            return Ok(Answer::NoHold(hold));
+        };
+        if self.has_label(label) {
+            return Ok(Answer::Exists {
+                what: Named::Label,
+                number: label,
+            });
+        }
+        if self.prepared.len() >= PREPARED {
+            return Ok(Answer::TooMany(Counted::Prepared));
+        }
+        self.slots.reserve()?;
+        // The label is entered before its slot is kept, since that may want memory.
+        let Some(slot) = self.slots.free_slot() else {
+            self.slots.sweep();
+            return Ok(Answer::TableFull);
+        };
+        self.prepared.prepare(
+            label,
+            Preparation {
+                task,
+                base,
+                slot,
+                changed: None,
+            },
+        )?;
+        self.slots.claim();
+        self.slots.add(base);
+        Ok(Answer::Kept { slot })
+    }
+
+    /// What the label prepares is its base, changed so. `NoPrepared`, `Eperm`, `Einval` and `Eacces`
+    /// leave the state, and with it what an earlier change made of the base.
+    ///
+    /// # Errors
+    ///
+    /// `NoMemory` if the credential could not be copied: the state is as it was.
+    pub fn alter(&mut self, script: &Script, label: u32, change: Change) -> Result<Answer, NoMemory>
+        ensures ok { IfOk result (λ answer.
+            Gives self.old (by_alter script.now self.old label change) answer self.new) }
+        ensures err { OnErr result (self.new ≡ self.old) }
+    {
+        let Some(base) = self.base(label) else {
+            return Ok(Answer::NoPrepared(label));
+        };
+        let base = base.cred;
+        let file = executed_file(script, change);
+        let chain = chain_of(script, base.ns);
+        let Made {
+            answer,
+            cred,
+            gains,
+        } = match change_of(base, file, chain, &change)? {
+            Ok(made) => made,
+            Err(answer) => return Ok(answer),
+        };
+        self.prepared.change(
+            label,
+            Changed {
+                change,
+                cred,
+                gains,
+            },
+        );
+        Ok(answer)
+    }
+
+    /// What the label prepared is sealed in the slot that was kept for it, and becomes its task's
+    /// current credential (Documentation/security/credentials.rst). Where the last change was an
+    /// execve, all other threads of the task's process end (execve(2)), and the process's broadcast
+    /// is dropped. `NoPrepared`, also where the label was never changed or was changed last for
+    /// access(2), `NoTask`, `Busy`, and `Overridden` while the task acts with another credential
+    /// than its current one, leave the state. `Stale` comes where the task's current credential
+    /// isn't the base any more: then the label is given up.
+    ///
+    /// # Errors
+    ///
+    /// `NoMemory` if an allocation of room for the reference or of a list fails: the state is as it
+    /// was.
+    pub fn commit(&mut self, label: u32) -> Result<Answer, NoMemory>
+        requires { IsSound self.old }
+        ensures ok { IfOk result (λ answer.
+            GivesLike self.old (by_commit self.old label) answer self.new) }
+        ensures err { OnErr result (self.new ≡ self.old) }
+    {
+        let Some(Ready { task, base, change }) = self.prepared.ready(label) else {
+            return Ok(Answer::NoPrepared(label));
+        };
+        let Some(now) = self.tasks.current(task) else {
+            return Ok(Answer::NoTask(task));
+        };
+        if let Some(cast) = self.begun(task) {
+            return Ok(Answer::Busy(cast));
+        }
+        if let Some(depth) = self.overridden(task) {
+            return Ok(Answer::Overridden(depth));
+        }
+        if now != base {
+            self.abort(label);
+            return Ok(Answer::Stale { base, now });
+        }
+        self.slots.reserve()?;
+        // It is there: the task is alive.
+        let process = self.tasks.process_of(task).unwrap();
+        let ended = end_with(self.alloc, &mut self.tasks, change, task)?;
+        drop_all(&mut self.slots, ended.numbers.items());
+        self.slots.drop_later(now);
+        let (kept, last) = self.prepared.finish(label);
+        drop_cast(&mut self.casts, last.change, process);
+        let (change, gains) = (last.change, last.gains);
+        let number = seal_kept(&mut self.slots, &mut self.store, kept, last.cred);
+        self.tasks.set_current(task, number);
+        let ended = ended.tasks.items().len() as u32;
+        Ok(committed_by(change, &gains, number, kept.slot, ended))
+    }
+
+    /// The label gives up what it prepared, with its slot and the reference to its base.
+    /// `NoPrepared` leaves the state.
+    pub fn abort(&mut self, label: u32) -> Answer
+        requires { IsSound self.old }
+        ensures { Gives self.old (by_abort self.old label) result self.new }
+    {
+        let Some(Ended { base, slot }) = self.prepared.give_up(label) else {
+            return Answer::NoPrepared(label);
+        };
+        self.slots.give_up(slot);
+        self.slots.drop_later(base);
+        Answer::Done
+    }
+
+    /// The base of a label. `None` where the label isn't prepared.
+    fn base(&self, label: u32) -> Option<Numbered<'_>>
+        ensures { option_map seen_numbered result
+            ≡ option_and_then (λ p. numbered self.now.creds p.base)
+            (prepared_of self.now label) }
+    {
+        let preparation = self.prepared.get(label)?;
+        sealed_at(&self.store, &self.slots, preparation.base)
+    }
+}

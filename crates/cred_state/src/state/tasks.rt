@@ -1,0 +1,170 @@
+//! The events by which tasks are created and end.
+ghost use Rattle.std.specs.Prelude.{◌≡◌, IfOk, OnErr};
+ghost use Rattle.cred_model.specs.Like.{Gives, GivesLike};
+ghost use Rattle.cred_model.specs.Step.{by_exit, by_fork, by_init, by_spawn};
+ghost use Rattle.cred_sound.specs.Sound.{IsSound};
+
+use crate::casts::spawn_in;
+use crate::seal::{drop_all, seal_next};
+use crate::state::State;
+use crate::table::Numbered;
+use cred_event::{Answer, Counted, Named};
+use cred_ids::{Id, NoMemory};
+use cred_record::first;
+
+impl State {
+    /// A first task is created, with its first credential. `Busy`, `Exists` and `TooMany` leave the
+    /// state; `TableFull` leaves it swept.
+    ///
+    /// # Errors
+    ///
+    /// `NoMemory` if an allocation of the credential or of room for the task fails: the state is as
+    /// it was.
+    pub fn init(
+        &mut self,
+        number: u32,
+        process: u32,
+        user: Id,
+        group: Id,
+        ns: u32,
+    ) -> Result<Answer, NoMemory>
+        ensures ok { IfOk result (λ answer.
+            GivesLike self.old (by_init self.old number process user group ns) answer self.new) }
+        ensures err { OnErr result (self.new ≡ self.old) }
+    {
+        if let Some(cast) = self.open_in(process) {
+            return Ok(Answer::Busy(cast));
+        }
+        if self.tasks.alive(number) {
+            return Ok(Answer::Exists {
+                what: Named::Task,
+                number,
+            });
+        }
+        if self.tasks.full() {
+            return Ok(Answer::TooMany(Counted::Tasks));
+        }
+        let cred = first(self.alloc, user, group, ns)?;
+        self.slots.reserve()?;
+        if self.slots.free_slot().is_none() {
+            self.slots.sweep();
+            return Ok(Answer::TableFull);
+        }
+        // The task is entered before its credential is sealed, since that may want memory.
+        let next = self.slots.next_number();
+        self.tasks.start(number, process, next)?;
+        // A slot is free.
+        let (current, slot) = seal_next(&mut self.slots).unwrap();
+        self.store.put(slot, cred);
+        Ok(Answer::Sealed {
+            cred: current,
+            slot,
+        })
+    }
+
+    /// A task creates a thread of its process (clone(2) with CLONE_THREAD), which shares its
+    /// current credential, and waits where its creator waits. The refusals leave the state.
+    ///
+    /// # Errors
+    ///
+    /// `NoMemory` if an allocation of room for the child, for its reference or for its place among
+    /// those that wait fails: the state is as it was.
+    pub fn spawn(&mut self, task: u32, child: u32) -> Result<Answer, NoMemory>
+        requires { IsSound self.old }
+        ensures ok { IfOk result (λ answer.
+            Gives self.old (by_spawn self.old task child) answer self.new) }
+        ensures err { OnErr result (self.new ≡ self.old) }
+    {
+        let Some(Numbered { number, slot, .. }) = self.current(task) else {
+            return Ok(Answer::NoTask(task));
+        };
+        if let Some(cast) = self.begun(task) {
+            return Ok(Answer::Busy(cast));
+        }
+        if self.tasks.alive(child) {
+            return Ok(Answer::Exists {
+                what: Named::Task,
+                number: child,
+            });
+        }
+        if let Some(depth) = self.overridden(task) {
+            return Ok(Answer::Overridden(depth));
+        }
+        if self.tasks.full() {
+            return Ok(Answer::TooMany(Counted::Tasks));
+        }
+        self.slots.reserve()?;
+        spawn_in(&mut self.tasks, &mut self.casts, task, child)?;
+        self.slots.add(number);
+        Ok(Answer::Sealed { cred: number, slot })
+    }
+
+    /// A task creates a process (fork(2)), whose one thread shares its current credential. The
+    /// refusals leave the state.
+    ///
+    /// # Errors
+    ///
+    /// `NoMemory` if an allocation of room for the child or for its reference fails: the state is
+    /// as it was.
+    pub fn fork(&mut self, task: u32, child: u32, process: u32) -> Result<Answer, NoMemory>
+        ensures ok { IfOk result (λ answer.
+            Gives self.old (by_fork self.old task child process) answer self.new) }
+        ensures err { OnErr result (self.new ≡ self.old) }
+    {
+        let Some(Numbered { number, slot, .. }) = self.current(task) else {
+            return Ok(Answer::NoTask(task));
+        };
+        if let Some(cast) = self.begun(task) {
+            return Ok(Answer::Busy(cast));
+        }
+        if self.tasks.alive(child) {
+            return Ok(Answer::Exists {
+                what: Named::Task,
+                number: child,
+            });
+        }
+        if self.tasks.has_process(process) {
+            return Ok(Answer::Exists {
+                what: Named::Process,
+                number: process,
+            });
+        }
+        if let Some(depth) = self.overridden(task) {
+            return Ok(Answer::Overridden(depth));
+        }
+        if self.tasks.full() {
+            return Ok(Answer::TooMany(Counted::Tasks));
+        }
+        self.slots.reserve()?;
+        self.tasks.fork(task, child, process)?;
+        self.slots.add(number);
+        Ok(Answer::Sealed { cred: number, slot })
+    }
+
+    /// A task ends, and what it referred to is given up. It waits in no broadcast any more; its
+    /// holds and prepared labels stay. `NoTask`, `Busy`, and `Overridden` while it acts with
+    /// another credential than its current one, leave the state.
+    ///
+    /// # Errors
+    ///
+    /// `NoMemory` if the allocation of a list fails: the state is as it was.
+    pub fn exit(&mut self, task: u32) -> Result<Answer, NoMemory>
+        ensures ok { IfOk result (λ answer.
+            Gives self.old (by_exit self.old task) answer self.new) }
+        ensures err { OnErr result (self.new ≡ self.old) }
+    {
+        if !self.tasks.alive(task) {
+            return Ok(Answer::NoTask(task));
+        }
+        if let Some(cast) = self.begun(task) {
+            return Ok(Answer::Busy(cast));
+        }
+        if let Some(depth) = self.overridden(task) {
+            return Ok(Answer::Overridden(depth));
+        }
+        let numbers = self.tasks.exit(task)?;
+        drop_all(&mut self.slots, numbers.items());
+        self.casts.gone(task);
+        Ok(Answer::Done)
+    }
+}
