@@ -4,6 +4,8 @@
 # resident memory of both, the proved program's also by entry; and, where valgrind is there, the
 # instructions of both and their ratio, which is the same at each run. The marks are ratios of 1.3 on
 # calls, holds and checks and of 1.5 on changes, and at most 150 bytes of memory an entry on changes.
+# Then a script of calls that 64 threads make, 1.28 million entries, is held against a program that only
+# writes as many bytes and digits (writes.rs); there the mark is 2.
 #
 # It needs rustc and GNU time. No part of the gate.
 set -eu
@@ -13,6 +15,7 @@ dir=$(mktemp -d)
 trap 'rm -rf "$dir"' EXIT
 
 rustc --edition 2021 -C opt-level=3 -C codegen-units=1 -C panic=abort -o "$dir/plain" "$top/bench/plain.rs"
+rustc --edition 2021 -C opt-level=3 -C codegen-units=1 -C panic=abort -o "$dir/writes" "$top/bench/writes.rs"
 "$top/bin/credtrace" run < /dev/null
 proved=$top/crates/credtrace/out/credtrace
 plain=$dir/plain
@@ -74,3 +77,19 @@ for name in calls changes holds checks; do
   [ "$name" = changes ] && bytes="$bytes (150)"
   row "$name" "$entries" "$ours" "$theirs" "$bytes" "$count"
 done
+
+awk 'BEGIN {
+  for (i = 1; i <= 64; i++) print "init t" i " p1 0 0 n0"
+  for (i = 65; i <= 20000; i++) print "t1 setresuid 0 0 0"
+}' > "$dir/threads"
+mark=2
+ours=$(seconds "$proved" threads)
+theirs=$(seconds "$dir/writes" threads)
+count="valgrind isn't here"
+if command -v valgrind > /dev/null; then
+  a=$(instructions "$proved" threads)
+  b=$(instructions "$dir/writes" threads)
+  count=$(awk -v a="$a" -v b="$b" -v mark="$mark" \
+    'BEGIN { printf "%.1f M, %.1f M, %.2f (%s)", a / 1e6, b / 1e6, a / b, mark }')
+fi
+row threads 1275968 "$ours" "$theirs" $((${ours#* } * 1024 / 1275968)) "$count"

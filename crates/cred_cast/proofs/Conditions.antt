@@ -1,22 +1,19 @@
 -- What every state of the kernel keeps of its broadcasts gives the conditions of the table's calls.
-use Rattle.std.proofs.Common.{◌≡◌, ◌≢◌, ◌==◌, ℕ, List, [], ◌∷◌, map, get_or, slice_get, Some, None, nat_le, Bool, true, false, cond, if◌then◌else◌, refl, sym, ap, ◌∙◌, subst, arith}
-use Rattle.std.specs.List.{All, AllPairs, filter, find, list_any}
-use Rattle.std.proofs.lemmas.Bool.{leb-true}
+use Rattle.std.proofs.Common.{◌≡◌, ◌≢◌, ◌==◌, ℕ, List, [], ◌∷◌, map, get_or, slice_get, Some, None, nat_le, true, false, if◌then◌else◌, refl, ap, ◌∙◌, arith}
+use Rattle.std.specs.List.{AllPairs, filter, list_any}
 use Rattle.std.proofs.lemmas.Bool.Decides.{nat_tests}
-use Rattle.std.proofs.lemmas.List.Elements.{All-cons, All-weaker}
-use Rattle.std.proofs.lemmas.List.Folds.{list_any_none}
 use Rattle.std.proofs.lemmas.List.Kept.{AllPairs-filter}
 use Rattle.cred_ids.specs.Ordered.{placed, in_order}
 use Rattle.cred_model.specs.State.{State, Task, Broadcast, task_of, cast_in}
 use Rattle.cred_model.specs.Ends.{is_beside}
 use Rattle.cred_model.specs.Casts.{waits_in, others_of}
 use Rattle.cred_model.proofs.Lists.{AllPairs-map, Differ}
-use Rattle.cred_model.proofs.Rising.{AllPairs-head, AllPairs-tail, Below, rising-in_order, rising_differ}
+use Rattle.cred_model.proofs.Rising.{AllPairs-tail, Below, rising-in_order, rising_differ}
 use Rattle.cred_sound.specs.Casts.{IsThread, IsUnderWay}
 use Rattle.cred_sound.specs.Sound.{IsSound}
 use Rattle.cred_sound.proofs.Threads.{dead_differs, one_process, waits_at}
 use Rattle.cred_sound.proofs.Unique.{none_has}
-use Rattle.cred_cast.specs.Casts.{WaitsNowhere, SharesNone, AreCasts}
+use Rattle.cred_cast.specs.Casts.{WaitsNowhere, AreCasts}
 
 -- who waits in a broadcast is a thread of its process
 thread_of : (tasks : List Task) (cast : Broadcast) (task : ℕ) → IsUnderWay tasks cast → waits_in task cast ≡ true

@@ -1,5 +1,5 @@
 -- A new thread waits where its creator does: in one broadcast, or in none.
-use Rattle.std.proofs.Common.{◌≡◌, ℕ, zero, suc, ◌<◌, ◌≤◌, nat_lt, cond, List, [], ◌∷◌, get_or, set, length, slice_get, Option, Some, None, true, false, Bool, if◌then◌else◌, refl, sym, ap, ◌∙◌, subst, arith}
+use Rattle.std.proofs.Common.{◌≡◌, ℕ, zero, suc, ◌<◌, ◌≤◌, nat_lt, cond, List, [], ◌∷◌, get_or, set, length, slice_get, Some, None, true, false, Bool, if◌then◌else◌, refl, sym, ap, ◌∙◌, arith}
 use Rattle.std.specs.List.{All, AllPairs, position, position_or_len}
 use Rattle.std.proofs.lemmas.List.Elements.{All-head, All-tail}
 use Rattle.std.proofs.lemmas.List.Folds.{find_at}
@@ -14,7 +14,7 @@ use Rattle.cred_cast.specs.Casts.{WaitsNowhere, SharesNone}
 use Rattle.cred_cast.proofs.Kept.{joins}
 
 -- where no element has a place by a test, none passes it
-none_placed : {X : Type 0} (p : X → Bool) (xs : List X) → position p xs ≡ None → All (λ x. p x ≡ false) xs
+pub none_placed : {X : Type 0} (p : X → Bool) (xs : List X) → position p xs ≡ None → All (λ x. p x ≡ false) xs
 none_placed p xs none =
     let n = position_or_len p xs in
     found_none p xs (find_at p xs

@@ -1,7 +1,7 @@
 -- What stays true of the open broadcasts when one is begun, when a thread waits no longer or a new
 -- one waits, and when one is dropped.
-use Rattle.std.proofs.Common.{◌≡◌, ◌≢◌, ◌==◌, ◌||◌, not, ℕ, List, [], ◌∷◌, ◌++◌, map, get_or, length, None, Some, Bool, true, false, if◌then◌else◌, refl, sym, ap, ◌∙◌, arith}
-use Rattle.std.specs.List.{All, AllPairs, filter, list_any}
+use Rattle.std.proofs.Common.{◌≡◌, ◌≢◌, ◌==◌, ◌||◌, not, ℕ, List, [], ◌∷◌, ◌++◌, map, get_or, None, Some, Bool, true, false, if◌then◌else◌, refl, sym, ap, ◌∙◌, arith}
+use Rattle.std.specs.List.{All, AllPairs, filter}
 use Rattle.std.proofs.lemmas.Bool.{cond_both, eqb-false, eqb-true}
 use Rattle.std.proofs.lemmas.Bool.Decides.{nat_tests}
 use Rattle.std.proofs.lemmas.List.{length_push}
@@ -26,7 +26,7 @@ process_of cast = cast.process
 abbrev IsRising : Broadcast → Type 0
 IsRising cast = AllPairs Below cast.waiting
 
-abbrev IsOpen : Broadcast → Type 0
+abbrev pub IsOpen : Broadcast → Type 0
 IsOpen cast = is_open cast ≡ true
 
 -- a change of the elements that keeps what holds of two

@@ -1,4 +1,6 @@
 pub mod Kept
 pub mod Joined
 pub mod Waiting
+pub mod Falling
+pub mod Left
 pub mod Conditions

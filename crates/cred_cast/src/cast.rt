@@ -1,8 +1,8 @@
 //! One broadcast.
-ghost use Rattle.std.specs.Prelude.{◌≡◌, ◌<◌, ℕ, ◌+◌, length, [], ◌∷◌, ◌++◌, IfOk, OnOk, OnErr};
+ghost use Rattle.std.specs.Prelude.{◌≡◌, ◌<◌, ℕ, ◌+◌, length, reverse, slice_get, [], ◌∷◌, ◌++◌, IfOk, OnOk, OnErr};
 ghost use Rattle.std.specs.List.{AllPairs};
 ghost use Rattle.cred_ids.specs.Ordered.{in_order};
-ghost use Rattle.cred_model.specs.Casts.{waits_in, without};
+ghost use Rattle.cred_model.specs.Casts.{is_open, waits_in, without};
 
 use cred_ids::NoMemory;
 use cred_record::IdCall;
@@ -10,7 +10,9 @@ use std::alloc::Global;
 use std::marker::Model;
 
 /// A call that every thread of a process makes, one after another: the line that began it, the
-/// process, the thread that made it first, and those that still have to make it, in rising order.
+/// process, the thread that made it first, and those that still have to make it. Contracts see
+/// these in rising order. They stand in falling order, so that the least, which is the next to make
+/// the call, is taken from the end.
 #[derive(Drop, Debug)]
 pub struct Cast {
     pub number: u32,
@@ -21,6 +23,7 @@ pub struct Cast {
 }
 
 impl Model for Cast {
+    ghost use Rattle.std.specs.Prelude.{reverse};
     ghost use Rattle.cred_model.specs.State.{Broadcast};
 
     ghost Value = { Broadcast };
@@ -30,7 +33,7 @@ impl Model for Cast {
       process = c.process;
       caller = c.caller;
       call = c.call;
-      waiting = c.waiting.items;
+      waiting = reverse c.waiting.items;
     } };
 }
 
@@ -42,6 +45,20 @@ impl Cast {
         self.waiting.contains(&task)
     }
 
+    /// Whether somebody waits.
+    pub fn is_open(&self) -> bool
+        ensures { result ≡ is_open self.now }
+    {
+        !self.waiting.is_empty()
+    }
+
+    /// The least task that waits.
+    pub fn least(&self) -> Option<u32>
+        ensures { result ≡ slice_get self.now.waiting 0 }
+    {
+        self.waiting.last().copied()
+    }
+
     /// How many wait beside one of them.
     pub fn others(&self) -> u32
         requires some { 0 < length self.now.waiting }
@@ -49,7 +66,7 @@ impl Cast {
         ensures { result + 1 ≡ length self.now.waiting }
     {
         // No two of them are one, so that the greatest bounds how many they are.
-        let greatest = *self.waiting.last().unwrap();
+        let greatest = *self.waiting.first().unwrap();
         prove!(self.waiting.len() - 1 <= greatest as usize);
         (self.waiting.len() - 1) as u32
     }
@@ -62,10 +79,24 @@ impl Cast {
     {
         self.waiting.push(task)?;
         self.waiting.sort_unstable();
+        self.waiting.reverse();
         Ok(())
     }
 
+    /// A task has made the call, and waits no more. Mostly it is the least.
+    pub fn acted(&mut self, task: u32)
+        requires { AllPairs (λ m n. m < n) self.old.waiting }
+        ensures { self.new ≡ without task self.old }
+    {
+        if self.least() == Some(task) {
+            self.waiting.pop();
+        } else {
+            self.leave(task);
+        }
+    }
+
     /// A task waits no more.
+    #[inline(never)]
     pub fn leave(&mut self, task: u32)
         ensures { self.new ≡ without task self.old }
     {
@@ -73,11 +104,12 @@ impl Cast {
     }
 }
 
-/// These tasks in rising order.
-pub fn rising(alloc: Global, tasks: &[u32]) -> Result<Vec<u32>, NoMemory>
-    ensures { IfOk result (λ rising. rising.items ≡ in_order tasks.now) }
+/// These tasks in falling order.
+pub fn falling(alloc: Global, tasks: &[u32]) -> Result<Vec<u32>, NoMemory>
+    ensures { IfOk result (λ falling. reverse falling.items ≡ in_order tasks.now) }
 {
-    let mut rising = Vec::from_slice(alloc, tasks)?;
-    rising.sort_unstable();
-    Ok(rising)
+    let mut falling = Vec::from_slice(alloc, tasks)?;
+    falling.sort_unstable();
+    falling.reverse();
+    Ok(falling)
 }

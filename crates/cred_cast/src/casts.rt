@@ -1,12 +1,12 @@
 //! The table of open broadcasts.
-ghost use Rattle.std.specs.Prelude.{◌≡◌, ◌≢◌, ℕ, ◌+◌, ◌<◌, [], All, length, is_some, slice_get, true, None, IfOk, IfSome, OnOk, OnErr};
-ghost use Rattle.std.specs.List.{AllPairs};
+ghost use Rattle.std.specs.Prelude.{◌≡◌, ◌≢◌, ◌==◌, ℕ, ◌+◌, ◌<◌, [], All, length, is_some, slice_get, vec_len, true, None, IfOk, IfSome, OnOk, OnErr};
+ghost use Rattle.std.specs.List.{AllPairs, position, remove};
 ghost use Rattle.std.specs.Option.{IsSomeAnd, option_and_then, option_map};
 ghost use Rattle.cred_ids.specs.Ordered.{in_order};
 ghost use Rattle.cred_model.specs.Casts.{waits_in, with_cast, waits_no_more, joined, dropped};
 ghost use Rattle.cred_cast.specs.Casts.{cast_under, cast_within, cast_by, WaitsNowhere, AreCasts};
 
-use crate::cast::{Cast, rising};
+use crate::cast::{Cast, falling};
 use cred_ids::NoMemory;
 use cred_record::IdCall;
 use std::alloc::Global;
@@ -70,7 +70,7 @@ impl Casts {
         if waiting.is_empty() {
             return Ok(());
         }
-        let waiting = rising(self.alloc, waiting)?;
+        let waiting = falling(self.alloc, waiting)?;
         self.casts.push(Cast {
             number,
             process,
@@ -88,7 +88,7 @@ impl Casts {
         ensures none { is_some result ≡ is_some (cast_under self.now number) }
         ensures casts { AreCasts self.now }
     {
-        self.cast(number)?.waiting.first().copied()
+        self.cast(number)?.least()
     }
 
     /// A task has made its step: it waits no more. Returns how many still wait in the broadcast;
@@ -99,8 +99,13 @@ impl Casts {
         ensures casts { self.new ≡ waits_no_more task self.old }
     {
         // It is there: the task waits in it.
-        let left = self.cast(number).unwrap().others();
-        leave(&mut self.casts, task);
+        let place = self.place(number).unwrap();
+        let cast = &mut self.casts[place];
+        let left = cast.others();
+        cast.acted(task);
+        if left == 0 {
+            close(&mut self.casts, place);
+        }
         left
     }
 
@@ -171,6 +176,23 @@ impl Casts {
     {
         self.casts.iter().find(|cast| cast.number == number)
     }
+
+    /// Where the broadcast of a number stands. `None` where none of that number is open.
+    fn place(&self, number: u32) -> Option<usize>
+        ensures place { result ≡ position (λ b. b.number == number) self.now }
+        ensures casts { AreCasts self.now }
+    {
+        self.casts.iter().position(|cast| cast.number == number)
+    }
+}
+
+/// The broadcast at a place is closed. It stands by itself, since most steps close none.
+#[inline(never)]
+fn close(casts: &mut Vec<Cast>, place: usize)
+    requires { place < vec_len casts.old }
+    ensures { casts.new.items ≡ remove casts.old.items place }
+{
+    casts.remove(place);
 }
 
 /// A task waits no more, and the broadcasts that nobody waits in any more are closed.
@@ -180,5 +202,5 @@ fn leave(casts: &mut Vec<Cast>, task: u32)
     for cast in casts.iter_mut() {
         cast.leave(task);
     }
-    casts.retain(|cast| !cast.waiting.is_empty());
+    casts.retain(|cast| cast.is_open());
 }

@@ -177,6 +177,7 @@ impl Procs {
     }
 
     /// Gives a task another current credential, and returns the number of the one before.
+    #[inline(always)]
     pub fn set_current(&mut self, task: u32, number: u64) -> u64
         requires { IsSome (task_in self.old task) }
         ensures previous { Some result ≡ option_map (λ t. t.current) (task_in self.old task) }

@@ -1,11 +1,11 @@
 //! The capability sets after a change of the user ids (capabilities(7), "Effect of user ID changes
 //! on capabilities").
-ghost use Rattle.std.specs.Prelude.{◌≡◌, IfOk};
+ghost use Rattle.std.specs.Prelude.{◌≡◌, IfErr, IfOk};
 ghost use Rattle.cred_rules.specs.Fix.{has_root, with_user_ids};
 
 use cred_caps::{CapSet, Flag};
-use cred_ids::{Ids4, NoMemory};
-use cred_record::{Cred, copy};
+use cred_ids::Ids4;
+use cred_record::{Cred, Refusal, copy};
 
 /// Whether the real, the effective or the saved id is root.
 fn has_root(ids: &Ids4) -> bool
@@ -18,10 +18,11 @@ fn has_root(ids: &Ids4) -> bool
 ///
 /// # Errors
 ///
-/// `NoMemory` if the groups could not be copied.
+/// `Memory` if the groups could not be copied.
 #[tactic(auto, unfolding(cred_rules::specs::Fix::with_user_ids))]
-pub fn with_user_ids(cred: &Cred, ids: Ids4) -> Result<Cred, NoMemory>
-    ensures { IfOk result (λ new. new ≡ with_user_ids cred.now ids) }
+pub fn with_user_ids(cred: &Cred, ids: Ids4) -> Result<Cred, Refusal>
+    ensures ok { IfOk result (λ new. new ≡ with_user_ids cred.now ids) }
+    ensures memory { IfErr result (λ e. e ≡ Refusal.Memory) }
 {
     let mut new = copy(cred)?;
     new.uid = ids;

@@ -94,6 +94,7 @@ impl Slots {
 
     /// Keeps the least slot that isn't live, and gives it. If all are live, a sweep comes first,
     /// which stands even where all are live after it.
+    #[inline(always)]
     pub fn claim(&mut self) -> Option<u32>
         ensures slot { result ≡ free self.old }
         ensures none { IfNone result (self.new ≡ room self.old) }
@@ -133,6 +134,7 @@ impl Slots {
     }
 
     /// The next number stands in the slot, which is no longer kept, and has one reference.
+    #[inline(always)]
     pub fn seal(&mut self, slot: u32) -> u64
         requires kept { IsTrue (is_kept self.old slot) }
         requires spare { 0 < self.old.spare }
@@ -230,6 +232,7 @@ impl Slots {
     }
 
     /// The least slot that isn't live.
+    #[inline(always)]
     fn least_free(&self) -> Option<u32>
         ensures { result ≡ least_free self.now }
     {
@@ -244,6 +247,7 @@ impl Slots {
     }
 
     /// Sweeps if all slots are live, and gives the least slot that isn't live then.
+    #[inline(always)]
     fn make_room(&mut self) -> Option<u32>
         ensures room { self.new ≡ room self.old }
         ensures slot { result ≡ least_free self.new }

@@ -12,6 +12,7 @@ use cred_slots::Slots;
 
 /// Seals the next number in the free slot, after a sweep where one is needed. Where all slots are
 /// live even then, the sweep stands, and there is none.
+#[inline(always)]
 pub fn seal_next(slots: &mut Slots) -> Option<(u64, u32)>
     requires { 0 < slots.old.spare }
     ensures { MatchOption result

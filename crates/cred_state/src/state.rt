@@ -154,6 +154,7 @@ impl State {
     }
 
     /// The current credential of a task.
+    #[inline(always)]
     fn current(&self, task: u32) -> Option<Numbered<'_>>
         ensures { option_map seen_numbered result ≡ current_of self.now task }
     {

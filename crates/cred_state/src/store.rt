@@ -55,6 +55,7 @@ impl Store {
     }
 
     /// Puts a credential in the place of a slot.
+    #[inline(always)]
     pub fn put(&mut self, slot: u32, cred: Cred)
         requires { slot < SLOTS }
         ensures set { self.new ≡ slice_set self.old slot (Some cred) }

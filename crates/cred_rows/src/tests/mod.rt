@@ -1,16 +1,13 @@
 //! The examples, a module for each kind.
 mod among;
-mod casts;
 mod changes;
 mod checks;
 mod copies;
-mod counted;
 mod decoding;
 mod ends;
 mod execs;
 mod grammar;
 mod lasts;
-mod limits;
 mod overrides;
 mod reading;
 mod refused;

@@ -119,6 +119,7 @@ impl State {
     /// A task that waits in a broadcast can't follow: all threads of its process end, and the
     /// broadcast of the process is dropped. Where it found no slot, the sweep that was made to find
     /// one stands.
+    #[inline(never)]
     fn end_process_of(&mut self, task: u32, cause: AbortCause) -> Result<Answer, NoMemory>
         requires { IsSome (task_of self.old task) }
         ensures answer { IfOk result (λ answer. answer ≡ Aborted task cause) }

@@ -1,14 +1,62 @@
-use Rattle.std.proofs.Common.{◌∙◌, Bor, sym, ap, subst}
-use Rattle.std.specs.Option.{option_map}
+use Rattle.std.proofs.Common.{◌≡◌, ◌==◌, ◌∙◌, true, sym, subst}
 use Rattle.cred_model.specs.State.{Broadcast}
+use Rattle.cred_model.specs.Casts.{waits_in}
 use Rattle.cred_cast.specs.Casts.{AreCasts}
-use Rattle.cred_cast.proofs.Kept.{are_left, rising_under}
+use Rattle.cred_cast.proofs.Kept.{are_left}
+use Rattle.cred_cast.proofs.Left.{is_placed, left_beside, left_open, left_closed}
 use Rattle.cred_cast.proofs.casts.Casts.acted.Goals as goal
 
-pub others-left-requires-clause-rising : goal.others-left-requires-clause-rising
-others-left-requires-clause-rising c =
-    rising_under c.args.self.now c.args.number c.unwrap.result.now
-    (sym c.cast.ensures.found ∙ ap (option_map (λ (b : Bor Broadcast). b.now)) c.unwrap.ensures) c.cast.ensures.casts
+pub unwrap-place-requires : goal.unwrap-place-requires
+unwrap-place-requires c =
+    is_placed (λ (b : Broadcast). b.number == c.args.number) (λ (b : Broadcast). waits_in c.args.task b ≡ true) c.args.self.now c.place.result
+    c.place.ensures.place c.requires
+
+pub returns-then-left-eq0-clause-left : goal.returns-then-left-eq0-clause-left
+returns-then-left-eq0-clause-left c =
+    let casts = c.self.inside.casts.items in
+    rw (← c.self.view_is)
+    (left_beside casts c.args.number c.args.task c.unwrap-place.result c.index_mut-cast.result.now c.self.invariant (rw (← c.self.view_is) at c.requires)
+    (rw (← c.self.view_is) at (sym c.place.ensures.place ∙ c.unwrap-place.ensures)) c.index_mut-cast.ensures.value c.others-left.result c.others-left.ensures)
+
+pub returns-else-left-eq0-clause-left : goal.returns-else-left-eq0-clause-left
+returns-else-left-eq0-clause-left c =
+    let casts = c.self.inside.casts.items in
+    rw (← c.self.view_is)
+    (left_beside casts c.args.number c.args.task c.unwrap-place.result c.index_mut-cast.result.now c.self.invariant (rw (← c.self.view_is) at c.requires)
+    (rw (← c.self.view_is) at (sym c.place.ensures.place ∙ c.unwrap-place.ensures)) c.index_mut-cast.ensures.value c.others-left.result c.others-left.ensures)
+
+pub returns-then-left-eq0-clause-casts : goal.returns-then-left-eq0-clause-casts
+returns-then-left-eq0-clause-casts c =
+    let casts = c.self.inside.casts.items in
+    rw (← c.self.view_is)
+    (c.close.ensures
+    ∙ left_closed casts c.args.number c.args.task c.unwrap-place.result c.index_mut-cast.result.now c.self.invariant (rw (← c.self.view_is) at c.requires)
+    (rw (← c.self.view_is) at (sym c.place.ensures.place ∙ c.unwrap-place.ensures)) c.index_mut-cast.ensures.value c.others-left.result c.others-left.ensures
+    c.acted.new.self c.acted.ensures c.if-left-eq0.true)
+
+pub returns-else-left-eq0-clause-casts : goal.returns-else-left-eq0-clause-casts
+returns-else-left-eq0-clause-casts c =
+    let casts = c.self.inside.casts.items in
+    rw (← c.self.view_is)
+    (left_open casts c.args.number c.args.task c.unwrap-place.result c.index_mut-cast.result.now c.self.invariant (rw (← c.self.view_is) at c.requires)
+    (rw (← c.self.view_is) at (sym c.place.ensures.place ∙ c.unwrap-place.ensures)) c.index_mut-cast.ensures.value c.others-left.result c.others-left.ensures
+    c.acted.new.self c.acted.ensures c.if-left-eq0.false)
 
 pub invariant_of-self : goal.invariant_of-self
-invariant_of-self c = subst AreCasts (sym c.leave.ensures) (are_left c.args.task c.self.inside.casts.items c.self.invariant)
+invariant_of-self c =
+    let casts = c.self.inside.casts.items in
+    let left
+    = c.close.ensures
+    ∙ left_closed casts c.args.number c.args.task c.unwrap-place.result c.index_mut-cast.result.now c.self.invariant (rw (← c.self.view_is) at c.requires)
+    (rw (← c.self.view_is) at (sym c.place.ensures.place ∙ c.unwrap-place.ensures)) c.index_mut-cast.ensures.value c.others-left.result c.others-left.ensures
+    c.acted.new.self c.acted.ensures c.if-left-eq0.true in
+    subst AreCasts (sym left) (are_left c.args.task casts c.self.invariant)
+
+pub invariant_of-self-else-left-eq0 : goal.invariant_of-self-else-left-eq0
+invariant_of-self-else-left-eq0 c =
+    let casts = c.self.inside.casts.items in
+    let left
+    = left_open casts c.args.number c.args.task c.unwrap-place.result c.index_mut-cast.result.now c.self.invariant (rw (← c.self.view_is) at c.requires)
+    (rw (← c.self.view_is) at (sym c.place.ensures.place ∙ c.unwrap-place.ensures)) c.index_mut-cast.ensures.value c.others-left.result c.others-left.ensures
+    c.acted.new.self c.acted.ensures c.if-left-eq0.false in
+    subst AreCasts (sym left) (are_left c.args.task casts c.self.invariant)

@@ -1,4 +1,4 @@
-use Rattle.std.proofs.Common.{◌≡◌, ◌==◌, ◌∙◌, ℕ, Bool, true, false, cond, List, [], ◌∷◌, ◌++◌, length, sym, ap, subst, append-nil}
+use Rattle.std.proofs.Common.{◌∙◌, ℕ, Bool, true, false, cond, List, [], ◌∷◌, ◌++◌, sym, ap, subst, append-nil}
 use Rattle.cred_ids.specs.Ordered.{in_order}
 use Rattle.cred_model.specs.State.{Broadcast}
 use Rattle.cred_model.proofs.Rising.{All-in_order, rising-in_order}

@@ -1,10 +1,10 @@
-use Rattle.std.proofs.Common.{◌≡◌, ◌∙◌, ap, set, Result, Ok, Err, OnOk, OnErr, List, Some, sym, subst, rules, tests}
+use Rattle.std.proofs.Common.{◌≡◌, ◌∙◌, ap, set, Result, Ok, Err, OnOk, OnErr, sym, subst, rules, tests}
 use Rattle.std.specs.List.{position}
 use Rattle.std.proofs.lemmas.Iterator.{YieldsList-from_slice}
 use Rattle.std.proofs.lemmas.Iterator.Search.{position_from_yields_List}
 use Rattle.std.proofs.lemmas.List.{set-get_or}
 use Rattle.std.proofs.lemmas.Result.{on_ok_weaker}
-use Rattle.cred_model.specs.Casts.{waits_in, joined}
+use Rattle.cred_model.specs.Casts.{waits_in}
 use Rattle.cred_cast.specs.Casts.{AreCasts}
 use Rattle.cred_cast.proofs.Joined.{joined_nowhere, joined_place}
 use Rattle.cred_cast.proofs.Kept.{are_joined}

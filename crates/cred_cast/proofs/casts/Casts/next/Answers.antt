@@ -1,4 +1,4 @@
-use Rattle.std.proofs.Common.{◌≡◌, ◌∙◌, ℕ, List, Bor, Some, true, is_some, slice_get, sym, ap}
+use Rattle.std.proofs.Common.{◌≡◌, ◌∙◌, Bor, Some, true, is_some, sym, ap}
 use Rattle.std.specs.Option.{option_map}
 use Rattle.cred_model.specs.State.{Broadcast}
 use Rattle.cred_model.specs.Casts.{is_open}
@@ -13,6 +13,6 @@ returns-clause-none c =
     let there : cast_under c.args.self.now c.args.number ≡ Some cast
     = sym c.cast.ensures.found ∙ ap (option_map (λ (b : Bor Broadcast). b.now)) c.in_ok-cast.was in
     let some : is_open cast ≡ true = open_under c.args.self.now c.args.number cast there c.cast.ensures.casts in
-    ap is_some (c.copied.ensures ∙ c.first.ensures.value ∙ ap (λ (ws : List ℕ). slice_get ws 0) c.deref.ensures.value)
-    ∙ has_first c.branch.inside.waiting.items (rw (← c.branch.view_is) at some)
+    ap is_some c.least.ensures
+    ∙ has_first cast.waiting some
     ∙ sym (ap is_some there)

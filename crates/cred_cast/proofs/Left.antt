@@ -1,0 +1,137 @@
+-- A task waits in one broadcast alone: where it leaves that one, it has left all.
+use Rattle.std.proofs.Common.{◌≡◌, ◌==◌, not, ℕ, zero, suc, ◌+◌, ◌<◌, nat_lt, cond, List, [], ◌∷◌, map, get_or, set, slice_get, length, Option, None, Some, true, false, Bool, refl, sym, ap, ◌∙◌, subst, arith}
+use Rattle.std.specs.List.{All, AllPairs, filter, find, position, position_or_len, remove}
+use Rattle.std.specs.Option.{IfSome, IsSome, IsSomeAnd}
+use Rattle.std.proofs.lemmas.Bool.Decides.{nat_tests}
+use Rattle.std.proofs.lemmas.List.Elements.{All-head, All-tail}
+use Rattle.std.proofs.lemmas.List.Folds.{find_at}
+use Rattle.std.proofs.lemmas.List.Quantifiers.{position-Some}
+use Rattle.std.proofs.lemmas.Option.{slice_get-get_or}
+use Rattle.cred_model.specs.State.{Broadcast}
+use Rattle.cred_model.specs.Casts.{waits_in, is_open, without, waits_no_more}
+use Rattle.cred_model.proofs.Lists.{none_found}
+use Rattle.cred_model.proofs.Rising.{AllPairs-head, AllPairs-tail, Below}
+use Rattle.cred_cast.specs.Casts.{cast_under, WaitsNowhere, SharesNone, AreCasts}
+use Rattle.cred_cast.proofs.Joined.{none_placed}
+use Rattle.cred_cast.proofs.Kept.{IsOpen}
+use Rattle.cred_cast.proofs.Falling.{one_fewer, stays}
+
+-- those that are all open
+all_open : (casts : List Broadcast) → All IsOpen casts → filter is_open casts ≡ casts
+all_open [] are = refl
+all_open (c ∷ cs) are =
+    ap (λ b. cond b (c ∷ filter is_open cs) (filter is_open cs)) (All-head IsOpen c cs are)
+    ∙ ap (λ bs. c ∷ bs) (all_open cs (All-tail IsOpen c cs are))
+
+-- one among them that was changed
+still_open : (casts : List Broadcast) (place : ℕ) (now : Broadcast) → All IsOpen casts → IsOpen now → place < length casts
+    → filter is_open (set casts place now) ≡ set casts place now
+still_open [] place now are some within = absurd (omega arith)
+still_open (c ∷ cs) zero now are some within =
+    ap (λ b. cond b (now ∷ filter is_open cs) (filter is_open cs)) some
+    ∙ ap (λ bs. now ∷ bs) (all_open cs (All-tail IsOpen c cs are))
+still_open (c ∷ cs) (suc i) now are some within =
+    ap (λ b. cond b (c ∷ filter is_open (set cs i now)) (filter is_open (set cs i now))) (All-head IsOpen c cs are)
+    ∙ ap (λ bs. c ∷ bs) (still_open cs i now (All-tail IsOpen c cs are) some (omega arith))
+
+closed_there : (casts : List Broadcast) (place : ℕ) (now : Broadcast) → All IsOpen casts → is_open now ≡ false → place < length casts
+    → filter is_open (set casts place now) ≡ remove (set casts place now) place
+closed_there [] place now are none within = absurd (omega arith)
+closed_there (c ∷ cs) zero now are none within =
+    ap (λ b. cond b (now ∷ filter is_open cs) (filter is_open cs)) none
+    ∙ all_open cs (All-tail IsOpen c cs are)
+closed_there (c ∷ cs) (suc i) now are none within =
+    ap (λ b. cond b (c ∷ filter is_open (set cs i now)) (filter is_open (set cs i now))) (All-head IsOpen c cs are)
+    ∙ ap (λ bs. c ∷ bs) (closed_there cs i now (All-tail IsOpen c cs are) none (omega arith))
+
+module _ (task : ℕ) where
+  same_without : (c : Broadcast) → waits_in task c ≡ false → without task c ≡ c
+  same_without c none = ap (λ (ws : List ℕ). record c { waiting = ws }) (stays task c.waiting none)
+
+  none_left : (casts : List Broadcast) → WaitsNowhere casts task → map (without task) casts ≡ casts
+  none_left [] nowhere = refl
+  none_left (c ∷ cs) nowhere =
+      ap (λ b. b ∷ map (without task) cs) (same_without c (All-head (λ b. waits_in task b ≡ false) c cs nowhere))
+      ∙ ap (λ bs. c ∷ bs) (none_left cs (All-tail (λ b. waits_in task b ≡ false) c cs nowhere))
+
+  not_there : (a b : Broadcast) → SharesNone a b → waits_in task b ≡ true → waits_in task a ≡ false
+  not_there a b apart waits =
+      elim (waits_in task a) as (λ s. waits_in task a ≡ s → s ≡ false) [
+        | true ↦ λ there. let free = apart task there in sym waits ∙ free
+        | false ↦ λ _. refl
+      ] refl
+
+  -- at the place of the broadcast that it waits in
+  left_at : (casts : List Broadcast) (place : ℕ) (d : Broadcast) → AllPairs SharesNone casts → place < length casts
+      → waits_in task (get_or casts place d) ≡ true
+      → set casts place (without task (get_or casts place d)) ≡ map (without task) casts
+  left_at [] place d apart within waits = absurd (omega arith)
+  left_at (c ∷ cs) zero d apart within waits =
+      let others = AllPairs-head SharesNone c cs apart in
+      ap (λ bs. without task c ∷ bs) (sym (none_left cs (λ k e lt. others k e lt task waits)))
+  left_at (c ∷ cs) (suc i) d apart within waits =
+      let inside : i < length cs = omega arith in
+      let others = AllPairs-head SharesNone c cs apart in
+      ap (λ bs. c ∷ bs) (left_at cs i d (AllPairs-tail SharesNone c cs apart) inside waits)
+      ∙ ap (λ b. b ∷ map (without task) cs) (sym (same_without c (not_there c (get_or cs i d) (others i d inside) waits)))
+
+-- the broadcast of a number stands at the first place of that number
+pub is_placed : {X : Type 0} (p : X → Bool) (P : X → Type 0) (xs : List X) (place : Option ℕ) → place ≡ position p xs
+    → IsSomeAnd (find p xs) P → IsSome place
+is_placed p P xs (Some n) is some = refl
+is_placed p P xs None is some = absurd (subst (λ o. IsSomeAnd o P) (none_found p xs (none_placed p xs (sym is))) some)
+
+find_placed : {X : Type 0} (p : X → Bool) (xs : List X) (place : ℕ) (d : X) → position p xs ≡ Some place
+    → find p xs ≡ Some (get_or xs place d)
+find_placed p xs place d is =
+    find_at p xs
+    ∙ ap (slice_get xs) (by (nat_lt (position_or_len p xs) (length xs)) (position_or_len p xs) place is)
+    ∙ slice_get-get_or xs place d (position-Some p xs place d is).0
+  where
+    by : (b : Bool) (n m : ℕ) → cond b (Some n) None ≡ Some m → n ≡ m
+    by true n m is = cc
+    by false n m is = cc
+
+module _ (casts : List Broadcast) (number task place : ℕ) (cast : Broadcast) (are : AreCasts casts)
+    (waits : IsSomeAnd (cast_under casts number) (λ b. waits_in task b ≡ true))
+    (placed : position (λ b. b.number == number) casts ≡ Some place) (read : cast ≡ get_or casts place cast) where
+  within : place < length casts
+  within = (position-Some (λ b. b.number == number) casts place cast placed).0
+
+  is_cast : cast_under casts number ≡ Some cast
+  is_cast = find_placed (λ b. b.number == number) casts place cast placed ∙ ap (λ (c : Broadcast). Some c) (sym read)
+
+  here : waits_in task cast ≡ true
+  here = subst (λ o. IsSomeAnd o (λ b. waits_in task b ≡ true)) is_cast waits
+
+  up : AllPairs Below cast.waiting
+  up = subst (λ (c : Broadcast). AllPairs Below c.waiting) (sym read) (are.rising place cast within)
+
+  module _ (left : ℕ) (many : left + 1 ≡ length cast.waiting) where
+    pub left_beside : IfSome (cast_under casts number) (λ b. left + 1 ≡ length b.waiting)
+    left_beside = subst (λ o. IfSome o (λ b. left + 1 ≡ length b.waiting)) (sym is_cast) many
+
+    module _ (now : Broadcast) (leaves : now ≡ without task cast) where
+      gone_there : set casts place now ≡ map (without task) casts
+      gone_there =
+          ap (set casts place) (leaves ∙ ap (without task) read)
+          ∙ left_at task casts place cast are.apart within (sym (ap (waits_in task) read) ∙ here)
+
+      as_many : length now.waiting ≡ left
+      as_many =
+          let fewer = one_fewer task cast.waiting up here in
+          let long = ap (λ (c : Broadcast). length c.waiting) leaves in
+          omega (arith, fewer, long, many)
+
+      -- where others still wait there
+      pub left_open : (left ≡ 0 → ⊥) → set casts place now ≡ waits_no_more task casts
+      left_open some =
+          let same = as_many in
+          let open_now : is_open now ≡ true = grind (arith, nat_tests) in
+          sym (still_open casts place now are.some open_now within) ∙ ap (filter is_open) gone_there
+
+      -- where nobody does
+      pub left_closed : left ≡ 0 → remove (set casts place now) place ≡ waits_no_more task casts
+      left_closed none =
+          let closed_now : is_open now ≡ false = ap (λ n. not (n == 0)) (as_many ∙ none) in
+          sym (closed_there casts place now are.some closed_now within) ∙ ap (filter is_open) gone_there

@@ -1,0 +1,4 @@
+//! The tests, a module for each kind.
+mod casts;
+mod counted;
+mod limits;
