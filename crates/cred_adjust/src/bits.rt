@@ -3,7 +3,8 @@
 ghost use Rattle.std.specs.Prelude.{◌≡◌};
 ghost use Rattle.std.specs.List.{list_all};
 ghost use Rattle.cred_record.specs.Answer.{AnswersBy};
-ghost use Rattle.cred_rules.specs.Adjust.{FLAGS, keeps_lock, after_bits, after_keep_caps, after_no_new_privs};
+ghost use Rattle.cred_rules.specs.Adjust.{FLAGS, keeps_lock, after_bits, after_keep_caps};
+ghost use Rattle.cred_rules.specs.Adjust.{after_no_new_privs};
 
 use cred_caps::{Cap, Flag, SecureBits};
 use cred_record::{Cred, Refusal, copy};

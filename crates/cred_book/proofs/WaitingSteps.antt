@@ -24,7 +24,7 @@ use Rattle.cred_model.specs.Step.{aborted, follow, outcome, step}
 use Rattle.cred_model.proofs.Rising.{length-in_order}
 use Rattle.cred_sound.specs.Sound.{IsSound}
 use Rattle.cred_sound.proofs.Tests.{in_slots}
-use Rattle.cred_sound.proofs.Parts.{TasksChange, Cause, Birth, Death, begun, casts_left, ByBegin, ByAct, ByCommit, BySpawn, ByFork, ByExit, ByAbort, SameTasks, Creates, Shares, Renews, Overrides, Fewer}
+use Rattle.cred_sound.proofs.Parts.{TasksChange, Cause, Creation, Death, begun, casts_left, ByBegin, ByAct, ByCommit, BySpawn, ByFork, ByExit, ByAbort, SameTasks, Creates, Shares, Renews, Overrides, Fewer}
 use Rattle.cred_sound.proofs.Events.{changes}
 use Rattle.cred_cast.proofs.Conditions.{casts_are, least_waits}
 use Rattle.cred_book.specs.Cursor.{waiting, waiting_in}
@@ -79,14 +79,14 @@ renewed_waits s event task owner ends c made few (ByAct number slot cast before 
 renewed_waits s event task owner ends c made few (ByCommit label place slot count p last is at changed same cred ending casts answer) =
     fewer_wait s event made (casts_left last.change owner s.casts) casts (left_fewer last.change owner s.casts)
 
-born_waits : (s : State) (event : Event) (task child process : ℕ) (made : Answer × State) → IsSound s
-    → Birth s event task child process made → Raises s event made
-born_waits s event task child process made sound (BySpawn owner is found of casts) =
+created_waits : (s : State) (event : Event) (task child process : ℕ) (made : Answer × State) → IsSound s
+    → Creation s event task child process made → Raises s event made
+created_waits s event task child process made sound (BySpawn owner is found of casts) =
     let now : waiting made.1 ≤ waiting s + 1
     = subst (λ bs. waiting_in bs ≤ waiting s + 1) (sym casts) (waiting-joined task child s.casts (casts_are s sound).apart) in
     let most : more_wait event ≡ 1 = ap more_wait is in
     omega (arith, now, most)
-born_waits s event task child process made sound (ByFork is unused casts) = no_more s event made casts
+created_waits s event task child process made sound (ByFork is unused casts) = no_more s event made casts
 
 ended_waits : (s : State) (event : Event) (ends : Task → Bool) (made : Answer × State) → Death s event ends made → Raises s event made
 ended_waits s event ends made (ByExit task is ending idle casts) =
@@ -98,14 +98,14 @@ change_waits : (s : State) (event : Event) (made : Answer × State) → IsSound 
     → TasksChange s event made → Raises s event made
 change_waits s event made sound few (SameTasks same casts) = no_more s event made casts
 change_waits s event made sound few (Creates task process user group ns slot is tasks creds new idle casts) = no_more s event made casts
-change_waits s event made sound few (Shares task child process parent tasks creds current new birth) =
-    born_waits s event task child process made sound birth
+change_waits s event made sound few (Shares task child process parent tasks creds current new creation) =
+    created_waits s event task child process made sound creation
 change_waits s event made sound few (Renews task slot owner c ends tasks creds found cause) =
     renewed_waits s event task owner ends c made few cause
 change_waits s event made sound few (Overrides task numbers tasks refer casts) = no_more s event made casts
 change_waits s event made sound few (Fewer ends tasks creds death) = ended_waits s event ends made death
 
--- Only where an id call begins or a thread is born does anybody begin to wait.
+-- Only where an id call begins or a thread is created does anybody begin to wait.
 pub step_waits : (script : Script) (s : State) (line : ℕ) (event : Event) → IsSound s → length s.tasks ≤ TASKS
     → waiting (step script s line event).1 ≤ waiting s + more_wait event
 step_waits script s line event sound few =

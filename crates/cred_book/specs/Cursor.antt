@@ -1,5 +1,6 @@
 -- How far a script's lines have run, where they run whole and in order.
-use Rattle.std.specs.Prelude.{◌≡◌, ℕ, ◌+◌, ◌-◌, ◌*◌, ◌<◌, ◌≤◌, true, List, [], ◌∷◌, ◌++◌, length, All, slice_get, Some, None, IfSome, is_some}
+use Rattle.std.specs.Prelude.{◌≡◌, ℕ, ◌+◌, ◌-◌, ◌*◌, ◌<◌, ◌≤◌, true, List, [], ◌∷◌, ◌++◌, length}
+use Rattle.std.specs.Prelude.{All, slice_get, Some, None, IfSome, is_some}
 use Rattle.std.specs.declared.option.Option.{Option}
 use Rattle.std.specs.List.{sum_by}
 use Rattle.std.specs.Option.{option_map, option_map_or}

@@ -3,7 +3,8 @@ use Rattle.std.specs.Prelude.{ℕ, ◌+◌, ◌-◌, ◌^◌, ◌==◌, Bool, tr
 use Rattle.std.specs.Int.RustNames.{bit_and, bit_or}
 use Rattle.std.specs.Int.{bit_at}
 use Rattle.cred_caps.specs.declared.secure.Flag.{Flag}
-use Rattle.cred_caps.specs.declared.secure.Flag.TheVariants.{NoRoot, NoSetuidFixup, KeepCaps, NoAmbientRaise}
+use Rattle.cred_caps.specs.declared.secure.Flag.TheVariants.{NoRoot, NoSetuidFixup, KeepCaps}
+use Rattle.cred_caps.specs.declared.secure.Flag.TheVariants.{NoAmbientRaise}
 
 -- the bit of a flag
 abbrev pub place : Flag → ℕ

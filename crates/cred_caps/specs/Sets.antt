@@ -1,7 +1,8 @@
 -- What makes the numbers that stand for sets of capabilities sets: a set is its members, and each
 -- operation does to them what its name says.
 use Rattle.std.specs.Prelude.{◌≡◌, ◌==◌, ◌↔◌, ◌&&◌, ◌||◌, not, ℕ, true, false}
-use Rattle.cred_caps.specs.Caps.{Caps, IsCap, IsCaps, empty, full, has, union, meet, less, with, without, IsWithin}
+use Rattle.cred_caps.specs.Caps.{Caps, IsCap, IsCaps, empty, full, has, union, meet, less, with}
+use Rattle.cred_caps.specs.Caps.{without, IsWithin}
 
 pub record AreSets : Type 0 where
   pub same_members : (a b : Caps) → ((n : ℕ) → has a n ≡ has b n) → a ≡ b

@@ -1,5 +1,6 @@
 //! The names of the capabilities (capabilities(7), linux/capability.h).
-ghost use Rattle.std.specs.Prelude.{◌≡◌, ◌<◌, length, map, Some, slice_get, IfSome, IsNone, Contains};
+ghost use Rattle.std.specs.Prelude.{◌≡◌, ◌<◌, length, map, Some, slice_get, IfSome, IsNone};
+ghost use Rattle.std.specs.Prelude.{Contains};
 ghost use Rattle.cred_caps.specs.Names.{cap_names};
 
 use crate::cap::Cap;

@@ -1,7 +1,8 @@
 //! Sets of capabilities.
 ghost use Rattle.std.specs.Prelude.{◌≡◌, ◌↔◌, IsTrue};
 ghost use Rattle.std.specs.Option.{SomeIff};
-ghost use Rattle.cred_caps.specs.Caps.{IsCaps, empty, full, has, with, without, union, meet, less, IsWithin};
+ghost use Rattle.cred_caps.specs.Caps.{IsCaps, empty, full, has, with, without, union, meet, less};
+ghost use Rattle.cred_caps.specs.Caps.{IsWithin};
 
 use crate::bits::Bits;
 use crate::cap::Cap;

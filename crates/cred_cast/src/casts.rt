@@ -1,5 +1,6 @@
 //! The table of open broadcasts.
-ghost use Rattle.std.specs.Prelude.{◌≡◌, ◌≢◌, ◌==◌, ℕ, ◌+◌, ◌<◌, [], All, length, is_some, slice_get, vec_len, true, None, IfOk, IfSome, OnOk, OnErr};
+ghost use Rattle.std.specs.Prelude.{◌≡◌, ◌≢◌, ◌==◌, ℕ, ◌+◌, ◌<◌, [], All, length, is_some};
+ghost use Rattle.std.specs.Prelude.{slice_get, vec_len, true, None, IfOk, IfSome, OnOk, OnErr};
 ghost use Rattle.std.specs.List.{AllPairs, position, remove};
 ghost use Rattle.std.specs.Option.{IsSomeAnd, option_and_then, option_map};
 ghost use Rattle.cred_ids.specs.Ordered.{in_order};

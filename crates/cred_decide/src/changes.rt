@@ -70,8 +70,8 @@ fn executed(cred: &Cred, file: &FileInfo, chain: &[Id]) -> Result<Result<Made, A
 /// `Eacces`, `Einval` and `Eperm` where `cred_exec::exec` refuses by `Access`, `BadAttribute` and
 /// `Perm`. access(2) makes the credential that it asks by, and is never refused.
 ///
-/// `file` is the file that the change names, if it names one (without it an execve is `Eacces`), and
-/// `chain` has the root ids of the credential's user namespace and of that one's ancestors, the
+/// `file` is the file that the change names, if it names one (without it an execve is `Eacces`),
+/// and `chain` has the root ids of the credential's user namespace and of that one's ancestors, the
 /// nearest first (user_namespaces(7)).
 ///
 /// # Errors

@@ -45,8 +45,9 @@ fn may_execute(cred: &Cred, file: &FileInfo) -> bool
 ///
 /// - `Access` for a file that is not regular, or that the task may not execute;
 /// - `BadAttribute` where the attribute is not ignored, and its bytes spell nothing;
-/// - `Perm` where the attribute counts and has the effective flag, and a capability of its permitted
-///   set is neither in the bounding set nor in both inheritable sets, the task's and the file's;
+/// - `Perm` where the attribute counts and has the effective flag, and a capability of its
+///   permitted set is neither in the bounding set nor in both inheritable sets, the task's and the
+///   file's;
 /// - `Memory` if an allocation fails.
 #[tactic(auto, unfolding(cred_rules::specs::Exec::exec))]
 pub fn exec(cred: &Cred, file: &FileInfo, chain: &[Id]) -> Result<(Cred, Gains), ExecRefusal>

@@ -1,6 +1,7 @@
 -- The open files of the system, in the order in which they were opened: what is found among them,
 -- and what is left when one is closed (open(2), close(2)).
-use Rattle.std.specs.Prelude.{◌≡◌, ℕ, ◌==◌, ◌≤◌, nat_eq, List, find, length, map, position, remove, slice_get, Some}
+use Rattle.std.specs.Prelude.{◌≡◌, ℕ, ◌==◌, ◌≤◌, nat_eq, List, find, length, map, position, remove}
+use Rattle.std.specs.Prelude.{slice_get, Some}
 use Rattle.std.specs.declared.option.Option.{Option}
 use Rattle.std.specs.List.{IsDistinct}
 use Rattle.cred_model.specs.State.{OpenFile}

@@ -1,5 +1,6 @@
 //! The table of open files.
-ghost use Rattle.std.specs.Prelude.{◌≡◌, ◌<◌, not, nat_lt, is_some, [], ◌∷◌, ◌++◌, length, None, IfOk, MatchOption, OnOk, OnErr};
+ghost use Rattle.std.specs.Prelude.{◌≡◌, ◌<◌, not, nat_lt, is_some, [], ◌∷◌, ◌++◌, length, None};
+ghost use Rattle.std.specs.Prelude.{IfOk, MatchOption, OnOk, OnErr};
 ghost use Rattle.std.specs.Option.{option_map};
 ghost use Rattle.cred_files.specs.Open.{AreOpen, OPEN_FILES, file_as, file_at, place_of, Closes};
 

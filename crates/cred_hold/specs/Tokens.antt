@@ -1,5 +1,6 @@
 -- What contracts see of the tokens: labels, slots, credentials, and the identity of the cells.
-use Rattle.std.specs.Prelude.{◌≡◌, ◌≢◌, ℕ, List, length, replicate, Option, Some, None, Bool, true, false, not, slice_get}
+use Rattle.std.specs.Prelude.{◌≡◌, ◌≢◌, ℕ, List, length, replicate, Option, Some, None, Bool, true}
+use Rattle.std.specs.Prelude.{false, not, slice_get}
 use Rattle.std.specs.List.{AllByRecursion}
 use Rattle.atomic_table.specs.Seated.{TableId}
 use Rattle.cred_record.specs.Credential.{Credential}

@@ -1,5 +1,6 @@
 //! The supplementary groups of a task.
-ghost use Rattle.std.specs.Prelude.{◌≡◌, ◌<◌, ◌≤◌, ◌↔◌, ◌⊎◌, length, IsTrue, IfOk, IfErr, IsErrOf, Contains, slice_get, []};
+ghost use Rattle.std.specs.Prelude.{◌≡◌, ◌<◌, ◌≤◌, ◌↔◌, ◌⊎◌, length, IsTrue, IfOk, IfErr, IsErrOf};
+ghost use Rattle.std.specs.Prelude.{Contains, slice_get, []};
 ghost use Rattle.cred_ids.specs.Groups.{IsGroupList};
 ghost use Rattle.cred_ids.specs.Ordered.{in_order};
 

@@ -26,10 +26,10 @@ pub read_prefix : (left old new after : List ℕ) (n : ℕ) → n ≡ min (lengt
     → (left ≡ take n new ++ after) × (n ≡ 0 → 0 < length new → after ≡ [])
 read_prefix left old new after n fits copied rest =
     let known : n ≤ length (take n left) = omega (arith, fits, length-take n left) in
-    let front : take n new ≡ take n left =
+    let prefix_is : take n new ≡ take n left =
     ap (take n) copied ∙ take-append-le n (take n left) (drop n old) known ∙ take-take n n left (omega arith) in
     let whole : left ≡ take n new ++ after =
-    sym (take-append-drop n left) ∙ ap (λ z. z ++ drop n left) (sym front) ∙ ap (λ z. take n new ++ z) (sym rest) in
+    sym (take-append-drop n left) ∙ ap (λ z. z ++ drop n left) (sym prefix_is) ∙ ap (λ z. take n new ++ z) (sym rest) in
     let size : length new ≡ length (take n left) + length (drop n old) = ap length copied ∙ length-append (take n left) (drop n old) in
     let ends : n ≡ 0 → 0 < length new → after ≡ [] =
     λ none room. nil_from_length after (omega (arith, fits, size, none, room, length-take n left, length-drop n old, ap length rest, length-drop n left)) in

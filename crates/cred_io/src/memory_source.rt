@@ -1,5 +1,6 @@
 //! A source in memory of which chosen calls fail, to try code at each fault of a source.
-ghost use Rattle.std.specs.Prelude.{◌≡◌, ◌↔◌, ◌++◌, length, take, drop, min, Some, IfOk, OnErr, IsErr};
+ghost use Rattle.std.specs.Prelude.{◌≡◌, ◌↔◌, ◌++◌, length, take, drop, min, Some, IfOk, OnErr};
+ghost use Rattle.std.specs.Prelude.{IsErr};
 ghost use Rattle.std.specs.Io.{ReadsAtMost};
 ghost use Rattle.std.specs.Io.KnownBytes.{ReadConsumes};
 ghost use Rattle.cred_io.specs.Causes.{CountsFaults, next_count};

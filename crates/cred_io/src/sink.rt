@@ -1,4 +1,5 @@
-ghost use Rattle.std.specs.Prelude.{◌≡◌, ◌<◌, List, ℕ, Bool, true, false, length, IfOk, OnOk, OnErr};
+ghost use Rattle.std.specs.Prelude.{◌≡◌, ◌<◌, List, ℕ, Bool, true, false, length, IfOk, OnOk};
+ghost use Rattle.std.specs.Prelude.{OnErr};
 ghost use Rattle.std.specs.declared.option.Option.{Option};
 ghost use Rattle.std.specs.Io.{WritesAtMost};
 ghost use Rattle.std.specs.Io.KnownBytes.{WriteAppends, Appends, Keeps};
@@ -10,8 +11,8 @@ use std::alloc::AllocError;
 
 /// Where bytes go.
 ///
-/// A real stream does not report what was written to it. So that is optional, and the clauses on the
-/// bytes hold where it is reported.
+/// A real stream does not report what was written to it. So that is optional, and the clauses on
+/// the bytes hold where it is reported.
 pub trait Sink {
     /// The bytes that were written, where the sink reports them.
     ghost written: { Self → Option (List ℕ) };

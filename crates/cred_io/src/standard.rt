@@ -1,10 +1,12 @@
 //! Ends over std's readers and writers. Each counts the calls that it answers by a failure, so that
 //! a caller can distinguish a fault of the outside from code that gives up.
-ghost use Rattle.std.specs.Prelude.{◌≡◌, ◌<◌, ◌≤◌, true, false, length, IfOk, OnOk, OnErr, IfErr, IsErr};
+ghost use Rattle.std.specs.Prelude.{◌≡◌, ◌<◌, ◌≤◌, true, false, length, IfOk, OnOk, OnErr, IfErr};
+ghost use Rattle.std.specs.Prelude.{IsErr};
 ghost use Rattle.std.specs.Io.{ReadsAtMost, WritesAtMost};
 ghost use Rattle.std.specs.Io.KnownBytes.{ReadConsumes, WriteAppends, Keeps};
 ghost use Rattle.cred_io.specs.Causes.{CountsFaults, next_count};
-ghost use Rattle.cred_io.specs.Standard.{std_reader, std_source_faults, std_writer, std_sink_handed_on, std_sink_faults};
+ghost use Rattle.cred_io.specs.Standard.{std_reader, std_source_faults, std_writer};
+ghost use Rattle.cred_io.specs.Standard.{std_sink_handed_on, std_sink_faults};
 
 use crate::{Failed, Sink, SinkRefusal, Source};
 use std::io::{Read, Write};

@@ -1,5 +1,6 @@
 //! Ends in memory that never fail.
-ghost use Rattle.std.specs.Prelude.{◌≡◌, ◌<◌, ◌++◌, [], true, false, length, take, drop, min, Some, IfOk, OnOk, IfErr, IsOk, IsErr};
+ghost use Rattle.std.specs.Prelude.{◌≡◌, ◌<◌, ◌++◌, [], true, false, length, take, drop, min, Some};
+ghost use Rattle.std.specs.Prelude.{IfOk, OnOk, IfErr, IsOk, IsErr};
 ghost use Rattle.std.specs.Io.{ReadsAtMost, WritesAtMost};
 ghost use Rattle.std.specs.Io.KnownBytes.{ReadConsumes, WriteAppends, Keeps};
 ghost use Rattle.cred_io.specs.Causes.{CountsFaults};

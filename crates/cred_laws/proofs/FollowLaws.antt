@@ -1,5 +1,5 @@
--- What the threads that don't wait in a broadcast have: kept by what becomes of tasks, credentials and
--- broadcasts. All of it is over plain lists.
+-- What the threads that don't wait in a broadcast have: kept by what becomes of tasks, credentials
+-- and broadcasts. All of it is over plain lists.
 use Rattle.std.proofs.Common.{◌≡◌, ◌≢◌, ◌==◌, ◌||◌, not, ℕ, List, [], ◌∷◌, ◌++◌, map, get_or, Option, Some, None, Bool, true, false, cond, refl, sym, ap, ◌∙◌, subst, arith}
 use Rattle.std.specs.List.{All, AllPairs, filter, find, list_any}
 use Rattle.std.specs.Option.{option_map, option_or}
@@ -21,7 +21,8 @@ use Rattle.cred_laws.specs.Broadcast.{Has}
 abbrev pub waits : ℕ → List ℕ → Bool
 waits task waiting = list_any (λ n. n == task) waiting
 
--- P holds of the current credential of the task, if that is a thread of the process and doesn't wait
+-- P holds of the current credential of the task, if that is a thread of the process and doesn't
+-- wait
 abbrev pub HasOr : (Credential → Type 0) → List SealedCred → ℕ → List ℕ → Task → Type 0
 HasOr P creds process waiting t = t.process ≡ process → waits t.number waiting ≡ false → Has P creds t
 

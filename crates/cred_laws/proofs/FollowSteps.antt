@@ -28,7 +28,7 @@ use Rattle.cred_model.proofs.Numbers.{numbered_is, numbered_last, overriding_as,
 use Rattle.cred_model.proofs.Rising.{All-passed, length-in_order}
 use Rattle.cred_sound.specs.Casts.{IsThread, IsUnderWay}
 use Rattle.cred_sound.specs.Sound.{IsSound}
-use Rattle.cred_sound.proofs.Parts.{sealed_cred, begun, casts_left, TasksChange, Cause, Birth, Death, ByBegin, ByAct, ByCommit, BySpawn, ByFork, ByExit, ByAbort, SameTasks, Creates, Shares, Renews, Overrides, Fewer}
+use Rattle.cred_sound.proofs.Parts.{sealed_cred, begun, casts_left, TasksChange, Cause, Creation, Death, ByBegin, ByAct, ByCommit, BySpawn, ByFork, ByExit, ByAbort, SameTasks, Creates, Shares, Renews, Overrides, Fewer}
 use Rattle.cred_sound.proofs.Threads.{not_true, thread_is}
 use Rattle.cred_laws.specs.Broadcast.{Completes}
 use Rattle.cred_laws.specs.Made.{IsMadeOf, IsMade, AreMade}
@@ -45,8 +45,8 @@ OwnStep P s event answer cast =
     (number task cred slot left : ℕ) (old : Numbered) (new : Credential) → event ≡ Act number → answer ≡ Acted task cred slot left
     → cast_of s number ≡ Some cast → current_of s task ≡ Some old → set_id old.cred cast.call ≡ Ok new → P new
 
--- After the event these threads wait in the broadcast of the process, and P holds of what the others
--- have; or the broadcast is dropped, and not completed.
+-- After the event these threads wait in the broadcast of the process, and P holds of what the
+-- others have; or the broadcast is dropped, and not completed.
 pub data After (P : Credential → Type 0) (s : State) (event : Event) (made : Answer × State) (process : ℕ) (cast : Broadcast) : Type 0 where
   Waits : (waiting : List ℕ) → Followed P made.1.creds made.1.tasks process waiting
       → found_in process made.1.casts ≡ shown (record cast { waiting = waiting }) → After P s event made process cast
@@ -174,9 +174,9 @@ module _ (P : Credential → Type 0) (kept : Kept P) (script : Script) (s : Stat
   same_creds : made.1.creds ≡ s.creds → (more : List SealedCred) × (made.1.creds ≡ s.creds ++ more)
   same_creds same = ([], same ∙ sym (append-nil s.creds))
 
-  born : (task child of : ℕ) (parent : Numbered) → Birth s event task child of made
+  created : (task child of : ℕ) (parent : Numbered) → Creation s event task child of made
       → made.1.tasks ≡ s.tasks ++ first_task child of parent.number ∷ [] → made.1.creds ≡ s.creds → current_of s task ≡ Some parent → Goes
-  born task child of parent (BySpawn owner spawns lives own_process casts) tasks creds current =
+  created task child of parent (BySpawn owner spawns lives own_process casts) tasks creds current =
       let waiting = Waiting task child in
       let new = first_task child of parent.number in
       let old : Followed P made.1.creds s.tasks process waiting
@@ -195,7 +195,7 @@ module _ (P : Credential → Type 0) (kept : Kept P) (script : Script) (s : Stat
       Waits waiting (settled (s.tasks ++ new ∷ []) waiting tasks (All-push (HasOr P made.1.creds process waiting) s.tasks new old by_parent))
       (ap (found_in process) casts ∙ joined_open task child process s.casts cast is
       ∙ child_shown task child cast at.under_way.some)
-  born task child of parent (ByFork forks unused casts) tasks creds current =
+  created task child of parent (ByFork forks unused casts) tasks creds current =
       let new = first_task child of parent.number in
       let Had = HasOr P made.1.creds process cast.waiting in
       Waits cast.waiting
@@ -303,7 +303,7 @@ module _ (P : Credential → Type 0) (kept : Kept P) (script : Script) (s : Stat
       (All-push (HasOr P made.1.creds process cast.waiting) s.tasks first (grown made.1.creds more)
       (λ here still. absurd (idle_differs s process of cast is idle (sym here)))))
       (open_still casts)
-  goes (Shares task child of parent tasks creds current new birth) more = born task child of parent birth tasks creds current
+  goes (Shares task child of parent tasks creds current new creation) more = created task child of parent creation tasks creds current
   goes (Renews task slot owner c ends tasks creds lives cause) more = renews task slot owner c ends cause lives tasks creds
   goes (Overrides task numbers tasks refer casts) more =
       let Had = HasOr P made.1.creds process cast.waiting in

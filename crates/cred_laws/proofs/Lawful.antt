@@ -45,14 +45,14 @@ take_between : (journal : List Entry) (k l : ℕ) → k ≤ l → take l journal
 unfolding between
 take_between journal k l within =
     sym (take-append-drop k (take l journal))
-    ∙ ap (λ (front : List Entry). front ++ drop k (take l journal)) (take-take k l journal within)
+    ∙ ap (λ (before : List Entry). before ++ drop k (take l journal)) (take-take k l journal within)
 
 each_between : (P : Entry → Type 0) (journal : List Entry) (k l : ℕ)
     → ((i : ℕ) → k ≤ i → i < l → IfSome (slice_get journal i) P) → All P (between journal k l)
 unfolding between
 each_between P journal k l each i d lt =
     let long = length-drop k (take l journal) in
-    let front = length-take l journal in
+    let long = length-take l journal in
     let here : k + i < l = omega arith in
     let within : k + i < length journal = omega arith in
     let holds = each (k + i) (omega arith) here in

@@ -1,5 +1,5 @@
--- What a call that sets ids leaves of ids and groups, and what no change of a prepared credential but
--- an execve touches.
+-- What a call that sets ids leaves of ids and groups, and what no change of a prepared credential
+-- but an execve touches.
 use Rattle.std.proofs.Common.{◌≡◌, ℕ, ◌==◌, not, nat_lt, Bool, true, false, List, Option, Result, Ok, refl, sym, ap, ◌∙◌, subst}
 use Rattle.cred_ids.specs.declared.arg.Arg.{Arg}
 use Rattle.cred_ids.specs.declared.arg.Arg.TheVariants.{Keep, Set}

@@ -76,7 +76,8 @@ ended these journal n (line ∷ lines) over =
 
 -- ---- the first line that is left
 
--- where it stands, that its lane has no other line before it, and that the setup has none if it isn't of the setup
+-- where it stands, that its lane has no other line before it, and that the setup has none if it
+-- isn't of the setup
 record IsFirst (journal : List Entry) (n : ℕ) (lines : List Line) (due : Due) : Type 0 where
   place : ℕ
   line : Line

@@ -24,7 +24,7 @@ use Rattle.cred_model.proofs.Lists.{All-at}
 use Rattle.cred_model.proofs.Numbers.{current_is, at_owner, owner_number, numbered_stays, numbered_last, updated_task, overriding_task, sealed_cred_of}
 use Rattle.cred_sound.specs.Sound.{IsSound}
 use Rattle.cred_sound.proofs.Survivors.{find_survivor, find_no_survivor}
-use Rattle.cred_sound.proofs.Parts.{sealed_cred, Cause, Birth, CredsChange, TasksChange, SameCreds, Seals, ByBegin, ByAct, ByCommit, BySpawn, ByFork, SameTasks, Creates, Shares, Renews, Overrides, Fewer}
+use Rattle.cred_sound.proofs.Parts.{sealed_cred, Cause, Creation, CredsChange, TasksChange, SameCreds, Seals, ByBegin, ByAct, ByCommit, BySpawn, ByFork, SameTasks, Creates, Shares, Renews, Overrides, Fewer}
 use Rattle.cred_sound.proofs.Events.{changes}
 use Rattle.cred_laws.specs.Made.{IsMadeOf, IsMade, AreMade}
 use Rattle.cred_laws.specs.Permitted.{Gains, PermittedGains, IsCreatedWith, NewTasksAreCreated}
@@ -168,7 +168,7 @@ gains_by script s event left made task before after sound are creds (Creates new
     unchanged made.1 task made.0 before after
     (ap (λ tasks. current_in tasks made.1.creds task) tasks
     ∙ still_before s _ made.1.creds task before (still_with s event left made.1 task before creds is)) now
-gains_by script s event left made task before after sound are creds (Shares parent child process shared tasks sealed current fresh birth) is now =
+gains_by script s event left made task before after sound are creds (Shares parent child process shared tasks sealed current fresh creation) is now =
     unchanged made.1 task made.0 before after
     (ap (λ tasks. current_in tasks made.1.creds task) tasks
     ∙ still_before s _ made.1.creds task before (still_with s event left made.1 task before creds is)) now
@@ -241,11 +241,11 @@ child_at s parent child process task shared c true test current now =
     (same, current ∙ ap Some one)
 child_at s parent child process task shared c false test current now = cc
 
-born_with : (s : State) (event : Event) (parent child process task : ℕ) (c : Numbered) (made : Answer × State)
-    → Birth s event parent child process made → (child ≡ task) × (current_of s parent ≡ Some c) → IsCreatedWith s event task c
-born_with s event parent child process task c made (BySpawn owner is found own casts) with =
+created_with : (s : State) (event : Event) (parent child process task : ℕ) (c : Numbered) (made : Answer × State)
+    → Creation s event parent child process made → (child ≡ task) × (current_of s parent ≡ Some c) → IsCreatedWith s event task c
+created_with s event parent child process task c made (BySpawn owner is found own casts) with =
     subst (λ e. IsCreatedWith s e task c) (sym is) with
-born_with s event parent child process task c made (ByFork is unused casts) with =
+created_with s event parent child process task c made (ByFork is unused casts) with =
     subst (λ e. IsCreatedWith s e task c) (sym is) with
 
 created_by : (s : State) (event : Event) (made : Answer × State) (task : ℕ) (after : Numbered) → TasksChange s event made
@@ -261,11 +261,11 @@ created_by s event made task after (Creates number process user group ns slot by
     (sym (ap (λ tasks. current_in tasks made.1.creds task) tasks
     ∙ ap (λ creds. current_in (s.tasks ++ first ∷ []) creds task) creds
     ∙ ap (option_and_then (λ (t : Task). numbered (s.creds ++ sealed_cred (first_credential user group ns) slot ∷ []) t.current)) owner) ∙ now))
-created_by s event made task after (Shares parent child process shared tasks creds current fresh birth) none now =
+created_by s event made task after (Shares parent child process shared tasks creds current fresh creation) none now =
     let first = first_task child process shared.number in
     let owner = find-append (λ (t : Task). t.number == task) s.tasks (first ∷ [])
     ∙ ap (λ o. option_or o (find (λ (t : Task). t.number == task) (first ∷ []))) none in
-    born_with s event parent child process task after made birth
+    created_with s event parent child process task after made creation
     (child_at s parent child process task shared after (child == task) refl current
     (sym (ap (λ tasks. current_in tasks made.1.creds task) tasks
     ∙ ap (λ creds. current_in (s.tasks ++ first ∷ []) creds task) creds

@@ -1,6 +1,7 @@
 -- A call of one thread that sets ids is every thread's (nptl(7), "NPTL and process credential
 -- changes").
-use Rattle.std.specs.Prelude.{◌≡◌, ℕ, ◌==◌, Bool, false, List, All, None, Some, IfSome, ⊤, if◌then◌else◌}
+use Rattle.std.specs.Prelude.{◌≡◌, ℕ, ◌==◌, Bool, false, List, All, None, Some, IfSome, ⊤}
+use Rattle.std.specs.Prelude.{if◌then◌else◌}
 use Rattle.std.specs.declared.option.Option.{Option}
 use Rattle.std.specs.Option.{option_map}
 use Rattle.cred_ids.specs.declared.arg.Arg.{Arg}
@@ -11,7 +12,9 @@ use Rattle.cred_ids.specs.declared.id.Kind.TheVariants.{User, Group}
 use Rattle.cred_ids.specs.Ordered.{in_order}
 use Rattle.cred_caps.specs.Numbers.{SETGID, SETUID}
 use Rattle.cred_record.specs.declared.id_call.IdCall.{IdCall}
-use Rattle.cred_record.specs.declared.id_call.IdCall.TheVariants.{SetUid, SetEuid, SetReuid, SetResuid, SetGid, SetEgid, SetRegid, SetResgid, SetGroups}
+use Rattle.cred_record.specs.declared.id_call.IdCall.TheVariants.{SetUid, SetEuid, SetReuid}
+use Rattle.cred_record.specs.declared.id_call.IdCall.TheVariants.{SetResuid, SetGid, SetEgid}
+use Rattle.cred_record.specs.declared.id_call.IdCall.TheVariants.{SetRegid, SetResgid, SetGroups}
 use Rattle.cred_record.specs.Credential.{Credential, has_cap}
 use Rattle.cred_rules.specs.SetId.{three}
 use Rattle.cred_event.specs.declared.answer.Answer.{Answer}
@@ -19,7 +22,8 @@ use Rattle.cred_event.specs.declared.answer.Answer.TheVariants.{Began, Acted}
 use Rattle.cred_event.specs.declared.event.Event.{Event}
 use Rattle.cred_event.specs.declared.event.Event.TheVariants.{Begin, Act, Exit}
 use Rattle.cred_model.specs.Script.{Script}
-use Rattle.cred_model.specs.State.{State, SealedCred, Task, Numbered, numbered, task_of, cast_of, cast_in}
+use Rattle.cred_model.specs.State.{State, SealedCred, Task, Numbered, numbered, task_of, cast_of}
+use Rattle.cred_model.specs.State.{cast_in}
 use Rattle.cred_model.specs.Casts.{waits_in}
 use Rattle.cred_model.specs.Step.{step}
 use Rattle.cred_sound.specs.Sound.{IsSound}
@@ -38,8 +42,8 @@ NamesIds real effective saved ids =
     Names real ids.real × Names effective ids.effective × Names saved ids.saved
 
 -- The credential has what the call names. setuid(2) and setgid(2) name the effective id alone, as
--- seteuid(2) and setegid(2) do; of the others each argument names its own id, and setgroups(2) names
--- its list, in order.
+-- seteuid(2) and setegid(2) do; of the others each argument names its own id, and setgroups(2)
+-- names its list, in order.
 abbrev pub HasNamed : IdCall → Credential → Type 0
 HasNamed (SetUid id) c = NamesIds Keep id Keep c.uid
 HasNamed (SetEuid effective) c = NamesIds Keep effective Keep c.uid

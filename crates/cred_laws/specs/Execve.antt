@@ -8,7 +8,8 @@ use Rattle.cred_event.specs.declared.event.Change.TheVariants.{Exec}
 use Rattle.cred_event.specs.declared.event.Event.{Event}
 use Rattle.cred_event.specs.declared.event.Event.TheVariants.{Commit}
 use Rattle.cred_model.specs.Script.{Script, info_of, chain_of}
-use Rattle.cred_model.specs.State.{State, Task, Prepared, Changed, Numbered, task_of, prepared_of, current_of}
+use Rattle.cred_model.specs.State.{State, Task, Prepared, Changed, Numbered, task_of, prepared_of}
+use Rattle.cred_model.specs.State.{current_of}
 use Rattle.cred_model.specs.Step.{step}
 use Rattle.cred_sound.specs.Sound.{IsSound}
 use Rattle.cred_laws.specs.Made.{AreMade}

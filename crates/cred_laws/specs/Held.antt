@@ -1,5 +1,6 @@
 -- What was sealed, what is held and what is prepared stays as it is.
-use Rattle.std.specs.Prelude.{◌≡◌, ◌≢◌, ◌==◌, ℕ, Bool, false, List, ◌++◌, length, take, Some, None, All}
+use Rattle.std.specs.Prelude.{◌≡◌, ◌≢◌, ◌==◌, ℕ, Bool, false, List, ◌++◌, length, take, Some, None}
+use Rattle.std.specs.Prelude.{All}
 use Rattle.std.specs.declared.option.Option.{Option}
 use Rattle.std.specs.Option.{option_map}
 use Rattle.cred_event.specs.declared.event.Event.{Event}

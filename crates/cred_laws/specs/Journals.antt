@@ -1,5 +1,6 @@
 -- The laws, of the states that one journal leads through.
-use Rattle.std.specs.Prelude.{◌≡◌, ◌≢◌, ℕ, Bool, false, ◌+◌, ◌<◌, ◌≤◌, List, length, take, slice_get, Some, None, IfSome}
+use Rattle.std.specs.Prelude.{◌≡◌, ◌≢◌, ℕ, Bool, false, ◌+◌, ◌<◌, ◌≤◌, List, length, take}
+use Rattle.std.specs.Prelude.{slice_get, Some, None, IfSome}
 use Rattle.std.specs.Option.{option_map}
 use Rattle.cred_ids.specs.declared.id.Kind.{Kind}
 use Rattle.cred_record.specs.declared.gains.Gains as answer
@@ -8,7 +9,8 @@ use Rattle.cred_event.specs.declared.answer.Answer.TheVariants.{Executed, Began}
 use Rattle.cred_event.specs.declared.event.Event.TheVariants.{Release, Begin, CloseFile}
 use Rattle.cred_event.specs.declared.entry.Entry.{Entry}
 use Rattle.cred_model.specs.Script.{Script}
-use Rattle.cred_model.specs.State.{State, Prepared, Numbered, numbered, task_of, cast_in, current_of, opener_of, held_by}
+use Rattle.cred_model.specs.State.{State, Prepared, Numbered, numbered, task_of, cast_in}
+use Rattle.cred_model.specs.State.{current_of, opener_of, held_by}
 use Rattle.cred_model.specs.Journal.{replay, IsAnswered}
 use Rattle.cred_sound.specs.Sound.{IsSound}
 use Rattle.cred_laws.specs.Slots.{IsUnused}
@@ -16,7 +18,8 @@ use Rattle.cred_laws.specs.Held.{prepared_as, ends}
 use Rattle.cred_laws.specs.Made.{AreMade}
 use Rattle.cred_laws.specs.Execve.{IsExecve}
 use Rattle.cred_laws.specs.Permitted.{Gains, IsCreatedWith}
-use Rattle.cred_laws.specs.Broadcast.{HasNamed, AllHave, Completes, kind_of, three_of, IsAlike, stepping}
+use Rattle.cred_laws.specs.Broadcast.{HasNamed, AllHave, Completes, kind_of, three_of, IsAlike}
+use Rattle.cred_laws.specs.Broadcast.{stepping}
 
 -- the state after the first k entries
 abbrev pub state_at : Script → List Entry → ℕ → State
@@ -31,8 +34,8 @@ abbrev pub IsAlwaysMade : Script → List Entry → Type 0
 IsAlwaysMade script journal = (k : ℕ) → AreMade script (state_at script journal k)
 
 -- What an entry seals is put where no credential in use stood, and where no prepared label kept the
--- slot but the one whose credential the entry seals. One that was given up and waits for the sweep is
--- not in use.
+-- slot but the one whose credential the entry seals. One that was given up and waits for the sweep
+-- is not in use.
 abbrev pub WritesUnusedSlots : Script → List Entry → Type 0
 WritesUnusedSlots script journal =
     (k number : ℕ) (new : Numbered) → length (state_at script journal k).creds ≤ number
@@ -112,7 +115,9 @@ CompletesForAll script journal =
 
 -- The call of a thread of the process, begun by entry `begun` and completed by entry `done`. Its
 -- broadcast has the number of the begin's line, and is open in between.
-pub record RunsThrough (script : Script) (journal : List Entry) (begun done number process : ℕ) (call : IdCall) : Type 0 where
+pub record RunsThrough
+    (script : Script) (journal : List Entry) (begun done number process : ℕ) (call : IdCall)
+    : Type 0 where
   pub order : begun ≤ done
   pub first : Entry
   pub last : Entry

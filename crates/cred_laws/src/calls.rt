@@ -1,5 +1,6 @@
 //! What no call on a credential undoes, and which adds to what is permitted.
-ghost use Rattle.cred_laws.specs.Calls.{LocksStaySet, BoundingNeverGrows, PermittedGrowsByExecve, NoNewPrivsStays};
+ghost use Rattle.cred_laws.specs.Calls.{LocksStaySet, BoundingNeverGrows, PermittedGrowsByExecve};
+ghost use Rattle.cred_laws.specs.Calls.{NoNewPrivsStays};
 
 /// A lock of the securebits that is set stays set over every call, and so the flag that it locks
 /// stays as it is (capabilities(7): locking is irreversible). Only KEEP_CAPS is cleared by every

@@ -5,7 +5,8 @@ ghost use Rattle.cred_laws.specs.Journals.{JournalsAreLawful};
 /// is sound, and each prepared credential there is what its change makes of its base. Its entries
 /// seal credentials only in slots that are not in use; what is sealed, what is held, what an open
 /// file was opened by and what is prepared stays. What an entry adds to what a living task is
-/// permitted is what its answer says was gained, and a task lives from the entry on that creates it.
+/// permitted is what its answer says was gained, and a task lives from the entry on that creates
+/// it.
 ///
 /// Where an entry completes a call that all threads of a process make, each live thread has the ids
 /// or the groups that the call names. And where before its own step each thread had the same real,

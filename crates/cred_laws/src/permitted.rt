@@ -12,9 +12,9 @@ pub fn prepared_are_made()
 /// old one did not is just what the event's answer says was gained, which is nothing but for an
 /// execve (capabilities(7)). Where it has the same number, it has the same credential.
 ///
-/// It asks for a sound state in which each prepared credential is what its change makes of its base,
-/// as every journal leads to: one is committed only while its base is its task's current one. The
-/// law does not say that the effective set is within the permitted one.
+/// It asks for a sound state in which each prepared credential is what its change makes of its
+/// base, as every journal leads to: one is committed only while its base is its task's current one.
+/// The law does not say that the effective set is within the permitted one.
 pub fn permitted_gains()
     ensures { PermittedGains }
 {}

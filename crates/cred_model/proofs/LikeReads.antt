@@ -1,4 +1,5 @@
--- What an event reads of a state, where another has the same but for credentials that nothing refers to.
+-- What an event reads of a state, where another has the same but for credentials that nothing
+-- refers to.
 use Rattle.std.proofs.Common.{◌≡◌, ◌==◌, ◌||◌, not, ℕ, zero, suc, List, [], ◌∷◌, ◌++◌, length, map, slice_get, Some, None, Bool, false, refl, sym, ap, ◌∙◌, arith}
 use Rattle.std.specs.List.{All, find, list_any}
 use Rattle.std.specs.Option.{IfSome, option_and_then, option_map, option_map_or}
@@ -62,7 +63,8 @@ numbered_by creds n P holds =
       | Some sealed ↦ holds
     ]
 
--- what holds of each number that a list refers to holds of that of the credential which is found by it
+-- what holds of each number that a list refers to holds of that of the credential which is found by
+-- it
 found_by : {X : Type 0} (f : X → ℕ) (p : X → Bool) (creds : List SealedCred) (P : ℕ → Type 0) (xs : List X) → All (λ x. P (f x)) xs
     → IfSome (option_and_then (λ x. numbered creds (f x)) (find p xs)) (λ c. P c.number)
 found_by f p creds P xs each =

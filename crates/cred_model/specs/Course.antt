@@ -1,11 +1,20 @@
 -- The events that a line makes, one after another.
-use Rattle.std.specs.Prelude.{◌≡◌, ℕ, ◌+◌, ◌-◌, ◌*◌, ◌==◌, Bool, true, false, not, nat_lt, Some, None, List, fold, if◌then◌else◌}
+use Rattle.std.specs.Prelude.{◌≡◌, ℕ, ◌+◌, ◌-◌, ◌*◌, ◌==◌, Bool, true, false, not, nat_lt, Some}
+use Rattle.std.specs.Prelude.{None, List, fold, if◌then◌else◌}
 use Rattle.std.specs.declared.option.Option.{Option}
 use Rattle.std.specs.Option.{option_and_then, option_map_or}
 use Rattle.cred_event.specs.declared.content.Stage.{Stage}
-use Rattle.cred_event.specs.declared.content.Stage.TheVariants.{First, Acting, Asking, Opening, TakingTarget, Signalling, ReleasingTarget, Preparing, Altering, Committing, Aborting, Overriding, TakingAccess, ReleasingAccess, Reverting, Releasing, Retrying}
+use Rattle.cred_event.specs.declared.content.Stage.TheVariants.{First, Acting, Asking, Opening}
+use Rattle.cred_event.specs.declared.content.Stage.TheVariants.{TakingTarget, Signalling}
+use Rattle.cred_event.specs.declared.content.Stage.TheVariants.{ReleasingTarget, Preparing}
+use Rattle.cred_event.specs.declared.content.Stage.TheVariants.{Altering, Committing, Aborting}
+use Rattle.cred_event.specs.declared.content.Stage.TheVariants.{Overriding, TakingAccess}
+use Rattle.cred_event.specs.declared.content.Stage.TheVariants.{ReleasingAccess, Reverting}
+use Rattle.cred_event.specs.declared.content.Stage.TheVariants.{Releasing, Retrying}
 use Rattle.cred_event.specs.declared.event.Event.{Event}
-use Rattle.cred_event.specs.declared.event.Event.TheVariants.{Take, TakeFile, Ask, Release, Prepare, Alter, Commit, Abort, Override, Revert, Begin, Act, OpenFile}
+use Rattle.cred_event.specs.declared.event.Event.TheVariants.{Take, TakeFile, Ask, Release, Prepare}
+use Rattle.cred_event.specs.declared.event.Event.TheVariants.{Alter, Commit, Abort, Override}
+use Rattle.cred_event.specs.declared.event.Event.TheVariants.{Revert, Begin, Act, OpenFile}
 use Rattle.cred_event.specs.declared.event.Event.TheVariants as event
 use Rattle.cred_event.specs.declared.event.Change.TheVariants as change
 use Rattle.cred_event.specs.declared.event.Query.TheVariants.{Capable, Check}
@@ -13,7 +22,8 @@ use Rattle.cred_event.specs.declared.event.Side.TheVariants.{Subjective, Objecti
 use Rattle.cred_event.specs.declared.answer.Answer.{Answer}
 use Rattle.cred_event.specs.declared.answer.Answer.TheVariants.{Began, Acted, Stale}
 use Rattle.cred_event.specs.declared.content.Content.{Content}
-use Rattle.cred_event.specs.declared.content.Content.TheVariants.{Nothing, One, Id, Question, Open, Fcap, Signal, Change, Access}
+use Rattle.cred_event.specs.declared.content.Content.TheVariants.{Nothing, One, Id, Question, Open}
+use Rattle.cred_event.specs.declared.content.Content.TheVariants.{Fcap, Signal, Change, Access}
 use Rattle.cred_model.specs.Answers.{is_ok}
 
 -- The labels that a line takes for itself: for what it holds first; for the new credential that it
@@ -54,8 +64,8 @@ start line content = record {
   tries = 1;
 }
 
--- The event of a stage. A line takes hold of the credential that its task acts with, does what it is
--- about, and lets go.
+-- The event of a stage. A line takes hold of the credential that its task acts with, does what it
+-- is about, and lets go.
 abbrev pub event_in : ℕ → Content → Stage → Option Event
 event_in line (One event) First = Some event
 -- an id call: the task makes its step, and then the other threads of its process, one after another

@@ -1,5 +1,6 @@
 -- The parts that events share: their tests, and what they do to the state.
-use Rattle.std.specs.Prelude.{ℕ, ◌==◌, nat_lt, [], ◌∷◌, ◌++◌, length, map, remove, Result, Ok, Err, is_some, Some, if◌then◌else◌, List}
+use Rattle.std.specs.Prelude.{ℕ, ◌==◌, nat_lt, [], ◌∷◌, ◌++◌, length, map, remove, Result, Ok, Err}
+use Rattle.std.specs.Prelude.{is_some, Some, if◌then◌else◌, List}
 use Rattle.std.specs.declared.option.Option.{Option}
 use Rattle.std.specs.Option.{option_map_or}
 use Rattle.cred_record.specs.Credential.{Credential}

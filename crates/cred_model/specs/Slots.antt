@@ -1,5 +1,6 @@
 -- Which slots are in use, and which one is taken next.
-use Rattle.std.specs.Prelude.{ℕ, ◌==◌, Bool, false, not, ◌||◌, List, [], ◌∷◌, ◌++◌, map, find, count_by, slice_get, is_some, if◌then◌else◌}
+use Rattle.std.specs.Prelude.{ℕ, ◌==◌, Bool, false, not, ◌||◌, List, [], ◌∷◌, ◌++◌, map, find}
+use Rattle.std.specs.Prelude.{count_by, slice_get, is_some, if◌then◌else◌}
 use Rattle.std.specs.declared.option.Option.{Option}
 use Rattle.std.specs.List.{concat, flat_map, list_any, range_with_len}
 use Rattle.std.specs.Option.{option_map_or}

@@ -47,8 +47,8 @@ pub record OpenFile : Type 0 where
   pub file : ℕ
 
 -- An open broadcast: an id call that a task has begun, and that the other threads of its process
--- have to make too (nptl(7), "NPTL and the POSIX.1 requirement for process credentials"). It has the
--- number of the line that began it, and the threads that still wait for their step, in rising order.
+-- have to make too (nptl(7), "NPTL and process credential changes"). It has the number of the line
+-- that began it, and the threads that still wait for their step, in rising order.
 pub record Broadcast : Type 0 where
   pub number : ℕ
   pub process : ℕ
@@ -62,8 +62,8 @@ pub record SealedCred : Type 0 where
   pub slot : ℕ
 
 -- The live tasks, the open broadcasts, the open files, the holds, the prepared labels, the numbers
--- that were given up since the last sweep, and all credentials that were ever sealed. The place of a
--- credential in that list is its number.
+-- that were given up since the last sweep, and all credentials that were ever sealed. The place of
+-- a credential in that list is its number.
 pub record State : Type 0 where
   pub tasks : List Task
   pub casts : List Broadcast

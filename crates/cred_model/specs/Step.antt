@@ -1,5 +1,7 @@
 -- What each event answers, and the state after it.
-use Rattle.std.specs.Prelude.{ℕ, ◌-◌, ◌==◌, ◌&&◌, Bool, true, false, [], ◌∷◌, ◌++◌, length, drop, find, position, remove, slice_get, Result, Ok, Err, ok_or, Some, None, if◌then◌else◌, count_by}
+use Rattle.std.specs.Prelude.{ℕ, ◌-◌, ◌==◌, ◌&&◌, Bool, true, false, [], ◌∷◌, ◌++◌, length, drop}
+use Rattle.std.specs.Prelude.{find, position, remove, slice_get, Result, Ok, Err, ok_or, Some, None}
+use Rattle.std.specs.Prelude.{if◌then◌else◌, count_by}
 use Rattle.std.specs.declared.option.Option.{Option}
 use Rattle.std.specs.Option.{option_and_then, option_map_or}
 use Rattle.cred_record.specs.Credential.{Credential, first_credential}
@@ -13,21 +15,34 @@ use Rattle.cred_event.specs.declared.event.Change.TheVariants.{Exec, Access}
 use Rattle.cred_event.specs.declared.event.Event.{Event}
 use Rattle.cred_event.specs.declared.event.Query.{Query}
 use Rattle.cred_event.specs.declared.event.Side.{Side}
-use Rattle.cred_event.specs.declared.event.Event.TheVariants.{Init, Take, TakeFile, Release, Ask, Signal, Prepare, Alter, Commit, Abort, Override, Revert, Begin, Act, OpenFile, CloseFile, Spawn, Fork, Exit, Sweep}
+use Rattle.cred_event.specs.declared.event.Event.TheVariants.{Init, Take, TakeFile, Release, Ask}
+use Rattle.cred_event.specs.declared.event.Event.TheVariants.{Signal, Prepare, Alter, Commit, Abort}
+use Rattle.cred_event.specs.declared.event.Event.TheVariants.{Override, Revert, Begin, Act}
+use Rattle.cred_event.specs.declared.event.Event.TheVariants.{OpenFile, CloseFile, Spawn, Fork}
+use Rattle.cred_event.specs.declared.event.Event.TheVariants.{Exit, Sweep}
 use Rattle.cred_event.specs.declared.answer.Answer.{Answer}
-use Rattle.cred_event.specs.declared.answer.Answer.TheVariants.{Done, Sealed, Kept, Executed, Began, Acted, Eperm, Ebadf, NoTask, NoHold, NoPrepared, NoBroadcast, Exists, NotOverridden, TooDeep, Stale, TooMany, Aborted}
+use Rattle.cred_event.specs.declared.answer.Answer.TheVariants.{Done, Sealed, Kept, Executed, Began}
+use Rattle.cred_event.specs.declared.answer.Answer.TheVariants.{Acted, Eperm, Ebadf, NoTask, NoHold}
+use Rattle.cred_event.specs.declared.answer.Answer.TheVariants.{NoPrepared, NoBroadcast, Exists}
+use Rattle.cred_event.specs.declared.answer.Answer.TheVariants.{NotOverridden, TooDeep, Stale}
+use Rattle.cred_event.specs.declared.answer.Answer.TheVariants.{TooMany, Aborted}
 use Rattle.cred_event.specs.declared.answer.Named.TheVariants as named
 use Rattle.cred_event.specs.declared.answer.Counted.TheVariants as counted
 use Rattle.cred_event.specs.declared.answer.AbortCause.TheVariants as cause
 use Rattle.cred_model.specs.Script.{Script, info_of, chain_of}
 use Rattle.cred_model.specs.Named.{query_files, change_files}
-use Rattle.cred_model.specs.State.{State, Task, Prepared, Changed, Broadcast, Numbered, task_of, cast_of, cast_in, begun_by, open_of, hold_of, prepared_of, numbered, credential_of, opener_of, held_by}
+use Rattle.cred_model.specs.State.{State, Task, Prepared, Changed, Broadcast, Numbered, task_of}
+use Rattle.cred_model.specs.State.{cast_of, cast_in, begun_by, open_of, hold_of, prepared_of}
+use Rattle.cred_model.specs.State.{numbered, credential_of, opener_of, held_by}
 use Rattle.cred_model.specs.Slots.{swept}
 use Rattle.cred_model.specs.Ends.{is_task, is_thread_of, is_beside, ended}
 use Rattle.cred_model.specs.Casts.{not_busy, others_of, with_cast, waits_no_more, joined, dropped}
 use Rattle.cred_model.specs.Answers.{checked, reply}
 use Rattle.cred_model.specs.Change.{by_change, by_rule}
-use Rattle.cred_model.specs.Moves.{TASKS, FILES, HOLDS, PREPARED, DEPTH, ◌>>=◌, none_or, fewer_or, passed, not_overridden, in_slot, table_full, first_task, created, replaced, with_overrides, holding, preparing, altered, given_up, committed, lent, overridden}
+use Rattle.cred_model.specs.Moves.{TASKS, FILES, HOLDS, PREPARED, DEPTH, ◌>>=◌, none_or, fewer_or}
+use Rattle.cred_model.specs.Moves.{passed, not_overridden, in_slot, table_full, first_task, created}
+use Rattle.cred_model.specs.Moves.{replaced, with_overrides, holding, preparing, altered, given_up}
+use Rattle.cred_model.specs.Moves.{committed, lent, overridden}
 
 -- The tasks that end with the commit of this change by its task: an execve ends all other threads
 -- of the process (execve(2)), and no other change ends any.

@@ -1,6 +1,7 @@
 -- The live tasks, in the order in which they were created: what is found among them, and what is
 -- left when one is created, changes its credentials or ends (credentials(7), nptl(7)).
-use Rattle.std.specs.Prelude.{◌≡◌, ℕ, ◌==◌, ◌≤◌, Bool, nat_eq, List, [], ◌∷◌, ◌++◌, All, filter, find, is_some, length, map, slice_get, if◌then◌else◌}
+use Rattle.std.specs.Prelude.{◌≡◌, ℕ, ◌==◌, ◌≤◌, Bool, nat_eq, List, [], ◌∷◌, ◌++◌, All, filter}
+use Rattle.std.specs.Prelude.{find, is_some, length, map, slice_get, if◌then◌else◌}
 use Rattle.std.specs.declared.option.Option.{Option}
 use Rattle.std.specs.List.{IsDistinct}
 use Rattle.std.specs.Option.{option_map_or, unwrap_or}

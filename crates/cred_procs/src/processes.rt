@@ -1,5 +1,6 @@
 //! The threads of each process.
-ghost use Rattle.std.specs.Prelude.{◌≡◌, ℕ, ◌==◌, not, filter, [], ◌∷◌, ◌++◌, if◌then◌else◌, OnOk, OnErr};
+ghost use Rattle.std.specs.Prelude.{◌≡◌, ℕ, ◌==◌, not, filter, [], ◌∷◌, ◌++◌, if◌then◌else◌, OnOk};
+ghost use Rattle.std.specs.Prelude.{OnErr};
 ghost use Rattle.cred_procs.specs.Kept.{threads_at};
 
 use cred_ids::NoMemory;

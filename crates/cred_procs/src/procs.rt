@@ -1,12 +1,16 @@
 //! The table of tasks.
-ghost use Rattle.std.specs.Prelude.{◌≡◌, ◌<◌, Bool, not, nat_lt, is_some, [], ◌∷◌, ◌++◌, drop, length, slice_get, false, None, IfNone, IfOk, IfSome, OnOk, OnErr, if◌then◌else◌};
+ghost use Rattle.std.specs.Prelude.{◌≡◌, ◌<◌, Bool, not, nat_lt, is_some, [], ◌∷◌, ◌++◌, drop};
+ghost use Rattle.std.specs.Prelude.{length, slice_get, false, None, IfNone, IfOk, IfSome, OnOk};
+ghost use Rattle.std.specs.Prelude.{OnErr, if◌then◌else◌};
 ghost use Rattle.std.specs.Option.{option_map, IsSome};
 ghost use Rattle.cred_model.specs.Ends.{is_task, is_thread_of, is_beside, survivors, left_by};
 ghost use Rattle.cred_model.specs.State.{Task};
 ghost use Rattle.cred_model.specs.Moves.{TASKS, first_task, with_current};
 ghost use Rattle.cred_slots.specs.Stack.{DEPTH};
 ghost use Rattle.cred_procs.specs.Kept.{task_as};
-ghost use Rattle.cred_procs.specs.Tasks.{AreTasks, Ends, task_in, acting, those, threads_of, has_process, spawned, forked, overrides_of, with_overrides};
+ghost use Rattle.cred_procs.specs.Tasks.{AreTasks, Ends, task_in, acting, those, threads_of};
+ghost use Rattle.cred_procs.specs.Tasks.{has_process, spawned, forked, overrides_of};
+ghost use Rattle.cred_procs.specs.Tasks.{with_overrides};
 
 use crate::lists::{Numbers, TaskList};
 use crate::processes::{Processes, take_off};

@@ -1,7 +1,8 @@
 -- The exit status of each way in which the program ends.
 use Rattle.std.specs.Prelude.{ℕ}
 use Rattle.cred_program.specs.declared.status.Status.{Status}
-use Rattle.cred_program.specs.declared.status.Status.TheVariants.{Done, Usage, Bad, ReadFault, WriteFault, Memory, TooLarge}
+use Rattle.cred_program.specs.declared.status.Status.TheVariants.{Done, Usage, Bad, ReadFault}
+use Rattle.cred_program.specs.declared.status.Status.TheVariants.{WriteFault, Memory, TooLarge}
 
 abbrev pub code_of : Status → ℕ
 code_of Done = 0

@@ -6,7 +6,8 @@ use Rattle.cred_filecap.specs.declared.refusal.AttrRefusal.{AttrRefusal}
 use Rattle.cred_filecap.specs.declared.refusal.AttrRefusal.TheVariants.{BadLength, BadRevision}
 use Rattle.cred_report.specs.Numbers.{set_text, flag_text}
 use Rattle.cred_spelling.specs.declared.reason.Reason.{Reason}
-use Rattle.cred_spelling.specs.declared.reason.Reason.TheVariants.{Byte, Word, Count, Order, Name, Lane}
+use Rattle.cred_spelling.specs.declared.reason.Reason.TheVariants.{Byte, Word, Count, Order, Name}
+use Rattle.cred_spelling.specs.declared.reason.Reason.TheVariants.{Lane}
 
 -- to words that are no command
 abbrev pub usage_text : List ℕ

@@ -1,5 +1,6 @@
 -- The words of the command line.
-use Rattle.std.specs.Prelude.{ℕ, String, List, [], ◌∷◌, map, codes, string_bytes, Some, None, if◌then◌else◌}
+use Rattle.std.specs.Prelude.{ℕ, String, List, [], ◌∷◌, map, codes, string_bytes, Some, None}
+use Rattle.std.specs.Prelude.{if◌then◌else◌}
 use Rattle.std.specs.declared.option.Option.{Option}
 use Rattle.std.specs.Option.{option_map}
 use Rattle.std.specs.Str.{bytes_eq}

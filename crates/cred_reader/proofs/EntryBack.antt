@@ -53,9 +53,9 @@ entry_from : (files : List NamedFile) (line : ℕ) (event : Event) (answer : Ans
     → entry_of files (decimal line ∷ behind es vs) ≡ Ok (record { line = line; event = event; answer = answer })
 unfolding entry_of
 entry_from files line event answer es vs small plain e v =
-    let front : take (length es) (behind es vs) ≡ es = take_at es (codes "->" ∷ vs) (length es) refl in
+    let prefix_is : take (length es) (behind es vs) ≡ es = take_at es (codes "->" ∷ vs) (length es) refl in
     let back : drop (length es + 1) (behind es vs) ≡ vs = drop-append-add es (codes "->" ∷ vs) 1 in
-    rw (number_back line small, arrow_back es vs plain, front, e, back, v) refl
+    rw (number_back line small, arrow_back es vs plain, prefix_is, e, back, v) refl
 
 -- the words of a fitting entry's text are read as the entry
 pub entry_back : (script : Script) (entry : Entry) → Fits script entry → entry_of script.files (words_of (body_of (entry_text script entry))) ≡ Ok entry

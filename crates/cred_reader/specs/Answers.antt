@@ -1,6 +1,7 @@
 -- The answer that words are the text of, for an event. The event says how the words behind `ok` are
 -- read. What tells no value isn't read: an entry is compared with its text as a whole.
-use Rattle.std.specs.Prelude.{ℕ, ◌==◌, List, [], ◌∷◌, length, codes, Result, Ok, Err, ok_or, Some, None, if◌then◌else◌}
+use Rattle.std.specs.Prelude.{ℕ, ◌==◌, List, [], ◌∷◌, length, codes, Result, Ok, Err, ok_or, Some}
+use Rattle.std.specs.Prelude.{None, if◌then◌else◌}
 use Rattle.std.specs.declared.option.Option.{Option}
 use Rattle.std.specs.Str.{bytes_eq}
 use Rattle.cred_event.specs.declared.event.Query.{Query}
@@ -23,7 +24,8 @@ use Rattle.cred_spelling.specs.Table as table
 use Rattle.cred_spelling.specs.Words.{◌>>=◌, word_of, one_of, two_of, three_of, five_of}
 use Rattle.cred_script.specs.IdCalls.{ids}
 use Rattle.cred_reader.specs.declared.answers.Tells.{Tells}
-use Rattle.cred_reader.specs.declared.answers.Tells.TheVariants.{Nothing, Ids, Caps, Groups, Bits, Flag}
+use Rattle.cred_reader.specs.declared.answers.Tells.TheVariants.{Nothing, Ids, Caps, Groups, Bits}
+use Rattle.cred_reader.specs.declared.answers.Tells.TheVariants.{Flag}
 use Rattle.cred_reader.specs.Kinds.{task_of, label_of, cred_of, slot_of, flag_of, bits_of}
 
 -- what a question is told

@@ -11,15 +11,23 @@ use Rattle.cred_caps.specs.Caps.{IsCaps}
 use Rattle.cred_record.specs.declared.want.Want.{Want}
 use Rattle.cred_record.specs.declared.gains.Gains.{Gains}
 use Rattle.cred_record.specs.declared.id_call.IdCall.{IdCall}
-use Rattle.cred_record.specs.declared.id_call.IdCall.TheVariants.{SetUid, SetEuid, SetReuid, SetResuid, SetGid, SetEgid, SetRegid, SetResgid, SetGroups}
+use Rattle.cred_record.specs.declared.id_call.IdCall.TheVariants.{SetUid, SetEuid, SetReuid}
+use Rattle.cred_record.specs.declared.id_call.IdCall.TheVariants.{SetResuid, SetGid, SetEgid}
+use Rattle.cred_record.specs.declared.id_call.IdCall.TheVariants.{SetRegid, SetResgid, SetGroups}
 use Rattle.cred_record.specs.declared.adj_call.AdjCall.{AdjCall}
-use Rattle.cred_record.specs.declared.adj_call.AdjCall.TheVariants.{Capset, BoundDrop, AmbRaise, AmbLower, AmbClear, Bits, KeepCaps, NoNewPrivs}
+use Rattle.cred_record.specs.declared.adj_call.AdjCall.TheVariants.{Capset, BoundDrop, AmbRaise}
+use Rattle.cred_record.specs.declared.adj_call.AdjCall.TheVariants.{AmbLower, AmbClear, Bits}
+use Rattle.cred_record.specs.declared.adj_call.AdjCall.TheVariants.{KeepCaps, NoNewPrivs}
 use Rattle.cred_event.specs.declared.event.Change.{Change}
 use Rattle.cred_event.specs.declared.event.Change.TheVariants.{SetFs, Adjust, Exec, Access}
 use Rattle.cred_event.specs.declared.event.Query.{Query}
 use Rattle.cred_event.specs.declared.event.Query.TheVariants as query
 use Rattle.cred_event.specs.declared.event.Event.{Event}
-use Rattle.cred_event.specs.declared.event.Event.TheVariants.{Init, Take, TakeFile, Release, Ask, Signal, Prepare, Alter, Commit, Abort, Override, Revert, Begin, Act, OpenFile, CloseFile, Spawn, Fork, Exit, Sweep}
+use Rattle.cred_event.specs.declared.event.Event.TheVariants.{Init, Take, TakeFile, Release, Ask}
+use Rattle.cred_event.specs.declared.event.Event.TheVariants.{Signal, Prepare, Alter, Commit, Abort}
+use Rattle.cred_event.specs.declared.event.Event.TheVariants.{Override, Revert, Begin, Act}
+use Rattle.cred_event.specs.declared.event.Event.TheVariants.{OpenFile, CloseFile, Spawn, Fork}
+use Rattle.cred_event.specs.declared.event.Event.TheVariants.{Exit, Sweep}
 use Rattle.cred_event.specs.declared.answer.Told.{Told}
 use Rattle.cred_event.specs.declared.answer.Told.TheVariants as told
 use Rattle.cred_event.specs.declared.answer.Answer.{Answer}

@@ -1,6 +1,7 @@
 -- The words of entries that scripts spell otherwise: the numbers of tasks, processes, labels and
 -- descriptors may be any, and there are numbers of credentials and of slots, and flags.
-use Rattle.std.specs.Prelude.{ℕ, Bool, true, false, ◌==◌, nat_le, List, [], ◌∷◌, codes, Some, None, if◌then◌else◌}
+use Rattle.std.specs.Prelude.{ℕ, Bool, true, false, ◌==◌, nat_le, List, [], ◌∷◌, codes, Some, None}
+use Rattle.std.specs.Prelude.{if◌then◌else◌}
 use Rattle.std.specs.declared.option.Option.{Option}
 use Rattle.std.specs.Option.{option_and_then}
 use Rattle.cred_spelling.specs.Spellings.{letter, number_of, long_of}

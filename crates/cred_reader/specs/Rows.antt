@@ -2,11 +2,18 @@
 -- what it is answered where none comes. The numbers of an answer don't matter.
 use Rattle.std.specs.Prelude.{ℕ, Bool, true, false, nat_lt, IsTrue, if◌then◌else◌}
 use Rattle.cred_caps.specs.Numbers.{LAST}
-use Rattle.cred_event.specs.declared.answer.Named.TheVariants.{Task, Process, Label, File, Broadcast}
+use Rattle.cred_event.specs.declared.answer.Named.TheVariants.{Task, Process, Label, File}
+use Rattle.cred_event.specs.declared.answer.Named.TheVariants.{Broadcast}
 use Rattle.cred_event.specs.declared.answer.Counted.TheVariants.{Tasks, Files, Holds, Prepared}
 use Rattle.cred_event.specs.declared.answer.Told.TheVariants.{Ids, Caps, Groups, Bits, Flag}
 use Rattle.cred_event.specs.declared.answer.Answer.{Answer}
-use Rattle.cred_event.specs.declared.answer.Answer.TheVariants.{Done, Sealed, Kept, Was, Executed, Began, Acted, Told, Eperm, Einval, Eacces, Ebadf, NoTask, NoHold, NoPrepared, NoBroadcast, Busy, Exists, Overridden, NotOverridden, TooDeep, Stale, TooMany, TableFull, Aborted}
+use Rattle.cred_event.specs.declared.answer.Answer.TheVariants.{Done, Sealed, Kept, Was, Executed}
+use Rattle.cred_event.specs.declared.answer.Answer.TheVariants.{Began, Acted, Told, Eperm, Einval}
+use Rattle.cred_event.specs.declared.answer.Answer.TheVariants.{Eacces, Ebadf, NoTask, NoHold}
+use Rattle.cred_event.specs.declared.answer.Answer.TheVariants.{NoPrepared, NoBroadcast, Busy}
+use Rattle.cred_event.specs.declared.answer.Answer.TheVariants.{Exists, Overridden, NotOverridden}
+use Rattle.cred_event.specs.declared.answer.Answer.TheVariants.{TooDeep, Stale, TooMany, TableFull}
+use Rattle.cred_event.specs.declared.answer.Answer.TheVariants.{Aborted}
 use Rattle.cred_event.specs.declared.event.Change.{Change}
 use Rattle.cred_event.specs.declared.event.Change.TheVariants as change
 use Rattle.cred_event.specs.declared.event.Query.{Query}

@@ -1,5 +1,6 @@
 //! Entries.
-ghost use Rattle.std.specs.Prelude.{◌≡◌, ◌<◌, ◌+◌, IfOk, IfSome, Some, drop, length, position, take};
+ghost use Rattle.std.specs.Prelude.{◌≡◌, ◌<◌, ◌+◌, IfOk, IfSome, Some, drop, length, position};
+ghost use Rattle.std.specs.Prelude.{take};
 ghost use Rattle.cred_event.specs.declared.entry.Entry.{Entry as SeenEntry};
 ghost use Rattle.cred_spelling.specs.Read.{nows};
 ghost use Rattle.cred_script.specs.Read.{GivesLine};

@@ -1,5 +1,7 @@
 -- A credential laid out in words of 64 bits, and what words are a credential's.
-use Rattle.std.specs.Prelude.{◌≡◌, ◌==◌, ℕ, zero, suc, ◌+◌, ◌-◌, ◌*◌, ◌/◌, ◌%◌, ◌^◌, Bool, true, ◌&&◌, nat_eq, nat_lt, nat_le, List, [], ◌∷◌, length, take, drop, slice_index}
+use Rattle.std.specs.Prelude.{◌≡◌, ◌==◌, ℕ, zero, suc, ◌+◌, ◌-◌, ◌*◌, ◌/◌, ◌%◌, ◌^◌, Bool, true}
+use Rattle.std.specs.Prelude.{◌&&◌, nat_eq, nat_lt, nat_le, List, [], ◌∷◌, length, take, drop}
+use Rattle.std.specs.Prelude.{slice_index}
 use Rattle.std.specs.Int.{from_bool}
 use Rattle.std.specs.List.{list_all}
 use Rattle.std.specs.Cmp.Lexicographic.{pointwise}
@@ -9,7 +11,10 @@ use Rattle.cred_ids.specs.Groups.{LIMIT}
 use Rattle.cred_ids.specs.Ordered.{in_order}
 use Rattle.cred_caps.specs.Caps.{Caps, is_within}
 use Rattle.cred_record.specs.Credential.{Credential, AreValidSets}
-use Rattle.cred_record.specs.declared.layout.TheConstants.{WORDS, USER, SAVED_USER, GROUP, SAVED_GROUP, PERMITTED, INHERITABLE, EFFECTIVE, BOUNDING, AMBIENT, FLAGS, NAMESPACE, GROUPS}
+use Rattle.cred_record.specs.declared.layout.TheConstants.{WORDS, USER, SAVED_USER, GROUP}
+use Rattle.cred_record.specs.declared.layout.TheConstants.{SAVED_GROUP, PERMITTED, INHERITABLE}
+use Rattle.cred_record.specs.declared.layout.TheConstants.{EFFECTIVE, BOUNDING, AMBIENT, FLAGS}
+use Rattle.cred_record.specs.declared.layout.TheConstants.{NAMESPACE, GROUPS}
 
 -- ---- the layout
 

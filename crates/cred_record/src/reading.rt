@@ -1,8 +1,10 @@
 //! A credential read from words.
-ghost use Rattle.std.specs.Prelude.{◌≡◌, ◌↔◌, IsTrue, ◌<◌, ◌-◌, ◌*◌, ◌/◌, ◌%◌, ◌^◌, drop, Some, true, IfOk, IfSome, IfNone, slice_index};
+ghost use Rattle.std.specs.Prelude.{◌≡◌, ◌↔◌, IsTrue, ◌<◌, ◌-◌, ◌*◌, ◌/◌, ◌%◌, ◌^◌, drop, Some};
+ghost use Rattle.std.specs.Prelude.{true, IfOk, IfSome, IfNone, slice_index};
 ghost use Rattle.std.specs.Option.{SomeIff};
 ghost use Rattle.cred_record.specs.Credential.{Credential, AreValidSets};
-ghost use Rattle.cred_record.specs.Words.{are_ids, ids_of, unpaired, IsCredential, words_of, credential_of, are_words, AreSetsOf};
+ghost use Rattle.cred_record.specs.Words.{are_ids, ids_of, unpaired, IsCredential, words_of};
+ghost use Rattle.cred_record.specs.Words.{credential_of, are_words, AreSetsOf};
 
 use crate::cred::Cred;
 use crate::layout::{

@@ -29,7 +29,7 @@ pub text_more : (script : Script) (journal : List Entry) (at end : ℕ) → at �
 text_more script journal at end le within =
     ap (text script) (take_range journal at end le within) ∙ flat_map-append (entry_text script) (take at journal) (slice_range journal at end)
 
--- a front of what follows a front
+-- a prefix of what follows a prefix
 pub take_past : (n : ℕ) (xs ys zs : List ℕ) → take (length xs + length (take n ys)) (xs ++ (ys ++ zs)) ≡ xs ++ take n ys
 take_past n xs ys zs =
     take-append-add xs (ys ++ zs) (length (take n ys))

@@ -1,13 +1,20 @@
 -- The text of an answer.
 use Rattle.std.specs.Prelude.{ℕ, List, ◌++◌, codes, decimal}
 use Rattle.cred_event.specs.declared.answer.Named.{Named}
-use Rattle.cred_event.specs.declared.answer.Named.TheVariants.{Task, Process, Label, File, Broadcast}
+use Rattle.cred_event.specs.declared.answer.Named.TheVariants.{Task, Process, Label, File}
+use Rattle.cred_event.specs.declared.answer.Named.TheVariants.{Broadcast}
 use Rattle.cred_event.specs.declared.answer.Counted.{Counted}
 use Rattle.cred_event.specs.declared.answer.Counted.TheVariants.{Tasks, Files, Holds, Prepared}
 use Rattle.cred_event.specs.declared.answer.AbortCause.{AbortCause}
 use Rattle.cred_event.specs.declared.answer.AbortCause.TheVariants.{Perm, Full}
 use Rattle.cred_event.specs.declared.answer.Answer.{Answer}
-use Rattle.cred_event.specs.declared.answer.Answer.TheVariants.{Done, Sealed, Kept, Was, Executed, Began, Acted, Told, Eperm, Einval, Eacces, Ebadf, NoTask, NoHold, NoPrepared, NoBroadcast, Busy, Exists, Overridden, NotOverridden, TooDeep, Stale, TooMany, TableFull, Aborted}
+use Rattle.cred_event.specs.declared.answer.Answer.TheVariants.{Done, Sealed, Kept, Was, Executed}
+use Rattle.cred_event.specs.declared.answer.Answer.TheVariants.{Began, Acted, Told, Eperm, Einval}
+use Rattle.cred_event.specs.declared.answer.Answer.TheVariants.{Eacces, Ebadf, NoTask, NoHold}
+use Rattle.cred_event.specs.declared.answer.Answer.TheVariants.{NoPrepared, NoBroadcast, Busy}
+use Rattle.cred_event.specs.declared.answer.Answer.TheVariants.{Exists, Overridden, NotOverridden}
+use Rattle.cred_event.specs.declared.answer.Answer.TheVariants.{TooDeep, Stale, TooMany, TableFull}
+use Rattle.cred_event.specs.declared.answer.Answer.TheVariants.{Aborted}
 use Rattle.cred_report.specs.Numbers.{set_text}
 use Rattle.cred_report.specs.Told.{told_text}
 

@@ -2,9 +2,13 @@
 use Rattle.std.specs.Prelude.{ℕ, List, ◌++◌, codes, decimal}
 use Rattle.cred_ids.specs.declared.id.Kind.TheVariants.{User, Group}
 use Rattle.cred_record.specs.declared.id_call.IdCall.{IdCall}
-use Rattle.cred_record.specs.declared.id_call.IdCall.TheVariants.{SetUid, SetEuid, SetReuid, SetResuid, SetGid, SetEgid, SetRegid, SetResgid, SetGroups}
+use Rattle.cred_record.specs.declared.id_call.IdCall.TheVariants.{SetUid, SetEuid, SetReuid}
+use Rattle.cred_record.specs.declared.id_call.IdCall.TheVariants.{SetResuid, SetGid, SetEgid}
+use Rattle.cred_record.specs.declared.id_call.IdCall.TheVariants.{SetRegid, SetResgid, SetGroups}
 use Rattle.cred_record.specs.declared.adj_call.AdjCall.{AdjCall}
-use Rattle.cred_record.specs.declared.adj_call.AdjCall.TheVariants.{Capset, BoundDrop, AmbRaise, AmbLower, AmbClear, Bits, KeepCaps, NoNewPrivs}
+use Rattle.cred_record.specs.declared.adj_call.AdjCall.TheVariants.{Capset, BoundDrop, AmbRaise}
+use Rattle.cred_record.specs.declared.adj_call.AdjCall.TheVariants.{AmbLower, AmbClear, Bits}
+use Rattle.cred_record.specs.declared.adj_call.AdjCall.TheVariants.{KeepCaps, NoNewPrivs}
 use Rattle.cred_event.specs.declared.event.Change.{Change}
 use Rattle.cred_event.specs.declared.event.Change.TheVariants.{SetFs, Adjust, Exec, Access}
 use Rattle.cred_model.specs.Script.{Script}

@@ -1,9 +1,11 @@
 -- The text of a question about a credential, and of what it names.
-use Rattle.std.specs.Prelude.{ℕ, List, [], ◌++◌, slice_get, None, Some, codes, decimal, if◌then◌else◌}
+use Rattle.std.specs.Prelude.{ℕ, List, [], ◌++◌, slice_get, None, Some, codes, decimal}
+use Rattle.std.specs.Prelude.{if◌then◌else◌}
 use Rattle.std.specs.declared.option.Option.{Option}
 use Rattle.cred_record.specs.declared.want.Want.{Want}
 use Rattle.cred_event.specs.declared.event.Query.{Query}
-use Rattle.cred_event.specs.declared.event.Query.TheVariants.{Ids, Caps, Groups, Bits, Capable, Bset, AmbIs, Check}
+use Rattle.cred_event.specs.declared.event.Query.TheVariants.{Ids, Caps, Groups, Bits, Capable}
+use Rattle.cred_event.specs.declared.event.Query.TheVariants.{Bset, AmbIs, Check}
 use Rattle.cred_model.specs.Script.{Script, NamedFile}
 
 -- Where there is no file there is no name. An entry of a script names only the files that it

@@ -8,8 +8,8 @@ use itoa::write_digits;
 use std::alloc::Global;
 use std::marker::Model;
 
-/// Room for the parts of one entry, but for names and lists of ids. It is more than they take, which
-/// `specs/Room.antt` adds up.
+/// Room for the parts of one entry, but for names and lists of ids. It is more than they take,
+/// which `specs/Room.antt` adds up.
 pub(crate) const PARTS: usize = 512;
 
 /// How many bytes a short word has at most.

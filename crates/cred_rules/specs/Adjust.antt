@@ -1,11 +1,13 @@
 -- The calls that change the capability sets, the securebits and no_new_privs of a task (capset(2),
 -- prctl(2), capabilities(7)). Each says what becomes of the credential, or why the call is refused:
 -- the tests stand in the order in which they are made.
-use Rattle.std.specs.Prelude.{ℕ, Bool, true, List, [], ◌∷◌, ◌==◌, ◌&&◌, ◌||◌, not, nat_lt, nat_le, Option, Some, None, Result, Ok, Err, if◌then◌else◌}
+use Rattle.std.specs.Prelude.{ℕ, Bool, true, List, [], ◌∷◌, ◌==◌, ◌&&◌, ◌||◌, not, nat_lt, nat_le}
+use Rattle.std.specs.Prelude.{Option, Some, None, Result, Ok, Err, if◌then◌else◌}
 use Rattle.std.specs.Int.{bit_at}
 use Rattle.std.specs.List.{list_all}
 use Rattle.cred_caps.specs.declared.secure.Flag.{Flag}
-use Rattle.cred_caps.specs.declared.secure.Flag.TheVariants.{NoRoot, NoSetuidFixup, KeepCaps, NoAmbientRaise}
+use Rattle.cred_caps.specs.declared.secure.Flag.TheVariants.{NoRoot, NoSetuidFixup, KeepCaps}
+use Rattle.cred_caps.specs.declared.secure.Flag.TheVariants.{NoAmbientRaise}
 use Rattle.cred_caps.specs.Caps.{Caps, empty, has, with, without, union, meet, is_within}
 use Rattle.cred_caps.specs.Numbers.{LAST, SETPCAP}
 use Rattle.cred_caps.specs.Secure.{place, is_set, is_locked, with_flag}

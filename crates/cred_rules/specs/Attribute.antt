@@ -3,7 +3,9 @@
 -- linux/capability.h, `struct vfs_cap_data` and `struct vfs_ns_cap_data`). What stands between the
 -- two is a relation, which says what each bit means: no way to read bytes, and none to write them.
 -- It is a function too (`attribute_of`), by a law of `cred_filecap`.
-use Rattle.std.specs.Prelude.{◌≡◌, ◌⊎◌, ℕ, ◌+◌, ◌*◌, ◌%◌, ◌^◌, ◌<◌, ◌==◌, ◌&&◌, ◌||◌, not, nat_lt, Bool, false, IsTrue, List, Option, Some, None, length, slice_index, if◌then◌else◌}
+use Rattle.std.specs.Prelude.{◌≡◌, ◌⊎◌, ℕ, ◌+◌, ◌*◌, ◌%◌, ◌^◌, ◌<◌, ◌==◌, ◌&&◌, ◌||◌, not, nat_lt}
+use Rattle.std.specs.Prelude.{Bool, false, IsTrue, List, Option, Some, None, length, slice_index}
+use Rattle.std.specs.Prelude.{if◌then◌else◌}
 use Rattle.std.specs.Int.{bit_at}
 use Rattle.std.specs.List.{list_any}
 use Rattle.cred_caps.specs.Caps.{Caps, IsCap, IsCaps, full, has, meet}

@@ -1,7 +1,8 @@
 -- What execve(2) makes of the credential of a task, and what that gains (execve(2), inode(7);
 -- capabilities(7), "Transformation of capabilities during execve()"). `root` is the user id of
 -- root, and `a` the capability attribute of the file, where the file has one that counts.
-use Rattle.std.specs.Prelude.{ℕ, Bool, true, false, List, ◌==◌, ◌&&◌, ◌||◌, not, Option, Some, None, Result, Ok, Err, if◌then◌else◌}
+use Rattle.std.specs.Prelude.{ℕ, Bool, true, false, List, ◌==◌, ◌&&◌, ◌||◌, not, Option, Some, None}
+use Rattle.std.specs.Prelude.{Result, Ok, Err, if◌then◌else◌}
 use Rattle.std.specs.Option.{is_some}
 use Rattle.cred_ids.specs.declared.id.Ids4.{Ids4}
 use Rattle.cred_caps.specs.declared.secure.Flag.TheVariants.{NoRoot, KeepCaps}

@@ -9,7 +9,8 @@ use Rattle.cred_ids.specs.declared.arg.Arg.{Arg}
 use Rattle.cred_ids.specs.declared.arg.Arg.TheVariants.{Keep, Set}
 use Rattle.cred_caps.specs.declared.secure.Flag.TheVariants.{NoSetuidFixup}
 use Rattle.cred_caps.specs.Caps.{Caps, union, meet, less, caps_of}
-use Rattle.cred_caps.specs.Numbers.{CHOWN, DAC_OVERRIDE, DAC_READ_SEARCH, FOWNER, FSETID, SETGID, SETUID, LINUX_IMMUTABLE, MKNOD, MAC_OVERRIDE}
+use Rattle.cred_caps.specs.Numbers.{CHOWN, DAC_OVERRIDE, DAC_READ_SEARCH, FOWNER, FSETID, SETGID}
+use Rattle.cred_caps.specs.Numbers.{SETUID, LINUX_IMMUTABLE, MKNOD, MAC_OVERRIDE}
 use Rattle.cred_caps.specs.Secure.{is_set}
 use Rattle.cred_record.specs.Credential.{Credential, ROOT, has_cap}
 

@@ -4,4 +4,4 @@ use Rattle.cred_spelling.specs.declared.reason.Reason.{Reason}
 use Rattle.cred_spelling.specs.Words.{◌>>=◌}
 
 abbrev pub with_ids : List ℕ → Result (List ℕ) Reason → Result (List ℕ) Reason
-with_ids front given = given >>= λ ids. Ok (front ++ ids)
+with_ids before given = given >>= λ ids. Ok (before ++ ids)

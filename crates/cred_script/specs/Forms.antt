@@ -3,7 +3,9 @@
 -- what they spell.
 use Rattle.std.specs.Prelude.{ℕ, List, ◌∷◌, Result, Ok, Err, ok_or}
 use Rattle.cred_event.specs.declared.event.Event.{Event}
-use Rattle.cred_event.specs.declared.event.Event.TheVariants.{Init, Take, TakeFile, Release, Ask, Prepare, Alter, Commit, Abort, Override, Revert, Begin, Act, Sweep}
+use Rattle.cred_event.specs.declared.event.Event.TheVariants.{Init, Take, TakeFile, Release, Ask}
+use Rattle.cred_event.specs.declared.event.Event.TheVariants.{Prepare, Alter, Commit, Abort}
+use Rattle.cred_event.specs.declared.event.Event.TheVariants.{Override, Revert, Begin, Act, Sweep}
 use Rattle.cred_event.specs.declared.event.Side.{Side}
 use Rattle.cred_event.specs.declared.event.Side.TheVariants.{Subjective, Objective}
 use Rattle.cred_event.specs.declared.content.Content.TheVariants.{One}
@@ -15,7 +17,8 @@ use Rattle.cred_spelling.specs.declared.names.EventName.TheVariants as name
 use Rattle.cred_spelling.specs.declared.reason.Reason.{Reason}
 use Rattle.cred_spelling.specs.declared.reason.Reason.TheVariants.{Word, Count}
 use Rattle.cred_spelling.specs.Names as names
-use Rattle.cred_spelling.specs.Spellings.{id_of, task_of, process_of, label_of, descriptor_of, line_number_of, namespace_of, new_namespace_of, parent_of}
+use Rattle.cred_spelling.specs.Spellings.{id_of, task_of, process_of, label_of, descriptor_of}
+use Rattle.cred_spelling.specs.Spellings.{line_number_of, namespace_of, new_namespace_of, parent_of}
 use Rattle.cred_spelling.specs.Words.{◌>>=◌, word_of, no_words, one_of, two_of, three_of, five_of}
 use Rattle.cred_script.specs.declared.forms.Parsed.{Parsed}
 use Rattle.cred_script.specs.declared.forms.Parsed.TheVariants.{File, Namespace, Starts, Holds}
@@ -69,8 +72,8 @@ begin_of (caller ∷ called ∷ words) = do
   Ok (Begin task made)
 begin_of words = Err Count
 
--- An event, by its name. `prepare` has the new label, the task, and the hold that it is based on, `act` the
--- number of the line that began the broadcast.
+-- An event, by its name. `prepare` has the new label, the task, and the hold that it is based on,
+-- `act` the number of the line that began the broadcast.
 unfoldable pub event_of : List NamedFile → EventName → List (List ℕ) → Result Event Reason
 event_of files name.Take words = take_of Subjective words
 event_of files name.TakeReal words = take_of Objective words

@@ -1,5 +1,6 @@
 -- What script a text is, or its first bad line and the reason.
-use Rattle.std.specs.Prelude.{ℕ, ◌+◌, ◌-◌, ◌==◌, List, [], ◌∷◌, length, slice_get, Result, Ok, Err, ok_or, None, if◌then◌else◌}
+use Rattle.std.specs.Prelude.{ℕ, ◌+◌, ◌-◌, ◌==◌, List, [], ◌∷◌, length, slice_get, Result, Ok, Err}
+use Rattle.std.specs.Prelude.{ok_or, None, if◌then◌else◌}
 use Rattle.std.specs.declared.option.Option.{Option}
 use Rattle.cred_model.specs.Script.{Script, Line}
 use Rattle.cred_spelling.specs.declared.reason.Reason.{Reason}

@@ -1,7 +1,10 @@
 -- What is true of the lines of every script.
-use Rattle.std.specs.Prelude.{◌≡◌, ℕ, ◌≤◌, ◌<◌, List, [], ◌∷◌, length, All, AllPairs, IsSome, None, ⊤}
+use Rattle.std.specs.Prelude.{◌≡◌, ℕ, ◌≤◌, ◌<◌, List, [], ◌∷◌, length, All, AllPairs, IsSome, None}
+use Rattle.std.specs.Prelude.{⊤}
 use Rattle.cred_event.specs.declared.event.Event.{Event}
-use Rattle.cred_event.specs.declared.event.Event.TheVariants.{Take, TakeFile, Release, Ask, Signal, Prepare, Alter, Commit, Abort, Override, OpenFile}
+use Rattle.cred_event.specs.declared.event.Event.TheVariants.{Take, TakeFile, Release, Ask, Signal}
+use Rattle.cred_event.specs.declared.event.Event.TheVariants.{Prepare, Alter, Commit, Abort}
+use Rattle.cred_event.specs.declared.event.Event.TheVariants.{Override, OpenFile}
 use Rattle.cred_event.specs.declared.entry.TheConstants.{LINE_LIMIT}
 use Rattle.cred_event.specs.declared.content.Content.{Content}
 use Rattle.cred_event.specs.declared.content.Content.TheVariants.{One}

@@ -1,5 +1,6 @@
 //! The files that a script declares.
-ghost use Rattle.std.specs.Prelude.{◌≡◌, ◌<◌, ◌∷◌, ◌++◌, [], IfSome, None, Some, OnErr, OnOk, length, nat_lt, not, slice_get};
+ghost use Rattle.std.specs.Prelude.{◌≡◌, ◌<◌, ◌∷◌, ◌++◌, [], IfSome, None, Some, OnErr, OnOk};
+ghost use Rattle.std.specs.Prelude.{length, nat_lt, not, slice_get};
 ghost use Rattle.std.specs.Option.{option_map};
 ghost use Rattle.cred_spelling.specs.Read.{Says};
 ghost use Rattle.cred_script.specs.Files as spec;

@@ -4,9 +4,9 @@
 //! added one after another to what was read before them. `IdCalls`, `Changes`, `Questions`,
 //! `Calls`, `Files` and `Forms` say what the words of each form are, `Namespaces` which root ids a
 //! declared namespace has, `Reading` what was read before a line, what that asks of the line and
-//! what the line adds to it. `Grammar` puts these together, and `read` answers exactly that. `Sound`
-//! says what is true of each script, and `Kept` how it keeps its files. How a text is split, what a
-//! word spells and the tables of keywords stand in `cred_spelling`.
+//! what the line adds to it. `Grammar` puts these together, and `read` answers exactly that.
+//! `Sound` says what is true of each script, and `Kept` how it keeps its files. How a text is
+//! split, what a word spells and the tables of keywords stand in `cred_spelling`.
 #![tactic(auto)]
 
 mod calls;

@@ -1,7 +1,8 @@
 //! What a call gives the four ids of its kind, or why it is refused. `able` says whether the caller
 //! has the capability of the kind, CAP_SETUID or CAP_SETGID.
 ghost use Rattle.std.specs.Prelude.{◌≡◌};
-ghost use Rattle.cred_rules.specs.SetId.{id_or, is_given, is_other, is_one_of, after_setuid, after_setreuid, after_setresuid, after_seteuid};
+ghost use Rattle.cred_rules.specs.SetId.{id_or, is_given, is_other, is_one_of, after_setuid};
+ghost use Rattle.cred_rules.specs.SetId.{after_setreuid, after_setresuid, after_seteuid};
 
 use cred_ids::{Arg, Id, Ids4};
 use cred_record::Denial;

@@ -122,10 +122,10 @@ row_fits {rows = rows} {deferred = deferred} s slot within =
       count-le-length late_count rows slot (omega (arith, s.all_rows)),
     )
 
-slice_get-front : (xs ys : List ℕ) (i x : ℕ) → slice_get xs i ≡ Some x → slice_get (xs ++ ys) i ≡ Some x
-slice_get-front [] ys i x e = cc
-slice_get-front (y ∷ xs) ys zero x e = e
-slice_get-front (y ∷ xs) ys (suc i) x e = slice_get-front xs ys i x e
+slice_get-prefix : (xs ys : List ℕ) (i x : ℕ) → slice_get xs i ≡ Some x → slice_get (xs ++ ys) i ≡ Some x
+slice_get-prefix [] ys i x e = cc
+slice_get-prefix (y ∷ xs) ys zero x e = e
+slice_get-prefix (y ∷ xs) ys (suc i) x e = slice_get-prefix xs ys i x e
 
 slice_get-last : (xs : List ℕ) (y : ℕ) → slice_get (xs ++ y ∷ []) (length xs) ≡ Some y
 slice_get-last [] y = refl
@@ -170,7 +170,7 @@ seal-sound {rows = rows} {sealed = sealed} {deferred = deferred} {kept = kept} {
       places = λ n p e. elim (slice_get-of_push sealed slot n p e) [ inl old ↦ s.places n p old | inr new ↦ omega arith ];
       stands = each_row-set (λ k r. 0 < r.held + r.late → slice_get (sealed ++ slot ∷ []) r.number ≡ Some k) rows slot row s.all_rows within
           (λ _. rw next (slice_get-last sealed slot))
-          (λ k h lt. slice_get-front sealed (slot ∷ []) _ k (s.stands k h lt));
+          (λ k h lt. slice_get-prefix sealed (slot ∷ []) _ k (s.stands k h lt));
       keeps = λ k h kept_k. elim (cases_eq k slot) [
         | inl same ↦
             let gone : get_or (slice_set kept slot false) slot false ≡ false = get_or-set_same kept slot false false in_kept in

@@ -1,5 +1,6 @@
 -- 256 flags as the bits of four words.
-use Rattle.std.specs.Prelude.{ℕ, ◌/◌, ◌%◌, ◌==◌, Bool, false, not, ◌||◌, List, map, find, slice_index, slice_index_or}
+use Rattle.std.specs.Prelude.{ℕ, ◌/◌, ◌%◌, ◌==◌, Bool, false, not, ◌||◌, List, map, find}
+use Rattle.std.specs.Prelude.{slice_index, slice_index_or}
 use Rattle.std.specs.declared.option.Option.{Option}
 use Rattle.std.specs.Int.{bit_at}
 use Rattle.cred_slots.specs.Table.{slots}

@@ -1,5 +1,6 @@
 //! One flag for each slot.
-ghost use Rattle.std.specs.Prelude.{◌≡◌, ◌≢◌, ℕ, ◌<◌, map, false, slice_set, if◌then◌else◌, MatchOption};
+ghost use Rattle.std.specs.Prelude.{◌≡◌, ◌≢◌, ℕ, ◌<◌, map, false, slice_set, if◌then◌else◌};
+ghost use Rattle.std.specs.Prelude.{MatchOption};
 ghost use Rattle.std.specs.Int.{bit_at};
 ghost use Rattle.cred_slots.specs.Table.{SLOTS, slots};
 ghost use Rattle.cred_slots.specs.Flags.{in_either, first_unset};

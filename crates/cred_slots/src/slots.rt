@@ -1,6 +1,10 @@
 //! The table of slots.
-ghost use Rattle.std.specs.Prelude.{◌≡◌, ℕ, ◌<◌, ◌+◌, ◌-◌, ◌++◌, [], ◌∷◌, length, max, false, true, slice_get, slice_set, count_by, ◌==◌, IfOk, OnOk, OnErr, IfSome, IfNone, IsTrue};
-ghost use Rattle.cred_slots.specs.Table.{SLOTS, empty, references_to, uses, stands_in, is_kept, is_live, least_free, swept, room, free, IsSameBag, IsAlone};
+ghost use Rattle.std.specs.Prelude.{◌≡◌, ℕ, ◌<◌, ◌+◌, ◌-◌, ◌++◌, [], ◌∷◌, length, max, false, true};
+ghost use Rattle.std.specs.Prelude.{slice_get, slice_set, count_by, ◌==◌, IfOk, OnOk, OnErr};
+ghost use Rattle.std.specs.Prelude.{IfSome, IfNone, IsTrue};
+ghost use Rattle.cred_slots.specs.Table.{SLOTS, empty, references_to, uses, stands_in, is_kept};
+ghost use Rattle.cred_slots.specs.Table.{is_live, least_free, swept, room, free, IsSameBag};
+ghost use Rattle.cred_slots.specs.Table.{IsAlone};
 
 use crate::flags::Flags;
 use crate::row::{Row, UNUSED, forget_late};

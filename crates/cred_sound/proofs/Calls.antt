@@ -1,4 +1,5 @@
--- What the calls of a task change: those that set ids, and those by which tasks are born and end.
+-- What the calls of a task change: those that set ids, and those by which tasks are created and
+-- end.
 use Rattle.std.proofs.Common.{◌≡◌, ◌-◌, ℕ, List, [], ◌∷◌, ◌++◌, length, slice_get, Some, Result, Ok, Err, Bool, false, refl, sym, ap, ◌∙◌}
 use Rattle.std.specs.List.{All, Contains, find}
 use Rattle.std.specs.Option.{option_and_then}

@@ -17,7 +17,7 @@ use Rattle.cred_model.specs.Moves.{TASKS, ◌>>=◌, fewer_or, table_full, first
 use Rattle.cred_model.specs.Step.{step}
 use Rattle.cred_sound.specs.Few.{TasksAreFew}
 use Rattle.cred_sound.proofs.Tests.{IfAllowed, outcome_has, if_some, if_none, if_idle, if_own, in_slots}
-use Rattle.cred_sound.proofs.Parts.{TasksChange, Birth, BySpawn, ByFork, SameTasks, Creates, Shares, Renews, Overrides, Fewer}
+use Rattle.cred_sound.proofs.Parts.{TasksChange, Creation, BySpawn, ByFork, SameTasks, Creates, Shares, Renews, Overrides, Fewer}
 use Rattle.cred_sound.proofs.Events.{changes}
 
 abbrev AreFew : Answer × State → Type 0
@@ -79,11 +79,11 @@ fewer_live ends tasks =
     let stays : Task → Bool = λ t. not (ends t) in
     omega (arith, length-filter stays tasks, count_by-le-length stays tasks)
 
-born_few : (script : Script) (s : State) (line : ℕ) (event : Event) (task child process : ℕ) → length s.tasks ≤ TASKS
-    → Birth s event task child process (step script s line event) → AreFew (step script s line event)
-born_few script s line event task child process few (BySpawn owner is found of casts) =
+created_few : (script : Script) (s : State) (line : ℕ) (event : Event) (task child process : ℕ) → length s.tasks ≤ TASKS
+    → Creation s event task child process (step script s line event) → AreFew (step script s line event)
+created_few script s line event task child process few (BySpawn owner is found of casts) =
     subst (λ e. AreFew (step script s line e)) (sym is) (spawn_few script s line task child few)
-born_few script s line event task child process few (ByFork is unused casts) =
+created_few script s line event task child process few (ByFork is unused casts) =
     subst (λ e. AreFew (step script s line e)) (sym is) (fork_few script s line task child process few)
 
 kept_few : (script : Script) (s : State) (line : ℕ) (event : Event) → length s.tasks ≤ TASKS
@@ -92,8 +92,8 @@ kept_few script s line event few (SameTasks same casts) =
     let long = ap (λ (ts : List Task). length ts) same in omega (arith, long, few)
 kept_few script s line event few (Creates task process user group ns slot is tasks creds new idle casts) =
     subst (λ e. AreFew (step script s line e)) (sym is) (init_few script s line task process user group ns few)
-kept_few script s line event few (Shares task child process parent tasks creds current new birth) =
-    born_few script s line event task child process few birth
+kept_few script s line event few (Shares task child process parent tasks creds current new creation) =
+    created_few script s line event task child process few creation
 kept_few script s line event few (Renews task slot owner c ends tasks creds found cause) =
     let long = ap (λ (ts : List Task). length ts) tasks ∙ length-map (survivors ends s.tasks) (updated task (length s.creds)) in
     omega (arith, long, fewer_live ends s.tasks, few)

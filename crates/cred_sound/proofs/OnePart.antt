@@ -96,7 +96,7 @@ with_tasks script s event answer left tasks casts c slot deferred fewer free cha
       deferred = refer;
     }
 
--- tasks are born or end, and nothing is sealed
+-- tasks are created or end, and nothing is sealed
 pub only_tasks : (script : Script) (s : State) (event : Event) (answer : Answer) (left : List ℕ) (tasks : List Task) (casts : List Broadcast)
     (deferred : List ℕ)
     → let t = record s { tasks = tasks; casts = casts; deferred = deferred } in

@@ -14,7 +14,7 @@ use Rattle.cred_model.specs.Step.{ends_with}
 use Rattle.cred_model.proofs.Numbers.{overriding_as, overriding_number, owner_number, updated_as, updated_number}
 use Rattle.cred_sound.specs.Casts.{IsThread}
 use Rattle.cred_sound.specs.Sound.{IsSound}
-use Rattle.cred_sound.proofs.Parts.{TasksChange, Cause, Birth, Death, casts_left, ByBegin, ByAct, ByCommit, BySpawn, ByFork, ByExit, ByAbort, SameTasks, Creates, Shares, Renews, Overrides, Fewer}
+use Rattle.cred_sound.proofs.Parts.{TasksChange, Cause, Creation, Death, casts_left, ByBegin, ByAct, ByCommit, BySpawn, ByFork, ByExit, ByAbort, SameTasks, Creates, Shares, Renews, Overrides, Fewer}
 use Rattle.cred_sound.proofs.Threads.{AreOpen, is_thread, thread_among, thread_kept, thread_stays, open_with, open_begun, open_left, open_joined, open_dropped}
 use Rattle.cred_sound.proofs.Unique.{none_has}
 
@@ -88,14 +88,14 @@ renewed_open s event task owner ends made c (ByCommit label place slot count p l
     let now = with_current (survivors ends s.tasks) task (length s.creds) in
     subst (AreOpen now) (sym casts) (commit_open s owner ends task (length s.creds) last.change ending (sound_open s sound))
 
-born_open : (s : State) (event : Event) (task child process n : ℕ) (made : Answer × State) → Birth s event task child process made
+created_open : (s : State) (event : Event) (task child process n : ℕ) (made : Answer × State) → Creation s event task child process made
     → task_of s child ≡ None → IsSound s → AreOpen (s.tasks ++ first_task child process n ∷ []) made.1.casts
-born_open s event task child process n made (BySpawn owner is found of casts) none sound =
+created_open s event task child process n made (BySpawn owner is found of casts) none sound =
     let new = first_task child process n in
     subst (AreOpen (s.tasks ++ new ∷ [])) (sym casts)
     (open_joined s.tasks s.casts task new none
     (is_thread s.tasks process task (record { task = owner; is = found; of = sym of })) (sound_open s sound))
-born_open s event task child process n made (ByFork is unused casts) none sound =
+created_open s event task child process n made (ByFork is unused casts) none sound =
     let new = first_task child process n in
     subst (AreOpen (s.tasks ++ new ∷ [])) (sym casts)
     (open_with s.tasks (s.tasks ++ new ∷ []) s.casts (thread_among s.tasks (new ∷ [])) (sound_open s sound))
@@ -127,8 +127,8 @@ casts_open s event made (Creates task process user group ns slot is tasks creds 
     let more = first_task task process (length s.creds) ∷ [] in
     settled (s.tasks ++ more) s.casts made.1 tasks casts
     (open_with s.tasks (s.tasks ++ more) s.casts (thread_among s.tasks more) (sound_open s sound))
-casts_open s event made (Shares task child process parent tasks creds current new birth) sound =
-    settled _ made.1.casts made.1 tasks refl (born_open s event task child process parent.number made birth new sound)
+casts_open s event made (Shares task child process parent tasks creds current new creation) sound =
+    settled _ made.1.casts made.1 tasks refl (created_open s event task child process parent.number made creation new sound)
 casts_open s event made (Renews task slot owner c ends tasks creds found cause) sound =
     settled _ made.1.casts made.1 tasks refl (renewed_open s event task owner ends made c cause found sound)
 casts_open s event made (Overrides task numbers tasks refer casts) sound =

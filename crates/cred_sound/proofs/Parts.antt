@@ -75,8 +75,9 @@ abbrev pub casts_left : Change → Task → List Broadcast → List Broadcast
 casts_left (Exec file) owner casts = dropped owner.process casts
 casts_left change owner casts = casts
 
--- Why a task's new credential comes in the place of its old one, and what becomes of the broadcasts:
--- it is what a call makes of that, the task's own or one that it follows, or what a label prepared.
+-- Why a task's new credential comes in the place of its old one, and what becomes of the
+-- broadcasts: it is what a call makes of that, the task's own or one that it follows, or what a
+-- label prepared.
 pub data Cause (s : State) (event : Event) (task : ℕ) (owner : Task) (ends : Task → Bool) (c : Credential) (made : Answer × State) : Type 0 where
   ByBegin : (call : IdCall) (before : Numbered) (number slot : ℕ) → event ≡ Begin task call → current_of s task ≡ Some before
       → set_id before.cred call ≡ Ok c → cast_of s number ≡ None → cast_in s owner.process ≡ None → ends ≡ (λ t. false)
@@ -91,16 +92,16 @@ pub data Cause (s : State) (event : Event) (task : ℕ) (owner : Task) (ends : T
       → made.1.casts ≡ casts_left last.change owner s.casts → made.0 ≡ commit_answer last (length s.creds) slot count
       → Cause s event task owner ends c made
 
--- How a task is born that shares its parent's credential: as a thread of its process, which waits
--- where it waits, or as the first of another process.
-pub data Birth (s : State) (event : Event) (task child process : ℕ) (made : Answer × State) : Type 0 where
+-- How a task is created that shares its parent's credential: as a thread of its process, which
+-- waits where it waits, or as the first of another process.
+pub data Creation (s : State) (event : Event) (task child process : ℕ) (made : Answer × State) : Type 0 where
   BySpawn : (owner : Task) → event ≡ Spawn task child → task_of s task ≡ Some owner → process ≡ owner.process
-      → made.1.casts ≡ joined task child s.casts → Birth s event task child process made
+      → made.1.casts ≡ joined task child s.casts → Creation s event task child process made
   ByFork : event ≡ Fork task child process → find (is_thread_of process) s.tasks ≡ None → made.1.casts ≡ s.casts
-      → Birth s event task child process made
+      → Creation s event task child process made
 
--- How tasks end, and no other has a new credential: a task exits, or all threads of a process end, as
--- one of them can't follow.
+-- How tasks end, and no other has a new credential: a task exits, or all threads of a process end,
+-- as one of them can't follow.
 pub data Death (s : State) (event : Event) (ends : Task → Bool) (made : Answer × State) : Type 0 where
   ByExit : (task : ℕ) → event ≡ Exit task → ends ≡ is_task task → begun_by s task ≡ None
       → made.1.casts ≡ waits_no_more task s.casts → Death s event ends made
@@ -108,8 +109,8 @@ pub data Death (s : State) (event : Event) (ends : Task → Bool) (made : Answer
       → made.1.casts ≡ dropped cast.process s.casts → made.0 ≡ Aborted task cause → Death s event ends made
 
 -- The tasks and the broadcasts: as they were, a first task more, one more that shares its parent's
--- credential, one of them with a new credential, perhaps after others have ended, one that acts with
--- other credentials, or fewer.
+-- credential, one of them with a new credential, perhaps after others have ended, one that acts
+-- with other credentials, or fewer.
 pub data TasksChange (s : State) (event : Event) (made : Answer × State) : Type 0 where
   SameTasks : made.1.tasks ≡ s.tasks → made.1.casts ≡ s.casts → TasksChange s event made
   Creates : (task process user group ns slot : ℕ) → event ≡ Init task process user group ns
@@ -118,7 +119,7 @@ pub data TasksChange (s : State) (event : Event) (made : Answer × State) : Type
       → cast_in s process ≡ None → made.1.casts ≡ s.casts → TasksChange s event made
   Shares : (task child process : ℕ) (parent : Numbered)
       → made.1.tasks ≡ s.tasks ++ first_task child process parent.number ∷ [] → made.1.creds ≡ s.creds
-      → current_of s task ≡ Some parent → task_of s child ≡ None → Birth s event task child process made → TasksChange s event made
+      → current_of s task ≡ Some parent → task_of s child ≡ None → Creation s event task child process made → TasksChange s event made
   Renews : (task slot : ℕ) (owner : Task) (c : Credential) (ends : Task → Bool)
       → made.1.tasks ≡ with_current (survivors ends s.tasks) task (length s.creds)
       → made.1.creds ≡ s.creds ++ sealed_cred c slot ∷ [] → task_of s task ≡ Some owner

@@ -42,7 +42,7 @@ tasks_refer s event left made (Creates task process user group ns slot is tasks 
     subst (All (Refers (OldOrNew s left made.1))) (sym tasks)
     (All-push (Refers (OldOrNew s left made.1)) s.tasks _ old
     (record { current = inr (grows s made.1 _ creds); overrides = All-nil (OldOrNew s left made.1) }))
-tasks_refer s event left made (Shares task child process parent tasks creds current new birth) old =
+tasks_refer s event left made (Shares task child process parent tasks creds current new creation) old =
     subst (All (Refers (OldOrNew s left made.1))) (sym tasks)
     (All-push (Refers (OldOrNew s left made.1)) s.tasks _ old
     (record { current = inl (current_stands (with_left s left) task parent current); overrides = All-nil (OldOrNew s left made.1) }))

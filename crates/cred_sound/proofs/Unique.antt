@@ -42,7 +42,7 @@ tasks_differ s event made (SameTasks same casts) differ = subst (AllPairs (Diffe
 tasks_differ s event made (Creates task process user group ns slot is tasks creds new idle casts) differ =
     subst (AllPairs (Differ number_of)) (sym tasks)
     (all_pairs_push (Differ number_of) s.tasks (first_task task process _) differ (none_has number_of s.tasks task new))
-tasks_differ s event made (Shares task child process parent tasks creds current new birth) differ =
+tasks_differ s event made (Shares task child process parent tasks creds current new creation) differ =
     subst (AllPairs (Differ number_of)) (sym tasks)
     (all_pairs_push (Differ number_of) s.tasks (first_task child process _) differ (none_has number_of s.tasks child new))
 tasks_differ s event made (Renews task slot owner c ends tasks creds found cause) differ =

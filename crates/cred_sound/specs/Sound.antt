@@ -8,10 +8,10 @@ use Rattle.cred_model.specs.Journal.{replay}
 use Rattle.cred_sound.specs.Ledger.{ledger, IsOrderly}
 use Rattle.cred_sound.specs.Casts.{IsUnderWay}
 
--- No two tasks have one number, no two open files one descriptor, no two holds one label, and no two
--- prepared labels one label; nor is a prepared label a hold's. A process has one open broadcast at
--- most, no two broadcasts have one number, and each is under way. The references and the slots are
--- in order.
+-- No two tasks have one number, no two open files one descriptor, no two holds one label, and no
+-- two prepared labels one label; nor is a prepared label a hold's. A process has one open broadcast
+-- at most, no two broadcasts have one number, and each is under way. The references and the slots
+-- are in order.
 pub record IsSound (s : State) : Type 0 where
   pub tasks : AllPairs (λ a b. a.number ≢ b.number) s.tasks
   pub casts : AllPairs (λ a b. a.number ≢ b.number) s.casts

@@ -1,6 +1,7 @@
 -- The words of a line, how many of them there are, and what they spell. How many there are is asked
 -- before what they spell.
-use Rattle.std.specs.Prelude.{ℕ, not, ◌==◌, Bool, List, [], ◌∷◌, filter, length, get_or, Result, Ok, Err, ok_or, if◌then◌else◌}
+use Rattle.std.specs.Prelude.{ℕ, not, ◌==◌, Bool, List, [], ◌∷◌, filter, length, get_or, Result, Ok}
+use Rattle.std.specs.Prelude.{Err, ok_or, if◌then◌else◌}
 use Rattle.std.specs.declared.option.Option.{Option}
 use Rattle.std.specs.List.{slice_split}
 use Rattle.cred_spelling.specs.declared.reason.Reason.{Reason}

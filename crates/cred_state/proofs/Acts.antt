@@ -45,7 +45,8 @@ pub mapped_is : {X Y Z : Type 0} (f : X → Z) (g : Y → Z) (x : Option X) (y :
 mapped_is f g x y a b is here there =
     let both : Some (f a) ≡ Some (g b) = sym (ap (option_map f) here) ∙ is ∙ ap (option_map g) there in cc
 
--- The least task that waits in the broadcast of this number is this one, which is alive and of the broadcast's process.
+-- The least task that waits in the broadcast of this number is this one, which is alive and of the
+-- broadcast's process.
 pub record IsNext (s : State) (number task : ℕ) : Type 0 where
   pub cast : Broadcast
   pub found : cast_of s number ≡ Some cast
@@ -127,7 +128,8 @@ denied (Ok x) why (inr is) (inl other) = cc
 denied (Ok x) why (inr is) (inr other) = cc
 denied (Err denial) why is other = (denial, refl)
 
--- the act, where it ended the process: what was left before the end is the state in which it was made
+-- the act, where it ended the process: what was left before the end is the state in which it was
+-- made
 pub aborts_so : {E : Type 0} (s left : State) (number task : ℕ) (cause : AbortCause) (after : State) (next : IsNext s number task) (made : Result Answer E)
     → left ≡ s
     → IfOk made (λ answer. answer ≡ Aborted task cause)

@@ -143,7 +143,8 @@ goes_on {change = change} {tasks = tasks} {task = task} e =
 
 -- ---- a commit
 
--- The tasks that the commit ends have ended, and what they referred to was given up in the table `t'`.
+-- The tasks that the commit ends have ended, and what they referred to was given up in the table
+-- `t'`.
 module _ {parts : Parts} {after : List Task} {store : List (Option Credential)} {t t' : Table} (is : IsKept parts store t)
     (change : Change) (now task : ℕ) {ended_tasks : List ℕ} (e : EndsWith change parts.tasks after t t' task now ended_tasks) where
   kept_on : IsKept (record parts { tasks = after }) store t'

@@ -96,7 +96,8 @@ none_ends ts = record {
 
 -- ---- the tasks that a commit ends
 
--- The task that commits this change has this number and this current credential, and those that end with it have ended.
+-- The task that commits this change has this number and this current credential, and those that end
+-- with it have ended.
 pub record EndsWith (change : Change) (tasks after : List Task) (t t' : Table) (task now : ℕ) (ended : List ℕ) : Type 0 where
   pub owner : Task
   pub lives : find (λ u. u.number == task) tasks ≡ Some owner

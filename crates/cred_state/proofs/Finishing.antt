@@ -1,5 +1,5 @@
--- A prepared label is done: its credential is sealed in the slot that was kept for it, and its base given up. So a commit ends, and an override by
--- what was prepared for access(2).
+-- A prepared label is done: its credential is sealed in the slot that was kept for it, and its base
+-- given up. So a commit ends, and an override by what was prepared for access(2).
 use Rattle.std.proofs.Common.{◌≡◌, ◌≢◌, ℕ, List, [], ◌∷◌, ◌++◌, remove, length, slice_get, slice_set, slice_index_or, false, Option, Some, sym, ap, ◌∙◌, subst, arith}
 use Rattle.std.specs.List.{AllPairs}
 use Rattle.cred_record.specs.Credential.{Credential}
@@ -13,7 +13,8 @@ use Rattle.cred_state.proofs.InUse.{in_use-unlabel}
 use Rattle.cred_state.proofs.Labelling.{keeps-less}
 use Rattle.cred_state.proofs.Stored.{parts_in, filled-put, stored_like}
 
--- The tasks refer to the new number already, and so does the table `mid` when its references are counted; what stands there and is kept is as before.
+-- The tasks refer to the new number already, and so does the table `mid` when its references are
+-- counted; what stands there and is kept is as before.
 module _ {parts : Parts} {store : List (Option Credential)} {t : Table} (is : IsKept parts store t)
     (place : ℕ) (p : Prepared) (there : slice_get parts.prepared place ≡ Some p) (own : AllPairs (λ a b. a ≢ b) (kept (state_of parts store t)))
     (tasks : List Task) {mid : Table} (after : Table) (number : ℕ) (sealed : mid.sealed ≡ t.sealed) (keeps : mid.kept ≡ t.kept)

@@ -31,7 +31,8 @@ remove-map f xs i =
 
 -- ---- a slot is claimed
 
--- The slot was free, and is kept; a sweep was made where one was needed, and then a reference to the base was added.
+-- The slot was free, and is kept; a sweep was made where one was needed, and then a reference to
+-- the base was added.
 pub record Claims (before after : Table) (base slot : ℕ) : Type 0 where
   pub takes : table.free before ≡ Some slot
   pub held : IsSameBag after.held (base ∷ before.held)

@@ -1,4 +1,5 @@
--- What the tests of an event find of a task: its current credential, and whether it acts with another one.
+-- What the tests of an event find of a task: its current credential, and whether it acts with
+-- another one.
 use Rattle.std.proofs.Common.{◌≡◌, ℕ, ◌==◌, Bool, false, not, List, find, is_some, ok_or, Option, None, Some, Result, Ok, Err, refl, sym, ap, ◌∙◌}
 use Rattle.std.specs.Option.{IfSome, IsSome, option_and_then, option_map}
 use Rattle.cred_event.specs.declared.answer.Answer.{Answer}

@@ -97,8 +97,8 @@ refs-counted {a = a} {t = t} is k d lt =
 abbrev pub parts_in : State → Parts
 parts_in s = parts_of s.tasks s.casts s.files s.holds s.prepared
 
--- The state in which the credential is put in the slot's place is like the one in which it is sealed, since nothing else
--- that stood there is referred to any more.
+-- The state in which the credential is put in the slot's place is like the one in which it is
+-- sealed, since nothing else that stood there is referred to any more.
 pub stored_like : {parts : Parts} (store : List (Option Credential)) (t : Table) (before : List ℕ) (c : Credential) (slot : ℕ) (made : State)
     → IsKept parts (slice_set store slot (Some c)) t → t.sealed ≡ before ++ slot ∷ [] → length store ≡ SLOTS → slot < SLOTS
     → IsAlone t (length before) slot

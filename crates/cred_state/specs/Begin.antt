@@ -3,7 +3,8 @@ use Rattle.std.specs.Prelude.{◌≡◌, ℕ, List, Ok, Some, None}
 use Rattle.cred_record.specs.declared.id_call.IdCall.{IdCall}
 use Rattle.cred_event.specs.declared.answer.AbortCause.{AbortCause}
 use Rattle.cred_event.specs.declared.answer.AbortCause.TheVariants.{Perm, Full}
-use Rattle.cred_model.specs.State.{State, Task, Broadcast, Numbered, task_of, current_of, cast_of, cast_in}
+use Rattle.cred_model.specs.State.{State, Task, Broadcast, Numbered, task_of, current_of, cast_of}
+use Rattle.cred_model.specs.State.{cast_in}
 use Rattle.cred_model.specs.Slots.{swept}
 use Rattle.cred_model.specs.Casts.{others_of}
 use Rattle.cred_model.specs.Moves.{not_overridden}

@@ -1,12 +1,14 @@
 -- How the kernel's state is kept: the tasks, the open broadcasts, the open files, the holds and the
 -- prepared labels as they are, the credentials in their slots' places, and a table of slots that
 -- counts references.
-use Rattle.std.specs.Prelude.{◌≡◌, ℕ, ◌<◌, ◌≤◌, ◌==◌, List, ◌∷◌, [], ◌++◌, count_by, length, map, slice_index_or, slice_set, false, Some, None}
+use Rattle.std.specs.Prelude.{◌≡◌, ℕ, ◌<◌, ◌≤◌, ◌==◌, List, ◌∷◌, [], ◌++◌, count_by, length, map}
+use Rattle.std.specs.Prelude.{slice_index_or, slice_set, false, Some, None}
 use Rattle.std.specs.declared.option.Option.{Option}
 use Rattle.std.specs.List.{All, list_any}
 use Rattle.std.specs.Option.{IsSome, option_map_or}
 use Rattle.cred_record.specs.Credential.{Credential, first_credential}
-use Rattle.cred_model.specs.State.{State, Task, Broadcast, OpenFile, Hold, Prepared, SealedCred, Numbered}
+use Rattle.cred_model.specs.State.{State, Task, Broadcast, OpenFile, Hold, Prepared, SealedCred}
+use Rattle.cred_model.specs.State.{Numbered}
 use Rattle.cred_event.specs.declared.event.Change.{Change}
 use Rattle.cred_event.specs.declared.event.Change.TheVariants.{Exec}
 use Rattle.cred_model.specs.Casts.{dropped}
@@ -109,8 +111,8 @@ pub record Seals (before after : Table) (number slot : ℕ) : Type 0 where
   pub deferred : after.deferred ≡ (room before).deferred
   pub kept : after.kept ≡ before.kept
 
--- The next number was sealed in a slot that was kept for it, and one reference to its base was given
--- up. Nothing else that stands in the slot is referred to.
+-- The next number was sealed in a slot that was kept for it, and one reference to its base was
+-- given up. Nothing else that stands in the slot is referred to.
 pub record SealsKept (before after : Table) (number base slot : ℕ) : Type 0 where
   pub in_table : slot < SLOTS
   pub alone : IsAlone after number slot

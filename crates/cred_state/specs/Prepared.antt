@@ -1,5 +1,6 @@
 -- The prepared labels, as values under labels.
-use Rattle.std.specs.Prelude.{◌≡◌, ℕ, ◌==◌, List, find, map, position, remove, slice_get, false, Some}
+use Rattle.std.specs.Prelude.{◌≡◌, ℕ, ◌==◌, List, find, map, position, remove, slice_get, false}
+use Rattle.std.specs.Prelude.{Some}
 use Rattle.std.specs.declared.option.Option.{Option}
 use Rattle.std.specs.Option.{option_and_then}
 use Rattle.cred_event.specs.declared.event.Change.{Change}
@@ -56,7 +57,9 @@ pub record Ends (before after : List Prepared) (label base slot : ℕ) : Type 0 
 
 -- This label gave up what it prepared on this base, which was changed last so, and the slot that it
 -- kept.
-pub record Finishes (before after : List Prepared) (label base slot : ℕ) (last : Changed) : Type 0 where
+pub record Finishes
+    (before after : List Prepared) (label base slot : ℕ) (last : Changed)
+    : Type 0 where
   pub task : ℕ
   pub gives :
       GivesUp before after

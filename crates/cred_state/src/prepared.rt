@@ -1,9 +1,11 @@
 //! The prepared labels.
-ghost use Rattle.std.specs.Prelude.{◌≡◌, ◌==◌, [], ◌∷◌, ◌++◌, find, is_some, length, None, IsSome, MatchOption, OnOk, OnErr};
+ghost use Rattle.std.specs.Prelude.{◌≡◌, ◌==◌, [], ◌∷◌, ◌++◌, find, is_some, length, None, IsSome};
+ghost use Rattle.std.specs.Prelude.{MatchOption, OnOk, OnErr};
 ghost use Rattle.std.specs.Option.{option_and_then, option_map};
 ghost use Rattle.cred_model.specs.Moves.{with_change};
 ghost use Rattle.cred_model.specs.Step as model;
-ghost use Rattle.cred_state.specs.Prepared.{prepared_as, place_of, changed_of, IsReady, Ends, Finishes};
+ghost use Rattle.cred_state.specs.Prepared.{prepared_as, place_of, changed_of, IsReady, Ends};
+ghost use Rattle.cred_state.specs.Prepared.{Finishes};
 
 use crate::labelled::Labelled;
 use cred_event::Change;

@@ -1,5 +1,6 @@
 //! Taking a slot for a new credential, and giving up references.
-ghost use Rattle.std.specs.Prelude.{◌≡◌, ◌<◌, ◌==◌, ◌++◌, IsTrue, MatchOption, None, count_by, length, slice_set};
+ghost use Rattle.std.specs.Prelude.{◌≡◌, ◌<◌, ◌==◌, ◌++◌, IsTrue, MatchOption, None, count_by};
+ghost use Rattle.std.specs.Prelude.{length, slice_set};
 ghost use Rattle.cred_slots.specs.Table.{IsSameBag, SLOTS, is_kept, room, free};
 ghost use Rattle.cred_state.specs.Begin.{table_at};
 ghost use Rattle.cred_state.specs.Kept.{AreHeld, Seals, SealsKept};

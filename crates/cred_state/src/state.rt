@@ -3,7 +3,8 @@
 //! references to them.
 ghost use Rattle.std.specs.Prelude.{◌≡◌, ◌||◌, is_some, length, IfOk, OnErr};
 ghost use Rattle.std.specs.Option.{option_map};
-ghost use Rattle.cred_model.specs.State.{opening, hold_of, prepared_of, current_of, credential_of, held_by};
+ghost use Rattle.cred_model.specs.State.{opening, hold_of, prepared_of, current_of, credential_of};
+ghost use Rattle.cred_model.specs.State.{held_by};
 ghost use Rattle.cred_model.specs.Slots as model;
 ghost use Rattle.cred_model.specs.Step.{by_ask, by_release, by_signal, by_take, done, take_hold};
 ghost use Rattle.cred_model.specs.Named.{IsEventOf};

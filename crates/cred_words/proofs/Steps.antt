@@ -27,8 +27,8 @@ abbrev pub Kept : State (Unit {0}) View → Type 0
 Kept s = IsKept s.words s.views
 
 -- The parts of the rule at a seat that has the master's view
-front : (words : List ℕ) (views : List View) (d : Ledger) → get_elem? views 0 ≡ some (Master d) → IsKept words views → (others : List View) × Keeps words views d.slots d.next d.entries d.kept others
-front words views d at (slots, next, entries, kept, others, k) =
+others_kept : (words : List ℕ) (views : List View) (d : Ledger) → get_elem? views 0 ≡ some (Master d) → IsKept words views → (others : List View) × Keeps words views d.slots d.next d.entries d.kept others
+others_kept words views d at (slots, next, entries, kept, others, k) =
     let whole : Master (ledger slots next entries kept) ≡ Master d = some-injective _ _ (ap (λ (vs : List View). get_elem? vs 0) (sym k.views_are) ∙ at) in
     let same : ledger slots next entries kept ≡ d = cc in
     (others, subst (λ (e : Ledger). Keeps words views e.slots e.next e.entries e.kept others) same k)
@@ -80,7 +80,7 @@ module _ {words : List ℕ} {views : List View} {slots : List Slot} {next : ℕ}
 
 pub lends_hold : (d : Ledger) (label slot : ℕ) (x : Slot) → slice_get d.slots slot ≡ Some x → x.sealed ≡ true → Splits {S = Unit {0}} Kept 0 (Master d) (lending label slot false (Master d)) (lends label slot false (Master d))
 lends_hold d label slot x is seal s h at =
-    let f = front s.words s.views d at h in
+    let f = others_kept s.words s.views d at h in
     let k = f.1 in
     let t : Token = lent_token d label slot false in
     let ws : words_at d.slots slot ≡ x.words = words_at-get d.slots slot x is in
@@ -117,7 +117,7 @@ lends_hold d label slot x is seal s h at =
 
 pub lends_writer : (d : Ledger) (label slot : ℕ) (x : Slot) → slice_get d.slots slot ≡ Some x → AllByRecursion (λ e. e.slot ≢ slot) d.entries → Splits {S = Unit {0}} Kept 0 (Master d) (lending label slot true (Master d)) (lends label slot true (Master d))
 lends_writer d label slot x is alone s h at =
-    let f = front s.words s.views d at h in
+    let f = others_kept s.words s.views d at h in
     let k = f.1 in
     let t : Token = lent_token d label slot true in
     let ws : words_at d.slots slot ≡ x.words = words_at-get d.slots slot x is in
@@ -159,7 +159,7 @@ returns slots next entries zero t s h at ne there = absurd (ne refl)
 returns slots next entries (suc j) t s h at ne there =
     let d : Ledger = ledger slots next entries None in
     let e : Ledger = ledger slots next entries (Some t) in
-    let f = front s.words s.views d at h in
+    let f = others_kept s.words s.views d at h in
     let k = f.1 in
     let here : get_elem? f.0 j ≡ some (Lent t) = ap (λ (vs : List View). get_elem? (slice_set vs 0 (Master e)) (suc j)) (sym k.views_are) ∙ there in (
       slots,
@@ -239,7 +239,7 @@ pub learns : (slots : List Slot) (next : ℕ) (entries : List Token) (t : Token)
     → (let d : Ledger = ledger slots next entries (Some t) in Allows {S = Unit {0}} Kept n 0 (Master d, []) 0 (λ m. m) (λ _ w. Learned put (Master d) w.0 × (w.1 ≡ [])))
 learns slots next entries t put n s h homes at range =
     let d : Ledger = ledger slots next entries (Some t) in
-    let f = front s.words s.views d at h in
+    let f = others_kept s.words s.views d at h in
     let k = f.1 in
     let e : Ledger = after_back d t put in
     let r = comes_back s.words s.views slots next entries t f.0 put k t.writes refl in

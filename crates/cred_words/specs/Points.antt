@@ -1,6 +1,7 @@
 -- The rule of the shared words, as six points of what the table holds between any two steps. Word 0
 -- is the guide. Slot s has the words from `place s 0` on.
-use Rattle.std.specs.Prelude.{◌≡◌, ◌≢◌, ◌<◌, ℕ, List, ◌∷◌, Some, true, false, slice_get, slice_index}
+use Rattle.std.specs.Prelude.{◌≡◌, ◌≢◌, ◌<◌, ℕ, List, ◌∷◌, Some, true, false, slice_get}
+use Rattle.std.specs.Prelude.{slice_index}
 use Rattle.cred_record.specs.Credential.{Credential}
 use Rattle.cred_record.specs.Words.{IsCredential, words_of}
 use Rattle.cred_words.specs.Lists.{Has}

@@ -1,5 +1,7 @@
 -- The rule of the shared words over plain lists.
-use Rattle.std.specs.Prelude.{◌≡◌, ◌≢◌, ℕ, zero, suc, ◌+◌, ◌<◌, List, [], ◌∷◌, length, Option, Some, None, Bool, true, false, ◌&&◌, ◌==◌, if◌then◌else◌, replicate, slice_get, slice_set, slice_index, ⊤}
+use Rattle.std.specs.Prelude.{◌≡◌, ◌≢◌, ℕ, zero, suc, ◌+◌, ◌<◌, List, [], ◌∷◌, length, Option, Some}
+use Rattle.std.specs.Prelude.{None, Bool, true, false, ◌&&◌, ◌==◌, if◌then◌else◌, replicate}
+use Rattle.std.specs.Prelude.{slice_get, slice_set, slice_index, ⊤}
 use Rattle.std.specs.List.{AllByRecursion}
 use Rattle.cred_words.specs.Lists.{Has, IsTaken}
 use Rattle.cred_words.specs.Size.{width, count, total, place}

@@ -1,8 +1,10 @@
 //! The table of words, the tokens, and one call for each kind of step.
-ghost use Rattle.std.specs.Prelude.{◌≡◌, ◌<◌, None, Some, true, false, IfOk, IfSome, IsSome, replicate, slice_index, slice_set};
+ghost use Rattle.std.specs.Prelude.{◌≡◌, ◌<◌, None, Some, true, false, IfOk, IfSome, IsSome};
+ghost use Rattle.std.specs.Prelude.{replicate, slice_index, slice_set};
 ghost use Rattle.cred_words.specs.Lists.{IsTaken};
 ghost use Rattle.cred_words.specs.Size.{width, count, total, place};
-ghost use Rattle.cred_words.specs.Words.{ledger, ledger_of, opened, lent_token, after_lend, after_back, put_words, EntryFits, entry_of, without};
+ghost use Rattle.cred_words.specs.Words.{ledger, ledger_of, opened, lent_token, after_lend};
+ghost use Rattle.cred_words.specs.Words.{after_back, put_words, EntryFits, entry_of, without};
 ghost use Rattle.cred_words.specs.Seen.{IsSealed, IsAlone};
 
 use crate::rule::{Learns, LendsHold, LendsWriter, Order, Puts, Reads, Returns, Words};

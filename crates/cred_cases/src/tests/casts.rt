@@ -17,8 +17,8 @@ enum Call {
     Dropped(u32),
 }
 
-/// The task that is to act next in the broadcast 7, its caller, and the broadcasts of the process 50
-/// and of the task 5.
+/// The task that is to act next in the broadcast 7, its caller, and the broadcasts of the process
+/// 50 and of the task 5.
 type Seen = (Option<u32>, Option<u32>, Option<u32>, Option<u32>);
 
 fn seen(casts: &Casts) -> Seen {
@@ -99,9 +99,9 @@ fn a_broadcast_is_open_while_somebody_waits(rt: HostRuntime) -> Result<(), Fail>
 
 #[test]
 fn a_new_thread_waits_where_its_creator_does(rt: HostRuntime) -> Result<(), Fail> {
-    // The creator, and the task that acts next after its child 2 was born.
-    let births: [(u32, u32); 3] = [(9, 2), (5, 3), (60, 3)];
-    for (parent, next) in births {
+    // The creator, and the task that acts next after its child 2 was created.
+    let creations: [(u32, u32); 3] = [(9, 2), (5, 3), (60, 3)];
+    for (parent, next) in creations {
         let mut casts = begun(rt.alloc())?;
         casts.born(parent, 2)?;
         assert_eq!(rt; seen(&casts), open(next));

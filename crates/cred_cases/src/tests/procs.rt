@@ -145,7 +145,8 @@ fn tasks_end_with_what_they_referred_to(rt: HostRuntime) -> Result<(), Fail> {
         (Call::Pop(7), &[]),
         (Call::Threads(50), &[3, 5, 9]),
         (Call::Threads(51), &[]),
-        // Tasks 9 and 3, as they were created: the numbers of 9 and of its override, and those of 3.
+        // Tasks 9 and 3, as they were created: the numbers of 9 and of its override, and those of
+        // 3.
         (Call::Dethread(5), &[9, 3, 11, 20, 10, 10, 20]),
         (Call::Dethread(5), &[]),
         (Call::Spawn(5, 2), &[]),

@@ -177,8 +177,8 @@ fn threads_are_limited(rt: HostRuntime) -> Result<(), Fail> {
     Ok(())
 }
 
-/// Holds keep 254 slots and two threads share the credential of the next. The caller's new one takes
-/// the last slot, so the other thread finds none, and the process ends.
+/// Holds keep 254 slots and two threads share the credential of the next. The caller's new one
+/// takes the last slot, so the other thread finds none, and the process ends.
 #[test]
 fn a_thread_without_a_slot_ends_its_process(rt: HostRuntime) -> Result<(), Fail> {
     let mut script = String::new(rt.alloc());

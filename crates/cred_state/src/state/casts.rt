@@ -1,6 +1,7 @@
 //! The id calls, which every thread of a process makes, one after another, and the open broadcasts,
 //! which refuse other events while threads still wait in them (nptl(7)).
-ghost use Rattle.std.specs.Prelude.{◌≡◌, Ok, Err, IfOk, IfSome, MatchOption, MatchResult, OnOk, OnErr};
+ghost use Rattle.std.specs.Prelude.{◌≡◌, Ok, Err, IfOk, IfSome, MatchOption, MatchResult, OnOk};
+ghost use Rattle.std.specs.Prelude.{OnErr};
 ghost use Rattle.std.specs.Option.{IsSome};
 ghost use Rattle.cred_event.specs.declared.answer.Answer.TheVariants.{Aborted, Busy};
 ghost use Rattle.cred_record.specs.declared.id_call.IdCall.{IdCall as Call};

@@ -17,8 +17,8 @@ use cred_ids::NoMemory;
 impl State {
     /// A task acts with another credential from now on (`override_creds` in the kernel;
     /// Documentation/security/credentials.rst): with the one that the label holds, or with what the
-    /// task prepared under the label for access(2). Its current credential stays. `NoTask`, `NoHold`
-    /// and `TooDeep` leave the state.
+    /// task prepared under the label for access(2). Its current credential stays. `NoTask`,
+    /// `NoHold` and `TooDeep` leave the state.
     ///
     /// # Errors
     ///

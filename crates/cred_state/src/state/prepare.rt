@@ -73,8 +73,8 @@ impl State {
         Ok(Answer::Kept { slot })
     }
 
-    /// What the label prepares is its base, changed so. `NoPrepared`, `Eperm`, `Einval` and `Eacces`
-    /// leave the state, and with it what an earlier change made of the base.
+    /// What the label prepares is its base, changed so. `NoPrepared`, `Eperm`, `Einval` and
+    /// `Eacces` leave the state, and with it what an earlier change made of the base.
     ///
     /// # Errors
     ///

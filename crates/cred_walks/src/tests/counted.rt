@@ -26,7 +26,7 @@ enum Reached {
     Aborted,
     EndedByExec,
     WaitingExit,
-    WaitingBirth,
+    WaitingChild,
     Followed,
     SlotsTakenAgain,
     TooDeep,
@@ -46,7 +46,7 @@ const ALL: [Reached; 17] = [
     Reached::Aborted,
     Reached::EndedByExec,
     Reached::WaitingExit,
-    Reached::WaitingBirth,
+    Reached::WaitingChild,
     Reached::Followed,
     Reached::SlotsTakenAgain,
     Reached::TooDeep,
@@ -75,7 +75,7 @@ fn reached_by(lists: &Lists, entry: &Entry) -> Option<Reached> {
         (_, Answer::Executed { ended, .. }) if *ended > 1 => Some(Reached::EndedByExec),
         (Event::Exit { task }, Answer::Done) if lists.waits(*task) => Some(Reached::WaitingExit),
         (Event::Spawn { task, .. }, Answer::Sealed { .. }) if lists.waits(*task) => {
-            Some(Reached::WaitingBirth)
+            Some(Reached::WaitingChild)
         }
         (_, Answer::Acted { left: 0, .. }) => Some(Reached::Followed),
         (_, Answer::Began { cred, .. }) if *cred >= u64::from(SLOTS) => {

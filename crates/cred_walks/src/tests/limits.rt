@@ -1,5 +1,5 @@
-//! As many overrides, holds and open files as there may be, and one more: what the book answers, and
-//! how many references it counts.
+//! As many overrides, holds and open files as there may be, and one more: what the book answers,
+//! and how many references it counts.
 ghost use Rattle.std.specs.Prelude.{ℕ, ◌<◌, List};
 ghost use Rattle.cred_model.specs.Named.{IsEventOf};
 ghost use Rattle.cred_model.specs.Script.{Namespace};
@@ -34,7 +34,7 @@ const LIMITS: [(Kind, u32); 3] = [(Kind::Overrides, 8), (Kind::Holds, 511), (Kin
 
 /// One more of them, by this number.
 fn more(kind: Kind, number: u32) -> Event
-    ensures { (files : ℕ) (declared : List Namespace) → 0 < files → IsEventOf files declared result }
+    ensures { (files : ℕ) (known : List Namespace) → 0 < files → IsEventOf files known result }
 {
     match kind {
         Kind::Overrides => Event::Override {
@@ -61,7 +61,7 @@ fn more(kind: Kind, number: u32) -> Event
 
 /// One less of them, that of this number.
 fn less(kind: Kind, number: u32) -> Event
-    ensures { (files : ℕ) (declared : List Namespace) → 0 < files → IsEventOf files declared result }
+    ensures { (files : ℕ) (known : List Namespace) → 0 < files → IsEventOf files known result }
 {
     match kind {
         Kind::Overrides => Event::Revert { task: 1 },
@@ -72,7 +72,7 @@ fn less(kind: Kind, number: u32) -> Event
 
 /// What the book answers to one event.
 fn answered(book: &mut Book, event: Event) -> Result<Answer, Fail>
-    requires { (files : ℕ) (declared : List Namespace) → 0 < files → IsEventOf files declared event }
+    requires { (files : ℕ) (known : List Namespace) → 0 < files → IsEventOf files known event }
 {
     if book.script().file(0).is_none() {
         return Err(Fail::from("the script has no file"));

@@ -37,7 +37,7 @@ const SETUP_LINES: u32 = 8;
 // In a form, T, P, H, F and I stand for a task, a process, a label, a descriptor and an id, and L
 // for a line that began a broadcast.
 
-/// Births, ends and steps of threads.
+/// New threads, ends and steps of threads.
 const THREADS: [&str; 24] = [
     "tT spawn tT",
     "tT spawn tT",

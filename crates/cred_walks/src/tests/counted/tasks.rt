@@ -110,7 +110,7 @@ impl Lists {
         Ok(is_least && is_due)
     }
 
-    /// Overrides, births and ends, and the sweep.
+    /// Overrides, threads that begin and end, and the sweep.
     pub(crate) fn on_tasks(&mut self, event: &Event, answer: &Answer) -> Result<bool, NoMemory> {
         match (event, answer) {
             (Event::Override { task, label }, Answer::Sealed { cred, slot }) => {
