@@ -52,7 +52,7 @@ each_between : (P : Entry → Type 0) (journal : List Entry) (k l : ℕ)
 unfolding between
 each_between P journal k l each i d lt =
     let long = length-drop k (take l journal) in
-    let long = length-take l journal in
+    let kept = length-take l journal in
     let here : k + i < l = omega arith in
     let within : k + i < length journal = omega arith in
     let holds = each (k + i) (omega arith) here in
