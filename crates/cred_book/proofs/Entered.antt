@@ -15,7 +15,7 @@ use Rattle.cred_model.proofs.Journals.{replay-push, IsAnswered-push}
 use Rattle.cred_model.proofs.Likes.{does_like, like_trans, refs_same}
 use Rattle.cred_sound.specs.Sound.{IsSound}
 use Rattle.cred_sound.proofs.Sound.{like_sound, sound_after}
-use Rattle.cred_state.proofs.Bags.{count-same}
+use Rattle.cred_tables.proofs.Bags.{count-same}
 use Rattle.cred_book.proofs.ListAnswers.{list_stays}
 
 -- the state is like the one that the journal leads to

@@ -25,14 +25,14 @@ use Rattle.cred_sound.proofs.Threads.{thread_is, waits_at}
 use Rattle.cred_cast.proofs.Conditions.{least_waits}
 use Rattle.cred_slots.specs.Table.{Table, SLOTS, IsSameBag}
 use Rattle.cred_slots.specs.Table as table
-use Rattle.cred_state.specs.Begin.{at_abort, table_at}
-use Rattle.cred_state.specs.Kept.{Parts, state_of, IsKept, Seals}
+use Rattle.cred_tables.specs.Begin.{at_abort, table_at}
+use Rattle.cred_tables.specs.Kept.{Parts, state_of, IsKept, Seals}
 use Rattle.cred_state.proofs.Begins.{replaced_kept, replaced_made, counts_next}
 use Rattle.cred_state.proofs.Broadcasts.{kept_casts}
-use Rattle.cred_state.proofs.Ending.{DropsAll, drops_all, ended_kept, ended_is}
-use Rattle.cred_state.proofs.InUse.{Differ}
-use Rattle.cred_state.proofs.Places.{if_some}
-use Rattle.cred_state.proofs.Sealing.{Drops, roomy, in_free_or, in_none_or}
+use Rattle.cred_tables.proofs.Ending.{DropsAll, drops_all, ended_kept, ended_is}
+use Rattle.cred_tables.proofs.InUse.{Differ}
+use Rattle.cred_tables.proofs.Places.{if_some}
+use Rattle.cred_tables.proofs.Sealing.{Drops, roomy, in_free_or, in_none_or}
 
 -- ---- what was found
 

@@ -33,14 +33,14 @@ use Rattle.cred_cast.proofs.Conditions.{idle_waits_nowhere}
 use Rattle.cred_procs.specs.Tasks.{those}
 use Rattle.cred_slots.specs.Table.{Table, SLOTS, IsSameBag, IsAlone}
 use Rattle.cred_slots.specs.Table as table
-use Rattle.cred_state.specs.Begin.{MayBegin, cast_begun}
-use Rattle.cred_state.specs.Kept.{Parts, AreFilled, state_of, IsKept, Seals}
-use Rattle.cred_state.proofs.Bags.{bag-other}
+use Rattle.cred_tables.specs.Begin.{MayBegin, cast_begun}
+use Rattle.cred_tables.specs.Kept.{Parts, AreFilled, state_of, IsKept, Seals}
+use Rattle.cred_tables.proofs.Bags.{bag-other}
 use Rattle.cred_state.proofs.Broadcasts.{kept_casts, like_casts}
-use Rattle.cred_state.proofs.Owners.{own_none}
-use Rattle.cred_state.proofs.Sealing.{roomy, in_free, in_none, keeps_same, Drops, alone_later}
-use Rattle.cred_state.proofs.InUse.{Differ, in_use-updated}
-use Rattle.cred_state.proofs.Stored.{does_made, length-creds_in, filled-put, stored_like}
+use Rattle.cred_tables.proofs.Owners.{own_none}
+use Rattle.cred_tables.proofs.Sealing.{roomy, in_free, in_none, keeps_same, Drops, alone_later}
+use Rattle.cred_tables.proofs.InUse.{Differ, in_use-updated}
+use Rattle.cred_tables.proofs.Stored.{does_made, length-creds_in, filled-put, stored_like}
 
 begin_does : (task old : ℕ) (new : Credential) (cast : Broadcast) → State → ℕ → Answer × State
 begin_does task old new cast s slot =

@@ -8,7 +8,7 @@ use Rattle.cred_model.specs.State.{State, Broadcast}
 use Rattle.cred_model.specs.Casts.{not_busy}
 use Rattle.cred_model.specs.Like.{IsLike}
 use Rattle.cred_slots.specs.Table.{Table}
-use Rattle.cred_state.specs.Kept.{Parts, IsKept}
+use Rattle.cred_tables.specs.Kept.{Parts, IsKept}
 
 -- the number of the broadcast that was found, if one was
 pub busy_by : (found : Option Broadcast) (number : Option ℕ) → number ≡ option_map (λ b. b.number) found

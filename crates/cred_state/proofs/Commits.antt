@@ -21,17 +21,17 @@ use Rattle.cred_model.proofs.Likes.{does_same}
 use Rattle.cred_slots.specs.Table.{Table, SLOTS, IsSameBag, is_kept}
 use Rattle.cred_slots.proofs.Counting.{count-cons}
 use Rattle.cred_sound.proofs.Survivors.{find_goes_on}
-use Rattle.cred_state.specs.Prepared.{changed_of}
-use Rattle.cred_state.specs.Kept.{Parts, casts_left, creds_in, state_of, IsKept, SealsKept}
-use Rattle.cred_state.proofs.Bags.{bag-at, counts_itself}
+use Rattle.cred_tables.specs.Prepared.{changed_of}
+use Rattle.cred_tables.specs.Kept.{Parts, casts_left, creds_in, state_of, IsKept, SealsKept}
+use Rattle.cred_tables.proofs.Bags.{bag-at, counts_itself}
 use Rattle.cred_state.proofs.Broadcasts.{kept_casts, like_casts}
-use Rattle.cred_state.proofs.Places.{find-at, place-of_found}
+use Rattle.cred_tables.proofs.Places.{find-at, place-of_found}
 use Rattle.cred_state.proofs.Labelling.{abort_tests, slot-kept}
-use Rattle.cred_state.proofs.Sealing.{Drops}
-use Rattle.cred_state.proofs.Owners.{no_number}
-use Rattle.cred_state.proofs.InUse.{Differ, in_use-updated, current-stands, base-stands_twice}
-use Rattle.cred_state.proofs.Ending.{EndsWith, ended_kept, ended_is}
-use Rattle.cred_state.proofs.Stored.{does_made, length-creds_in}
+use Rattle.cred_tables.proofs.Sealing.{Drops}
+use Rattle.cred_tables.proofs.Owners.{no_number}
+use Rattle.cred_tables.proofs.InUse.{Differ, in_use-updated, current-stands, base-stands_twice}
+use Rattle.cred_tables.proofs.Ending.{EndsWith, ended_kept, ended_is}
+use Rattle.cred_tables.proofs.Stored.{does_made, length-creds_in}
 use Rattle.cred_state.proofs.Finishing.{finish_kept, finish_like}
 
 -- ---- what the tests lead to

@@ -8,10 +8,10 @@ use Rattle.cred_model.specs.Slots.{in_use, kept}
 use Rattle.cred_model.specs.Like.{IsLike}
 use Rattle.cred_slots.specs.Table.{Table, SLOTS, IsSameBag, IsAlone}
 use Rattle.cred_slots.proofs.Counting.{count-cons}
-use Rattle.cred_state.specs.Kept.{AreFilled, Parts, creds_in, state_of, IsKept, SealsKept}
-use Rattle.cred_state.proofs.InUse.{in_use-unlabel}
+use Rattle.cred_tables.specs.Kept.{AreFilled, Parts, creds_in, state_of, IsKept, SealsKept}
+use Rattle.cred_tables.proofs.InUse.{in_use-unlabel}
 use Rattle.cred_state.proofs.Labelling.{keeps-less}
-use Rattle.cred_state.proofs.Stored.{parts_in, filled-put, stored_like}
+use Rattle.cred_tables.proofs.Stored.{parts_in, filled-put, stored_like}
 
 -- The tasks refer to the new number already, and so does the table `mid` when its references are
 -- counted; what stands there and is kept is as before.

@@ -6,11 +6,11 @@ use Rattle.cred_event.specs.declared.answer.Answer.TheVariants.{Done}
 use Rattle.cred_model.specs.State.{State, Hold, Numbered}
 use Rattle.cred_model.specs.Step.{by_release, take_hold, outcome}
 use Rattle.cred_slots.specs.Table.{Table}
-use Rattle.cred_state.specs.Kept.{Parts, numbered_in, state_of, IsKept}
-use Rattle.cred_state.proofs.Bags.{bag-has, bag-at}
-use Rattle.cred_state.proofs.Places.{place-of_found}
-use Rattle.cred_state.proofs.Sealing.{Drops, keeps_same, kept_less, over_later}
-use Rattle.cred_state.proofs.InUse.{in_use-unhold}
+use Rattle.cred_tables.specs.Kept.{Parts, numbered_in, state_of, IsKept}
+use Rattle.cred_tables.proofs.Bags.{bag-has, bag-at}
+use Rattle.cred_tables.proofs.Places.{place-of_found}
+use Rattle.cred_tables.proofs.Sealing.{Drops, keeps_same, kept_less, over_later}
+use Rattle.cred_tables.proofs.InUse.{in_use-unhold}
 
 -- an event by which a label takes hold of this credential
 pub takes_hold : (s after : State) {E : Type 0} (event : Result (Answer × State) Answer) (label : ℕ) (taken : Numbered) → event ≡ take_hold s label taken

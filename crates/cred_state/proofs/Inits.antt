@@ -13,11 +13,11 @@ use Rattle.cred_model.specs.Step.{by_init, outcome}
 use Rattle.cred_model.proofs.Likes.{does_same}
 use Rattle.cred_slots.specs.Table.{Table, SLOTS, IsAlone}
 use Rattle.cred_slots.specs.Table as table
-use Rattle.cred_state.specs.Kept.{Parts, AreFilled, state_of, IsKept, Seals}
-use Rattle.cred_state.proofs.Bags.{bag-more}
-use Rattle.cred_state.proofs.Sealing.{roomy, in_free, in_none, keeps_same}
-use Rattle.cred_state.proofs.InUse.{in_use-task}
-use Rattle.cred_state.proofs.Stored.{does_made, length-creds_in, filled-put, stored_like}
+use Rattle.cred_tables.specs.Kept.{Parts, AreFilled, state_of, IsKept, Seals}
+use Rattle.cred_tables.proofs.Bags.{bag-more}
+use Rattle.cred_tables.proofs.Sealing.{roomy, in_free, in_none, keeps_same}
+use Rattle.cred_tables.proofs.InUse.{in_use-task}
+use Rattle.cred_tables.proofs.Stored.{does_made, length-creds_in, filled-put, stored_like}
 
 -- ---- what the tests have found
 

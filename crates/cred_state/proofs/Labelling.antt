@@ -16,12 +16,12 @@ use Rattle.cred_model.specs.Moves.{in_slot, table_full, with_change}
 use Rattle.cred_model.specs.Step.{by_abort, by_prepare, outcome}
 use Rattle.cred_slots.specs.Table.{Table, IsSameBag, is_kept}
 use Rattle.cred_slots.specs.Table as table
-use Rattle.cred_state.specs.Kept.{AreFilled, Parts, state_of, IsCounted, IsKept}
-use Rattle.cred_state.proofs.Bags.{bag-more, bag-less, bag-has, bag-at}
-use Rattle.cred_state.proofs.Places.{if_some}
-use Rattle.cred_state.proofs.Keeps.{is_among, keeps-push, keeps-remove, among-at}
-use Rattle.cred_state.proofs.Sealing.{in_free, in_none, over_later}
-use Rattle.cred_state.proofs.InUse.{in_use-label, in_use-unlabel, in_use-altered, kept-altered}
+use Rattle.cred_tables.specs.Kept.{AreFilled, Parts, state_of, IsCounted, IsKept}
+use Rattle.cred_tables.proofs.Bags.{bag-more, bag-less, bag-has, bag-at}
+use Rattle.cred_tables.proofs.Places.{if_some}
+use Rattle.cred_tables.proofs.Keeps.{is_among, keeps-push, keeps-remove, among-at}
+use Rattle.cred_tables.proofs.Sealing.{in_free, in_none, over_later}
+use Rattle.cred_tables.proofs.InUse.{in_use-label, in_use-unlabel, in_use-altered, kept-altered}
 
 remove-map : {X Y : Type 0} (f : X → Y) (xs : List X) (i : ℕ) → map f (remove xs i) ≡ remove (map f xs) i
 remove-map f xs i =

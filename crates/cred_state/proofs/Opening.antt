@@ -5,10 +5,10 @@ use Rattle.cred_event.specs.declared.answer.Answer.TheVariants.{Done}
 use Rattle.cred_model.specs.State.{State, OpenFile}
 use Rattle.cred_model.specs.Step.{by_close, outcome}
 use Rattle.cred_slots.specs.Table.{Table}
-use Rattle.cred_state.specs.Kept.{Parts, state_of, IsKept}
-use Rattle.cred_state.proofs.Bags.{bag-has, bag-at}
-use Rattle.cred_state.proofs.Sealing.{Drops, keeps_same, kept_less, over_later}
-use Rattle.cred_state.proofs.InUse.{in_use-closed}
+use Rattle.cred_tables.specs.Kept.{Parts, state_of, IsKept}
+use Rattle.cred_tables.proofs.Bags.{bag-has, bag-at}
+use Rattle.cred_tables.proofs.Sealing.{Drops, keeps_same, kept_less, over_later}
+use Rattle.cred_tables.proofs.InUse.{in_use-closed}
 
 module _ {parts : Parts} {store : List (Option Credential)} {t : Table} (is : IsKept parts store t) where
   abbrev s : State

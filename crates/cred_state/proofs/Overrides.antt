@@ -13,15 +13,15 @@ use Rattle.cred_model.proofs.Likes.{does_same}
 use Rattle.cred_model.proofs.Numbers.{owner_number}
 use Rattle.cred_slots.specs.Table.{Table, SLOTS, IsSameBag}
 use Rattle.cred_procs.specs.Tasks.{task_in, overrides_of}
-use Rattle.cred_state.specs.Prepared.{changed_of}
-use Rattle.cred_state.specs.Kept.{Parts, creds_in, state_of, IsKept, SealsKept}
+use Rattle.cred_tables.specs.Prepared.{changed_of}
+use Rattle.cred_tables.specs.Kept.{Parts, creds_in, state_of, IsKept, SealsKept}
 use Rattle.cred_slots.proofs.Counting.{count-cons}
-use Rattle.cred_state.proofs.Bags.{one_if, bag-has, bag-at}
-use Rattle.cred_state.proofs.Places.{find-at, place-of_found}
-use Rattle.cred_state.proofs.Sealing.{Drops, keeps_same, kept_less, kept_more, over_later}
-use Rattle.cred_state.proofs.InUse.{Differ}
+use Rattle.cred_tables.proofs.Bags.{one_if, bag-has, bag-at}
+use Rattle.cred_tables.proofs.Places.{find-at, place-of_found}
+use Rattle.cred_tables.proofs.Sealing.{Drops, keeps_same, kept_less, kept_more, over_later}
+use Rattle.cred_tables.proofs.InUse.{Differ}
 use Rattle.cred_state.proofs.Overriding.{in_use-lent, in_use-reverted}
-use Rattle.cred_state.proofs.Stored.{does_made, length-creds_in}
+use Rattle.cred_tables.proofs.Stored.{does_made, length-creds_in}
 use Rattle.cred_state.proofs.Finishing.{finish_kept, finish_like}
 
 -- ---- what the table of tasks answers

@@ -8,7 +8,7 @@ use Rattle.cred_model.proofs.Lists.{map_same}
 use Rattle.cred_model.proofs.Numbers.{overriding_current}
 use Rattle.cred_slots.specs.Table.{IsSameBag}
 use Rattle.cred_slots.proofs.Counting.{count-cons}
-use Rattle.cred_state.proofs.InUse.{currents, overrides, count-in_use, Differ}
+use Rattle.cred_tables.proofs.InUse.{currents, overrides, count-in_use, Differ}
 use Rattle.cred_state.proofs.OneChanged.{count-changed}
 
 module _ (s : State) (task : ℕ) (u : Task) (differ : Differ s.tasks) (found : find (λ t. t.number == task) s.tasks ≡ Some u) where

@@ -9,8 +9,8 @@ use Rattle.cred_model.specs.Slots.{in_use, swept}
 use Rattle.cred_model.proofs.Lists.{found}
 use Rattle.cred_model.proofs.Numbers.{numbered_is}
 use Rattle.cred_model.proofs.Referred.{EachRef, each_ref, each_side}
-use Rattle.cred_state.specs.Kept.{IsInUse}
-use Rattle.cred_state.proofs.Bags.{count-at}
+use Rattle.cred_tables.specs.Kept.{IsInUse}
+use Rattle.cred_tables.proofs.Bags.{count-at}
 
 module _ (s : State) where
   in_use-each : EachRef (λ n. IsInUse s n) (swept s)

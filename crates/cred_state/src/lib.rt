@@ -3,15 +3,7 @@
 //! slots that counts the references to them. One call makes one event.
 #![tactic(auto)]
 
-mod casts;
-mod ends;
 mod files;
-mod holds;
-mod labelled;
-mod prepared;
-mod seal;
 pub mod state;
-mod store;
-mod table;
 
 pub use state::State;

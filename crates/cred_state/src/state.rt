@@ -10,7 +10,7 @@ ghost use Rattle.cred_model.specs.Step.{by_ask, by_release, by_signal, by_take, 
 ghost use Rattle.cred_model.specs.Named.{IsEventOf};
 ghost use Rattle.cred_model.specs.Like.{Gives, GivesLike};
 ghost use Rattle.cred_sound.specs.Sound.{IsSound};
-ghost use Rattle.cred_state.specs.Kept.{numbered_in, seen_numbered, IsInUse};
+ghost use Rattle.cred_tables.specs.Kept.{numbered_in, seen_numbered, IsInUse};
 
 mod casts;
 mod files;
@@ -19,10 +19,6 @@ mod prepare;
 mod tasks;
 
 use crate::files::asked_file;
-use crate::holds::Holds;
-use crate::prepared::Preparing;
-use crate::store::Store;
-use crate::table::{Numbered, sealed_at};
 use cred_access::may_signal;
 use cred_cast::Casts;
 use cred_decide::reply;
@@ -32,6 +28,7 @@ use cred_ids::NoMemory;
 use cred_procs::Procs;
 use cred_script::Script;
 use cred_slots::Slots;
+use cred_tables::{Holds, Numbered, Preparing, Store, sealed_at};
 use std::alloc::Global;
 use std::marker::Model;
 
@@ -54,7 +51,7 @@ pub struct State {
 
 impl Model for State {
     ghost use Rattle.cred_model.specs.State as model;
-    ghost use Rattle.cred_state.specs.Kept.{parts_of, state_of, IsKept};
+    ghost use Rattle.cred_tables.specs.Kept.{parts_of, state_of, IsKept};
 
     ghost Value = { model.State };
 

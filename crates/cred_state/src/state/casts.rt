@@ -10,16 +10,15 @@ ghost use Rattle.cred_model.specs.Casts.{not_busy};
 ghost use Rattle.cred_model.specs.Like.{Gives, GivesLike};
 ghost use Rattle.cred_model.specs.Step.{aborted, by_act, by_begin};
 ghost use Rattle.cred_sound.specs.Sound.{IsSound};
-ghost use Rattle.cred_state.specs.Begin.{MayBegin, at_abort};
-ghost use Rattle.cred_state.specs.Kept.{seen_numbered};
+ghost use Rattle.cred_tables.specs.Begin.{MayBegin, at_abort};
+ghost use Rattle.cred_tables.specs.Kept.{seen_numbered};
 
-use crate::seal::{drop_all, seal_next, sweep_at};
 use crate::state::State;
-use crate::table::Numbered;
 use cred_event::{AbortCause, Answer, Named};
 use cred_ids::NoMemory;
 use cred_record::{IdCall, Refusal};
 use cred_setid::apply;
+use cred_tables::{Numbered, drop_all, seal_next, sweep_at};
 
 impl State {
     /// A task makes an id call. The other threads of its process then wait for their step; where it

@@ -4,15 +4,15 @@ ghost use Rattle.std.specs.Option.{option_map};
 ghost use Rattle.cred_model.specs.State.{opener_of};
 ghost use Rattle.cred_model.specs.Like.{Gives};
 ghost use Rattle.cred_model.specs.Step.{by_close, by_open, by_take_file};
-ghost use Rattle.cred_state.specs.Kept.{seen_numbered};
+ghost use Rattle.cred_tables.specs.Kept.{seen_numbered};
 
 use crate::files::may_open;
 use crate::state::State;
-use crate::table::{Numbered, sealed_at};
 use cred_event::{Answer, Counted, Named};
 use cred_ids::NoMemory;
 use cred_record::Want;
 use cred_script::Script;
+use cred_tables::{Numbered, sealed_at};
 
 impl State {
     /// The file is opened under the descriptor, by the credential that the hold has (open(2)). The

@@ -8,11 +8,10 @@ ghost use Rattle.cred_model.specs.Moves.{not_overridden};
 ghost use Rattle.cred_model.specs.Step.{by_override, by_revert};
 ghost use Rattle.cred_sound.specs.Sound.{IsSound};
 
-use crate::seal::seal_kept;
 use crate::state::State;
-use crate::table::Numbered;
 use cred_event::Answer;
 use cred_ids::NoMemory;
+use cred_tables::{Numbered, seal_kept};
 
 impl State {
     /// A task acts with another credential from now on (`override_creds` in the kernel;

@@ -5,18 +5,18 @@ ghost use Rattle.cred_model.specs.State.{prepared_of, numbered};
 ghost use Rattle.cred_model.specs.Like.{Gives, GivesLike};
 ghost use Rattle.cred_sound.specs.Sound.{IsSound};
 ghost use Rattle.cred_model.specs.Step.{by_abort, by_alter, by_commit, by_prepare};
-ghost use Rattle.cred_state.specs.Kept.{seen_numbered};
+ghost use Rattle.cred_tables.specs.Kept.{seen_numbered};
 
-use crate::ends::{committed_by, drop_cast, end_with};
 use crate::files::{chain_of, executed_file};
-use crate::prepared::{Changed, Ended, Preparation, Ready};
-use crate::seal::{drop_all, seal_kept};
 use crate::state::State;
-use crate::table::{Numbered, sealed_at};
 use cred_decide::{Made, change as change_of};
 use cred_event::{Answer, Change, Counted, Named};
 use cred_ids::NoMemory;
 use cred_script::Script;
+use cred_tables::{
+    Changed, Ended, Numbered, Preparation, Ready, committed_by, drop_all, drop_cast, end_with,
+    seal_kept, sealed_at,
+};
 
 /// How many prepared labels may stand.
 const PREPARED: usize = 64;

@@ -4,13 +4,11 @@ ghost use Rattle.cred_model.specs.Like.{Gives, GivesLike};
 ghost use Rattle.cred_model.specs.Step.{by_exit, by_fork, by_init, by_spawn};
 ghost use Rattle.cred_sound.specs.Sound.{IsSound};
 
-use crate::casts::spawn_in;
-use crate::seal::{drop_all, seal_next};
 use crate::state::State;
-use crate::table::Numbered;
 use cred_event::{Answer, Counted, Named};
 use cred_ids::{Id, NoMemory};
 use cred_record::first;
+use cred_tables::{Numbered, drop_all, seal_next, spawn_in};
 
 impl State {
     /// A first task is created, with its first credential. `Busy`, `Exists` and `TooMany` leave the

@@ -6,14 +6,14 @@ use Rattle.cred_model.specs.Ends.{is_beside}
 use Rattle.cred_model.proofs.Rising.{length-in_order}
 use Rattle.cred_cast.specs.Casts.{WaitsNowhere, cast_within}
 use Rattle.cred_procs.specs.Tasks.{task_in, those}
-use Rattle.cred_state.specs.Kept.{parts_of, state_of}
-use Rattle.cred_state.proofs.Bags.{bag-keeps}
+use Rattle.cred_tables.specs.Kept.{parts_of, state_of}
+use Rattle.cred_tables.proofs.Bags.{bag-keeps}
 use Rattle.cred_state.proofs.Begins.{begun_casts, few_those, others_apart, others_nowhere, begin_full, replaced_kept, begin_sealed}
-use Rattle.cred_state.proofs.Free.{full_swept}
+use Rattle.cred_tables.proofs.Free.{full_swept}
 use Rattle.cred_state.proofs.Inits.{is_sealed, sealed_there}
-use Rattle.cred_state.proofs.Owners.{has_process, owner_process}
-use Rattle.cred_state.proofs.Places.{if_some, none_by_other, some_by_test}
-use Rattle.cred_state.proofs.Sealing.{current-held, drops, none_spare, roomy_spare, seals_spare}
+use Rattle.cred_tables.proofs.Owners.{has_process, owner_process}
+use Rattle.cred_tables.proofs.Places.{if_some, none_by_other, some_by_test}
+use Rattle.cred_tables.proofs.Sealing.{current-held, drops, none_spare, roomy_spare, seals_spare}
 use Rattle.cred_state.proofs.state.State.begin.Goals as goal
 
 pub returns-then-is_none-clause-ok : goal.returns-then-is_none-clause-ok

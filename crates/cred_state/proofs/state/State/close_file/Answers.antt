@@ -1,5 +1,5 @@
 use Rattle.cred_state.proofs.Opening.{opener-held, close_kept, close_done}
-use Rattle.cred_state.proofs.Sealing.{drops}
+use Rattle.cred_tables.proofs.Sealing.{drops}
 use Rattle.cred_state.proofs.state.State.close_file.Goals as goal
 
 pub drop_later-requires : goal.drop_later-requires

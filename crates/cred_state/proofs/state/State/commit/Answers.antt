@@ -5,12 +5,12 @@ use Rattle.cred_model.specs.Moves.{with_current}
 use Rattle.cred_model.specs.Step.{is_access}
 use Rattle.cred_slots.specs.Table.{Table}
 use Rattle.cred_procs.specs.Tasks.{task_in}
-use Rattle.cred_state.specs.Kept.{SealsKept, casts_left, parts_of, state_of}
+use Rattle.cred_tables.specs.Kept.{SealsKept, casts_left, parts_of, state_of}
 use Rattle.cred_state.proofs.Commits.{commit_none, commit_no_task, commit_busy, commit_overridden, commit_stale, goes_on, owner-held, base-held_still, slot-kept_still, commit_kept, commit_done}
-use Rattle.cred_state.proofs.Ending.{EndsWith, ends_so, ended-held}
-use Rattle.cred_state.proofs.Labels.{same_label}
-use Rattle.cred_state.proofs.Owners.{has_process_of, owner_of, owner_process, own_owner, over_owner}
-use Rattle.cred_state.proofs.Sealing.{drops}
+use Rattle.cred_tables.proofs.Ending.{EndsWith, ends_so, ended-held}
+use Rattle.cred_tables.proofs.Labels.{same_label}
+use Rattle.cred_tables.proofs.Owners.{has_process_of, owner_of, owner_process, own_owner, over_owner}
+use Rattle.cred_tables.proofs.Sealing.{drops}
 use Rattle.cred_state.proofs.state.State.commit.Goals as goal
 
 pub returns-in_default-clause-ok : goal.returns-in_default-clause-ok

@@ -3,8 +3,8 @@ use Rattle.cred_model.specs.Ends.{is_thread_of}
 use Rattle.cred_slots.specs.Table.{Table}
 use Rattle.cred_procs.specs.Tasks.{task_in}
 use Rattle.cred_state.proofs.Acts.{abort_held, ends_all, process_kept, process_ended}
-use Rattle.cred_state.proofs.Ending.{left-held}
-use Rattle.cred_state.proofs.Owners.{process_there, for_owner}
+use Rattle.cred_tables.proofs.Ending.{left-held}
+use Rattle.cred_tables.proofs.Owners.{process_there, for_owner}
 use Rattle.cred_state.proofs.state.State.end_process_of.Goals as goal
 
 pub unwrap-process-requires : goal.unwrap-process-requires

@@ -1,5 +1,5 @@
 use Rattle.std.proofs.Common.{sym}
-use Rattle.cred_state.proofs.Sealing.{current-held, referred_to}
+use Rattle.cred_tables.proofs.Sealing.{current-held, referred_to}
 use Rattle.cred_state.proofs.state.State.fork.Goals as goal
 
 pub add-requires-clause-referred : goal.add-requires-clause-referred

@@ -2,11 +2,11 @@ use Rattle.std.proofs.Common.{ℕ, Some, sym, ap, ◌∙◌}
 use Rattle.cred_model.specs.Casts.{not_busy}
 use Rattle.cred_model.proofs.Numbers.{current_is}
 use Rattle.cred_cast.specs.Casts.{cast_under, cast_within}
-use Rattle.cred_state.specs.Kept.{parts_of, state_of}
+use Rattle.cred_tables.specs.Kept.{parts_of, state_of}
 use Rattle.cred_state.proofs.Begins.{begin_without, begin_busy, begin_exists, begin_overridden}
 use Rattle.cred_state.proofs.Broadcasts.{busy_by, none_open, some_open}
-use Rattle.cred_state.proofs.Owners.{has_process, own_owner, over_owner, owner_process}
-use Rattle.cred_state.proofs.Places.{none_by_test}
+use Rattle.cred_tables.proofs.Owners.{has_process, own_owner, over_owner, owner_process}
+use Rattle.cred_tables.proofs.Places.{none_by_test}
 use Rattle.cred_state.proofs.state.State.may_begin.Goals as goal
 
 pub returns-in_default : goal.returns-in_default

@@ -3,7 +3,7 @@ use Rattle.std.specs.List.{range_with_len}
 use Rattle.cred_record.specs.Credential.{Credential}
 use Rattle.cred_slots.specs.Table.{SLOTS, empty}
 use Rattle.cred_model.specs.State.{opening}
-use Rattle.cred_state.specs.Kept.{parts_of, IsKept, state_of}
+use Rattle.cred_tables.specs.Kept.{parts_of, IsKept, state_of}
 use Rattle.cred_state.proofs.state.State.new.Goals as goal
 
 none_set : (xs : List ℕ) (slot : ℕ) → slice_index_or (map (λ _. false) xs) slot false ≡ false

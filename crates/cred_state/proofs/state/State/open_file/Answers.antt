@@ -1,8 +1,8 @@
 use Rattle.std.proofs.Common.{refl, sym}
-use Rattle.cred_state.specs.Kept.{parts_of, state_of}
-use Rattle.cred_state.proofs.Bags.{bag-at}
-use Rattle.cred_state.proofs.InUse.{in_use-file}
-use Rattle.cred_state.proofs.Sealing.{kept_more, referred_to}
+use Rattle.cred_tables.specs.Kept.{parts_of, state_of}
+use Rattle.cred_tables.proofs.Bags.{bag-at}
+use Rattle.cred_tables.proofs.InUse.{in_use-file}
+use Rattle.cred_tables.proofs.Sealing.{kept_more, referred_to}
 use Rattle.cred_state.proofs.Standing.{held-in_use}
 use Rattle.cred_state.proofs.state.State.open_file.Goals as goal
 

@@ -1,5 +1,5 @@
 use Rattle.cred_state.proofs.Holding.{hold-held, release_kept, release_done}
-use Rattle.cred_state.proofs.Sealing.{drops}
+use Rattle.cred_tables.proofs.Sealing.{drops}
 use Rattle.cred_state.proofs.state.State.release.Goals as goal
 
 pub drop_later-requires : goal.drop_later-requires

@@ -1,6 +1,6 @@
 use Rattle.std.proofs.Common.{sym, ◌∙◌}
 use Rattle.cred_state.proofs.Overrides.{reverts, newest-held, revert_kept}
-use Rattle.cred_state.proofs.Sealing.{drops}
+use Rattle.cred_tables.proofs.Sealing.{drops}
 use Rattle.cred_state.proofs.state.State.revert.Goals as goal
 
 pub drop_later-requires : goal.drop_later-requires

@@ -1,8 +1,8 @@
 use Rattle.std.proofs.Common.{sym}
 use Rattle.cred_cast.proofs.Conditions.{dead_waits_nowhere}
-use Rattle.cred_state.specs.Kept.{parts_of, state_of}
-use Rattle.cred_state.proofs.Places.{none_by_test}
-use Rattle.cred_state.proofs.Sealing.{current-held, referred_to}
+use Rattle.cred_tables.specs.Kept.{parts_of, state_of}
+use Rattle.cred_tables.proofs.Places.{none_by_test}
+use Rattle.cred_tables.proofs.Sealing.{current-held, referred_to}
 use Rattle.cred_state.proofs.state.State.spawn.Goals as goal
 
 pub spawn_in-requires-clause-nowhere : goal.spawn_in-requires-clause-nowhere

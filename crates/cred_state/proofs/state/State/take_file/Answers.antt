@@ -1,6 +1,6 @@
 use Rattle.std.proofs.Common.{refl, sym}
 use Rattle.cred_model.specs.Step.{by_take_file}
-use Rattle.cred_state.specs.Kept.{seen_numbered}
+use Rattle.cred_tables.specs.Kept.{seen_numbered}
 use Rattle.cred_state.proofs.Holding.{takes_hold}
 use Rattle.cred_state.proofs.Standing.{opener-in_use}
 use Rattle.cred_state.proofs.state.State.take_file.Goals as goal

@@ -1,5 +1,5 @@
-use Rattle.cred_state.proofs.Bags.{bag-at}
-use Rattle.cred_state.proofs.Sealing.{referred_to}
+use Rattle.cred_tables.proofs.Bags.{bag-at}
+use Rattle.cred_tables.proofs.Sealing.{referred_to}
 use Rattle.cred_state.proofs.state.State.take_hold.Goals as goal
 
 pub add-requires-clause-referred : goal.add-requires-clause-referred

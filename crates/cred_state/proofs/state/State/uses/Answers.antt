@@ -1,5 +1,5 @@
-use Rattle.cred_state.proofs.Free.{uses-same}
-use Rattle.cred_state.proofs.Stored.{is_table}
+use Rattle.cred_tables.proofs.Free.{uses-same}
+use Rattle.cred_tables.proofs.Stored.{is_table}
 use Rattle.cred_state.proofs.state.State.uses.Goals as goal
 
 pub returns : goal.returns

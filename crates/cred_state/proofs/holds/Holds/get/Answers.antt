@@ -1,6 +1,0 @@
-use Rattle.std.proofs.Common.{◌∙◌}
-use Rattle.cred_state.proofs.ByLabel.{lookup-holds}
-use Rattle.cred_state.proofs.holds.Holds.get.Goals as goal
-
-pub returns : goal.returns
-returns c = rw (← c.self.view_is) (c.copied.ensures ∙ c.get.ensures ∙ lookup-holds c.args.label c.self.inside.numbers)

@@ -1,0 +1,13 @@
+pub mod NewestApart
+pub mod Places
+pub mod ByLabel
+pub mod Labels
+pub mod Bags
+pub mod Keeps
+pub mod Free
+pub mod InUse
+pub mod Owners
+pub mod Stored
+pub mod Sealing
+pub mod Ending
+pub mod Spawns

@@ -1,0 +1,123 @@
+-- How the kernel's state is kept: the tasks, the open broadcasts, the open files, the holds and the
+-- prepared labels as they are, the credentials in their slots' places, and a table of slots that
+-- counts references.
+use Rattle.std.specs.Prelude.{◌≡◌, ℕ, ◌<◌, ◌≤◌, ◌==◌, List, ◌∷◌, [], ◌++◌, count_by, length, map}
+use Rattle.std.specs.Prelude.{slice_index_or, slice_set, false, Some, None}
+use Rattle.std.specs.declared.option.Option.{Option}
+use Rattle.std.specs.List.{All, list_any}
+use Rattle.std.specs.Option.{IsSome, option_map_or}
+use Rattle.cred_record.specs.Credential.{Credential, first_credential}
+use Rattle.cred_model.specs.State.{State, Task, Broadcast, OpenFile, Hold, Prepared, SealedCred}
+use Rattle.cred_model.specs.State.{Numbered}
+use Rattle.cred_event.specs.declared.event.Change.{Change}
+use Rattle.cred_event.specs.declared.event.Change.TheVariants.{Exec}
+use Rattle.cred_model.specs.Casts.{dropped}
+use Rattle.cred_model.specs.Slots.{in_use, kept}
+use Rattle.cred_slots.specs.Table.{Table, SLOTS, IsSameBag, IsAlone, is_kept, room, free}
+use Rattle.cred_tables.specs.declared.table.Numbered as table
+
+-- what stands for the credential of a place that has none
+unfoldable pub no_credential : Credential
+no_credential = first_credential 0 0 0
+
+-- the credential in a slot's place
+abbrev pub placed : List (Option Credential) → ℕ → Credential
+placed store slot = option_map_or (λ cred. cred) (slice_index_or store slot None) no_credential
+
+-- what stands under each sealed number, where these are their slots
+abbrev pub creds_in : List (Option Credential) → List ℕ → List SealedCred
+creds_in store slots = map (λ slot. record { cred = placed store slot; slot = slot }) slots
+
+-- a sealed credential by its number and its slot alone, where it doesn't matter which one it is
+abbrev pub numbered_in : ℕ → ℕ → Numbered
+numbered_in number slot = record { number = number; cred = no_credential; slot = slot }
+
+-- a sealed credential with its number, wherever it lies
+abbrev pub seen_numbered : table.Numbered → Numbered
+seen_numbered n = record { number = n.number; cred = n.cred.now; slot = n.slot }
+
+-- a credential is in the place of each of these slots
+abbrev pub AreFilled : List (Option Credential) → List ℕ → Type 0
+AreFilled store slots = All (λ slot. IsSome (slice_index_or store slot None)) slots
+
+-- What refers to credentials: a list for each kind of thing that does; and the open broadcasts,
+-- which refer to none.
+pub record Parts : Type 0 where
+  pub tasks : List Task
+  pub casts : List Broadcast
+  pub files : List OpenFile
+  pub holds : List Hold
+  pub prepared : List Prepared
+
+abbrev pub parts_of : List Task → List Broadcast → List OpenFile → List Hold → List Prepared
+    → Parts
+parts_of tasks casts files holds prepared = record {
+  tasks = tasks;
+  casts = casts;
+  files = files;
+  holds = holds;
+  prepared = prepared;
+}
+
+-- the broadcasts that a commit of this change leaves open: an execve drops that of its process
+-- (execve(2))
+abbrev pub casts_left : Change → ℕ → List Broadcast → List Broadcast
+casts_left (Exec file) process casts = dropped process casts
+casts_left change process casts = casts
+
+-- the state that is kept so
+abbrev pub state_of : Parts → List (Option Credential) → Table → State
+state_of parts store table = record {
+  tasks = parts.tasks;
+  casts = parts.casts;
+  files = parts.files;
+  holds = parts.holds;
+  prepared = parts.prepared;
+  deferred = table.deferred;
+  creds = creds_in store table.sealed;
+}
+
+-- something refers to the credential of this number, and hasn't given it up
+abbrev pub IsInUse : State → ℕ → Type 0
+IsInUse s number = 0 < count_by (λ m. m == number) (in_use s)
+
+-- each of these numbers is referred to at least as often as it stands among them
+abbrev pub AreHeld : List ℕ → List ℕ → Type 0
+AreHeld numbers held =
+    (n : ℕ) → count_by (λ m. m == n) numbers ≤ count_by (λ m. m == n) held
+
+-- The table counts just these references, and keeps just these slots.
+pub record IsCounted (in_use kept : List ℕ) (table : Table) : Type 0 where
+  pub counts : IsSameBag table.held in_use
+  pub keeps : (slot : ℕ) → is_kept table slot ≡ list_any (λ kept. kept == slot) kept
+
+-- The table counts what the parts refer to and keep, and each sealed credential is in its slot's
+-- place, until another one is put there.
+pub record IsKept (parts : Parts) (store : List (Option Credential)) (table : Table) : Type 0 where
+  pub counted :
+      IsCounted (in_use (state_of parts store table)) (kept (state_of parts store table)) table
+  pub filled : AreFilled store table.sealed
+
+-- The next number was sealed in the free slot, with one reference, after a sweep where one was
+-- needed, and the same slots are kept as before. Nothing else that stands in the slot is referred
+-- to.
+pub record Seals (before after : Table) (number slot : ℕ) : Type 0 where
+  pub takes : free before ≡ Some slot
+  pub in_table : slot < SLOTS
+  pub alone : IsAlone after number slot
+  pub counted : number ≡ length before.sealed
+  pub held : IsSameBag after.held (number ∷ before.held)
+  pub sealed : after.sealed ≡ before.sealed ++ slot ∷ []
+  pub deferred : after.deferred ≡ (room before).deferred
+  pub kept : after.kept ≡ before.kept
+
+-- The next number was sealed in a slot that was kept for it, and one reference to its base was
+-- given up. Nothing else that stands in the slot is referred to.
+pub record SealsKept (before after : Table) (number base slot : ℕ) : Type 0 where
+  pub in_table : slot < SLOTS
+  pub alone : IsAlone after number slot
+  pub counted : number ≡ length before.sealed
+  pub held : IsSameBag (base ∷ after.held) (number ∷ before.held)
+  pub sealed : after.sealed ≡ before.sealed ++ slot ∷ []
+  pub deferred : after.deferred ≡ before.deferred ++ base ∷ []
+  pub kept : after.kept ≡ slice_set before.kept slot false

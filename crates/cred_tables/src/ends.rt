@@ -1,0 +1,64 @@
+//! The tasks that end with a commit.
+ghost use Rattle.std.specs.Prelude.{◌≡◌, IfOk, IfSome, OnErr};
+ghost use Rattle.std.specs.Option.{IsSome};
+ghost use Rattle.cred_model.specs.Step as model;
+ghost use Rattle.cred_procs.specs.Tasks.{Ends, task_in};
+ghost use Rattle.cred_tables.specs.Kept.{casts_left};
+
+use cred_cast::Casts;
+use cred_event::{Answer, Change};
+use cred_ids::NoMemory;
+use cred_procs::{Ended, Numbers, Procs, TaskList};
+use cred_record::Gains;
+use std::alloc::Global;
+
+/// The tasks end that end where the task commits this change: all other threads of its process with
+/// an execve (execve(2)), and none with another change.
+///
+/// # Errors
+///
+/// `NoMemory` if the allocation of a list fails: the tasks are as they were.
+pub fn end_with(
+    alloc: Global,
+    tasks: &mut Procs,
+    change: Change,
+    task: u32,
+) -> Result<Ended, NoMemory>
+    requires { IsSome (task_in tasks.old task) }
+    ensures ended { IfOk result (λ ended. IfSome (task_in tasks.old task) (λ owner.
+        Ends (model.ends_with change owner) tasks.old tasks.new ended.tasks ended.numbers)) }
+    ensures err { OnErr result (tasks.new ≡ tasks.old) }
+{
+    match change {
+        Change::Exec { .. } => tasks.dethread(task),
+        _ => Ok(Ended {
+            tasks: TaskList::from_vec(Vec::new(alloc)),
+            numbers: Numbers::from_vec(Vec::new(alloc)),
+        }),
+    }
+}
+
+/// The process's broadcast is dropped where one of its threads commits an execve (execve(2)).
+pub fn drop_cast(casts: &mut Casts, change: Change, process: u32)
+    ensures { casts.new ≡ casts_left change process casts.old }
+{
+    if let Change::Exec { .. } = change {
+        casts.dropped(process);
+    }
+}
+
+/// What a commit answers, by what the change was, and what the new credential gains: that was
+/// sealed under this number in this slot, and so many tasks ended.
+pub fn committed_by(change: Change, gains: &Gains, cred: u64, slot: u32, ended: u32) -> Answer
+    ensures { result ≡ model.committed_by change gains.now cred slot ended }
+{
+    match change {
+        Change::Exec { .. } => Answer::Executed {
+            cred,
+            slot,
+            ended,
+            gains: *gains,
+        },
+        _ => Answer::Sealed { cred, slot },
+    }
+}

@@ -1,0 +1,66 @@
+//! Taking a slot for a new credential, and giving up references.
+ghost use Rattle.std.specs.Prelude.{◌≡◌, ◌<◌, ◌==◌, ◌++◌, IsTrue, MatchOption, None, count_by};
+ghost use Rattle.std.specs.Prelude.{length, slice_set};
+ghost use Rattle.cred_slots.specs.Table.{IsSameBag, SLOTS, is_kept, room, free};
+ghost use Rattle.cred_tables.specs.Begin.{table_at};
+ghost use Rattle.cred_tables.specs.Kept.{AreHeld, Seals, SealsKept};
+
+use crate::prepared::Ended;
+use crate::store::Store;
+use cred_event::AbortCause;
+use cred_record::Cred;
+use cred_slots::Slots;
+
+/// Seals the next number in the free slot, after a sweep where one is needed. Where all slots are
+/// live even then, the sweep stands, and there is none.
+#[inline(always)]
+pub fn seal_next(slots: &mut Slots) -> Option<(u64, u32)>
+    requires { 0 < slots.old.spare }
+    ensures { MatchOption result
+        ((free slots.old ≡ None) × (slots.new ≡ room slots.old))
+        (λ sealing. Seals slots.old slots.new sealing.0 sealing.1) }
+{
+    let slot = slots.claim()?;
+    let number = slots.seal(slot);
+    Some((number, slot))
+}
+
+/// Seals a credential under the next number, in the slot that was kept for it, and gives up the
+/// reference to its base. Returns its number.
+pub fn seal_kept(slots: &mut Slots, store: &mut Store, kept: Ended, cred: Cred) -> u64
+    requires slot { IsTrue (is_kept slots.old kept.slot) }
+    requires spare { 0 < slots.old.spare }
+    requires base { 0 < count_by (λ n. n == kept.base) slots.old.held }
+    ensures sealed { SealsKept slots.old slots.new result kept.base kept.slot }
+    ensures stored { store.new ≡ slice_set store.old kept.slot (Some cred) }
+    ensures places { length store.old ≡ SLOTS }
+{
+    let number = slots.seal(kept.slot);
+    store.put(kept.slot, cred);
+    slots.drop_later(kept.base);
+    number
+}
+
+/// Where a task found no slot, the sweep that was made to find one stands.
+pub fn sweep_at(slots: &mut Slots, cause: AbortCause)
+    ensures { slots.new ≡ table_at cause slots.old }
+{
+    if let AbortCause::Full = cause {
+        slots.sweep();
+    }
+}
+
+/// References to these numbers are given up, one for each place in the list. They count until the
+/// next sweep.
+pub fn drop_all(slots: &mut Slots, numbers: &[u64])
+    requires { AreHeld numbers.now slots.old.held }
+    ensures held { IsSameBag slots.old.held (numbers.now ++ slots.new.held) }
+    ensures table { slots.new ≡ record slots.old {
+      held = slots.new.held;
+      deferred = slots.old.deferred ++ numbers.now;
+    } }
+{
+    for number in numbers {
+        slots.drop_later(*number);
+    }
+}
