@@ -1,5 +1,5 @@
 -- The lines that declare files.
-use Rattle.std.specs.Prelude.{ℕ, Bool, true, false, ◌&&◌, nat_le, nat_lt, List, [], ◌∷◌, length}
+use Rattle.std.specs.Prelude.{ℕ, Bool, false, ◌&&◌, nat_le, nat_lt, List, [], ◌∷◌, length}
 use Rattle.std.specs.Prelude.{position, codes, Some, None, Result, Ok, Err, ok_or, if◌then◌else◌}
 use Rattle.std.specs.declared.option.Option.{Option}
 use Rattle.std.specs.Option.{option_map, option_map_or}
@@ -55,13 +55,21 @@ attr_of (word ∷ digits ∷ []) =
     else Err Word
 attr_of words = Err Word
 
+-- whether `nosuid` stands first
+abbrev pub has_nosuid : List (List ℕ) → Bool
+has_nosuid [] = false
+has_nosuid (word ∷ words) = bytes_eq word (codes "nosuid")
+
+-- what stands after `nosuid`, or all where that does not stand first
+abbrev pub after_nosuid : List (List ℕ) → List (List ℕ)
+after_nosuid [] = []
+after_nosuid (word ∷ words) = if bytes_eq word (codes "nosuid") then words else word ∷ words
+
 -- what may follow: `nosuid`, and then `caps HEX`
 unfoldable pub options_of : List (List ℕ) → Result (Bool × Option (List ℕ)) Reason
-options_of [] = Ok (false, None)
-options_of (word ∷ words) =
-    if bytes_eq word (codes "nosuid")
-    then (attr_of words >>= λ attr. Ok (true, attr))
-    else (attr_of (word ∷ words) >>= λ attr. Ok (false, attr))
+options_of words = do
+  attr ← attr_of (after_nosuid words)
+  Ok (has_nosuid words, attr)
 
 -- `KIND ID ID MODE`, and what may follow. The ids are those of the owner and of the group.
 unfoldable pub info_of : List (List ℕ) → Result File Reason

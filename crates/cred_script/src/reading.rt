@@ -225,11 +225,10 @@ impl Reading {
     fn in_order(&self, line: &Parsed) -> Result<(), Reason>
         ensures { Says (λ x. x) result (spec.in_order self.now line.now) }
     {
-        match line {
-            Parsed::File(_) | Parsed::Namespace { .. } | Parsed::Starts(_) if self.is_used => {
-                Err(Reason::Order)
-            }
-            _ => Ok(()),
+        if is_declaration(line) && self.is_used {
+            Err(Reason::Order)
+        } else {
+            Ok(())
         }
     }
 
@@ -249,4 +248,14 @@ impl Reading {
         };
         if good { Ok(()) } else { Err(Reason::Name) }
     }
+}
+
+/// Whether the line declares something, so that it has to stand before all calls and events.
+fn is_declaration(line: &Parsed) -> bool
+    ensures { result ≡ spec.is_declaration line.now }
+{
+    matches!(
+        line,
+        Parsed::File(_) | Parsed::Namespace { .. } | Parsed::Starts(_)
+    )
 }
