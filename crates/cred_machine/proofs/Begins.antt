@@ -1,0 +1,83 @@
+-- An id call that a task makes, and what refuses it.
+use Rattle.std.proofs.Common.{◌≡◌, ℕ, true, List, is_some, Some, None, Result, Ok, Err, refl, sym, ap, ◌∙◌, inl, inr}
+use Rattle.std.specs.Result.{IfOk}
+use Rattle.cred_record.specs.Answer.{AnswersBy}
+use Rattle.cred_record.specs.Credential.{Credential}
+use Rattle.cred_record.specs.declared.id_call.IdCall.{IdCall}
+use Rattle.cred_record.specs.declared.refusal.Denial.{Denial}
+use Rattle.cred_record.specs.declared.refusal.Denial.TheVariants as denial
+use Rattle.cred_record.specs.declared.refusal.Refusal.TheVariants as refusal
+use Rattle.cred_rules.specs.SetId.{set_id}
+use Rattle.cred_event.specs.declared.answer.Answer.{Answer}
+use Rattle.cred_event.specs.declared.answer.Answer.TheVariants.{Eperm, Einval, Exists}
+use Rattle.cred_event.specs.declared.answer.Named.TheVariants as named
+use Rattle.cred_model.specs.State.{State, Task, Broadcast, Numbered, numbered, task_of, cast_in, cast_of}
+use Rattle.cred_model.specs.Casts.{not_busy, others_of}
+use Rattle.cred_model.specs.Moves.{in_slot, not_overridden, table_full}
+use Rattle.cred_model.specs.Step.{by_begin, outcome}
+use Rattle.cred_model.proofs.Numbers.{owner_number}
+use Rattle.cred_machine.specs.Room.{begun}
+use Rattle.cred_machine.specs.Tasks.{others_in}
+use Rattle.cred_machine.proofs.Events.{CanBegin, begin_tests}
+
+-- ---- what the rule says, by the call's answer
+
+pub rule_made : (given : Result Credential Denial) (made : Credential) → AnswersBy (Ok made) given → given ≡ Ok made
+rule_made (Ok x) made (inl is) = cc
+rule_made (Ok x) made (inr is) = cc
+rule_made (Err why) made is = cc
+
+pub rule_perm : (given : Result Credential Denial) → AnswersBy (Err refusal.Perm) given → given ≡ Err denial.Perm
+rule_perm (Ok x) (inl is) = cc
+rule_perm (Ok x) (inr is) = cc
+rule_perm (Err denial.Perm) is = refl
+rule_perm (Err denial.Invalid) is = cc
+
+pub rule_invalid : (given : Result Credential Denial) → AnswersBy (Err refusal.Invalid) given → given ≡ Err denial.Invalid
+rule_invalid (Ok x) (inl is) = cc
+rule_invalid (Ok x) (inr is) = cc
+rule_invalid (Err denial.Perm) is = cc
+rule_invalid (Err denial.Invalid) is = refl
+
+-- ---- what refuses the call
+
+module _ (s : State) (line task : ℕ) (call : IdCall) (owner : Task) (old : Numbered) (lives : task_of s task ≡ Some owner)
+    (has : numbered s.creds owner.current ≡ Some old) where
+  pub begin_busy : (answer : Answer) → not_busy (cast_in s owner.process) ≡ Err answer → outcome s (by_begin s line task call) ≡ (answer, s)
+  begin_busy answer busy = rw (lives, has, busy) refl
+
+  module _ (idle : not_busy (cast_in s owner.process) ≡ Ok tt) where
+    pub begin_exists : is_some (cast_of s line) ≡ true → outcome s (by_begin s line task call) ≡ (Exists named.Broadcast line, s)
+    begin_exists there = rw (lives, has, idle, there) refl
+
+    pub begin_overridden : (answer : Answer) → cast_of s line ≡ None → not_overridden owner ≡ Err answer
+        → outcome s (by_begin s line task call) ≡ (answer, s)
+    begin_overridden answer new own = rw (lives, has, idle, new, own) refl
+
+module _ (s : State) (line task : ℕ) (call : IdCall) (owner : Task) (old : Numbered) (can : CanBegin s line task owner old) where
+  pub begin_eperm : set_id old.cred call ≡ Err denial.Perm → outcome s (by_begin s line task call) ≡ (Eperm, s)
+  begin_eperm rule = rw (can.lives, can.has, can.idle, can.new, can.own, rule) refl
+
+  pub begin_einval : set_id old.cred call ≡ Err denial.Invalid → outcome s (by_begin s line task call) ≡ (Einval, s)
+  begin_einval rule = rw (can.lives, can.has, can.idle, can.new, can.own, rule) refl
+
+  -- the call is made, by the broadcast that it begins
+  others_are : (waiting : List ℕ) → waiting ≡ others_in owner.process task s.tasks → waiting ≡ others_of owner s.tasks
+  others_are waiting is = is ∙ ap (λ (n : ℕ). others_in owner.process n s.tasks) (sym (owner_number s task owner can.lives))
+
+  pub begins : (made : Credential) (copied : IdCall) (waiting : List ℕ) → set_id old.cred call ≡ Ok made → copied ≡ call
+      → waiting ≡ others_in owner.process task s.tasks
+      → outcome s (by_begin s line task call)
+      ≡ in_slot s table_full (λ r slot. begun r
+      (record { number = line; process = owner.process; caller = task; call = copied; waiting = waiting }) old.number made slot)
+  begins made copied waiting rule same these =
+      let cast : IdCall → List ℕ → Broadcast
+      = λ k ns. record { number = line; process = owner.process; caller = task; call = k; waiting = ns } in
+      begin_tests s line task call owner old made (cast copied waiting) can rule
+      (ap (λ (k : IdCall). cast k waiting) same ∙ ap (λ (ns : List ℕ). cast call ns) (others_are waiting these))
+
+-- what is answered, by what answers the same
+pub same_answer : {E : Type 0} (given made : Answer × State) (answered : Result Answer E) (after : State) → given ≡ made
+    → IfOk answered (λ answer. made ≡ (answer, after)) → IfOk answered (λ answer. given ≡ (answer, after))
+same_answer given made (Ok answer) after is gives = is ∙ gives
+same_answer given made (Err e) after is gives = tt

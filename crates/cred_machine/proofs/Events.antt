@@ -1,0 +1,108 @@
+-- What the events do where none of their tests refuses.
+use Rattle.std.proofs.Common.{◌≡◌, ℕ, ◌==◌, nat_lt, [], ◌∷◌, ◌++◌, drop, find, length, position, remove, slice_get, true, Some, None, Ok, refl}
+use Rattle.cred_record.specs.Credential.{Credential, first_credential}
+use Rattle.cred_record.specs.declared.id_call.IdCall.{IdCall}
+use Rattle.cred_rules.specs.SetId.{set_id}
+use Rattle.cred_event.specs.declared.answer.Answer.TheVariants.{Done, Kept, Sealed}
+use Rattle.cred_model.specs.State.{State, Broadcast, Changed, Hold, OpenFile, Prepared, Task, Numbered, begun_by, cast_in, cast_of, hold_of, numbered, prepared_of, task_of}
+use Rattle.cred_model.specs.Casts.{joined, not_busy, waits_no_more, others_of}
+use Rattle.cred_model.specs.Ends.{is_task, is_thread_of, left_by, survivors}
+use Rattle.cred_model.specs.Moves.{PREPARED, TASKS, created, first_task, given_up, in_slot, not_overridden, preparing, table_full, with_overrides}
+use Rattle.cred_model.specs.Step.{by_abort, by_begin, by_close, by_commit, by_exit, by_fork, by_init, by_prepare, by_release, by_revert, by_spawn, outcome, try_commit, for_task}
+use Rattle.std.specs.Option.{option_and_then}
+use Rattle.cred_machine.specs.Room.{begun}
+
+pub released : (s : State) (label place : ℕ) (hold : Hold) → position (λ h. h.label == label) s.holds ≡ Some place → slice_get s.holds place ≡ Some hold
+    → outcome s (by_release s label) ≡ (Done, record s { holds = remove s.holds place; deferred = s.deferred ++ hold.number ∷ [] })
+released s label place hold at there = rw (at, there) refl
+
+pub closed : (s : State) (fd place : ℕ) (file : OpenFile) → position (λ f. f.fd == fd) s.files ≡ Some place → slice_get s.files place ≡ Some file
+    → outcome s (by_close s fd) ≡ (Done, record s { files = remove s.files place; deferred = s.deferred ++ file.opener ∷ [] })
+closed s fd place file at there = rw (at, there) refl
+
+pub aborted_at : (s : State) (label place : ℕ) (p : Prepared) → position (λ p. p.label == label) s.prepared ≡ Some place → slice_get s.prepared place ≡ Some p
+    → outcome s (by_abort s label) ≡ (Done, given_up s place p)
+aborted_at s label place p at there = rw (at, there) refl
+
+pub reverted : (s : State) (task newest : ℕ) (owner : Task) → task_of s task ≡ Some owner → slice_get owner.overrides 0 ≡ Some newest
+    → outcome s (by_revert s task)
+    ≡ (Done, record s { tasks = with_overrides s.tasks task (drop 1 owner.overrides); deferred = s.deferred ++ newest ∷ [] })
+reverted s task newest owner lives first = rw (lives, first) refl
+
+pub exited : (s : State) (task : ℕ) (owner : Task) → task_of s task ≡ Some owner → not_busy (begun_by s task) ≡ Ok tt → not_overridden owner ≡ Ok tt
+    → outcome s (by_exit s task)
+    ≡ (
+      Done,
+      record s {
+        tasks = survivors (is_task task) s.tasks;
+        casts = waits_no_more task s.casts;
+        deferred = s.deferred ++ left_by (is_task task) s.tasks;
+      },
+    )
+exited s task owner lives idle own = rw (lives, idle, own) refl
+
+-- a task that may create another
+pub record CanCreate (s : State) (task child : ℕ) (owner : Task) (parent : Numbered) : Type 0 where
+  pub lives : task_of s task ≡ Some owner
+  pub has : numbered s.creds owner.current ≡ Some parent
+  pub idle : not_busy (begun_by s task) ≡ Ok tt
+  pub new : task_of s child ≡ None
+  pub own : not_overridden owner ≡ Ok tt
+  pub few : nat_lt (length s.tasks) TASKS ≡ true
+
+pub spawned : (s : State) (task child : ℕ) (owner : Task) (parent : Numbered) → CanCreate s task child owner parent
+    → outcome s (by_spawn s task child)
+    ≡ (
+      Sealed parent.number parent.slot,
+      record s { tasks = s.tasks ++ first_task child owner.process parent.number ∷ []; casts = joined task child s.casts },
+    )
+spawned s task child owner parent can = rw (can.lives, can.has, can.idle, can.new, can.own, can.few) refl
+
+pub forked : (s : State) (task child process : ℕ) (owner : Task) (parent : Numbered) → CanCreate s task child owner parent
+    → find (is_thread_of process) s.tasks ≡ None
+    → outcome s (by_fork s task child process)
+    ≡ (Sealed parent.number parent.slot, record s { tasks = s.tasks ++ first_task child process parent.number ∷ [] })
+forked s task child process owner parent can unused = rw (can.lives, can.has, can.idle, can.new, unused, can.own, can.few) refl
+
+pub init_tests : (s : State) (task process user group ns : ℕ) → not_busy (cast_in s process) ≡ Ok tt → task_of s task ≡ None
+    → nat_lt (length s.tasks) TASKS ≡ true
+    → outcome s (by_init s task process user group ns)
+    ≡ in_slot s table_full (λ r slot.
+    (Sealed (length r.creds) slot, created r (first_task task process (length r.creds)) (first_credential user group ns) slot))
+init_tests s task process user group ns idle new few = rw (idle, new, few) refl
+
+pub commit_tests : (s : State) (label place : ℕ) (p : Prepared) (owner : Task) (last : Changed) → position (λ p. p.label == label) s.prepared ≡ Some place
+    → slice_get s.prepared place ≡ Some p → option_and_then for_task p.changed ≡ Some last → task_of s p.task ≡ Some owner
+    → not_busy (begun_by s p.task) ≡ Ok tt → not_overridden owner ≡ Ok tt
+    → outcome s (by_commit s label) ≡ try_commit s place p owner last
+commit_tests s label place p owner last at there changed lives idle own = rw (at, there, changed, lives, idle, own) refl
+
+-- the tests of the label that is prepared, and of its task and its base
+pub record CanPrepare (s : State) (label task hold : ℕ) (held : Hold) : Type 0 where
+  pub owner : Task
+  pub lives : task_of s task ≡ Some owner
+  pub idle : not_busy (begun_by s task) ≡ Ok tt
+  pub has : hold_of s hold ≡ Some held
+  pub new : hold_of s label ≡ None
+  pub unprepared : prepared_of s label ≡ None
+  pub few : nat_lt (length s.prepared) PREPARED ≡ true
+
+pub prepare_tests : (s : State) (label task hold : ℕ) (held : Hold) → CanPrepare s label task hold held
+    → outcome s (by_prepare s label task hold)
+    ≡ in_slot s table_full (λ r slot. (Kept slot, preparing r (record { label = label; task = task; base = held.number; slot = slot; changed = None })))
+prepare_tests s label task hold held can = rw (can.lives, can.idle, can.has, can.new, can.unprepared, can.few) refl
+
+-- the tests of an id call
+pub record CanBegin (s : State) (line task : ℕ) (owner : Task) (old : Numbered) : Type 0 where
+  pub lives : task_of s task ≡ Some owner
+  pub has : numbered s.creds owner.current ≡ Some old
+  pub idle : not_busy (cast_in s owner.process) ≡ Ok tt
+  pub new : cast_of s line ≡ None
+  pub own : not_overridden owner ≡ Ok tt
+
+pub begin_tests : (s : State) (line task : ℕ) (call : IdCall) (owner : Task) (old : Numbered) (made : Credential) (cast : Broadcast)
+    → CanBegin s line task owner old → set_id old.cred call ≡ Ok made
+    → cast ≡ record { number = line; process = owner.process; caller = task; call = call; waiting = others_of owner s.tasks }
+    → outcome s (by_begin s line task call) ≡ in_slot s table_full (λ r slot. begun r cast old.number made slot)
+begin_tests s line task call owner old made cast can rule is =
+    rw (can.lives, can.has, can.idle, can.new, can.own, rule, is) refl

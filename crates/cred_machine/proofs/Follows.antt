@@ -1,0 +1,58 @@
+-- A thread makes its step in a broadcast, or its process ends.
+use Rattle.std.proofs.Common.{◌≡◌, ℕ, ◌+◌, not, Bool, true, false, List, length, is_some, slice_get, Some, None, Result, Ok, Err, refl, sym, ap, ◌∙◌}
+use Rattle.std.specs.Result.{IfOk, OnOk}
+use Rattle.cred_record.specs.Credential.{Credential}
+use Rattle.cred_rules.specs.SetId.{set_id}
+use Rattle.cred_event.specs.declared.answer.AbortCause.{AbortCause}
+use Rattle.cred_event.specs.declared.answer.Answer.{Answer}
+use Rattle.cred_event.specs.declared.answer.Answer.TheVariants.{Aborted, Acted, NoBroadcast}
+use Rattle.cred_model.specs.State.{State, Task, Broadcast, Numbered, cast_of, task_of, numbered}
+use Rattle.cred_model.specs.Casts.{waits_no_more}
+use Rattle.cred_model.specs.Moves.{replaced}
+use Rattle.cred_model.specs.Slots.{free, least_free}
+use Rattle.cred_model.specs.Step.{aborted, by_act, outcome}
+use Rattle.cred_machine.specs.Room.{at_abort, swept_if}
+use Rattle.cred_machine.proofs.Acts.{IsNext, acts}
+
+pub aborts : {E : Type 0} (s after : State) (number task : ℕ) (cause : AbortCause) (cast : Broadcast) (ended : Result Answer E)
+    → outcome s (by_act s number) ≡ (Aborted task cause, aborted cast (at_abort cause s))
+    → IfOk ended (λ answer. answer ≡ Aborted task cause)
+    → OnOk ended ((b : Broadcast) → b.process ≡ cast.process → after ≡ aborted b (at_abort cause s))
+    → IfOk ended (λ answer. outcome s (by_act s number) ≡ (answer, after))
+aborts s after number task cause cast (Ok answer) gives is leads =
+    gives ∙ ap (λ (r : State). (Aborted task cause, r)) (sym (leads cast refl)) ∙ ap (λ (a : Answer). (a, after)) (sym is)
+aborts s after number task cause cast (Err e) gives is leads = tt
+
+module _ (s : State) (number : ℕ) (cast : Broadcast) (found : cast_of s number ≡ Some cast) where
+  pub act_nobody : slice_get cast.waiting 0 ≡ None → outcome s (by_act s number) ≡ (NoBroadcast number, s)
+  act_nobody none = rw (found, none) refl
+
+  module _ (task : ℕ) (least : slice_get cast.waiting 0 ≡ Some task) where
+    pub act_dead : task_of s task ≡ None → outcome s (by_act s number) ≡ (NoBroadcast number, s)
+    act_dead none = rw (found, least, none) refl
+
+    pub act_unsealed : (owner : Task) → task_of s task ≡ Some owner → numbered s.creds owner.current ≡ None
+        → outcome s (by_act s number) ≡ (NoBroadcast number, s)
+    act_unsealed owner lives none = rw (found, least, lives, none) refl
+
+    module _ (owner : Task) (old : Numbered) (lives : task_of s task ≡ Some owner) (has : numbered s.creds owner.current ≡ Some old)
+        (made : Credential) (rule : set_id old.cred cast.call ≡ Ok made) where
+      pub steps : (after : State) (casts : List Broadcast) (sweep : Bool) (slot left given : ℕ) → free s ≡ Some slot
+          → sweep ≡ not (is_some (least_free s)) → left + 1 ≡ length cast.waiting → given ≡ length s.creds
+          → after ≡ replaced (swept_if sweep s) task old.number made slot → casts ≡ waits_no_more task after.casts
+          → outcome s (by_act s number) ≡ (Acted task given slot left, record after { casts = casts })
+      steps after casts sweep slot left given is for many counted leads cs =
+          let next : IsNext s number task cast owner old = record { found = found; least = least; lives = lives; has = has } in
+          acts s number task cast owner old next made rule sweep slot left is for many
+          ∙ rw (cs, leads, counted) (same sweep)
+        where
+          same : (b : Bool)
+              → ◌≡◌ {A = Answer × State} (
+                Acted task (length s.creds) slot left,
+                record (replaced (swept_if b s) task old.number made slot) { casts = waits_no_more task s.casts },
+              ) (
+                Acted task (length s.creds) slot left,
+                record (replaced (swept_if b s) task old.number made slot) { casts = waits_no_more task (replaced (swept_if b s) task old.number made slot).casts },
+              )
+          same true = refl
+          same false = refl

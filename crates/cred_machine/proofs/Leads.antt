@@ -1,0 +1,118 @@
+-- What the events that create and end tasks lead to, by the parts of the state after them.
+use Rattle.std.proofs.Common.{◌≡◌, ℕ, ◌==◌, nat_lt, not, is_some, Result, Bool, true, false, List, [], ◌∷◌, ◌++◌, length, find, Some, None, Ok, if◌then◌else◌, refl, sym, ap, ◌∙◌, subst}
+use Rattle.cred_event.specs.declared.answer.AbortCause.{AbortCause}
+use Rattle.cred_event.specs.declared.answer.Answer.{Answer}
+use Rattle.cred_event.specs.declared.answer.Answer.TheVariants.{Done, Kept, Sealed, TableFull}
+use Rattle.cred_record.specs.Credential.{Credential, first_credential}
+use Rattle.cred_model.specs.State.{State, Broadcast, Hold, Prepared, SealedCred, Task, Numbered, begun_by, cast_in, task_of}
+use Rattle.cred_model.specs.Slots.{free, least_free, swept}
+use Rattle.cred_model.specs.Casts.{dropped, joined, not_busy, waits_no_more}
+use Rattle.cred_model.specs.Ends.{is_task, is_thread_of, left_by, survivors}
+use Rattle.cred_model.specs.Moves.{TASKS, created, preparing, first_task, not_overridden, table_full}
+use Rattle.cred_model.specs.Step.{aborted, by_exit, by_fork, by_init, by_prepare, by_spawn, outcome}
+use Rattle.cred_machine.specs.Room.{at_abort, swept_if}
+use Rattle.cred_machine.proofs.Events.{CanCreate, CanPrepare, exited, forked, init_tests, prepare_tests, spawned}
+use Rattle.cred_machine.proofs.Rooms.{in_free, in_none, preparing_if}
+
+-- the state with these tasks, broadcasts and numbers that were given up
+with_parts : State → List Task → List Broadcast → List ℕ → State
+with_parts s tasks casts late = record s { tasks = tasks; casts = casts; deferred = late }
+
+same_parts : (s : State) {ts us : List Task} {cs ds : List Broadcast} {ms ns : List ℕ} → ts ≡ us → cs ≡ ds → ms ≡ ns → with_parts s ts cs ms ≡ with_parts s us ds ns
+same_parts s tasks casts late = rw (tasks, casts, late) refl
+
+pub exit_leads : (s : State) (task : ℕ) (owner : Task) (tasks : List Task) (casts : List Broadcast) (late numbers : List ℕ)
+    → task_of s task ≡ Some owner → not_busy (begun_by s task) ≡ Ok tt → not_overridden owner ≡ Ok tt
+    → tasks ≡ survivors (is_task task) s.tasks → casts ≡ waits_no_more task s.casts → late ≡ s.deferred ++ numbers → numbers ≡ left_by (is_task task) s.tasks
+    → outcome s (by_exit s task) ≡ (Done, record s { tasks = tasks; casts = casts; deferred = late })
+unfolding with_parts
+exit_leads s task owner tasks casts late numbers lives idle own ts cs ns left =
+    exited s task owner lives idle own
+    ∙ ap (λ (r : State). (Done, r)) (sym (same_parts s ts cs (ns ∙ ap (λ ms. s.deferred ++ ms) left)))
+
+pub process_ended : (s : State) (process : ℕ) (tasks : List Task) (casts : List Broadcast) (late numbers : List ℕ) (sweep : Bool)
+    → tasks ≡ survivors (is_thread_of process) s.tasks → casts ≡ dropped process s.casts
+    → late ≡ (if sweep then [] else s.deferred) ++ numbers → numbers ≡ left_by (is_thread_of process) s.tasks
+    → (cause : AbortCause) → at_abort cause s ≡ (if sweep then record s { deferred = [] } else s)
+    → (cast : Broadcast) → cast.process ≡ process → record s { tasks = tasks; casts = casts; deferred = late } ≡ aborted cast (at_abort cause s)
+unfolding with_parts
+process_ended s process tasks casts late numbers sweep ts cs ns left cause is cast same =
+    same_parts s ts cs (ns ∙ ap (λ ms. (if sweep then [] else s.deferred) ++ ms) left)
+    ∙ at sweep
+    ∙ ap (λ (p : ℕ). aborted (record cast { process = p }) (if sweep then record s { deferred = [] } else s)) (sym same)
+    ∙ ap (aborted cast) (sym is)
+  where
+    at : (b : Bool) → with_parts s (survivors (is_thread_of process) s.tasks) (dropped process s.casts) ((if b then [] else s.deferred) ++ left_by (is_thread_of process) s.tasks)
+        ≡ aborted (record cast { process = process }) (if b then record s { deferred = [] } else s)
+    at true = refl
+    at false = refl
+
+pub spawn_leads : (s : State) (task child : ℕ) (owner : Task) (parent : Numbered) (tasks : List Task) (casts : List Broadcast) → CanCreate s task child owner parent
+    → tasks ≡ s.tasks ++ first_task child owner.process parent.number ∷ [] → casts ≡ joined task child s.casts
+    → outcome s (by_spawn s task child) ≡ (Sealed parent.number parent.slot, record s { tasks = tasks; casts = casts })
+unfolding with_parts
+spawn_leads s task child owner parent tasks casts can ts cs =
+    spawned s task child owner parent can ∙ ap (λ (r : State). (Sealed parent.number parent.slot, r)) (sym (same_parts s ts cs refl))
+
+pub fork_leads : (s : State) (task child process : ℕ) (owner : Task) (parent : Numbered) (tasks : List Task) → CanCreate s task child owner parent
+    → find (is_thread_of process) s.tasks ≡ None → tasks ≡ s.tasks ++ first_task child process parent.number ∷ []
+    → outcome s (by_fork s task child process) ≡ (Sealed parent.number parent.slot, record s { tasks = tasks })
+fork_leads s task child process owner parent tasks can unused ts =
+    forked s task child process owner parent can unused
+    ∙ ap (λ (us : List Task). (Sealed parent.number parent.slot, record s { tasks = us })) (sym ts)
+
+-- there is room for a task more
+pub not_full : (few full : Bool) → full ≡ not few → full ≡ false → few ≡ true
+not_full true full is no_more = refl
+not_full false full is no_more = cc
+
+-- what is found among the broadcasts of the state
+pub busy_at : (s : State) (casts : List Broadcast) (task : ℕ) (r : Result (Unit {0}) Answer) → casts ≡ s.casts
+    → not_busy (find (λ b. b.caller == task) casts) ≡ r → not_busy (begun_by s task) ≡ r
+busy_at s casts task r same busy = subst (λ (cs : List Broadcast). not_busy (find (λ b. b.caller == task) cs) ≡ r) same busy
+
+pub idle_in : (s : State) (casts : List Broadcast) (process : ℕ) (r : Result (Unit {0}) Answer) → casts ≡ s.casts
+    → not_busy (find (λ b. b.process == process) casts) ≡ r → not_busy (cast_in s process) ≡ r
+idle_in s casts process r same busy = subst (λ (cs : List Broadcast). not_busy (find (λ b. b.process == process) cs) ≡ r) same busy
+
+pub init_leads : (s : State) (task process user group ns number slot : ℕ) (sweep : Bool) (c : Credential) (tasks : List Task) (late : List ℕ) (old creds : List SealedCred)
+    → not_busy (cast_in s process) ≡ Ok tt → task_of s task ≡ None → nat_lt (length s.tasks) TASKS ≡ true
+    → free s ≡ Some slot → sweep ≡ not (is_some (least_free s)) → number ≡ length old → old ≡ s.creds → c ≡ first_credential user group ns
+    → tasks ≡ s.tasks ++ first_task task process number ∷ [] → creds ≡ old ++ record { cred = c; slot = slot } ∷ []
+    → late ≡ (if sweep then [] else s.deferred)
+    → outcome s (by_init s task process user group ns) ≡ (Sealed number slot, record s { tasks = tasks; creds = creds; deferred = late })
+init_leads s task process user group ns number slot sweep c tasks late old creds idle new few found is many same first ts cs ls =
+    init_tests s task process user group ns idle new few
+    ∙ in_free s table_full
+    (λ r at. (Sealed (length r.creds) at, created r (first_task task process (length r.creds)) (first_credential user group ns) at)) sweep slot found is
+    ∙ done sweep
+    ∙ rw (ts, cs, ls, many, same, first) refl
+  where
+    done : (b : Bool)
+        → ◌≡◌ {A = Answer × State}
+        (Sealed (length (swept_if b s).creds) slot, created (swept_if b s) (first_task task process (length (swept_if b s).creds)) (first_credential user group ns) slot) (
+          Sealed (length s.creds) slot,
+          record s {
+            tasks = s.tasks ++ first_task task process (length s.creds) ∷ [];
+            creds = s.creds ++ record { cred = first_credential user group ns; slot = slot } ∷ [];
+            deferred = if b then [] else s.deferred;
+          },
+        )
+    done true = refl
+    done false = refl
+
+module _ (s : State) (label task hold : ℕ) (held : Hold) (can : CanPrepare s label task hold held) where
+  pub prepare_full : free s ≡ None → outcome s (by_prepare s label task hold) ≡ (TableFull, swept s)
+  prepare_full none = prepare_tests s label task hold held can ∙ in_none s table_full
+      (λ r at. (Kept at, preparing r (record { label = label; task = task; base = held.number; slot = at; changed = None }))) none
+
+  pub prepare_leads : (sweep : Bool) (slot : ℕ) (prepared : List Prepared) (late : List ℕ) → free s ≡ Some slot → sweep ≡ not (is_some (least_free s))
+      → prepared ≡ s.prepared ++ record { label = label; task = task; base = held.number; slot = slot; changed = None } ∷ []
+      → late ≡ (if sweep then [] else s.deferred)
+      → outcome s (by_prepare s label task hold) ≡ (Kept slot, record s { prepared = prepared; deferred = late })
+  prepare_leads sweep slot prepared late found is ps ls =
+      let p : Prepared = record { label = label; task = task; base = held.number; slot = slot; changed = None } in
+      prepare_tests s label task hold held can
+      ∙ in_free s table_full
+      (λ r at. (Kept at, preparing r (record { label = label; task = task; base = held.number; slot = at; changed = None }))) sweep slot found is
+      ∙ ap (λ (r : State). (Kept slot, r)) (preparing_if sweep s p ∙ rw (ps, ls) refl)

@@ -1,0 +1,64 @@
+-- What the events answer where one of their tests refuses.
+use Rattle.std.proofs.Common.{◌≡◌, ℕ, ◌==◌, ◌||◌, Bool, find, is_some, true, false, Option, Some, None, Ok, Err, refl, sym, ◌∙◌}
+use Rattle.cred_event.specs.declared.answer.Answer.{Answer}
+use Rattle.cred_event.specs.declared.answer.Answer.TheVariants.{Done, Eperm, Exists, NoHold}
+use Rattle.cred_rules.specs.Access.{may_signal}
+use Rattle.cred_event.specs.declared.answer.Named.TheVariants as named
+use Rattle.cred_model.specs.State.{State, Task, Numbered, begun_by, held_by, numbered, task_of}
+use Rattle.cred_model.specs.Casts.{not_busy}
+use Rattle.cred_model.specs.Ends.{is_thread_of}
+use Rattle.cred_model.specs.Moves.{not_overridden}
+use Rattle.cred_model.specs.Step.{by_exit, by_fork, by_prepare, by_signal, by_spawn, outcome}
+
+pub exit_busy : (s : State) (task : ℕ) (owner : Task) (answer : Answer) → task_of s task ≡ Some owner → not_busy (begun_by s task) ≡ Err answer
+    → outcome s (by_exit s task) ≡ (answer, s)
+exit_busy s task owner answer lives busy = rw (lives, busy) refl
+
+-- a task that would create another
+module _ (s : State) (task child process : ℕ) (owner : Task) (parent : Numbered) (lives : task_of s task ≡ Some owner) (has : numbered s.creds owner.current ≡ Some parent) where
+  pub spawn_busy : (answer : Answer) → not_busy (begun_by s task) ≡ Err answer → outcome s (by_spawn s task child) ≡ (answer, s)
+  spawn_busy answer busy = rw (lives, has, busy) refl
+
+  pub fork_busy : (answer : Answer) → not_busy (begun_by s task) ≡ Err answer → outcome s (by_fork s task child process) ≡ (answer, s)
+  fork_busy answer busy = rw (lives, has, busy) refl
+
+  module _ (idle : not_busy (begun_by s task) ≡ Ok tt) (new : task_of s child ≡ None) where
+    pub fork_used : is_some (find (is_thread_of process) s.tasks) ≡ true
+        → outcome s (by_fork s task child process) ≡ (Exists named.Process process, s)
+    fork_used used = rw (lives, has, idle, new, used) refl
+
+    pub fork_overridden : (answer : Answer) → find (is_thread_of process) s.tasks ≡ None → not_overridden owner ≡ Err answer
+        → outcome s (by_fork s task child process) ≡ (answer, s)
+    fork_overridden answer unused own = rw (lives, has, idle, new, unused, own) refl
+
+-- a task that would signal another
+module _ (s : State) (from hold to target : ℕ) (sender receiver : Task) (sends : task_of s from ≡ Some sender) (receives : task_of s to ≡ Some receiver) where
+  pub signal_own : held_by s hold ≡ None → outcome s (by_signal s from hold to target) ≡ (NoHold hold, s)
+  signal_own none = rw (sends, receives, none) refl
+
+  pub signal_other : (own : Numbered) → held_by s hold ≡ Some own → held_by s target ≡ None
+      → outcome s (by_signal s from hold to target) ≡ (NoHold target, s)
+  signal_other own has none = rw (sends, receives, has, none) refl
+
+  module _ (own other : Numbered) (has : held_by s hold ≡ Some own) (there : held_by s target ≡ Some other) (may : Bool)
+      (is : may ≡ may_signal own.cred other.cred (sender.process == receiver.process)) where
+    pub signal_may : may ≡ true → outcome s (by_signal s from hold to target) ≡ (Done, s)
+    signal_may so = let test : may_signal own.cred other.cred (sender.process == receiver.process) ≡ true = sym is ∙ so in rw (sends, receives, has, there, test) refl
+
+    pub signal_may_not : may ≡ false → outcome s (by_signal s from hold to target) ≡ (Eperm, s)
+    signal_may_not not_so = let test : may_signal own.cred other.cred (sender.process == receiver.process) ≡ false = sym is ∙ not_so in rw (sends, receives, has, there, test) refl
+
+-- what is there by a test
+pub some_of : {X : Type 0} (found : Option X) → is_some found ≡ true → (x : X) × (found ≡ Some x)
+some_of None is = cc
+some_of (Some x) is = (x, refl)
+
+pub neither : {X Y : Type 0} (found : Option X) (other : Option Y) (either : Bool) → either ≡ (is_some found || is_some other) → either ≡ false
+    → (found ≡ None) × (other ≡ None)
+neither None None either is none = (refl, refl)
+neither None (Some y) either is none = cc
+neither (Some x) other either is none = cc
+
+pub prepare_busy : (s : State) (label task hold : ℕ) (answer : Answer) → is_some (task_of s task) ≡ true → not_busy (begun_by s task) ≡ Err answer
+    → outcome s (by_prepare s label task hold) ≡ (answer, s)
+prepare_busy s label task hold answer lives busy = let owner = some_of (task_of s task) lives in rw (owner.1, busy) refl

@@ -1,0 +1,46 @@
+-- What every sound state keeps of its broadcasts gives the conditions of their calls.
+use Rattle.std.proofs.Common.{◌≡◌, ◌==◌, not, ℕ, ◌<◌, List, [], ◌∷◌, length, get_or, Some, true, false, refl, arith}
+use Rattle.std.specs.List.{AllPairs}
+use Rattle.cred_model.specs.State.{State, Task, Broadcast, cast_of}
+use Rattle.cred_model.specs.Casts.{waits_in}
+use Rattle.cred_model.proofs.Lists.{found}
+use Rattle.cred_sound.specs.Casts.{IsThread, IsUnderWay}
+use Rattle.cred_sound.specs.Sound.{IsSound}
+use Rattle.cred_sound.proofs.Threads.{one_process, waits_at}
+use Rattle.cred_machine.specs.Casts.{SharesNone}
+
+-- who waits in a broadcast is a thread of its process
+thread_of : (tasks : List Task) (cast : Broadcast) (task : ℕ) → IsUnderWay tasks cast → waits_in task cast ≡ true
+    → IsThread tasks cast.process task
+thread_of tasks cast task under_way waits = waits_at (IsThread tasks cast.process) task cast.waiting under_way.waiting waits
+
+-- what is no thread of its process doesn't wait there
+waits_not : (tasks : List Task) (cast : Broadcast) (task : ℕ) → IsUnderWay tasks cast
+    → (IsThread tasks cast.process task → ⊥) → waits_in task cast ≡ false
+waits_not tasks cast task under_way none =
+    elim (waits_in task cast) as (λ b. waits_in task cast ≡ b → b ≡ false) [
+      | true ↦ λ waits. absurd (none (thread_of tasks cast task under_way waits))
+      | false ↦ λ _. refl
+    ] refl
+
+pub shares_none : (s : State) → IsSound s → AllPairs SharesNone s.casts
+shares_none s sound = λ i j d lt within task waits.
+    let a = get_or s.casts i d in
+    let b = get_or s.casts j d in
+    waits_not s.tasks b task (sound.under_way j d within) (λ there.
+    sound.processes i j d lt within
+    (one_process s.tasks a.process b.process task (thread_of s.tasks a task (sound.under_way i d (omega arith)) waits) there))
+
+some_waits : (waiting : List ℕ) → not (length waiting == 0) ≡ true → 0 < length waiting
+some_waits [] is = cc
+some_waits (n ∷ ns) is = omega arith
+
+module _ (s : State) (number : ℕ) (cast : Broadcast) (sound : IsSound s) (is : cast_of s number ≡ Some cast) where
+  under_way : IsUnderWay s.tasks cast
+  under_way = (found (IsUnderWay s.tasks) (λ (b : Broadcast). b.number == number) s.casts cast is sound.under_way).0
+
+  pub is_some_waiting : 0 < length cast.waiting
+  is_some_waiting = some_waits cast.waiting under_way.some
+
+  pub waits_rising : AllPairs (λ m n. m < n) cast.waiting
+  waits_rising = under_way.rising

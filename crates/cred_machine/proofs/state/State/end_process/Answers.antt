@@ -1,0 +1,28 @@
+use Rattle.std.proofs.Common.{◌≡◌, [], if◌then◌else◌, refl, ◌∙◌}
+use Rattle.cred_model.specs.State.{State}
+use Rattle.cred_machine.specs.Room.{at_abort}
+use Rattle.cred_machine.proofs.Leads.{process_ended}
+use Rattle.cred_machine.proofs.state.State.end_process.Goals as goal
+use Rattle.cred_machine.proofs.state.State.end_process.Goals.{in-Full, in_default}
+
+pub returns-clause-state : goal.returns-clause-state
+returns-clause-state c =
+    let t = c.self.inside in
+    let s : State
+    = record {
+      tasks = t.tasks;
+      casts = t.casts.items;
+      files = t.files.items;
+      holds = t.holds.items;
+      prepared = t.prepared.items;
+      deferred = t.deferred.items;
+      creds = t.creds.list;
+    } in
+    let swept : at_abort c.args.cause s ≡ (if c.match-matches.matches then record s { deferred = [] } else s)
+    = elim c.match-matches.branch [
+      | in-Full w ↦ rw (w.in-Full.is, w.matches-is) refl
+      | in_default w ↦ rw (w.in_default.is, w.matches-is) refl
+    ] in
+    rw (← c.self.view_is)
+    (process_ended s c.args.process _ _ _ _ c.match-matches.matches c.end.ensures c.drop_cast.ensures c.in_ok-defer.ensures.ok
+    (c.deref.ensures.value ∙ c.in_ok-leave.ensures ∙ rw c.new-numbers.ensures.items refl) c.args.cause swept)

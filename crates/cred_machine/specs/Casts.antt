@@ -1,0 +1,17 @@
+-- The open broadcasts apart.
+use Rattle.std.specs.Prelude.{◌≡◌, ℕ, true, false, List, [], ◌∷◌, ◌++◌, All}
+use Rattle.cred_ids.specs.Ordered.{in_order}
+use Rattle.cred_model.specs.State.{Broadcast}
+use Rattle.cred_model.specs.Casts.{waits_in}
+
+-- Nobody waits in both.
+abbrev pub SharesNone : Broadcast → Broadcast → Type 0
+SharesNone a b = (task : ℕ) → waits_in task a ≡ true → waits_in task b ≡ false
+
+-- The task waits in none of them.
+abbrev pub WaitsNowhere : List Broadcast → ℕ → Type 0
+WaitsNowhere casts task = All (λ b. waits_in task b ≡ false) casts
+
+-- a broadcast in which one more waits
+abbrev pub joins : ℕ → Broadcast → Broadcast
+joins child cast = record cast { waiting = in_order (cast.waiting ++ child ∷ []) }

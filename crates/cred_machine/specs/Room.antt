@@ -1,0 +1,27 @@
+-- Sweeps that are made to find a slot.
+use Rattle.std.specs.Prelude.{ℕ, Bool, length, if◌then◌else◌}
+use Rattle.cred_record.specs.Credential.{Credential}
+use Rattle.cred_event.specs.declared.answer.AbortCause.{AbortCause}
+use Rattle.cred_event.specs.declared.answer.AbortCause.TheVariants.{Perm, Full}
+use Rattle.cred_event.specs.declared.answer.Answer.{Answer}
+use Rattle.cred_event.specs.declared.answer.Answer.TheVariants.{Began}
+use Rattle.cred_model.specs.State.{State, Broadcast}
+use Rattle.cred_model.specs.Slots.{swept}
+use Rattle.cred_model.specs.Casts.{with_cast}
+use Rattle.cred_model.specs.Moves.{replaced}
+
+-- the state after a sweep, if there was one
+abbrev pub swept_if : Bool → State → State
+swept_if sweep s = if sweep then swept s else s
+
+-- the state that a task which couldn't follow a call left: a sweep is made before a want of a slot
+abbrev pub at_abort : AbortCause → State → State
+at_abort Perm s = s
+at_abort Full s = swept s
+
+-- what a call answers whose credential takes this slot, and the state after it
+abbrev pub begun : State → Broadcast → ℕ → Credential → ℕ → Answer × State
+begun s cast old made slot = (
+  Began (length s.creds) slot (length cast.waiting),
+  record (replaced s cast.caller old made slot) { casts = with_cast s.casts cast },
+)

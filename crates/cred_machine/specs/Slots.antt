@@ -1,0 +1,15 @@
+-- Slots that are marked.
+use Rattle.std.specs.Prelude.{ℕ, ◌==◌, ◌||◌, Bool, false, List, slice_index_or}
+use Rattle.std.specs.List.{list_any}
+use Rattle.cred_model.specs.State.{SealedCred}
+use Rattle.cred_model.specs.Slots.{stands_in}
+
+-- a slot's mark; none past the last
+abbrev pub is_marked : List Bool → ℕ → Bool
+is_marked marks slot = slice_index_or marks slot false
+
+-- One of these numbers stands in the slot, or it is one of those that are kept.
+abbrev pub is_live_by : List SealedCred → List ℕ → List ℕ → ℕ → Bool
+is_live_by creds numbers kept slot =
+    list_any (λ number. stands_in creds slot number) numbers
+    || list_any (λ kept. kept == slot) kept

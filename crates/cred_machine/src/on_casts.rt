@@ -1,0 +1,183 @@
+//! The id calls, which every thread of a process makes, one after another (nptl(7)).
+ghost use Rattle.std.specs.Prelude.{◌≡◌, ◌≤◌, length, IfOk, OnOk, OnErr};
+ghost use Rattle.cred_event.specs.declared.answer.Answer.TheVariants.{Aborted};
+ghost use Rattle.cred_model.specs.State.{Broadcast};
+ghost use Rattle.cred_model.specs.Like.{Gives};
+ghost use Rattle.cred_model.specs.Moves.{TASKS, in_slot, replaced, table_full};
+ghost use Rattle.cred_model.specs.Step.{aborted, by_act, by_begin};
+ghost use Rattle.cred_sound.specs.Sound.{IsSound};
+ghost use Rattle.cred_machine.specs.Room.{at_abort, begun, swept_if};
+
+use crate::casts::{Cast, cast_of, drop_cast, leave, open_cast, open_in};
+use crate::slots::{Room, defer};
+use crate::state::{State, overridden};
+use crate::tasks::Ending;
+use cred_event::{AbortCause, Answer, Named};
+use cred_ids::NoMemory;
+use cred_record::{Cred, IdCall, Refusal};
+use cred_setid::apply;
+
+impl State {
+    /// A task makes an id call. The other threads of its process then wait for their step; where it
+    /// has none, the broadcast is completed at once. `TableFull` leaves the state swept, and the
+    /// other refusals leave it.
+    pub(crate) fn begin(&mut self, line: u32, task: u32, call: &IdCall) -> Result<Answer, NoMemory>
+        ensures ok { IfOk result (λ answer.
+            Gives self.old (by_begin self.old line task call.now) answer self.new) }
+        ensures err { OnErr result (self.new ≡ self.old) }
+    {
+        let Some(owner) = self.tasks.get(task) else {
+            return Ok(Answer::NoTask(task));
+        };
+        let Some(old) = self.creds.get(owner.current) else {
+            return Ok(Answer::NoTask(task));
+        };
+        let process = owner.process;
+        if let Some(cast) = open_in(&self.casts, process) {
+            return Ok(Answer::Busy(cast));
+        }
+        if cast_of(&self.casts, line).is_some() {
+            return Ok(Answer::Exists {
+                what: Named::Broadcast,
+                number: line,
+            });
+        }
+        if let Some(depth) = overridden(owner) {
+            return Ok(Answer::Overridden(depth));
+        }
+        let cred = match apply(self.alloc, old.cred, call) {
+            Ok(cred) => cred,
+            Err(Refusal::Perm) => return Ok(Answer::Eperm),
+            Err(Refusal::Invalid) => return Ok(Answer::Einval),
+            Err(Refusal::Memory) => return Err(NoMemory),
+        };
+        let (number, waiting) = (old.number, self.tasks.others(process, task)?);
+        let cast = Cast {
+            number: line,
+            process,
+            caller: task,
+            call: call.copy()?,
+            waiting,
+        };
+        self.open(cast, number, cred)
+    }
+
+    /// The caller of a broadcast has made this credential of its current one, of this number. That
+    /// takes a slot, and the broadcast is open if anybody waits in it.
+    fn open(&mut self, cast: Cast, old: u64, cred: Cred) -> Result<Answer, NoMemory>
+        requires { length cast.waiting ≤ TASKS }
+        ensures ok { IfOk result (λ answer. in_slot self.old table_full
+            (λ s slot. begun s cast old cred slot) ≡ (answer, self.new)) }
+        ensures err { OnErr result (self.new ≡ self.old) }
+    {
+        let Room { slot, swept } = self.room()?;
+        let Some(slot) = slot else {
+            return Ok(self.full());
+        };
+        let (task, left) = (cast.caller, cast.waiting.len() as u32);
+        let before = self.casts.len();
+        open_cast(&mut self.casts, cast)?;
+        let number = match self.replace(task, old, cred, slot, swept) {
+            Ok(number) => number,
+            Err(err) => {
+                self.casts.truncate(before);
+                return Err(err);
+            }
+        };
+        Ok(Answer::Began {
+            cred: number,
+            slot,
+            left,
+        })
+    }
+
+    /// The least thread that waits in the broadcast makes the call of it on its own current
+    /// credential. `NoBroadcast` leaves the state. Where the call is refused, or where no slot is
+    /// free even after a sweep, all threads of the process end and the broadcast is dropped.
+    pub(crate) fn act(&mut self, line: u32) -> Result<Answer, NoMemory>
+        requires { IsSound self.old }
+        ensures ok { IfOk result (λ answer.
+            Gives self.old (by_act self.old line) answer self.new) }
+        ensures err { OnErr result (self.new ≡ self.old) }
+    {
+        let Some(cast) = cast_of(&self.casts, line) else {
+            return Ok(Answer::NoBroadcast(line));
+        };
+        let Some(task) = cast.least() else {
+            return Ok(Answer::NoBroadcast(line));
+        };
+        let Some(owner) = self.tasks.get(task) else {
+            return Ok(Answer::NoBroadcast(line));
+        };
+        let Some(current) = self.creds.get(owner.current) else {
+            return Ok(Answer::NoBroadcast(line));
+        };
+        let (process, left, number) = (cast.process, cast.others(), current.number);
+        let cred = match apply(self.alloc, current.cred, &cast.call) {
+            Ok(cred) => cred,
+            Err(Refusal::Perm) => return self.end_process(process, task, AbortCause::Perm),
+            Err(Refusal::Invalid) => return self.end_process(process, task, AbortCause::Perm),
+            Err(Refusal::Memory) => return Err(NoMemory),
+        };
+        let Room { slot, swept } = self.room()?;
+        let Some(slot) = slot else {
+            return self.end_process(process, task, AbortCause::Full);
+        };
+        let cred = self.replace(task, number, cred, slot, swept)?;
+        leave(&mut self.casts, task);
+        Ok(Answer::Acted {
+            task,
+            cred,
+            slot,
+            left,
+        })
+    }
+
+    /// A task's current credential is replaced by this one, which is sealed in the slot, after a
+    /// sweep if that needs one. The old one's number is given up.
+    fn replace(
+        &mut self,
+        task: u32,
+        old: u64,
+        cred: Cred,
+        slot: u32,
+        swept: bool,
+    ) -> Result<u64, NoMemory>
+        ensures number { IfOk result (λ number. number ≡ length self.old.creds) }
+        ensures ok { OnOk result
+            (self.new ≡ replaced (swept_if swept self.old) task old cred slot) }
+        ensures err { OnErr result (self.new ≡ self.old) }
+    {
+        self.creds.reserve()?;
+        defer(&mut self.deferred, swept, &[old])?;
+        self.swept |= swept;
+        let number = self.creds.seal(cred, slot);
+        self.tasks.set_current(task, number);
+        Ok(number)
+    }
+
+    /// A task that waits in the broadcast of its process can't follow: all threads of the process
+    /// end, and the broadcast is dropped. Where the task found no slot, the sweep that was made to
+    /// find one stands.
+    fn end_process(
+        &mut self,
+        process: u32,
+        task: u32,
+        cause: AbortCause,
+    ) -> Result<Answer, NoMemory>
+        ensures answer { IfOk result (λ answer. answer ≡ Aborted task cause) }
+        ensures state { OnOk result ((cast : Broadcast) → cast.process ≡ process
+            → self.new ≡ aborted cast (at_abort cause self.old)) }
+        ensures err { OnErr result (self.new ≡ self.old) }
+    {
+        let swept = matches!(cause, AbortCause::Full);
+        let ending = Ending::Process(process);
+        let mut numbers = Vec::new(self.alloc);
+        self.tasks.leave(ending, &mut numbers)?;
+        defer(&mut self.deferred, swept, &numbers)?;
+        self.swept |= swept;
+        self.tasks.end(ending);
+        drop_cast(&mut self.casts, process);
+        Ok(Answer::Aborted { task, cause })
+    }
+}

@@ -1,0 +1,97 @@
+//! The events on open files.
+ghost use Rattle.std.specs.Prelude.{◌≡◌, IfOk, OnErr};
+ghost use Rattle.std.specs.Option.{option_map};
+ghost use Rattle.cred_model.specs.State.{opener_of};
+ghost use Rattle.cred_model.specs.Like.{Gives};
+ghost use Rattle.cred_model.specs.Step.{by_close, by_open, by_take_file};
+ghost use Rattle.cred_machine.specs.Creds.{seen_numbered};
+
+use crate::creds::Numbered;
+use crate::files::{OpenFile, may_open, open_of, open_place};
+use crate::state::State;
+use cred_event::{Answer, Counted, Named};
+use cred_ids::NoMemory;
+use cred_record::Want;
+use cred_script::Script;
+
+/// How many files may be open.
+const FILES: usize = 256;
+
+impl State {
+    /// The file is opened under the descriptor, by the credential that the hold has (open(2)). The
+    /// refusals leave the state.
+    pub(crate) fn open_file(
+        &mut self,
+        script: &Script,
+        hold: u32,
+        file: u32,
+        want: Want,
+        fd: u32,
+    ) -> Result<Answer, NoMemory>
+        ensures ok { IfOk result (λ answer.
+            Gives self.old (by_open script.now self.old hold file want fd) answer self.new) }
+        ensures err { OnErr result (self.new ≡ self.old) }
+    {
+        let Some(
+            Numbered {
+                number: opener,
+                cred,
+                ..
+            },
+        ) = self.held(hold)
+        else {
+            return Ok(Answer::NoHold(hold));
+        };
+        if open_of(&self.files, fd).is_some() {
+            return Ok(Answer::Exists {
+                what: Named::File,
+                number: fd,
+            });
+        }
+        if !may_open(script, cred, file, want) {
+            return Ok(Answer::Eacces);
+        }
+        if self.files.len() >= FILES {
+            return Ok(Answer::TooMany(Counted::Files));
+        }
+        self.files.push(OpenFile { fd, opener, file })?;
+        Ok(Answer::Done)
+    }
+
+    /// The descriptor is closed, and its opener's credential given up (close(2)). `Ebadf` leaves
+    /// the state.
+    pub(crate) fn close_file(&mut self, fd: u32) -> Result<Answer, NoMemory>
+        ensures ok { IfOk result (λ answer.
+            Gives self.old (by_close self.old fd) answer self.new) }
+        ensures err { OnErr result (self.new ≡ self.old) }
+    {
+        let Some(place) = open_place(&self.files, fd) else {
+            return Ok(Answer::Ebadf);
+        };
+        let opener = self.files[place].opener;
+        self.deferred.push(opener)?;
+        self.files.remove(place);
+        Ok(Answer::Done)
+    }
+
+    /// The label takes hold of the credential that the open file was opened by. The refusals leave
+    /// the state.
+    pub(crate) fn take_file(&mut self, label: u32, fd: u32) -> Result<Answer, NoMemory>
+        ensures ok { IfOk result (λ answer.
+            Gives self.old (by_take_file self.old label fd) answer self.new) }
+        ensures err { OnErr result (self.new ≡ self.old) }
+    {
+        let Some(Numbered { number, slot, .. }) = self.opener(fd) else {
+            return Ok(Answer::Ebadf);
+        };
+        self.take_hold(label, number, slot)
+    }
+
+    /// The credential that the file of a descriptor was opened by.
+    fn opener(&self, fd: u32) -> Option<Numbered<'_>>
+        ensures { option_map seen_numbered result ≡ opener_of self.now fd }
+    {
+        let file = open_of(&self.files, fd)?;
+        self.creds.get(file.opener)
+    }
+}

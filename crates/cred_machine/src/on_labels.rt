@@ -1,0 +1,338 @@
+//! The events on holds and prepared labels.
+ghost use Rattle.std.specs.Prelude.{◌≡◌, ◌<◌, length, slice_get, IfOk, IfSome, OnOk, OnErr};
+ghost use Rattle.cred_model.specs.Like.{Gives};
+ghost use Rattle.cred_model.specs.Step.{by_abort, by_alter, by_ask, by_commit, by_prepare, by_release, by_signal, by_take, take_hold};
+ghost use Rattle.cred_model.specs.Step as model;
+ghost use Rattle.cred_model.specs.Moves.{given_up};
+ghost use Rattle.cred_sound.specs.Sound.{IsSound};
+ghost use Rattle.cred_machine.specs.Labels.{numbered_in, casts_left, CanCommit, Commits, IsOnCurrent};
+ghost use Rattle.cred_machine.specs.Tasks.{ending_of};
+
+use crate::casts::{Cast, begun_by, drop_cast};
+use crate::creds::Numbered;
+use crate::files::{asked_file, chain_of, executed_file};
+use crate::labels::{
+    Changed, Hold, Prepared, change_at, hold_of, hold_place, prepared_of, prepared_place,
+};
+use crate::slots::{Room, defer, sweep_if};
+use crate::state::{State, overridden};
+use crate::tasks::Ending;
+use cred_access::may_signal;
+use cred_decide::{Made, change as change_of, reply};
+use cred_event::{Answer, Change, Counted, Named, Query, Side};
+use cred_ids::NoMemory;
+use cred_record::{Gains, copy};
+use cred_script::Script;
+
+/// How many holds may stand.
+const HOLDS: usize = 512;
+
+/// How many prepared labels may stand.
+const PREPARED: usize = 64;
+
+impl State {
+    pub(crate) fn take(&mut self, label: u32, task: u32, side: Side) -> Result<Answer, NoMemory>
+        ensures ok { IfOk result (λ answer.
+            Gives self.old (by_take self.old label task side) answer self.new) }
+        ensures err { OnErr result (self.new ≡ self.old) }
+    {
+        let Some(Numbered { number, slot, .. }) = self.credential(task, side) else {
+            return Ok(Answer::NoTask(task));
+        };
+        self.take_hold(label, number, slot)
+    }
+
+    /// The label takes hold of the credential of this number, which stands in this slot.
+    pub(crate) fn take_hold(
+        &mut self,
+        label: u32,
+        number: u64,
+        slot: u32,
+    ) -> Result<Answer, NoMemory>
+        ensures ok { IfOk result (λ answer.
+            Gives self.old (take_hold self.old label (numbered_in number slot)) answer self.new) }
+        ensures err { OnErr result (self.new ≡ self.old) }
+    {
+        if self.has_label(label) {
+            return Ok(Answer::Exists {
+                what: Named::Label,
+                number: label,
+            });
+        }
+        if self.holds.len() >= HOLDS {
+            return Ok(Answer::TooMany(Counted::Holds));
+        }
+        self.holds.push(Hold { label, number })?;
+        Ok(Answer::Sealed { cred: number, slot })
+    }
+
+    pub(crate) fn release(&mut self, label: u32) -> Result<Answer, NoMemory>
+        ensures ok { IfOk result (λ answer.
+            Gives self.old (by_release self.old label) answer self.new) }
+        ensures err { OnErr result (self.new ≡ self.old) }
+    {
+        let Some(place) = hold_place(&self.holds, label) else {
+            return Ok(Answer::NoHold(label));
+        };
+        let number = self.holds[place].number;
+        self.deferred.push(number)?;
+        self.holds.remove(place);
+        Ok(Answer::Done)
+    }
+
+    pub(crate) fn ask(&self, script: &Script, label: u32, query: Query) -> Result<Answer, NoMemory>
+        ensures { IfOk result (λ answer.
+            Gives self.now (by_ask script.now self.now label query) answer self.now) }
+    {
+        match self.held(label) {
+            Some(held) => reply(self.alloc, asked_file(script, query), held.cred, query),
+            None => Ok(Answer::NoHold(label)),
+        }
+    }
+
+    /// May a task signal another, where one label holds the sender's credential and another the
+    /// target's (kill(2))?
+    pub(crate) fn signal(&self, from: u32, hold: u32, to: u32, target: u32) -> Answer
+        ensures { Gives self.now (by_signal self.now from hold to target) result self.now }
+    {
+        let Some(sender) = self.tasks.get(from) else {
+            return Answer::NoTask(from);
+        };
+        let Some(receiver) = self.tasks.get(to) else {
+            return Answer::NoTask(to);
+        };
+        let Some(own) = self.held(hold) else {
+            return Answer::NoHold(hold);
+        };
+        let Some(other) = self.held(target) else {
+            return Answer::NoHold(target);
+        };
+        if may_signal(own.cred, other.cred, sender.process == receiver.process) {
+            Answer::Done
+        } else {
+            Answer::Eperm
+        }
+    }
+
+    /// The label prepares a new credential for the task, based on the one that the hold has, and
+    /// keeps the slot that the new one will stand in. `NoTask`, `Busy`, `NoHold`, `Exists` and
+    /// `TooMany` leave the state; `TableFull` leaves it swept.
+    pub(crate) fn prepare(&mut self, label: u32, task: u32, hold: u32) -> Result<Answer, NoMemory>
+        ensures ok { IfOk result (λ answer.
+            Gives self.old (by_prepare self.old label task hold) answer self.new) }
+        ensures err { OnErr result (self.new ≡ self.old) }
+    {
+        if !self.tasks.alive(task) {
+            return Ok(Answer::NoTask(task));
+        }
+        if let Some(cast) = begun_by(&self.casts, task) {
+            return Ok(Answer::Busy(cast));
+        }
+        let Some(held) = hold_of(&self.holds, hold) else {
+            return Ok(Answer::NoHold(hold));
+        };
+        let base = held.number;
+        if self.has_label(label) {
+            return Ok(Answer::Exists {
+                what: Named::Label,
+                number: label,
+            });
+        }
+        if self.prepared.len() >= PREPARED {
+            return Ok(Answer::TooMany(Counted::Prepared));
+        }
+        let Room { slot, swept } = self.room()?;
+        let Some(slot) = slot else {
+            return Ok(self.full());
+        };
+        self.prepared.push(Prepared {
+            label,
+            task,
+            base,
+            slot,
+            changed: None,
+        })?;
+        self.swept |= swept;
+        sweep_if(&mut self.deferred, swept);
+        Ok(Answer::Kept { slot })
+    }
+
+    /// What the label prepares is its base, changed so. `NoPrepared` and the refusals of the change
+    /// leave the state, and with it what an earlier change made of the base.
+    pub(crate) fn alter(
+        &mut self,
+        script: &Script,
+        label: u32,
+        change: Change,
+    ) -> Result<Answer, NoMemory>
+        requires { IsSound self.old }
+        ensures ok { IfOk result (λ answer.
+            Gives self.old (by_alter script.now self.old label change) answer self.new) }
+        ensures err { OnErr result (self.new ≡ self.old) }
+    {
+        let Some(label_of) = prepared_of(&self.prepared, label) else {
+            return Ok(Answer::NoPrepared(label));
+        };
+        let Some(Numbered { cred: base, .. }) = self.creds.get(label_of.base) else {
+            return Ok(Answer::NoPrepared(label));
+        };
+        let file = executed_file(script, change);
+        let chain = chain_of(script, base.ns);
+        let Made {
+            answer,
+            cred,
+            gains,
+        } = match change_of(base, file, chain, &change)? {
+            Ok(made) => made,
+            Err(answer) => return Ok(answer),
+        };
+        let to = Changed {
+            change,
+            cred,
+            gains,
+        };
+        change_at(&mut self.prepared, label, to);
+        Ok(answer)
+    }
+
+    /// What the label prepared is sealed in the slot that was kept for it, and becomes its task's
+    /// current credential (Documentation/security/credentials.rst). Where the last change was an
+    /// execve, all other threads of the task's process end (execve(2)), and the process's broadcast
+    /// is dropped. `Stale` comes where the task's current credential isn't the base any more: then
+    /// the label is given up. The other refusals leave the state.
+    pub(crate) fn commit(&mut self, label: u32) -> Result<Answer, NoMemory>
+        ensures ok { IfOk result (λ answer.
+            Gives self.old (by_commit self.old label) answer self.new) }
+        ensures err { OnErr result (self.new ≡ self.old) }
+    {
+        let Some(place) = prepared_place(&self.prepared, label) else {
+            return Ok(Answer::NoPrepared(label));
+        };
+        let own = &self.prepared[place];
+        let Some(last) = own.for_task() else {
+            return Ok(Answer::NoPrepared(label));
+        };
+        let Some(owner) = self.tasks.get(own.task) else {
+            return Ok(Answer::NoTask(own.task));
+        };
+        if let Some(cast) = begun_by(&self.casts, own.task) {
+            return Ok(Answer::Busy(cast));
+        }
+        if let Some(depth) = overridden(owner) {
+            return Ok(Answer::Overridden(depth));
+        }
+        self.try_commit(place)
+    }
+
+    /// What the label at this place prepared becomes its task's current credential, if its base is
+    /// that still. Nothing else refuses it any more.
+    fn try_commit(&mut self, place: usize) -> Result<Answer, NoMemory>
+        requires { CanCommit self.old place }
+        ensures ok { IfOk result (λ answer. Commits self.old place answer self.new) }
+        ensures err { OnErr result (self.new ≡ self.old) }
+    {
+        let own = &self.prepared[place];
+        // It is there: its task is alive.
+        let owner = self.tasks.get(own.task).unwrap();
+        let (base, now) = (own.base, owner.current);
+        if now != base {
+            self.give_up(place)?;
+            return Ok(Answer::Stale { base, now });
+        }
+        self.settle(place)
+    }
+
+    /// What the label at this place prepared becomes its task's current credential, which is its
+    /// base now.
+    fn settle(&mut self, place: usize) -> Result<Answer, NoMemory>
+        requires can { CanCommit self.old place }
+        requires current { IsOnCurrent self.old place }
+        ensures ok { IfOk result (λ answer. Commits self.old place answer self.new) }
+        ensures err { OnErr result (self.new ≡ self.old) }
+    {
+        let own = &self.prepared[place];
+        // Both are there: the label was changed, and its task is alive.
+        let last = own.changed.as_ref().unwrap();
+        let owner = self.tasks.get(own.task).unwrap();
+        let (task, process, slot) = (own.task, owner.process, own.slot);
+        let cred = copy(&last.cred)?;
+        let ending = ends_with(last.change, process, task);
+        let ended = self.tasks.count(ending);
+        let mut numbers = Vec::new(self.alloc);
+        self.tasks.leave(ending, &mut numbers)?;
+        numbers.push(owner.current)?;
+        numbers.push(own.base)?;
+        self.creds.reserve()?;
+        defer(&mut self.deferred, false, &numbers)?;
+        self.tasks.end(ending);
+        drop_with(&mut self.casts, last.change, process);
+        let number = self.creds.seal(cred, slot);
+        self.tasks.set_current(task, number);
+        let answer = committed_by(last.change, &last.gains, number, slot, ended);
+        self.prepared.remove(place);
+        Ok(answer)
+    }
+
+    /// The label gives up what it prepared, with its slot and the reference to its base.
+    /// `NoPrepared` leaves the state.
+    pub(crate) fn abort(&mut self, label: u32) -> Result<Answer, NoMemory>
+        ensures ok { IfOk result (λ answer.
+            Gives self.old (by_abort self.old label) answer self.new) }
+        ensures err { OnErr result (self.new ≡ self.old) }
+    {
+        let Some(place) = prepared_place(&self.prepared, label) else {
+            return Ok(Answer::NoPrepared(label));
+        };
+        self.give_up(place)?;
+        Ok(Answer::Done)
+    }
+
+    /// The label at this place gives up what it prepared.
+    fn give_up(&mut self, place: usize) -> Result<(), NoMemory>
+        requires { place < length self.old.prepared }
+        ensures ok { OnOk result (IfSome (slice_get self.old.prepared place) (λ p.
+            self.new ≡ given_up self.old place p)) }
+        ensures err { OnErr result (self.new ≡ self.old) }
+    {
+        let base = self.prepared[place].base;
+        self.deferred.push(base)?;
+        self.prepared.remove(place);
+        Ok(())
+    }
+}
+
+/// The tasks that end where a task commits this change: all other threads of its process with an
+/// execve (execve(2)), and none with another change.
+fn ends_with(change: Change, process: u32, task: u32) -> Ending
+    ensures { result ≡ ending_of change process task }
+{
+    match change {
+        Change::Exec { .. } => Ending::Others { process, task },
+        _ => Ending::Nobody,
+    }
+}
+
+/// The process's broadcast is dropped where one of its threads commits an execve (execve(2)).
+fn drop_with(casts: &mut Vec<Cast>, change: Change, process: u32)
+    ensures { casts.new.items ≡ casts_left change process casts.old.items }
+{
+    if let Change::Exec { .. } = change {
+        drop_cast(casts, process);
+    }
+}
+
+/// What a commit answers, by what the change was, and what the new credential gains: that was sealed
+/// under this number in this slot, and so many tasks ended.
+fn committed_by(change: Change, gains: &Gains, cred: u64, slot: u32, ended: u32) -> Answer
+    ensures { result ≡ model.committed_by change gains.now cred slot ended }
+{
+    match change {
+        Change::Exec { .. } => Answer::Executed {
+            cred,
+            slot,
+            ended,
+            gains: *gains,
+        },
+        _ => Answer::Sealed { cred, slot },
+    }
+}

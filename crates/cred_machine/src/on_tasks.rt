@@ -1,0 +1,160 @@
+//! The events by which tasks are created and end.
+ghost use Rattle.std.specs.Prelude.{◌≡◌, IfOk, OnErr};
+ghost use Rattle.cred_model.specs.Like.{Gives};
+ghost use Rattle.cred_model.specs.Step.{by_exit, by_fork, by_init, by_spawn};
+ghost use Rattle.cred_sound.specs.Sound.{IsSound};
+
+use crate::casts::{begun_by, join, leave, open_in};
+use crate::creds::Numbered;
+use crate::slots::{Room, defer, sweep_if};
+use crate::state::{State, overridden};
+use crate::tasks::{Ending, Task};
+use cred_event::{Answer, Counted, Named};
+use cred_ids::{Id, NoMemory};
+use cred_record::first;
+
+impl State {
+    /// A first task is created, with its first credential. `Busy`, `Exists` and `TooMany` leave the
+    /// state; `TableFull` leaves it swept.
+    pub(crate) fn init(
+        &mut self,
+        number: u32,
+        process: u32,
+        user: Id,
+        group: Id,
+        ns: u32,
+    ) -> Result<Answer, NoMemory>
+        ensures ok { IfOk result (λ answer.
+            Gives self.old (by_init self.old number process user group ns) answer self.new) }
+        ensures err { OnErr result (self.new ≡ self.old) }
+    {
+        if let Some(cast) = open_in(&self.casts, process) {
+            return Ok(Answer::Busy(cast));
+        }
+        if self.tasks.alive(number) {
+            return Ok(Answer::Exists {
+                what: Named::Task,
+                number,
+            });
+        }
+        if self.tasks.full() {
+            return Ok(Answer::TooMany(Counted::Tasks));
+        }
+        let cred = first(self.alloc, user, group, ns)?;
+        let Room { slot, swept } = self.room()?;
+        let Some(slot) = slot else {
+            return Ok(self.full());
+        };
+        self.creds.reserve()?;
+        let next = self.creds.next_number();
+        self.tasks
+            .push(Task::first(self.alloc, number, process, next))?;
+        self.swept |= swept;
+        sweep_if(&mut self.deferred, swept);
+        self.creds.seal(cred, slot);
+        Ok(Answer::Sealed { cred: next, slot })
+    }
+
+    /// A task creates a thread of its process (clone(2) with CLONE_THREAD), which shares its current
+    /// credential, and waits where its creator waits. The refusals leave the state.
+    pub(crate) fn spawn(&mut self, task: u32, child: u32) -> Result<Answer, NoMemory>
+        requires { IsSound self.old }
+        ensures ok { IfOk result (λ answer.
+            Gives self.old (by_spawn self.old task child) answer self.new) }
+        ensures err { OnErr result (self.new ≡ self.old) }
+    {
+        let Some(owner) = self.tasks.get(task) else {
+            return Ok(Answer::NoTask(task));
+        };
+        let Some(Numbered { number, slot, .. }) = self.creds.get(owner.current) else {
+            return Ok(Answer::NoTask(task));
+        };
+        if let Some(cast) = begun_by(&self.casts, task) {
+            return Ok(Answer::Busy(cast));
+        }
+        if self.tasks.alive(child) {
+            return Ok(Answer::Exists {
+                what: Named::Task,
+                number: child,
+            });
+        }
+        if let Some(depth) = overridden(owner) {
+            return Ok(Answer::Overridden(depth));
+        }
+        if self.tasks.full() {
+            return Ok(Answer::TooMany(Counted::Tasks));
+        }
+        let thread = Task::first(self.alloc, child, owner.process, number);
+        self.tasks.push(thread)?;
+        if let Err(err) = join(&mut self.casts, task, child) {
+            self.tasks.pop();
+            return Err(err);
+        }
+        Ok(Answer::Sealed { cred: number, slot })
+    }
+
+    /// A task creates a process (fork(2)), whose one thread shares its current credential. The
+    /// refusals leave the state.
+    pub(crate) fn fork(&mut self, task: u32, child: u32, process: u32) -> Result<Answer, NoMemory>
+        ensures ok { IfOk result (λ answer.
+            Gives self.old (by_fork self.old task child process) answer self.new) }
+        ensures err { OnErr result (self.new ≡ self.old) }
+    {
+        let Some(owner) = self.tasks.get(task) else {
+            return Ok(Answer::NoTask(task));
+        };
+        let Some(Numbered { number, slot, .. }) = self.creds.get(owner.current) else {
+            return Ok(Answer::NoTask(task));
+        };
+        if let Some(cast) = begun_by(&self.casts, task) {
+            return Ok(Answer::Busy(cast));
+        }
+        if self.tasks.alive(child) {
+            return Ok(Answer::Exists {
+                what: Named::Task,
+                number: child,
+            });
+        }
+        if self.tasks.has_process(process) {
+            return Ok(Answer::Exists {
+                what: Named::Process,
+                number: process,
+            });
+        }
+        if let Some(depth) = overridden(owner) {
+            return Ok(Answer::Overridden(depth));
+        }
+        if self.tasks.full() {
+            return Ok(Answer::TooMany(Counted::Tasks));
+        }
+        self.tasks
+            .push(Task::first(self.alloc, child, process, number))?;
+        Ok(Answer::Sealed { cred: number, slot })
+    }
+
+    /// A task ends, and what it referred to is given up. It waits in no broadcast any more; its holds
+    /// and prepared labels stay. `NoTask`, `Busy`, and `Overridden` while it acts with another
+    /// credential than its current one, leave the state.
+    pub(crate) fn exit(&mut self, task: u32) -> Result<Answer, NoMemory>
+        ensures ok { IfOk result (λ answer.
+            Gives self.old (by_exit self.old task) answer self.new) }
+        ensures err { OnErr result (self.new ≡ self.old) }
+    {
+        let Some(owner) = self.tasks.get(task) else {
+            return Ok(Answer::NoTask(task));
+        };
+        if let Some(cast) = begun_by(&self.casts, task) {
+            return Ok(Answer::Busy(cast));
+        }
+        if let Some(depth) = overridden(owner) {
+            return Ok(Answer::Overridden(depth));
+        }
+        let ending = Ending::Task(task);
+        let mut numbers = Vec::new(self.alloc);
+        self.tasks.leave(ending, &mut numbers)?;
+        defer(&mut self.deferred, false, &numbers)?;
+        self.tasks.end(ending);
+        leave(&mut self.casts, task);
+        Ok(Answer::Done)
+    }
+}

@@ -1,0 +1,245 @@
+//! Which slot a new credential takes.
+ghost use Rattle.std.specs.Prelude.{◌≡◌, ℕ, ◌+◌, ◌<◌, ◌≤◌, ◌==◌, ◌||◌, ◌++◌, [], false, find, is_some, length, map, not, IfOk, IsOk, OnOk, OnErr, if◌then◌else◌, vec_capacity, vec_len};
+ghost use Rattle.std.specs.List.{flat_map, list_any};
+ghost use Rattle.cred_event.specs.declared.answer.Answer.TheVariants.{TableFull};
+ghost use Rattle.cred_model.specs.Slots as model;
+ghost use Rattle.cred_model.specs.Slots.{SLOTS, least_free, free, in_use, stands_in};
+ghost use Rattle.cred_machine.specs.Slots.{is_live_by, is_marked};
+
+use crate::creds::Creds;
+use crate::files::OpenFile;
+use crate::labels::{Hold, Prepared};
+use crate::state::State;
+use crate::tasks::Task;
+use cred_event::Answer;
+use cred_ids::NoMemory;
+use std::alloc::Global;
+use std::marker::Model;
+
+/// How many slots there are.
+const SLOTS: u32 = 256;
+
+/// The slots that something stands in or that are kept, as 256 marks.
+#[derive(Drop, Debug)]
+struct Marks {
+    marks: [bool; 256],
+}
+
+impl Model for Marks {
+    ghost use Rattle.std.specs.Prelude.{List, Bool};
+
+    ghost Value = { List Bool };
+
+    ghost view = { λ m. m.marks };
+}
+
+impl Marks {
+    /// No slot is marked.
+    fn new() -> Marks
+        ensures { (slot : ℕ) → is_marked result slot ≡ false }
+    {
+        Marks {
+            marks: [false; 256],
+        }
+    }
+
+    /// Marks a slot. There is none past the last.
+    fn put(&mut self, slot: u32)
+        ensures { (other : ℕ) → other < SLOTS
+            → is_marked self.new other ≡ (is_marked self.old other || (slot == other)) }
+    {
+        if slot < SLOTS {
+            self.marks[slot as usize] = true;
+        }
+    }
+
+    /// Marks the slot that the credential of this number stands in.
+    fn put_of(&mut self, creds: &Creds, number: u64)
+        ensures { (slot : ℕ) → slot < SLOTS → is_marked self.new slot
+            ≡ (is_marked self.old slot || stands_in creds.now.list slot number) }
+    {
+        if let Some(slot) = creds.slot_of(number) {
+            self.put(slot);
+        }
+    }
+
+    /// Marks the slots that the credentials of these numbers stand in.
+    fn put_all(&mut self, creds: &Creds, numbers: &[u64])
+        ensures { (slot : ℕ) → slot < SLOTS → is_marked self.new slot
+            ≡ (is_marked self.old slot || list_any (stands_in creds.now.list slot) numbers.now) }
+    {
+        for number in numbers {
+            self.put_of(creds, *number);
+        }
+    }
+
+    /// Marks the slots that these labels keep.
+    fn keep(&mut self, prepared: &[Prepared])
+        ensures { (slot : ℕ) → slot < SLOTS → is_marked self.new slot
+            ≡ (is_marked self.old slot || list_any (λ p. p.slot == slot) prepared.now) }
+    {
+        for label in prepared {
+            self.put(label.slot);
+        }
+    }
+
+    /// The least slot that isn't marked.
+    fn first_clear(&self) -> Option<u32>
+        ensures { result ≡ find (λ slot. not (is_marked self.now slot)) model.slots }
+    {
+        for slot in 0..SLOTS {
+            if !self.marks[slot as usize] {
+                return Some(slot);
+            }
+        }
+        None
+    }
+}
+
+/// The slot that a new credential takes, if one is free, and whether that needs a sweep.
+#[derive(Clone, Copy)]
+pub struct Room {
+    pub slot: Option<u32>,
+    pub swept: bool,
+}
+
+impl State {
+    /// The numbers that are referred to, a list for each kind of thing that refers, one after
+    /// another. What was given up isn't among them.
+    pub(crate) fn in_use(&self) -> Result<Vec<u64>, NoMemory>
+        ensures { IfOk result (λ numbers. numbers.items ≡ in_use self.now) }
+    {
+        let mut numbers = Vec::new(self.alloc);
+        add_current(self.tasks.items(), &mut numbers)?;
+        add_overrides(self.tasks.items(), &mut numbers)?;
+        add_openers(&self.files, &mut numbers)?;
+        add_held(&self.holds, &mut numbers)?;
+        add_bases(&self.prepared, &mut numbers)?;
+        Ok(numbers)
+    }
+
+    /// The slot that a new credential takes. Where all are live, those are free that only what was
+    /// given up stands in.
+    ///
+    /// # Errors
+    ///
+    /// `NoMemory` if the allocation of a list fails.
+    pub(crate) fn room(&self) -> Result<Room, NoMemory>
+        ensures slot { IfOk result (λ room. room.slot ≡ free self.now) }
+        ensures swept { IfOk result (λ room. room.swept ≡ not (is_some (least_free self.now))) }
+    {
+        let in_use = self.in_use()?;
+        let slot = least_free(&self.creds, &in_use, &self.deferred, &self.prepared);
+        if slot.is_some() {
+            return Ok(Room { slot, swept: false });
+        }
+        let slot = least_free(&self.creds, &in_use, &[], &self.prepared);
+        Ok(Room { slot, swept: true })
+    }
+}
+
+impl State {
+    /// Lets go of all that was given up.
+    pub(crate) fn sweep(&mut self)
+        ensures { self.new ≡ model.swept self.old }
+    {
+        self.deferred.clear();
+        self.swept = true;
+    }
+
+    /// What is answered where no slot is free even after a sweep, which stands.
+    pub(crate) fn full(&mut self) -> Answer
+        ensures answer { result ≡ TableFull }
+        ensures state { self.new ≡ model.swept self.old }
+    {
+        self.sweep();
+        Answer::TableFull
+    }
+}
+
+/// The least slot that isn't kept, and that none of these numbers stands in.
+fn least_free(creds: &Creds, in_use: &[u64], late: &[u64], prepared: &[Prepared]) -> Option<u32>
+    ensures { result ≡ find (λ slot. not (is_live_by creds.now.list (in_use.now ++ late.now)
+        (map (λ p. p.slot) prepared.now) slot)) model.slots }
+{
+    let mut marks = Marks::new();
+    marks.put_all(creds, in_use);
+    marks.put_all(creds, late);
+    marks.keep(prepared);
+    marks.first_clear()
+}
+
+fn add_current(tasks: &[Task], numbers: &mut Vec<u64>) -> Result<(), NoMemory>
+    ensures { OnOk result
+        (numbers.new.items ≡ numbers.old.items ++ map (λ t. t.current) tasks.now) }
+{
+    for task in tasks {
+        numbers.push(task.current)?;
+    }
+    Ok(())
+}
+
+fn add_overrides(tasks: &[Task], numbers: &mut Vec<u64>) -> Result<(), NoMemory>
+    ensures { OnOk result
+        (numbers.new.items ≡ numbers.old.items ++ flat_map (λ t. t.overrides) tasks.now) }
+{
+    for task in tasks {
+        numbers.extend_from_slice(&task.overrides)?;
+    }
+    Ok(())
+}
+
+fn add_openers(files: &[OpenFile], numbers: &mut Vec<u64>) -> Result<(), NoMemory>
+    ensures { OnOk result
+        (numbers.new.items ≡ numbers.old.items ++ map (λ f. f.opener) files.now) }
+{
+    for file in files {
+        numbers.push(file.opener)?;
+    }
+    Ok(())
+}
+
+fn add_held(holds: &[Hold], numbers: &mut Vec<u64>) -> Result<(), NoMemory>
+    ensures { OnOk result
+        (numbers.new.items ≡ numbers.old.items ++ map (λ h. h.number) holds.now) }
+{
+    for hold in holds {
+        numbers.push(hold.number)?;
+    }
+    Ok(())
+}
+
+fn add_bases(prepared: &[Prepared], numbers: &mut Vec<u64>) -> Result<(), NoMemory>
+    ensures { OnOk result
+        (numbers.new.items ≡ numbers.old.items ++ map (λ p. p.base) prepared.now) }
+{
+    for label in prepared {
+        numbers.push(label.base)?;
+    }
+    Ok(())
+}
+
+/// Lets go of what was given up, if there is a sweep.
+pub fn sweep_if(late: &mut Vec<u64>, swept: bool)
+    ensures items { late.new.items ≡ (if swept then [] else late.old.items) }
+    ensures fewer { vec_len late.new ≤ vec_len late.old }
+    ensures capacity { vec_capacity late.new ≡ vec_capacity late.old }
+{
+    if swept {
+        late.clear();
+    }
+}
+
+/// References to these numbers are given up, after a sweep if there is one. If an allocation fails,
+/// nothing changes; where there is room, none is made.
+pub fn defer(late: &mut Vec<u64>, swept: bool, numbers: &[u64]) -> Result<(), NoMemory>
+    ensures ok { OnOk result
+        (late.new.items ≡ (if swept then [] else late.old.items) ++ numbers.now) }
+    ensures err { OnErr result (late.new.items ≡ late.old.items) }
+    ensures room { vec_len late.old + length numbers.now ≤ vec_capacity late.old → IsOk result }
+{
+    late.reserve(numbers.len())?;
+    sweep_if(late, swept);
+    late.extend_from_slice(numbers)?;
+    Ok(())
+}
