@@ -1,8 +1,6 @@
 -- A step of a run, and what it makes.
-use Rattle.std.proofs.Common.{◌≡◌, ◌≢◌, ℕ, ◌+◌, ◌<◌, ◌≤◌, ◌==◌, ◌&&◌, not, cond, List, [], ◌∷◌, ◌++◌, Option, Some, None, is_some, Bool, true, false, refl, sym, ap, ◌∙◌, subst, arith}
-use Rattle.std.specs.List.{All}
-use Rattle.std.specs.Option.{IfSome, option_map, option_and_then, option_map_or}
-use Rattle.std.proofs.lemmas.List.Elements.{All-head, All-tail, All-weaker}
+use Rattle.std.proofs.Common.{◌≡◌, ◌≢◌, ℕ, ◌+◌, ◌<◌, ◌≤◌, ◌==◌, cond, List, [], ◌∷◌, ◌++◌, Option, Some, None, is_some, true, refl, sym, ap, ◌∙◌, subst, arith}
+use Rattle.std.specs.Option.{IfSome, option_and_then}
 use Rattle.std.proofs.lemmas.Bool.Decides.{nat_tests}
 use Rattle.cred_event.specs.declared.content.Stage.{Stage}
 use Rattle.cred_event.specs.declared.event.Event.{Event}
@@ -10,16 +8,17 @@ use Rattle.cred_event.specs.declared.answer.Answer.{Answer}
 use Rattle.cred_event.specs.declared.entry.Entry.{Entry}
 use Rattle.cred_model.specs.Script.{Script, Line}
 use Rattle.cred_model.specs.Course as model
-use Rattle.cred_model.specs.Course.{Course, Leads, start, event_in, event_at, leads}
-use Rattle.cred_model.specs.Journal.{Due, next_event, first_due, entry_of, due_in, next, next_in_order, replay, IsInOrder, IsSequence}
-use Rattle.cred_model.proofs.Courses.{makes_event}
-use Rattle.cred_model.proofs.Lines.{first_due_none}
+use Rattle.cred_model.specs.Course.{Course, Leads, event_at}
+use Rattle.cred_model.specs.Journal.{entry_of, next, next_in_order, replay, IsSequence}
 use Rattle.cred_script.specs.Grammar.{line_at}
+use Rattle.cred_cursor.specs.Cursor.{StandsOn, IsCursor, IsSetup, Passes, left_at}
+use Rattle.cred_cursor.proofs.Courses.{line_is, of_line, next_due, goes_on}
+use Rattle.cred_cursor.proofs.Stands.{cursor_in_order, due_here, makes_due, none_next}
+use Rattle.cred_cursor.proofs.Setup.{next_of_setup, next_of_other}
 use Rattle.cred_book.specs.Book.{Recorded, with_event, answer_of, next_of}
-use Rattle.cred_book.specs.Cursor.{StandsOn, IsCursor, left_at, left, waiting, Stands, Passes, Makes, IsSetup}
-use Rattle.cred_book.specs.declared.cursor.Step.TheVariants as step
-use Rattle.cred_book.specs.declared.cursor.Step.TheVariants.{More}
-use Rattle.cred_book.proofs.Courses.{line_is, of_line, next_due, goes_on}
+use Rattle.cred_book.specs.Cursor.{left, waiting, Stands, Makes}
+use Rattle.cred_book.specs.declared.step.Step.TheVariants as step
+use Rattle.cred_book.specs.declared.step.Step.TheVariants.{More}
 use Rattle.cred_book.proofs.Measure.{step_falls}
 
 -- ---- a step
@@ -92,8 +91,7 @@ moves_by book grown after course event answer here stands has is answer_is scrip
     let at = (subst (IsCursor book.script book.journal) here stands).0 in
     let line = line_is book.script book.journal course at in
     let same : grown.script ≡ book.script = ap (λ (b : Recorded). b.script) is in
-    let due_at : event_at at.line.content course ≡ Some event
-    = ap (λ (o : Option Line). option_and_then (λ (l : Line). event_at l.content course) o) (sym line) ∙ has in
+    let due_at = due_here book.script book.journal course event at has in
     let passes_book = subst (λ (s : Script). IfSome (line_at s course.line) (λ l. Passes s (model.after l.content course answer) after.cursor)) same passes in
     let passes_line = subst (λ (o : Option Line). IfSome o (λ l. Passes book.script (model.after l.content course answer) after.cursor)) line passes_book in
     moves book after course event at.line here stands line due_at (script_is ∙ same) (journal_is ∙ ap (λ (b : Recorded). b.journal) is)
@@ -101,21 +99,14 @@ moves_by book grown after course event answer here stands has is answer_is scrip
 
 -- where no line is left
 pub over : (book : Recorded) → Stands book → book.cursor ≡ None → next_in_order book.script book.journal ≡ None
-over book stands none =
-    let all = subst (IsCursor book.script book.journal) none stands in
-    ap (option_map (entry_of book.script book.journal)) (first_due_none book.journal 1 book.script.lines all.ended)
+over book stands none = none_next book.script book.journal (subst (IsCursor book.script book.journal) none stands)
 
 -- a course that has a stage makes an event
 pub due : (book : Recorded) (course : Course) → book.cursor ≡ Some course → Stands book
     → is_some (option_and_then (λ (line : Line). event_at line.content course) (line_at book.script course.line)) ≡ true
 due book course here stands =
     let both = subst (IsCursor book.script book.journal) here stands in
-    let at = both.0 in
-    let line = line_is book.script book.journal course at in
-    let own : Leads at.line.content course
-    = subst (λ (o : Option Line). IfSome o (λ l. Leads l.content course)) line (of_line book.script book.journal course at) in
-    ap (λ (o : Option Line). is_some (option_and_then (λ (l : Line). event_at l.content course) o)) line
-    ∙ makes_event at.line.content course course.stage refl own ∙ both.1
+    makes_due book.script book.journal course both.0 both.1
 
 -- ---- what a step makes
 
@@ -132,16 +123,12 @@ made_none : (before after : Recorded) (next : Option Entry) → Makes before aft
 made_none before after None made = (refl, made)
 made_none before after (Some entry) made = absurd made
 
-in_order : (script : Script) (journal : List Entry) (cursor : Option Course) → IsCursor script journal cursor → IsInOrder script journal
-in_order script journal None at = at.in_order
-in_order script journal (Some course) at = at.0.in_order
-
 -- where all lines have ended the journal is the sequence
 pub is_sequence : (before after : Recorded) → Stands after → Makes before after (next_of before 0) step.Ended
     → IsSequence after.script after.journal
 is_sequence before after at made =
     let none = made_none before after (next_of before 0) made in
-    record { in_order = in_order after.script after.journal after.cursor at; ended = rw none.1 none.0 }
+    record { in_order = cursor_in_order after.script after.journal after.cursor at; ended = rw none.1 none.0 }
 
 zero_test : (lane : ℕ) → lane ≡ 0 → (lane == 0) ≡ true
 zero_test lane is = grind (arith, nat_tests)
@@ -151,45 +138,9 @@ next_of-setup book lane is = ap (λ b. cond b (next_in_order book.script book.jo
 
 -- ---- a lane's next entry, where all lines are of lane 0
 
-abbrev due_of : ℕ → Option Event → Option Due → Option Due
-due_of n o rest = option_map_or (λ event. Some (record { line = n; event = event })) o rest
-
-all_due : (these : Line → Bool) (journal : List Entry) (n : ℕ) (lines : List Line) → All (λ line. these line ≡ true) lines
-    → first_due these journal n lines ≡ first_due (λ line. true) journal n lines
-all_due these journal n [] all = refl
-all_due these journal n (line ∷ lines) all =
-    let rest = first_due these journal (n + 1) lines in
-    ap (λ b. cond b (due_of n (next_event journal n line.content) rest) rest) (All-head (λ line. these line ≡ true) line lines all)
-    ∙ ap (due_of n (next_event journal n line.content)) (all_due these journal (n + 1) lines (All-tail (λ line. these line ≡ true) line lines all))
-
-none_due : (these : Line → Bool) (journal : List Entry) (n : ℕ) (lines : List Line) → All (λ line. these line ≡ false) lines
-    → first_due these journal n lines ≡ None
-none_due these journal n [] none = refl
-none_due these journal n (line ∷ lines) none =
-    let rest = first_due these journal (n + 1) lines in
-    ap (λ b. cond b (due_of n (next_event journal n line.content) rest) rest) (All-head (λ line. these line ≡ false) line lines none)
-    ∙ none_due these journal (n + 1) lines (All-tail (λ line. these line ≡ false) line lines none)
-
-same_test : (l lane : ℕ) → l ≡ 0 → lane ≡ 0 → (l == lane) ≡ true
-same_test l lane is same = grind (arith, nat_tests)
-
-differ_test : (l lane : ℕ) → l ≡ 0 → lane ≢ 0 → (l == lane) ≡ false
-differ_test l lane is other = grind (arith, nat_tests)
-
 pub next-setup : (book : Recorded) (lane : ℕ) → lane ≡ 0 → IsSetup book.script
     → next book.script book.journal lane ≡ next_in_order book.script book.journal
-next-setup book lane is all =
-    let due = due_in book.script book.journal in
-    let made = option_map (entry_of book.script book.journal) in
-    ap (λ b. cond (not b && is_some (due 0)) None (made (due lane))) (zero_test lane is)
-    ∙ ap made (all_due (λ line. line.lane == lane) book.journal 1 book.script.lines
-    (All-weaker (λ (l : Line). l.lane ≡ 0) (λ l. (l.lane == lane) ≡ true) (λ l h. same_test l.lane lane h is) book.script.lines all))
+next-setup book lane is all = ap (next book.script book.journal) is ∙ next_of_setup book.script book.journal all
 
 pub next-other : (book : Recorded) (lane : ℕ) → lane ≢ 0 → IsSetup book.script → next book.script book.journal lane ≡ None
-next-other book lane differ all =
-    let due = due_in book.script book.journal in
-    let made = option_map (entry_of book.script book.journal) in
-    ap (λ o. cond (not (lane == 0) && is_some (due 0)) None (made o))
-    (none_due (λ line. line.lane == lane) book.journal 1 book.script.lines
-    (All-weaker (λ (l : Line). l.lane ≡ 0) (λ l. (l.lane == lane) ≡ false) (λ l h. differ_test l.lane lane h differ) book.script.lines all))
-    ∙ elim (not (lane == 0) && is_some (due 0)) as (λ b. cond {A = Option Entry} b None None ≡ None) [ true ↦ refl | false ↦ refl ]
+next-other book lane differ all = next_of_other book.script book.journal lane differ all

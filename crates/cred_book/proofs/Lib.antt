@@ -1,4 +1,3 @@
-pub mod Courses
 pub mod Cursors
 pub mod ListAnswers
 pub mod Entered

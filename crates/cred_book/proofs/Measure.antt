@@ -21,7 +21,8 @@ use Rattle.cred_model.proofs.Journals.{replay-push}
 use Rattle.cred_script.specs.Grammar.{line_at}
 use Rattle.cred_sound.proofs.Few.{few_after}
 use Rattle.cred_sound.proofs.Sound.{sound_after}
-use Rattle.cred_book.specs.Cursor.{left_at, may_wait, may_wait_at, waiting}
+use Rattle.cred_cursor.specs.Cursor.{left_at, may_wait, may_wait_at}
+use Rattle.cred_book.specs.Cursor.{waiting}
 use Rattle.cred_book.proofs.WaitingSteps.{act_lowers, more_wait, step_waits}
 
 -- ---- no more begin to wait with a line's event than its course says

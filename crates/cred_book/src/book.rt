@@ -6,12 +6,14 @@ ghost use Rattle.cred_model.specs.Journal.{replay};
 ghost use Rattle.cred_model.specs.Named.{IsEventOf};
 ghost use Rattle.cred_model.specs.Slots.{uses};
 ghost use Rattle.cred_script.specs.Grammar.{line_at};
+ghost use Rattle.cred_cursor.specs.Cursor.{IsOfLine, IsSetup, Passes};
 ghost use Rattle.cred_book.specs.Book.{with_event, answer_of, next_of};
-ghost use Rattle.cred_book.specs.Cursor.{IsOfLine, IsSetup, Makes, Passes, Stands, left};
-ghost use Rattle.cred_book.specs.declared.cursor.Step.TheVariants.{More};
+ghost use Rattle.cred_book.specs.Cursor.{Makes, Stands, left};
+ghost use Rattle.cred_book.specs.declared.step.Step.TheVariants.{More};
 
-use crate::cursor::{Step, cursor_after, first_cursor, next_event};
+use crate::step::Step;
 use cred_course::Course;
+use cred_cursor::{cursor_after, first_cursor, next_event};
 use cred_event::{Answer, Entry, Event, copy_answer};
 use cred_ids::NoMemory;
 use cred_script::Script;

@@ -2,9 +2,9 @@
 #![tactic(auto)]
 
 mod book;
-mod cursor;
 mod sequence;
+mod step;
 
 pub use book::Book;
-pub use cursor::Step;
 pub use sequence::run;
+pub use step::Step;

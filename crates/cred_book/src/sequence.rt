@@ -3,7 +3,7 @@ ghost use Rattle.std.specs.Prelude.{◌≡◌, IfOk};
 ghost use Rattle.cred_model.specs.Journal.{IsSequence};
 
 use crate::book::Book;
-use crate::cursor::Step;
+use crate::step::Step;
 use cred_ids::NoMemory;
 use cred_script::Script;
 use std::alloc::Global;

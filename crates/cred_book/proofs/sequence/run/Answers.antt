@@ -1,7 +1,7 @@
 use Rattle.std.proofs.Common.{subst}
 use Rattle.cred_book.specs.Book.{next_of}
 use Rattle.cred_book.specs.Cursor.{Makes}
-use Rattle.cred_book.specs.declared.cursor.Step.{Step}
+use Rattle.cred_book.specs.declared.step.Step.{Step}
 use Rattle.cred_book.proofs.Cursors.{is_sequence}
 use Rattle.cred_book.proofs.sequence.run.Goals as goal
 

@@ -4,8 +4,8 @@ use Rattle.cred_event.specs.declared.answer.Answer.{Answer}
 use Rattle.cred_event.specs.declared.entry.Entry.{Entry}
 use Rattle.cred_model.specs.Course as model
 use Rattle.cred_script.specs.Grammar.{line_at}
+use Rattle.cred_cursor.specs.Cursor.{Passes}
 use Rattle.cred_book.specs.Book.{Recorded, answer_of}
-use Rattle.cred_book.specs.Cursor.{Passes}
 use Rattle.cred_book.proofs.Entered.{follows_sound, replays, enters}
 use Rattle.cred_book.proofs.book.Book.enter.Goals as goal
 

@@ -7,8 +7,8 @@ use Rattle.cred_model.specs.Course.{Course, event_at}
 use Rattle.cred_model.specs.Journal.{next}
 use Rattle.cred_model.specs.Named.{IsEventOf}
 use Rattle.cred_script.specs.Grammar.{line_at}
+use Rattle.cred_cursor.specs.Cursor.{Passes}
 use Rattle.cred_book.specs.Book.{Recorded, with_event, answer_of, next_of}
-use Rattle.cred_book.specs.Cursor.{Passes}
 use Rattle.cred_book.proofs.Cursors.{Moves, moves_by, due, over, makes_more, makes_ended, next_of-setup, next-setup, next-other}
 use Rattle.cred_book.proofs.book.Book.next.Goals as goal
 
