@@ -1,9 +1,10 @@
 #!/bin/sh
 # Measures the proved program against a plain, unverified one (plain.rs) on four scripts of 20,000
-# lines. It prints for each: entries, the user time of one run (the mean of 20) and the greatest
-# resident memory of both, the proved program's also by entry; and, where valgrind is there, the
-# instructions of both and their ratio, which is the same at each run. The marks are ratios of 1.3 on
-# calls, holds and checks and of 1.5 on changes, and at most 150 bytes of memory an entry on changes.
+# lines. It prints for each: entries, the processor time of one run, in the program and in the kernel
+# (the mean of 20), and the greatest resident memory of both, the proved program's also by entry; and,
+# where valgrind is there, the instructions of both and their ratio, which is the same at each run.
+# The marks are ratios of 1.3 on calls, holds and checks and of 1.5 on changes, and at most 150 bytes
+# of memory an entry on changes.
 # Then a script of calls that 64 threads make, 1.28 million entries, is held against a program that only
 # writes as many bytes and digits (writes.rs); there the mark is 2.
 #
@@ -18,6 +19,8 @@ rustc --edition 2021 -C opt-level=3 -C codegen-units=1 -C panic=abort -o "$dir/p
 rustc --edition 2021 -C opt-level=3 -C codegen-units=1 -C panic=abort -o "$dir/writes" "$top/bench/writes.rs"
 "$top/bin/credtrace" run < /dev/null
 proved=$top/crates/credtrace/out/credtrace
+# As bin/credtrace has it.
+export GLIBC_TUNABLES="${GLIBC_TUNABLES-glibc.malloc.hugetlb=1}"
 plain=$dir/plain
 
 lines() { # NAME LINE..: the script of 20,000 lines that has these in turn after its init line
@@ -37,14 +40,15 @@ awk 'BEGIN {
   for (i = 0; i < 19742; i++) print "t1 check f" i % 256 + 1 " r"
 }' > "$dir/checks"
 
-seconds() { # PROGRAM NAME: the mean user time, and the greatest resident memory in KiB
+seconds() { # PROGRAM NAME: the mean processor time, and the greatest resident memory in KiB
   : > "$dir/times"
   run=0
   while [ "$run" -lt "$runs" ]; do
-    command time -a -o "$dir/times" -f '%U %M' "$1" run < "$dir/$2" > /dev/null
+    command time -a -o "$dir/times" -f '%U %S %M' "$1" run < "$dir/$2" > "$dir/written"
     run=$((run + 1))
   done
-  awk '{ user += $1; if ($2 > most) most = $2 } END { printf "%.4f %d", user / NR, most }' "$dir/times"
+  awk '{ took += $1 + $2; if ($3 > most) most = $3 }
+    END { printf "%.4f %d", took / NR, most }' "$dir/times"
 }
 
 instructions() { # PROGRAM NAME
