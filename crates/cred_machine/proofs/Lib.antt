@@ -20,3 +20,4 @@ pub mod Threads
 pub mod Refusals
 pub mod Leads
 pub mod Others
+pub mod Rising

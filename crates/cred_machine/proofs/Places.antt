@@ -48,7 +48,7 @@ module _ {X : Type 0} (f : X → ℕ) (g : X → X) (wanted : ℕ) (leaves : (x 
 
 -- ---- the first that passes a test, and its place
 
-find-first : {X : Type 0} (test : X → Bool) (xs : List X) (i : ℕ) (d : X) → i < length xs → test (get_or xs i d) ≡ true
+pub find-first : {X : Type 0} (test : X → Bool) (xs : List X) (i : ℕ) (d : X) → i < length xs → test (get_or xs i d) ≡ true
     → ((k : ℕ) → k < i → test (get_or xs k d) ≡ false) → find test xs ≡ Some (get_or xs i d)
 find-first test [] i d within here before = absurd (omega arith)
 find-first test (x ∷ xs) zero d within here before = ap (λ b. cond b (Some x) (find test xs)) here

@@ -1,11 +1,12 @@
 -- The sealed credentials, by those that are stored.
-use Rattle.std.proofs.Common.{◌≡◌, ◌≢◌, ℕ, zero, suc, ◌+◌, ◌<◌, ◌≤◌, ◌==◌, Bool, true, false, List, [], ◌∷◌, ◌++◌, length, find, slice_get, Option, Some, None, cond, refl, sym, ap, ◌∙◌, arith, ◌||◌, get_or}
+use Rattle.std.proofs.Common.{◌≡◌, ◌≢◌, All, ℕ, zero, suc, ◌+◌, ◌<◌, ◌≤◌, ◌==◌, Bool, true, false, List, [], ◌∷◌, ◌++◌, length, find, slice_get, Option, Some, None, cond, refl, sym, ap, ◌∙◌, arith, ◌||◌, get_or}
 use Rattle.std.specs.List.{filter, list_any}
 use Rattle.std.specs.Option.{option_map, option_map_or}
 use Rattle.std.proofs.lemmas.Bool.Decides.{nat_tests}
 use Rattle.cred_record.specs.Credential.{Credential}
 use Rattle.cred_model.specs.State.{SealedCred, Numbered, numbered}
-use Rattle.cred_machine.specs.Creds.{StoredCred, sealed_at, sealed_from, sealed_of, slots_of, under}
+use Rattle.cred_machine.specs.Creds.{IsStored, StoredCred, sealed_at, sealed_from, sealed_of, slots_of, under}
+use Rattle.cred_machine.proofs.Rising.{tests_below, tests_same}
 
 -- the first that is found is kept where all that could be found are
 find_kept : {X : Type 0} (p q : X → Bool) (xs : List X) → ((x : X) → p x ≡ true → q x ≡ true) → find p (filter q xs) ≡ find p xs
@@ -18,6 +19,17 @@ find_kept p q (y ∷ ys) stays =
         | false ↦ find_kept p q ys stays
       ]
     ] refl
+
+-- one more that fails the test changes nothing
+find_others : {X : Type 0} (test : X → Bool) (xs : List X) (y : X) → test y ≡ false → find test (xs ++ y ∷ []) ≡ find test xs
+find_others test [] y fails = rw fails refl
+find_others test (x ∷ xs) y fails = ap (λ o. cond (test x) (Some x) o) (find_others test xs y fails)
+
+-- the last is found where it alone passes
+find_last : {X : Type 0} (test : X → Bool) (xs : List X) (y : X) → test y ≡ true → ((k : ℕ) (d : X) → k < length xs → test (get_or xs k d) ≡ false)
+    → find test (xs ++ y ∷ []) ≡ Some y
+find_last test [] y passes fail = rw passes refl
+find_last test (x ∷ xs) y passes fail = rw (fail 0 x (omega arith)) (find_last test xs y passes (λ k d h. fail (suc k) d (omega arith)))
 
 module _ (forgotten : Credential) where
   same_slots : (stored : List StoredCred) (n : ℕ) (o : Option ℕ) → option_map (λ (sealed : SealedCred). sealed.slot) (option_map (sealed_at forgotten stored n) o) ≡ o
@@ -59,38 +71,42 @@ module _ (forgotten : Credential) where
       ap (λ cs. sealed_at forgotten stored first other ∷ cs) (sealed-push stored (first + 1) slots slot n (omega arith))
 
   -- another number's credential
-  under-other : (stored : List StoredCred) (v : StoredCred) (n : ℕ) → v.number ≢ n → under forgotten (v ∷ stored) n ≡ under forgotten stored n
-  under-other stored v n other =
-      elim (v.number == n) as (λ b. (v.number == n) ≡ b
-      → option_map_or (λ s. s.cred) (cond b (Some v) (find (λ s. s.number == n) stored)) forgotten ≡ under forgotten stored n) [
-        | true ↦ λ test. let same : v.number ≡ n = grind (arith, nat_tests) in absurd (other same)
-        | false ↦ λ test. refl
+  under-other : (stored : List StoredCred) (v : StoredCred) (n : ℕ) → v.number ≢ n → under forgotten (stored ++ v ∷ []) n ≡ under forgotten stored n
+  under-other stored v n other = ap (λ (o : Option StoredCred). option_map_or (λ s. s.cred) o forgotten) (find_others (λ (s : StoredCred). s.number == n) stored v test)
+    where
+      test : (v.number == n) ≡ false
+      test = elim (v.number == n) as (λ b. (v.number == n) ≡ b → b ≡ false) [
+        | true ↦ λ is. let same : v.number ≡ n = grind (arith, nat_tests) in absurd (other same)
+        | false ↦ λ is. refl
       ] refl
 
   -- what is stored under a later number
   pub sealed-later : (stored : List StoredCred) (v : StoredCred) (first : ℕ) (slots : List ℕ) → first + length slots ≤ v.number
-      → sealed_from forgotten (v ∷ stored) first slots ≡ sealed_from forgotten stored first slots
+      → sealed_from forgotten (stored ++ v ∷ []) first slots ≡ sealed_from forgotten stored first slots
   unfolding sealed_from
   sealed-later stored v first [] past = refl
   sealed-later stored v first (slot ∷ slots) past =
-      ap (λ c. c ∷ sealed_from forgotten (v ∷ stored) (first + 1) slots)
+      ap (λ c. c ∷ sealed_from forgotten (stored ++ v ∷ []) (first + 1) slots)
       (ap (λ (c : Credential). record { cred = c; slot = slot }) (under-other stored v first (omega arith)))
       ∙ ap (λ cs. sealed_at forgotten stored first slot ∷ cs) (sealed-later stored v (first + 1) slots (omega arith))
 
-  under-first : (v : StoredCred) (stored : List StoredCred) (n : ℕ) → v.number ≡ n → under forgotten (v ∷ stored) n ≡ v.cred
-  under-first v stored n same =
-      let test : (v.number == n) ≡ true = grind (arith, nat_tests) in
-      rw test refl
+  -- the one that is stored last, under a greater number than all others
+  under-last : (stored : List StoredCred) (v : StoredCred) (n : ℕ) → All (λ (s : StoredCred). s.number < n) stored → v.number ≡ n
+      → under forgotten (stored ++ v ∷ []) n ≡ v.cred
+  under-last stored v n below same =
+      ap (λ (o : Option StoredCred). option_map_or (λ s. s.cred) o forgotten)
+      (find_last (λ (s : StoredCred). s.number == n) stored v (tests_same v.number n same) (λ k d h. tests_below _ n (below k d h)))
 
   -- one more is sealed
-  pub seals : (stored : List StoredCred) (slots : List ℕ) (c : Credential) (slot n : ℕ) → n ≡ length slots
-      → sealed_of forgotten (record { number = n; cred = c } ∷ stored) (slots ++ slot ∷ [])
+  pub seals : (stored : List StoredCred) (slots : List ℕ) (c : Credential) (slot n : ℕ) → IsStored stored (length slots) → n ≡ length slots
+      → sealed_of forgotten (stored ++ record { number = n; cred = c } ∷ []) (slots ++ slot ∷ [])
       ≡ sealed_of forgotten stored slots ++ record { cred = c; slot = slot } ∷ []
-  seals stored slots c slot n is =
+  seals stored slots c slot n known is =
       let v : StoredCred = record { number = n; cred = c } in
-      sealed-push (v ∷ stored) 0 slots slot n (omega (arith, is))
-      ∙ ap (λ cs. cs ++ sealed_at forgotten (v ∷ stored) n slot ∷ []) (sealed-later stored v 0 slots (omega arith))
-      ∙ ap (λ (d : Credential). sealed_of forgotten stored slots ++ record { cred = d; slot = slot } ∷ []) (under-first v stored n refl)
+      let below : All (λ (s : StoredCred). s.number < n) stored = λ k d h. let lt = known.sealed k d h in omega (arith, lt, is) in
+      sealed-push (stored ++ v ∷ []) 0 slots slot n (omega (arith, is))
+      ∙ ap (λ cs. cs ++ sealed_at forgotten (stored ++ v ∷ []) n slot ∷ []) (sealed-later stored v 0 slots (omega (arith, is)))
+      ∙ ap (λ (d : Credential). sealed_of forgotten stored slots ++ record { cred = d; slot = slot } ∷ []) (under-last stored v n below refl)
 
   -- what is kept of those that are stored
   under-kept : (keep : ℕ → Bool) (stored : List StoredCred) (n : ℕ) → keep n ≡ true

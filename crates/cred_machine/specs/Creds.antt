@@ -1,5 +1,6 @@
 -- The sealed credentials, as those that are stored under their numbers and the slot of each number.
-use Rattle.std.specs.Prelude.{ℕ, ◌+◌, ◌==◌, Bool, List, [], ◌∷◌, find, map}
+use Rattle.std.specs.Prelude.{ℕ, ◌+◌, ◌<◌, ◌==◌, All, Bool, List, [], ◌∷◌, find, map}
+use Rattle.std.specs.List.Sorted.{IsNonDecreasingBy}
 use Rattle.std.specs.Option.{option_map_or}
 use Rattle.cred_record.specs.Credential.{Credential}
 use Rattle.cred_model.specs.State.{SealedCred, Numbered}
@@ -10,8 +11,13 @@ pub record StoredCred : Type 0 where
   pub number : ℕ
   pub cred : Credential
 
--- The sealed credentials; and whether there is room for one more, so that the next is sealed without
--- an allocation.
+-- What is stored stands in the order of its numbers, all of which were sealed: so many were.
+pub record IsStored (stored : List StoredCred) (count : ℕ) : Type 0 where
+  pub rising : IsNonDecreasingBy (λ s. s.number) stored
+  pub sealed : All (λ s. s.number < count) stored
+
+-- The sealed credentials; and whether there is room for one more, so that the next is sealed
+-- without an allocation.
 pub record Sealed : Type 0 where
   pub list : List SealedCred
   pub roomy : Bool

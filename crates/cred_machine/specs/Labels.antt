@@ -20,7 +20,9 @@ casts_left (Exec file) process casts = dropped process casts
 casts_left change process casts = casts
 
 -- The label at this place prepares a credential for a task that is alive, and was changed last so.
-pub record IsChanged (s : State) (place : ℕ) (p : Prepared) (owner : Task) (last : Changed) : Type 0 where
+pub record IsChanged
+    (s : State) (place : ℕ) (p : Prepared) (owner : Task) (last : Changed)
+    : Type 0 where
   pub there : slice_get s.prepared place ≡ Some p
   pub changed : p.changed ≡ Some last
   pub lives : task_of s p.task ≡ Some owner

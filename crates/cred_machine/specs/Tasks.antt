@@ -21,8 +21,8 @@ ends_by (ending.Task number) t = is_task number t
 ends_by (Process process) t = is_thread_of process t
 ends_by (Others process task) t = is_other process task t
 
--- The tasks that end where a task of this process commits a change: all other threads of the process
--- with an execve (execve(2)), and none with another change.
+-- The tasks that end where a task of this process commits a change: all other threads of the
+-- process with an execve (execve(2)), and none with another change.
 abbrev pub ending_of : Change → ℕ → ℕ → Ending
 ending_of (Exec file) process task = Others process task
 ending_of change process task = Nobody

@@ -1,5 +1,6 @@
 //! The sealed credentials.
-ghost use Rattle.std.specs.Prelude.{◌≡◌, ◌==◌, ◌++◌, ◌∷◌, [], All, find, length, slice_get, true, IfOk, OnOk};
+ghost use Rattle.std.specs.Prelude.{◌≡◌, ◌==◌, ◌++◌, ◌∷◌, [], All, false, find, length, nat_lt, slice_get, true, IfOk, OnOk};
+ghost use Rattle.std.specs.List.Sorted.{IsNonDecreasingBy, IsPartitionPoint};
 ghost use Rattle.std.specs.Option.{option_map};
 ghost use Rattle.cred_model.specs.State as model;
 ghost use Rattle.cred_machine.specs.Creds.{seen_numbered, slots_of, under};
@@ -32,9 +33,9 @@ pub struct Numbered<'a> {
     pub slot: u32,
 }
 
-/// The credentials that something refers to, by their numbers, the newest first, and the slot of
-/// each number that was ever sealed. Contracts see the list of the sealed credentials with their
-/// slots. Under a number that nothing refers to any more stands what is there for all of those.
+/// The credentials that something refers to, in the order of their numbers, and the slot of each
+/// number that was ever sealed. Contracts see the list of the sealed credentials with their slots.
+/// Under a number that nothing refers to any more stands what is there for all of those.
 #[derive(Drop, Debug)]
 pub struct Creds {
     stored: Vec<Stored>,
@@ -43,8 +44,8 @@ pub struct Creds {
 }
 
 impl Model for Creds {
-    ghost use Rattle.std.specs.Prelude.{◌&&◌, nat_lt, vec_capacity, vec_len};
-    ghost use Rattle.cred_machine.specs.Creds.{Sealed, sealed_of};
+    ghost use Rattle.std.specs.Prelude.{◌&&◌, length, nat_lt, vec_capacity, vec_len};
+    ghost use Rattle.cred_machine.specs.Creds.{IsStored, Sealed, sealed_of};
 
     ghost Value = { Sealed };
 
@@ -53,6 +54,8 @@ impl Model for Creds {
       roomy = nat_lt (vec_len c.stored) (vec_capacity c.stored)
           && nat_lt (vec_len c.slots) (vec_capacity c.slots);
     } };
+
+    ghost invariant = { λ c. IsStored c.stored.items (length c.slots.items) };
 }
 
 impl Creds {
@@ -114,7 +117,7 @@ impl Creds {
     {
         let number = self.next_number();
         // There is room.
-        self.stored.insert(0, Stored { number, cred }).unwrap();
+        self.stored.push(Stored { number, cred }).unwrap();
         self.slots.push(slot).unwrap();
         number
     }
@@ -139,6 +142,7 @@ fn slot_in(slots: &[u32], number: u64) -> Option<u32>
 
 /// The credential that is stored under a number, or the one that stands for those that are gone.
 fn credential<'a>(stored: &'a [Stored], forgotten: &'a Cred, number: u64) -> &'a Cred
+    requires { IsNonDecreasingBy (λ s. s.number) stored.now }
     ensures { result.now ≡ under forgotten.now stored.now number }
 {
     match stored_of(stored, number) {
@@ -149,7 +153,20 @@ fn credential<'a>(stored: &'a [Stored], forgotten: &'a Cred, number: u64) -> &'a
 
 /// What is stored under a number.
 fn stored_of(stored: &[Stored], number: u64) -> Option<&Stored>
+    requires { IsNonDecreasingBy (λ s. s.number) stored.now }
     ensures { option_map (λ s. s.now) result ≡ find (λ s. s.number == number) stored.now }
 {
-    stored.iter().find(|stored| stored.number == number)
+    match stored.get(place_from(stored, number)) {
+        Some(found) if found.number == number => Some(found),
+        _ => None,
+    }
+}
+
+/// Where the numbers below this one end.
+fn place_from(stored: &[Stored], number: u64) -> usize
+    requires { IsNonDecreasingBy (λ s. s.number) stored.now }
+    ensures { IsPartitionPoint (λ s. nat_lt s.number number ≡ true)
+        (λ s. nat_lt s.number number ≡ false) stored.now result }
+{
+    stored.partition_point(|stored| stored.number < number)
 }

@@ -109,7 +109,7 @@ impl State {
     pub(crate) fn in_use(&self) -> Result<Vec<u64>, NoMemory>
         ensures { IfOk result (λ numbers. numbers.items ≡ in_use self.now) }
     {
-        let mut numbers = Vec::new(self.alloc);
+        let mut numbers = Vec::with_capacity(self.alloc, self.tasks.items().len())?;
         add_current(self.tasks.items(), &mut numbers)?;
         add_overrides(self.tasks.items(), &mut numbers)?;
         add_openers(&self.files, &mut numbers)?;
