@@ -1,0 +1,2 @@
+pub mod Positionals
+pub mod Line

@@ -1,0 +1,408 @@
+-- An event seals a credential just where its answer names the next number.
+use Rattle.std.proofs.Common.{◌≡◌, ℕ, zero, suc, ◌+◌, ◌-◌, ◌<◌, ◌≤◌, ◌==◌, nat_lt, Bool, true, false, cond, is_some, List, [], ◌∷◌, ◌++◌, length, take, slice_get, Option, Some, None, Result, Ok, Err, refl, sym, ap, ◌∙◌, subst, arith}
+use Rattle.std.specs.List.{find, position, count_by}
+use Rattle.std.specs.Option.{option_map_or, option_and_then, IfSome}
+use Rattle.std.proofs.lemmas.Bool.Decides.{nat_tests}
+use Rattle.std.proofs.lemmas.List.{length_push, take_all, take_more}
+use Rattle.std.proofs.lemmas.List.Sums.{fold_push}
+use Rattle.std.proofs.lemmas.Option.{get_or_from_slice_get, slice_get_within}
+use Rattle.cred_record.specs.Credential.{Credential, first_credential}
+use Rattle.cred_record.specs.File.{File}
+use Rattle.cred_record.specs.declared.gains.Gains.{Gains}
+use Rattle.cred_record.specs.declared.id_call.IdCall.{IdCall}
+use Rattle.cred_record.specs.declared.refusal.Denial.{Denial}
+use Rattle.cred_record.specs.declared.refusal.Denial.TheVariants.{Perm, Invalid}
+use Rattle.cred_record.specs.declared.want.Want.{Want}
+use Rattle.cred_rules.specs.Access.{may}
+use Rattle.cred_rules.specs.Adjust.{adjust, read_in, bset_read, amb_is_set}
+use Rattle.cred_rules.specs.Exec.{Executed, NoExec, exec}
+use Rattle.cred_rules.specs.Exec.NoExec.{MayNotExecute, SpellsNothing, GivesTooLittle}
+use Rattle.cred_rules.specs.SetId.{set_id}
+use Rattle.cred_event.specs.declared.answer.Answer.{Answer}
+use Rattle.cred_event.specs.declared.answer.Answer.TheVariants as answer
+use Rattle.cred_event.specs.declared.answer.AbortCause.TheVariants as cause
+use Rattle.cred_event.specs.declared.entry.Entry.{Entry}
+use Rattle.cred_event.specs.declared.event.Change.{Change}
+use Rattle.cred_event.specs.declared.event.Change.TheVariants as change
+use Rattle.cred_event.specs.declared.event.Event.{Event}
+use Rattle.cred_event.specs.declared.event.Event.TheVariants as event
+use Rattle.cred_event.specs.declared.event.Query.{Query}
+use Rattle.cred_event.specs.declared.event.Query.TheVariants as query
+use Rattle.cred_event.specs.declared.event.Side.{Side}
+use Rattle.cred_model.specs.Answers.{is_ok, refusal, flag, checked, reply}
+use Rattle.cred_model.specs.Casts.{others_of, with_cast, waits_no_more}
+use Rattle.cred_model.specs.Change.{Made, by_rule, made_by_rule, executed, made_by_exec, by_change}
+use Rattle.cred_model.specs.Ends.{ended, is_thread_of}
+use Rattle.cred_model.specs.Journal.{replay, IsAnswered}
+use Rattle.cred_model.specs.Moves.{TASKS, FILES, HOLDS, PREPARED, DEPTH, ◌>>=◌, in_slot, table_full, first_task, created, replaced, preparing, altered, committed, given_up}
+use Rattle.cred_model.specs.Named.{query_files, change_files}
+use Rattle.cred_model.specs.Script.{Script, info_of, chain_of}
+use Rattle.cred_model.specs.Slots.{room, free, least_free, swept}
+use Rattle.cred_model.specs.State.{State, SealedCred, Task, Numbered, Prepared, Changed, Broadcast, numbered, number_on, task_of, cast_of, cast_in, begun_by, open_of, hold_of, prepared_of, credential_of, opener_of, held_by}
+use Rattle.cred_model.specs.Step.{step, done, outcome, by_init, take_hold, by_take, by_take_file, by_release, by_ask, by_signal, by_prepare, by_alter, for_task, try_commit, ends_with, casts_after, committed_by, commit_answer, by_commit, by_abort, for_access, override_held, override_prepared, by_override, by_revert, by_begin, aborted, follow, by_act, by_open, by_close, by_spawn, by_fork, by_exit}
+use Rattle.cred_model.proofs.Lists.{slice_get_at}
+use Rattle.cred_model.proofs.Numbers.{numbered_is, sealed_cred_of}
+use Rattle.cred_laws.specs.Journals.{state_at}
+use Rattle.cred_laws.proofs.Cases.{some_case, none_case, test_case, own_case, idle_case, rule_case}
+use Rattle.cred_laws.proofs.States.{step_at}
+use Rattle.cred_generate.specs.Sealed.{named, count_with, count_sealed}
+
+-- what an event makes of the number of sealed credentials
+abbrev Counts : State → Answer × State → Type 0
+Counts s made = length made.1.creds ≡ count_with (length s.creds) made.0
+
+-- so it is whether or not the event is refused
+abbrev Tells : State → Result (Answer × State) Answer → Type 0
+Tells s r = Counts s (outcome s r)
+
+same : (n : ℕ) → (n == n) ≡ true
+same n = grind (arith, nat_tests)
+
+-- one more is sealed, with the next number
+next_counts : (creds : List SealedCred) (new : SealedCred) → length (creds ++ new ∷ []) ≡ cond (length creds == length creds) (length creds + 1) (length creds)
+next_counts creds new = rw (same (length creds)) (length_push creds new)
+
+-- the number of a credential that is sealed is below theirs
+below : (s : State) (number : ℕ) (c : Numbered) → numbered s.creds number ≡ Some c → (c.number == length s.creds) ≡ false
+below s number c is =
+    let at = numbered_is s.creds number c is in
+    let lt = slice_get_within s.creds number (sealed_cred_of c) at.1 in
+    let n = at.0 in
+    grind (arith, nat_tests)
+
+-- a credential that is found is one of those that are sealed
+found_below : {A : Type 0} (s : State) (of : A → ℕ) (found : Option A) (c : Numbered)
+    → option_and_then (λ a. numbered s.creds (of a)) found ≡ Some c → (c.number == length s.creds) ≡ false
+found_below s of None c is = absurd (cc)
+found_below s of (Some a) c is = below s (of a) c is
+
+-- the credential that is sealed next, of a state that has as many
+next_of : (s : State) (creds : List SealedCred) (new : SealedCred) → creds ≡ s.creds
+    → length (creds ++ new ∷ []) ≡ cond (length creds == length s.creds) (length s.creds + 1) (length s.creds)
+next_of s creds new is = rw (is, same (length s.creds)) (length_push s.creds new)
+
+-- an answer that names none
+silent : (count : ℕ) (a : Answer) → named a ≡ None → count ≡ count_with count a
+silent count a none = rw none refl
+
+silent_refusal : (s : State) (denial : Denial) → Tells s (Err (refusal denial))
+silent_refusal s Perm = refl
+silent_refusal s Invalid = refl
+
+-- ---- a slot
+
+room_creds : (s : State) → (room s).creds ≡ s.creds
+room_creds s =
+    elim (is_some (least_free s)) as (λ b. (cond b s (swept s)).creds ≡ s.creds) [
+      | true ↦ refl
+      | false ↦ refl
+    ]
+
+found_slot : (s t : State) (full : State → Answer × State) (does : State → ℕ → Answer × State) (found : Option ℕ)
+    → Counts s (full t) → ((slot : ℕ) → Counts s (does t slot)) → Counts s (option_map_or (does t) found (full t))
+found_slot s t full does None none each = none
+found_slot s t full does (Some slot) none each = each slot
+
+slot_counts : (s : State) (full : State → Answer × State) (does : State → ℕ → Answer × State)
+    → ((t : State) → t.creds ≡ s.creds → Counts s (full t)) → ((t : State) (slot : ℕ) → t.creds ≡ s.creds → Counts s (does t slot))
+    → Counts s (in_slot s full does)
+slot_counts s full does none each =
+    found_slot s (room s) full does (free s) (none (room s) (room_creds s)) (λ slot. each (room s) slot (room_creds s))
+
+long : (s t : State) → t.creds ≡ s.creds → length t.creds ≡ length s.creds
+long s t is = ap (λ (creds : List SealedCred). length creds) is
+
+-- ---- the events
+
+of_init : (s : State) (task process user group ns : ℕ) → Tells s (by_init s task process user group ns)
+of_init s task process user group ns =
+    idle_case (Tells s) (cast_in s process) _ (λ number. refl) (λ idle.
+    none_case (Tells s) (task_of s task) _ _ refl (λ new.
+    test_case (Tells s) (nat_lt (length s.tasks) TASKS) _ _ refl
+    (slot_counts s table_full
+    (λ t slot. (answer.Sealed (length t.creds) slot, created t (first_task task process (length t.creds)) (first_credential user group ns) slot))
+    (λ t is. long s t is) (λ t slot is. next_of s t.creds (record { cred = first_credential user group ns; slot = slot }) is))))
+
+of_hold : (s : State) (label : ℕ) (taken : Numbered) → (taken.number == length s.creds) ≡ false → Tells s (take_hold s label taken)
+of_hold s label taken old =
+    none_case (Tells s) (hold_of s label) _ _ refl (λ new.
+    none_case (Tells s) (prepared_of s label) _ _ refl (λ unprepared.
+    test_case (Tells s) (nat_lt (length s.holds) HOLDS) _ _ refl (rw old refl)))
+
+of_take : (s : State) (label task : ℕ) (side : Side) → Tells s (by_take s label task side)
+of_take s label task side =
+    some_case (Tells s) (credential_of s task side) _ _ refl (λ taken is.
+    of_hold s label taken (found_below s (number_on side) (task_of s task) taken is))
+
+of_take_file : (s : State) (label fd : ℕ) → Tells s (by_take_file s label fd)
+of_take_file s label fd =
+    some_case (Tells s) (opener_of s fd) _ _ refl (λ taken is.
+    of_hold s label taken (found_below s (λ f. f.opener) (open_of s fd) taken is))
+
+of_release : (s : State) (label : ℕ) → Tells s (by_release s label)
+of_release s label =
+    some_case (Tells s) (position (λ h. h.label == label) s.holds) _ _ refl (λ place at.
+    some_case (Tells s) (slice_get s.holds place) _ _ refl (λ hold is. refl))
+
+of_flag : (found : Option Bool) → named (flag found) ≡ None
+of_flag None = refl
+of_flag (Some is) = refl
+
+of_check : (c : Credential) (file : Option File) (asked : Want) → named (checked c file asked) ≡ None
+of_check c None asked = refl
+of_check c (Some file) asked =
+    elim (may c file asked) as (λ b. named (cond b answer.Done answer.Eacces) ≡ None) [
+      | true ↦ refl
+      | false ↦ refl
+    ]
+
+of_reply : (file : Option File) (c : Credential) (q : Query) → named (reply file c q) ≡ None
+of_reply file c query.Ids = refl
+of_reply file c query.Caps = refl
+of_reply file c query.Groups = refl
+of_reply file c query.Bits = refl
+of_reply file c (query.Capable n) = of_flag (read_in c.eff n)
+of_reply file c (query.Bset n) = of_flag (bset_read c n)
+of_reply file c (query.AmbIs n) = of_flag (amb_is_set c n)
+of_reply file c (query.Check place asked) = of_check c file asked
+
+of_ask : (script : Script) (s : State) (label : ℕ) (q : Query) → Tells s (by_ask script s label q)
+of_ask script s label q =
+    some_case (Tells s) (held_by s label) _ _ refl (λ held is.
+    silent (length s.creds) _ (of_reply (info_of script (query_files q)) held.cred q))
+
+signalled : (s : State) (b : Bool) → Tells s (cond b (Ok (answer.Done, s)) (Err answer.Eperm))
+signalled s true = refl
+signalled s false = refl
+
+of_signal : (s : State) (from hold to target : ℕ) → Tells s (by_signal s from hold to target)
+of_signal s from hold to target =
+    some_case (Tells s) (task_of s from) _ _ refl (λ sender is.
+    some_case (Tells s) (task_of s to) _ _ refl (λ receiver is.
+    some_case (Tells s) (held_by s hold) _ _ refl (λ own is.
+    some_case (Tells s) (held_by s target) _ _ refl (λ other is. signalled s _))))
+
+of_prepare : (s : State) (label task hold : ℕ) → Tells s (by_prepare s label task hold)
+of_prepare s label task hold =
+    some_case (Tells s) (task_of s task) _ _ refl (λ owner is.
+    idle_case (Tells s) (begun_by s task) _ (λ number. refl) (λ idle.
+    some_case (Tells s) (hold_of s hold) _ _ refl (λ base is.
+    none_case (Tells s) (hold_of s label) _ _ refl (λ new.
+    none_case (Tells s) (prepared_of s label) _ _ refl (λ unprepared.
+    test_case (Tells s) (nat_lt (length s.prepared) PREPARED) _ _ refl
+    (slot_counts s table_full
+    (λ t slot. (answer.Kept slot, preparing t (record { label = label; task = task; base = base.number; slot = slot; changed = None })))
+    (λ t is. long s t is) (λ t slot is. long s t is)))))))
+
+-- a change is answered without a credential's number
+abbrev IsSilent : Result Made Answer → Type 0
+IsSilent (Ok made) = named made.answer ≡ None
+IsSilent (Err refused) = named refused ≡ None
+
+by_rule_silent : (r : Result Credential Denial) → IsSilent (made_by_rule r)
+by_rule_silent (Ok c) = refl
+by_rule_silent (Err Perm) = refl
+by_rule_silent (Err Invalid) = refl
+
+by_exec_silent : (r : Result Executed NoExec) → IsSilent (made_by_exec r)
+by_exec_silent (Ok e) = refl
+by_exec_silent (Err MayNotExecute) = refl
+by_exec_silent (Err SpellsNothing) = refl
+by_exec_silent (Err GivesTooLittle) = refl
+
+executed_silent : (file : Option File) (chain : List ℕ) (c : Credential) → IsSilent (executed file chain c)
+executed_silent None chain c = refl
+executed_silent (Some file) chain c = by_exec_silent (exec c file chain)
+
+change_silent : (file : Option File) (chain : List ℕ) (c : Credential) (to : Change) → IsSilent (by_change file chain c to)
+change_silent file chain c (change.SetFs kind id) = refl
+change_silent file chain c (change.Adjust call) = by_rule_silent (adjust c call)
+change_silent file chain c (change.Exec place) = executed_silent file chain c
+change_silent file chain c change.Access = refl
+
+altered_counts : (s : State) (label : ℕ) (to : Change) (r : Result Made Answer) → IsSilent r
+    → Tells s (r >>= λ made. Ok (made.answer, altered s label (record { change = to; cred = made.cred; gains = made.gains })))
+altered_counts s label to (Ok made) none = silent (length s.creds) made.answer none
+altered_counts s label to (Err refused) none = silent (length s.creds) refused none
+
+of_alter : (script : Script) (s : State) (label : ℕ) (to : Change) → Tells s (by_alter script s label to)
+of_alter script s label to =
+    some_case (Tells s) (prepared_of s label) _ _ refl (λ p is.
+    some_case (Tells s) (numbered s.creds p.base) _ _ refl (λ base is.
+    altered_counts s label to _ (change_silent (info_of script (change_files to)) (chain_of script base.cred.ns) base.cred to)))
+
+-- a commit's answer names the next number, whatever the change was
+committed_counts : (to : Change) (gains : Gains) (s t : State) (slot count : ℕ) (owner : Task) (new : SealedCred) → t.creds ≡ s.creds ++ new ∷ []
+    → Counts s (committed_by to gains (length s.creds) slot count, casts_after to owner t)
+committed_counts (change.Exec file) gains s t slot count owner new is = rw is (next_counts s.creds new)
+committed_counts (change.SetFs kind id) gains s t slot count owner new is = rw is (next_counts s.creds new)
+committed_counts (change.Adjust call) gains s t slot count owner new is = rw is (next_counts s.creds new)
+committed_counts change.Access gains s t slot count owner new is = rw is (next_counts s.creds new)
+
+tried : (s : State) (place : ℕ) (p : Prepared) (owner : Task) (last : Changed) → Counts s (try_commit s place p owner last)
+tried s place p owner last =
+    let ends = ends_with last.change owner in
+    elim (owner.current == p.base) as (λ b. Counts s (cond b
+    (commit_answer last (length s.creds) p.slot (count_by ends s.tasks), casts_after last.change owner (committed (ended ends s) place p owner.current last.cred))
+    (answer.Stale p.base owner.current, given_up s place p))) [
+      | true ↦ committed_counts last.change last.gains s (committed (ended ends s) place p owner.current last.cred) p.slot (count_by ends s.tasks) owner _ refl
+      | false ↦ refl
+    ]
+
+of_commit : (s : State) (label : ℕ) → Tells s (by_commit s label)
+of_commit s label =
+    some_case (Tells s) (position (λ p. p.label == label) s.prepared) _ _ refl (λ place at.
+    some_case (Tells s) (slice_get s.prepared place) _ _ refl (λ p is.
+    some_case (Tells s) (option_and_then for_task p.changed) _ _ refl (λ last is.
+    some_case (Tells s) (task_of s p.task) _ _ refl (λ owner is.
+    idle_case (Tells s) (begun_by s p.task) _ (λ number. refl) (λ idle.
+    own_case (Tells s) owner _ (λ depth. refl) (tried s place p owner last))))))
+
+of_abort : (s : State) (label : ℕ) → Tells s (by_abort s label)
+of_abort s label =
+    some_case (Tells s) (position (λ p. p.label == label) s.prepared) _ _ refl (λ place at.
+    some_case (Tells s) (slice_get s.prepared place) _ _ refl (λ p is. refl))
+
+overridden_by : (s : State) (owner : Task) (label : ℕ) (found : Option Numbered)
+    → ((c : Numbered) → found ≡ Some c → (c.number == length s.creds) ≡ false)
+    → Tells s (option_map_or (override_held s owner) found (override_prepared s owner label))
+overridden_by s owner label (Some held) old = test_case (Tells s) (nat_lt (length owner.overrides) DEPTH) _ _ refl (rw (old held refl) refl)
+overridden_by s owner label None old =
+    some_case (Tells s) (position (λ p. p.label == label) s.prepared) _ _ refl (λ place at.
+    some_case (Tells s) (slice_get s.prepared place) _ _ refl (λ p is.
+    some_case (Tells s) (for_access owner.number p) _ _ refl (λ last is.
+    test_case (Tells s) (nat_lt (length owner.overrides) DEPTH) _ _ refl (next_counts s.creds _))))
+
+of_override : (s : State) (task label : ℕ) → Tells s (by_override s task label)
+of_override s task label =
+    some_case (Tells s) (task_of s task) _ _ refl (λ owner is.
+    overridden_by s owner label (held_by s label) (found_below s (λ h. h.number) (hold_of s label)))
+
+of_revert : (s : State) (task : ℕ) → Tells s (by_revert s task)
+of_revert s task =
+    some_case (Tells s) (task_of s task) _ _ refl (λ owner is.
+    some_case (Tells s) (slice_get owner.overrides 0) _ _ refl (λ newest is. refl))
+
+of_begin : (s : State) (line task : ℕ) (call : IdCall) → Tells s (by_begin s line task call)
+of_begin s line task call =
+    some_case (Tells s) (task_of s task) _ _ refl (λ owner is.
+    some_case (Tells s) (numbered s.creds owner.current) _ _ refl (λ old is.
+    idle_case (Tells s) (cast_in s owner.process) _ (λ number. refl) (λ idle.
+    none_case (Tells s) (cast_of s line) _ _ refl (λ new.
+    own_case (Tells s) owner _ (λ depth. refl)
+    (rule_case (Tells s) (set_id old.cred call) _ (silent_refusal s) (λ made is.
+    let others = others_of owner s.tasks in
+    let cast : Broadcast = record { number = line; process = owner.process; caller = task; call = call; waiting = others } in
+    slot_counts s table_full
+    (λ t slot. (answer.Began (length t.creds) slot (length others), record (replaced t task old.number made slot) { casts = with_cast t.casts cast }))
+    (λ t is. long s t is) (λ t slot is. next_of s t.creds (record { cred = made; slot = slot }) is)))))))
+
+followed : (s : State) (cast : Broadcast) (task old : ℕ) (r : Result Credential Answer) → Counts s (follow s cast task old r)
+followed s cast task old (Err refused) = refl
+followed s cast task old (Ok made) =
+    slot_counts s
+    (λ t. (answer.Aborted task cause.Full, aborted cast t))
+    (λ t slot. (answer.Acted task (length t.creds) slot (length cast.waiting - 1), record (replaced t task old made slot) { casts = waits_no_more task t.casts }))
+    (λ t is. long s t is) (λ t slot is. next_of s t.creds (record { cred = made; slot = slot }) is)
+
+of_act : (s : State) (number : ℕ) → Tells s (by_act s number)
+of_act s number =
+    some_case (Tells s) (cast_of s number) _ _ refl (λ cast is.
+    some_case (Tells s) (slice_get cast.waiting 0) _ _ refl (λ task is.
+    some_case (Tells s) (task_of s task) _ _ refl (λ owner is.
+    some_case (Tells s) (numbered s.creds owner.current) _ _ refl (λ old is.
+    followed s cast task old.number (by_rule (set_id old.cred cast.call))))))
+
+of_open : (script : Script) (s : State) (hold place : ℕ) (asked : Want) (fd : ℕ) → Tells s (by_open script s hold place asked fd)
+of_open script s hold place asked fd =
+    some_case (Tells s) (held_by s hold) _ _ refl (λ held is.
+    none_case (Tells s) (open_of s fd) _ _ refl (λ new.
+    let file = info_of script (place ∷ []) in
+    test_case (Tells s) (is_ok (checked held.cred file asked)) _ _ (silent (length s.creds) _ (of_check held.cred file asked))
+    (test_case (Tells s) (nat_lt (length s.files) FILES) _ _ refl refl)))
+
+of_close : (s : State) (fd : ℕ) → Tells s (by_close s fd)
+of_close s fd =
+    some_case (Tells s) (position (λ f. f.fd == fd) s.files) _ _ refl (λ place at.
+    some_case (Tells s) (slice_get s.files place) _ _ refl (λ file is. refl))
+
+of_spawn : (s : State) (task child : ℕ) → Tells s (by_spawn s task child)
+of_spawn s task child =
+    some_case (Tells s) (task_of s task) _ _ refl (λ owner is.
+    some_case (Tells s) (numbered s.creds owner.current) _ _ refl (λ parent is.
+    idle_case (Tells s) (begun_by s task) _ (λ number. refl) (λ idle.
+    none_case (Tells s) (task_of s child) _ _ refl (λ new.
+    own_case (Tells s) owner _ (λ depth. refl)
+    (test_case (Tells s) (nat_lt (length s.tasks) TASKS) _ _ refl (rw (below s owner.current parent is) refl))))))
+
+of_fork : (s : State) (task child process : ℕ) → Tells s (by_fork s task child process)
+of_fork s task child process =
+    some_case (Tells s) (task_of s task) _ _ refl (λ owner is.
+    some_case (Tells s) (numbered s.creds owner.current) _ _ refl (λ parent is.
+    idle_case (Tells s) (begun_by s task) _ (λ number. refl) (λ idle.
+    none_case (Tells s) (task_of s child) _ _ refl (λ new.
+    none_case (Tells s) (find (is_thread_of process) s.tasks) _ _ refl (λ unused.
+    own_case (Tells s) owner _ (λ depth. refl)
+    (test_case (Tells s) (nat_lt (length s.tasks) TASKS) _ _ refl (rw (below s owner.current parent is) refl)))))))
+
+of_exit : (s : State) (task : ℕ) → Tells s (by_exit s task)
+of_exit s task =
+    some_case (Tells s) (task_of s task) _ _ refl (λ owner is.
+    idle_case (Tells s) (begun_by s task) _ (λ number. refl) (λ idle.
+    own_case (Tells s) owner _ (λ depth. refl) refl))
+
+tells : (script : Script) (s : State) (line : ℕ) (e : Event) → Tells s (done script s line e)
+tells script s line (event.Init task process user group ns) = of_init s task process user group ns
+tells script s line (event.Take label task side) = of_take s label task side
+tells script s line (event.TakeFile label fd) = of_take_file s label fd
+tells script s line (event.Release label) = of_release s label
+tells script s line (event.Ask label query) = of_ask script s label query
+tells script s line (event.Signal from hold to target) = of_signal s from hold to target
+tells script s line (event.Prepare label task hold) = of_prepare s label task hold
+tells script s line (event.Alter label change) = of_alter script s label change
+tells script s line (event.Commit label) = of_commit s label
+tells script s line (event.Abort label) = of_abort s label
+tells script s line (event.Override task label) = of_override s task label
+tells script s line (event.Revert task) = of_revert s task
+tells script s line (event.Begin task call) = of_begin s line task call
+tells script s line (event.Act number) = of_act s number
+tells script s line (event.OpenFile hold place asked fd) = of_open script s hold place asked fd
+tells script s line (event.CloseFile fd) = of_close s fd
+tells script s line (event.Spawn task child) = of_spawn s task child
+tells script s line (event.Fork task child process) = of_fork s task child process
+tells script s line (event.Exit task) = of_exit s task
+tells script s line event.Sweep = refl
+
+-- ---- a journal
+
+-- so it is after one entry more
+counted_at : (script : Script) (journal : List Entry) (k : ℕ) (entry : Entry) → slice_get journal k ≡ Some entry
+    → entry.answer ≡ (step script (state_at script journal k) entry.line entry.event).0
+    → count_sealed (take k journal) ≡ length (state_at script journal k).creds
+    → count_sealed (take (k + 1) journal) ≡ length (state_at script journal (k + 1)).creds
+counted_at script journal k entry at answered before =
+    let s = state_at script journal k in
+    let here = take_more journal k entry (slice_get_within journal k entry at) ∙ ap (λ (e : Entry). take k journal ++ e ∷ []) (get_or_from_slice_get journal k entry entry at) in
+    ap count_sealed here
+    ∙ fold_push (λ (count : ℕ) (e : Entry). count_with count e.answer) 0 (take k journal) entry
+    ∙ ap (λ (n : ℕ). count_with n entry.answer) before
+    ∙ ap (count_with (length s.creds)) answered
+    ∙ sym (tells script s entry.line entry.event)
+    ∙ sym (ap (λ (t : State). length t.creds) (step_at script journal k entry at))
+
+counted : (script : Script) (journal : List Entry) → IsAnswered script journal → (k : ℕ) → k ≤ length journal
+    → count_sealed (take k journal) ≡ length (state_at script journal k).creds
+counted script journal answered zero le = refl
+counted script journal answered (suc k) le =
+    let lt : k < length journal = omega arith in
+    let there = slice_get_at journal k lt in
+    let said = subst (λ (o : Option Entry). IfSome o (λ entry. entry.answer ≡ (step script (state_at script journal k) entry.line entry.event).0)) there.1 (answered k lt) in
+    let one : k + 1 ≡ suc k = omega arith in
+    subst (λ (n : ℕ). count_sealed (take n journal) ≡ length (state_at script journal n).creds) one
+    (counted_at script journal k there.0 there.1 said (counted script journal answered k (omega arith)))
+
+-- the answers of a journal tell how many credentials are sealed at its end
+pub sealed_count : (script : Script) (journal : List Entry) → IsAnswered script journal → count_sealed journal ≡ length (replay script journal).creds
+sealed_count script journal answered =
+    let all = take_all (length journal) journal (omega arith) in
+    subst (λ (entries : List Entry). count_sealed entries ≡ length (replay script entries).creds) all (counted script journal answered (length journal) (omega arith))
