@@ -1,0 +1,4 @@
+pub mod Prefixes
+pub mod Setup
+pub mod Runs
+pub mod Reports

@@ -1,0 +1,11 @@
+//! Whether a text is the report of a script: the text of one of its legal journals.
+//!
+//! `specs/Report` says which texts these are, and which entry of another is the first that is
+//! wrong. `audit` runs the script, and compares the text of each entry with what the report has in
+//! its place; so nothing is read back, and no journal is kept.
+#![tactic(auto)]
+
+mod run;
+mod verdict;
+
+pub use verdict::{Verdict, audit};
