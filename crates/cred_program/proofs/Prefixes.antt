@@ -96,6 +96,12 @@ refused_apart : (refusal : SinkRefusal) → finished (Err refusal) status.Done �
 refused_apart sink.Failed is = cc
 refused_apart sink.Memory is = cc
 
+-- a text whose writing was answered by Done was written
+pub done_written : (a b : Option (List ℕ)) (bytes : List ℕ) (r : Result (Unit {0}) SinkRefusal) → OnOk r (Appends a b bytes)
+    → finished r status.Done ≡ status.Done → Appends a b bytes
+done_written a b bytes (Ok done) all is = all
+done_written a b bytes (Err refusal) all is = absurd (refused_apart refusal is)
+
 -- a whole report that was written, and the laws of its journal
 pub reported : (before after : Option (List ℕ)) (input : List ℕ) (script : Script) (journal : List Entry) (r : Result (Unit {0}) SinkRefusal)
     → script_of input ≡ Ok script → SetupFirst script → IsSequence script journal → OnOk r (Appends before after (text script journal))

@@ -95,12 +95,14 @@ Suits input status.Usage = ⊥
 Suits input status.ReadFault = ⊤
 Suits input status.WriteFault = IsWithin input
 Suits input status.Memory = ⊤
+Suits input status.NotLegal = ⊥
 
 -- The statuses with which a whole text was written.
 abbrev pub IsWhole : Status → Type 0
 IsWhole status.Done = ⊤
 IsWhole status.Usage = ⊤
 IsWhole status.Bad = ⊤
+IsWhole status.NotLegal = ⊤
 IsWhole other = ⊥
 
 -- The statuses of words that are no command.

@@ -1,5 +1,8 @@
 pub mod Words
 pub mod Texts
 pub mod Decoding
+pub mod Summing
 pub mod Ends
+pub mod Parts
+pub mod Auditing
 pub mod Statuses

@@ -4,6 +4,7 @@ use Rattle.cred_rules.specs.Attribute.{Attribute, Fault}
 use Rattle.cred_filecap.specs.Refusals.{refusal_of}
 use Rattle.cred_filecap.specs.declared.refusal.AttrRefusal.{AttrRefusal}
 use Rattle.cred_filecap.specs.declared.refusal.AttrRefusal.TheVariants.{BadLength, BadRevision}
+use Rattle.cred_generate.specs.declared.summing.Summary.{Summary}
 use Rattle.cred_report.specs.Numbers.{set_text, flag_text}
 use Rattle.cred_spelling.specs.declared.reason.Reason.{Reason}
 use Rattle.cred_spelling.specs.declared.reason.Reason.TheVariants.{Byte, Word, Count, Order, Name}
@@ -39,3 +40,10 @@ refusal_text (BadRevision n) = codes "bad revision " ++ decimal n ++ codes "\n"
 
 abbrev pub fault_text : Fault → List ℕ
 fault_text fault = refusal_text (refusal_of fault)
+
+-- of the journal of a script that is made from a number
+abbrev pub summary_text : Summary → List ℕ
+summary_text s =
+    codes "lines " ++ decimal s.lines ++ codes " entries " ++ decimal s.entries ++
+    codes " credentials " ++ decimal s.credentials ++ codes " refusals " ++ decimal s.refusals ++
+    codes "\n"

@@ -1,21 +1,41 @@
 -- The words of the command line.
-use Rattle.std.specs.Prelude.{ℕ, String, List, [], ◌∷◌, map, codes, string_bytes, Some, None}
+use Rattle.std.specs.Prelude.{ℕ, String, List, map, codes, string_bytes, Some, None}
 use Rattle.std.specs.Prelude.{if◌then◌else◌}
 use Rattle.std.specs.declared.option.Option.{Option}
-use Rattle.std.specs.Option.{option_map}
+use Rattle.std.specs.Option.{option_map, option_and_then}
 use Rattle.std.specs.Str.{bytes_eq}
 use Rattle.std.specs.declared.alloc.Global.{Global}
-use Rattle.cred_script.specs.Spellings.{bytes_of}
+use Rattle.cred_args.specs.Positionals.{Words, positionals}
+use Rattle.cred_generate.specs.declared.generating.TheConstants.{GENERATED}
+use Rattle.cred_script.specs.Spellings.{bytes_of, number_within}
 use Rattle.cred_program.specs.declared.words.Command.{Command}
-use Rattle.cred_program.specs.declared.words.Command.TheVariants.{Run, Decode}
+use Rattle.cred_program.specs.declared.words.Command.TheVariants.{Run, Audit, Gen, Decode}
 
 -- what the words spell
 abbrev pub texts : List (String Global) → List (List ℕ)
 texts words = map string_bytes words
 
--- the command that the words are, if they are one: `run`, or `decode` and bytes in hexadecimal
+-- the command that one word is
+abbrev pub alone : List ℕ → Option Command
+alone word =
+    if bytes_eq word (codes "run") then Some Run
+    else if bytes_eq word (codes "audit") then Some Audit
+    else None
+
+-- the command that a word is with its operand: a number from 1 to the greatest, without a leading
+-- zero, or bytes in hexadecimal
+abbrev pub with_operand : List ℕ → List ℕ → Option Command
+with_operand word operand =
+    if bytes_eq word (codes "gen") then option_map Gen (number_within 1 GENERATED operand)
+    else if bytes_eq word (codes "decode") then option_map Decode (bytes_of operand)
+    else None
+
+-- the command that a word is, with its operand if it has one
+abbrev pub command_by : Words → Option Command
+command_by (word, None) = alone word
+command_by (word, Some operand) = with_operand word operand
+
+-- The command that the words are, if they are one: one word or two, none of which is empty or
+-- begins with `-`.
 abbrev pub command_of : List (List ℕ) → Option Command
-command_of (word ∷ []) = if bytes_eq word (codes "run") then Some Run else None
-command_of (word ∷ digits ∷ []) =
-    if bytes_eq word (codes "decode") then option_map Decode (bytes_of digits) else None
-command_of words = None
+command_of words = option_and_then command_by (positionals words)

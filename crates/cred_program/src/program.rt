@@ -5,13 +5,18 @@ ghost use Rattle.cred_io.specs.Causes.{CountsFaults};
 ghost use Rattle.cred_io.specs.Ends.{AppendsPrefix, ReadsUpTo};
 ghost use Rattle.cred_program.specs.Words.{command_of, texts};
 ghost use Rattle.cred_program.specs.Texts.{usage_text};
+ghost use Rattle.cred_program.specs.Summing.{IsForCount, Sums, SumsPrefix};
 ghost use Rattle.cred_program.specs.Decoding.{ShowsFault, Shows, ShowsPrefix, SuitsBytes};
+ghost use Rattle.cred_program.specs.Auditing.{AuditReads, AuditReadsTooMuch, AuditReadsWithin};
+ghost use Rattle.cred_program.specs.Auditing.{AuditSuits, Writes, WritesPrefix, limit_of};
 ghost use Rattle.cred_program.specs.Ends.{Begins, IsForNoCommand, IsWhole, Reads, ReadsTooMuch};
 ghost use Rattle.cred_program.specs.Ends.{ReadsWithin, Refuses, Reports, Suits};
 
+use crate::auditing::{AUDIT_LIMIT, read_and_audit};
 use crate::decoding::show;
 use crate::script::{BYTE_LIMIT, run_script};
 use crate::status::{Status, finish};
+use crate::summing::sum;
 use crate::words::{Command, command_of};
 use crate::writing::write_text;
 use cred_ids::NoMemory;
@@ -22,13 +27,15 @@ use std::alloc::Global;
 const USAGE: &str = "usage: credtrace run|lanes|audit|gen N|decode HEX\n";
 
 /// The program, over its words (those after its name), its input and its output: `run` reads a
-/// script and writes its report, `decode HEX` writes what an attribute says, and all other words
-/// get the usage line. It returns how that ended.
+/// script and writes its report, `audit` reads a script, a line `report` and a report and writes
+/// whether that is the script's, `gen N` runs a script of N calls and writes what its journal comes
+/// to, `decode HEX` writes what an attribute says, and all other words get the usage line. It
+/// returns how that ended.
 ///
-/// `Done`, `Bad` and `Usage` come with the whole text, handed on, and with no fault. The source's
-/// count of faults rises for `ReadFault` alone, and the sink's for `WriteFault` alone. `Memory`
-/// comes where an allocation failed, one of the sink's among them; the source may then have been
-/// read in part.
+/// `Done`, `NotLegal`, `Bad` and `Usage` come with the whole text, handed on, and with no fault.
+/// The source's count of faults rises for `ReadFault` alone, and the sink's for `WriteFault` alone.
+/// `Memory` comes where an allocation failed, one of the sink's among them; the source may then
+/// have been read in part.
 /// After `WriteFault` and `Memory` what was written is a prefix of the text; after `ReadFault` and
 /// `TooLarge` nothing was.
 pub fn credtrace<S: Source, K: Sink>(
@@ -49,8 +56,10 @@ pub fn credtrace<S: Source, K: Sink>(
     // More bytes were read than an input may have; or it was read to its end, and has more lines.
     // A text that could not be written is that of an input within the limits.
     ensures too_large { result ≡ Status.TooLarge
-        → (command_of (texts words.now) ≡ Some Command.Run)
-        × ReadsTooMuch (S.left source.old) (S.left source.new) }
+        → ((command_of (texts words.now) ≡ Some Command.Run)
+        × ReadsTooMuch (S.left source.old) (S.left source.new))
+        ⊎ ((command_of (texts words.now) ≡ Some Command.Audit)
+        × AuditReadsTooMuch (S.left source.old) (S.left source.new)) }
     ensures run_write_fault { command_of (texts words.now) ≡ Some Command.Run
         → result ≡ Status.WriteFault → ReadsWithin (S.left source.old) (S.left source.new) }
 
@@ -63,6 +72,40 @@ pub fn credtrace<S: Source, K: Sink>(
         → (K.written sink.new ≡ K.written sink.old)
         ⊎ Reads (S.left source.old) (S.left source.new)
         (Begins (K.written sink.old) (K.written sink.new)) }
+
+    // `audit`. The input was read to its end and is within the limits. Where its script part is a
+    // script, it was written whether its report is the text of one of the journals that the script
+    // may have, or at which entry it goes wrong; where it is none, its first bad line; and where no
+    // line is `report`, that this line is lacking.
+    ensures audit_done { command_of (texts words.now) ≡ Some Command.Audit
+        → result ≡ Status.Done → AuditReads (S.left source.old) (S.left source.new)
+        (Writes Status.Done (K.written sink.old) (K.written sink.new)) }
+    ensures audit_not_legal { result ≡ Status.NotLegal
+        → (command_of (texts words.now) ≡ Some Command.Audit)
+        × AuditReads (S.left source.old) (S.left source.new)
+        (Writes Status.NotLegal (K.written sink.old) (K.written sink.new)) }
+    ensures audit_bad { command_of (texts words.now) ≡ Some Command.Audit → result ≡ Status.Bad
+        → AuditReads (S.left source.old) (S.left source.new)
+        (Writes Status.Bad (K.written sink.old) (K.written sink.new)) }
+    ensures audit_write_fault { command_of (texts words.now) ≡ Some Command.Audit
+        → result ≡ Status.WriteFault
+        → AuditReadsWithin (S.left source.old) (S.left source.new) }
+    ensures audit_suits { command_of (texts words.now) ≡ Some Command.Audit → (input : List ℕ)
+        → S.left source.old ≡ Some input → AuditSuits input result }
+    ensures audit_prefix { command_of (texts words.now) ≡ Some Command.Audit
+        → (K.written sink.new ≡ K.written sink.old)
+        ⊎ AuditReads (S.left source.old) (S.left source.new)
+        (WritesPrefix (K.written sink.old) (K.written sink.new)) }
+
+    // `gen`. It leaves the source, and the number decides its text: the summary of the journal in
+    // which the lines of the script that is made from it run whole and in order.
+    ensures gen_done { (n : ℕ) → command_of (texts words.now) ≡ Some (Command.Gen n)
+        → result ≡ Status.Done → Sums n (K.written sink.old) (K.written sink.new) }
+    ensures gen_suits { (n : ℕ) → command_of (texts words.now) ≡ Some (Command.Gen n)
+        → (source.new ≡ source.old) × IsForCount result }
+    ensures gen_prefix { (n : ℕ) → command_of (texts words.now) ≡ Some (Command.Gen n)
+        → (K.written sink.new ≡ K.written sink.old)
+        ⊎ SumsPrefix n (K.written sink.old) (K.written sink.new) }
 
     // `decode`. It leaves the source, and its bytes decide whether it is Done or Bad: what the
     // attribute says was written, or why the bytes are none.
@@ -98,16 +141,21 @@ pub fn credtrace<S: Source, K: Sink>(
     ensures write_cause { CountsFaults (result ≡ Status.WriteFault)
         (K.faults sink.old) (K.faults sink.new) }
     ensures read_fault { result ≡ Status.ReadFault
-        → (command_of (texts words.now) ≡ Some Command.Run)
-        × ReadsUpTo BYTE_LIMIT (S.left source.old) (S.left source.new) }
+        → ((command_of (texts words.now) ≡ Some Command.Run)
+        × ReadsUpTo BYTE_LIMIT (S.left source.old) (S.left source.new))
+        ⊎ ((command_of (texts words.now) ≡ Some Command.Audit)
+        × ReadsUpTo AUDIT_LIMIT (S.left source.old) (S.left source.new)) }
 
-    // One byte above the limit is read at most.
-    ensures no_more { ReadsUpTo (BYTE_LIMIT + 1) (S.left source.old) (S.left source.new) }
+    // One byte above the command's limit is read at most.
+    ensures no_more { ReadsUpTo (limit_of (command_of (texts words.now)) + 1)
+        (S.left source.old) (S.left source.new) }
     ensures silent { (result ≡ Status.ReadFault) ⊎ (result ≡ Status.TooLarge)
         → sink.new ≡ sink.old }
 {
     match command_of(alloc, words) {
         Ok(Some(Command::Run)) => read_and_run(alloc, source, sink),
+        Ok(Some(Command::Audit)) => read_and_audit(alloc, source, sink),
+        Ok(Some(Command::Gen(n))) => sum(alloc, n, sink),
         Ok(Some(Command::Decode(bytes))) => show(alloc, bytes.items(), sink),
         Ok(None) => finish(write_text(sink, USAGE.as_bytes()), Status::Usage),
         Err(NoMemory) => Status::Memory,
@@ -121,6 +169,7 @@ fn read_and_run<S: Source, K: Sink>(alloc: Global, source: &mut S, sink: &mut K)
     ensures bad { result ≡ Status.Bad → Reads (S.left source.old) (S.left source.new)
         (Refuses (K.written sink.old) (K.written sink.new)) }
     ensures no_usage { result ≢ Status.Usage }
+    ensures no_not_legal { result ≢ Status.NotLegal }
     ensures too_large { result ≡ Status.TooLarge
         → ReadsTooMuch (S.left source.old) (S.left source.new) }
     ensures write_fault { result ≡ Status.WriteFault

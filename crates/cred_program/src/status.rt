@@ -11,8 +11,8 @@ pub enum Status {
     Done,
     /// The words are no command, and the usage line was written.
     Usage,
-    /// The input is no script, and its first bad line was written; or the word of `decode` spells
-    /// no attribute, and the reason was written.
+    /// The input is no script, and its first bad line was written; or an input of `audit` has no
+    /// line `report`, or the word of `decode` spells no attribute, and the reason was written.
     Bad,
     /// The input could not be read.
     ReadFault,
@@ -22,12 +22,14 @@ pub enum Status {
     Memory,
     /// The input has more bytes, or more lines, than it may have.
     TooLarge,
+    /// The report is not one of the script's, and the entry at which it goes wrong was written.
+    NotLegal,
 }
 
 impl Status {
     ghost use Rattle.cred_program.specs.Statuses.{code_of};
 
-    /// The exit status of the process, from 0 to 6 in the order of the variants.
+    /// The exit status of the process, from 0 to 7 in the order of the variants.
     pub fn code(self) -> u8
         ensures { result ≡ code_of self }
     {

@@ -1,10 +1,18 @@
 //! The words of the command line.
-ghost use Rattle.std.specs.Prelude.{◌≡◌, IfOk};
+ghost use Rattle.std.specs.Prelude.{◌≡◌, IfOk, IfSome};
+ghost use Rattle.std.specs.Option.{option_map};
+ghost use Rattle.cred_args.specs.Positionals.{seen};
+ghost use Rattle.cred_script.specs.Spellings.{bytes_of, number_within};
+ghost use Rattle.cred_program.specs.Summing.{HasCount, IsCount};
+ghost use Rattle.cred_program.specs.Words as spec;
 ghost use Rattle.cred_program.specs.Words.{command_of, texts};
 
+use cred_args::{Positionals, parse};
+use cred_generate::GENERATED;
 use cred_ids::NoMemory;
 use cred_io::Bytes;
 use cred_script::bytes_of;
+use cred_spelling::{Number, Spelling};
 use std::alloc::Global;
 
 /// What the program is to do.
@@ -12,26 +20,99 @@ use std::alloc::Global;
 pub enum Command {
     /// Run a script.
     Run,
+    /// Say whether a report is its script's.
+    Audit,
+    /// Run the script that is made from a number, and sum it up.
+    Gen(u32),
     /// Say what the bytes of a file's capability attribute say.
     Decode(Bytes),
 }
 
-/// The command that the words are; none for any other words.
+/// The command that the words are; none for any other words. clap reads them as a command and its
+/// operand.
 ///
 /// # Errors
 ///
-/// `NoMemory` if the allocation of the bytes that `decode` is given fails.
+/// `NoMemory` if an allocation of the parse fails, or that of the bytes that `decode` is given.
 pub fn command_of(alloc: Global, words: &[String]) -> Result<Option<Command>, NoMemory>
-    ensures { IfOk result (λ command. command ≡ command_of (texts words.now)) }
+    ensures command { IfOk result (λ command. command ≡ command_of (texts words.now)) }
+    ensures count { IfOk result (λ command. IfSome command HasCount) }
 {
-    match words {
-        [word] if word.as_str() == "run" => Ok(Some(Command::Run)),
-        [word, digits] if word.as_str() == "decode" => {
-            match bytes_of(alloc, digits.as_bytes())? {
-                Some(bytes) => Ok(Some(Command::Decode(Bytes::from_vec(bytes)))),
-                None => Ok(None),
-            }
-        }
-        _ => Ok(None),
+    match parse(alloc, words)? {
+        Some(given) => command_by(alloc, given),
+        None => Ok(None),
+    }
+}
+
+/// The command that a word is, with its operand if it has one.
+fn command_by(alloc: Global, given: Positionals<'_>) -> Result<Option<Command>, NoMemory>
+    ensures command { IfOk result (λ command. command ≡ spec.command_by (seen given.entry)) }
+    ensures count { IfOk result (λ command. IfSome command HasCount) }
+{
+    match given.operand {
+        Some(operand) => with_operand(alloc, given.command, operand.as_bytes()),
+        None => Ok(alone(given.command)),
+    }
+}
+
+/// The command that one word is.
+fn alone(word: &str) -> Option<Command>
+    ensures command { result ≡ spec.alone word.now }
+    ensures count { IfSome result HasCount }
+{
+    if word == "run" {
+        Some(Command::Run)
+    } else if word == "audit" {
+        Some(Command::Audit)
+    } else {
+        None
+    }
+}
+
+/// The command that a word is with its operand.
+fn with_operand(alloc: Global, word: &str, operand: &[u8]) -> Result<Option<Command>, NoMemory>
+    ensures command { IfOk result (λ command.
+        command ≡ spec.with_operand word.now operand.now) }
+    ensures count { IfOk result (λ command. IfSome command HasCount) }
+{
+    if word == "gen" {
+        Ok(generated(operand))
+    } else if word == "decode" {
+        decoded(alloc, operand)
+    } else {
+        Ok(None)
+    }
+}
+
+/// `gen` and this number.
+fn generated(operand: &[u8]) -> Option<Command>
+    ensures command { result ≡ option_map Command.Gen (number_within 1 GENERATED operand.now) }
+    ensures count { IfSome result HasCount }
+{
+    Some(Command::Gen(count_of(operand)?))
+}
+
+/// `decode` and these bytes.
+fn decoded(alloc: Global, operand: &[u8]) -> Result<Option<Command>, NoMemory>
+    ensures command { IfOk result (λ command.
+        command ≡ option_map Command.Decode (bytes_of operand.now)) }
+    ensures count { IfOk result (λ command. IfSome command HasCount) }
+{
+    match bytes_of(alloc, operand)? {
+        Some(bytes) => Ok(Some(Command::Decode(Bytes::from_vec(bytes)))),
+        None => Ok(None),
+    }
+}
+
+/// The number that a script is made from: from 1 to the greatest.
+fn count_of(word: &[u8]) -> Option<u32>
+    ensures number { result ≡ number_within 1 GENERATED word.now }
+    ensures range { IfSome result IsCount }
+{
+    let n = Number::of(word)?;
+    if 1 <= n && n <= GENERATED {
+        Some(n)
+    } else {
+        None
     }
 }

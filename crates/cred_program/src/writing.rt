@@ -1,11 +1,13 @@
 //! Writing texts that are no reports, and handing them on: what a buffer keeps back can still be
 //! lost.
-ghost use Rattle.std.specs.Prelude.{◌≡◌, true, OnOk, OnErr};
+ghost use Rattle.std.specs.Prelude.{◌≡◌, true, IfOk, OnOk, OnErr, string_bytes};
 ghost use Rattle.std.specs.Io.KnownBytes.{Appends};
 ghost use Rattle.cred_io.specs.Causes.{CountsFaults};
 ghost use Rattle.cred_io.specs.Ends.{AppendsPrefix};
-ghost use Rattle.cred_program.specs.Texts.{bad_text, reason_text};
+ghost use Rattle.cred_program.specs.Texts as spec;
+ghost use Rattle.cred_program.specs.Texts.{reason_text};
 
+use cred_ids::NoMemory;
 use cred_io::{Sink, SinkRefusal, write_all};
 use cred_script::Reason;
 use std::alloc::Global;
@@ -40,18 +42,29 @@ pub fn write_bad<K: Sink>(
     reason: Reason,
 ) -> Result<(), SinkRefusal>
     ensures ok { OnOk result
-        (Appends (K.written sink.old) (K.written sink.new) (bad_text (line, reason))) }
+        (Appends (K.written sink.old) (K.written sink.new) (spec.bad_text (line, reason))) }
     ensures err { OnErr result
-        (AppendsPrefix (K.written sink.old) (K.written sink.new) (bad_text (line, reason))) }
+        (AppendsPrefix (K.written sink.old) (K.written sink.new) (spec.bad_text (line, reason))) }
     ensures handed_on { OnOk result (K.handed_on sink.new ≡ true) }
     ensures cause { CountsFaults (result ≡ Err SinkRefusal.Failed)
         (K.faults sink.old) (K.faults sink.new) }
 {
-    let word = reason_word(reason);
-    let Ok(text) = format!(in alloc; "bad {line} {word}\n") else {
+    let Ok(text) = bad_text(alloc, line, reason) else {
         return Err(SinkRefusal::Memory);
     };
     write_text(sink, text.as_bytes())
+}
+
+/// The text of the first bad line of a script, and of the reason.
+///
+/// # Errors
+///
+/// `NoMemory` if an allocation of the text fails.
+pub fn bad_text(alloc: Global, line: u32, reason: Reason) -> Result<String, NoMemory>
+    ensures { IfOk result (λ text. string_bytes text ≡ spec.bad_text (line, reason)) }
+{
+    let word = reason_word(reason);
+    Ok(format!(in alloc; "bad {line} {word}\n")?)
 }
 
 fn reason_word(reason: Reason) -> &'static str

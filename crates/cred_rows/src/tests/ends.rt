@@ -25,10 +25,14 @@ const ENTRIES: [&str; 8] = [
 
 #[test]
 fn other_words_get_the_usage_line(rt: HostRuntime) -> Result<(), Fail> {
-    let table: [&[&str]; 9] = [
+    let table: [&[&str]; 13] = [
         &[],
         &["frob"],
         &["run", "run"],
+        &["run", ""],
+        &["audit", "run"],
+        &["gen"],
+        &["gen", "10", "10"],
         &["-"],
         &["lanes"],
         &["decode"],

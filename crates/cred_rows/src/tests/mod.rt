@@ -1,11 +1,13 @@
 //! The examples, a module for each kind.
 mod among;
+mod auditing;
 mod changes;
 mod checks;
 mod copies;
 mod decoding;
 mod ends;
 mod execs;
+mod generated;
 mod grammar;
 mod lasts;
 mod overrides;
