@@ -23,8 +23,8 @@ bare = record (new_app (codes "credtrace")) {
 abbrev pub line : App
 line = with_rule (with_rule bare command) operand
 
--- what clap gives for the words: what it found, if nothing in them is refused; else the first fault,
--- or lack of memory
+-- what clap gives for the words: what it found, if nothing in them is refused; else the first
+-- fault, or lack of memory
 abbrev pub Finds : List Text → Result ArgMatches Error → Type 0
 Finds words given =
     MatchResult given

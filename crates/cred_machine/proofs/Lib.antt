@@ -21,3 +21,4 @@ pub mod Refusals
 pub mod Leads
 pub mod Others
 pub mod Rising
+pub mod Live

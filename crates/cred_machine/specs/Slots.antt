@@ -1,8 +1,8 @@
 -- Slots that are marked.
-use Rattle.std.specs.Prelude.{ℕ, ◌==◌, ◌||◌, Bool, false, List, slice_index_or}
+use Rattle.std.specs.Prelude.{◌≡◌, ℕ, ◌<◌, ◌==◌, ◌||◌, Bool, false, List, slice_index_or}
 use Rattle.std.specs.List.{list_any}
-use Rattle.cred_model.specs.State.{SealedCred}
-use Rattle.cred_model.specs.Slots.{stands_in}
+use Rattle.cred_model.specs.State.{State, SealedCred}
+use Rattle.cred_model.specs.Slots.{SLOTS, is_live, stands_in}
 
 -- a slot's mark; none past the last
 abbrev pub is_marked : List Bool → ℕ → Bool
@@ -13,3 +13,7 @@ abbrev pub is_live_by : List SealedCred → List ℕ → List ℕ → ℕ → Bo
 is_live_by creds numbers kept slot =
     list_any (λ number. stands_in creds slot number) numbers
     || list_any (λ kept. kept == slot) kept
+
+-- The marked slots are those that are live.
+abbrev pub AreLive : List Bool → State → Type 0
+AreLive marks s = (slot : ℕ) → slot < SLOTS → is_marked marks slot ≡ is_live s slot

@@ -1,10 +1,12 @@
 //! The open broadcasts (nptl(7)).
-ghost use Rattle.std.specs.Prelude.{◌≡◌, ◌<◌, ◌==◌, ◌+◌, ◌++◌, ◌∷◌, [], find, length, slice_get, Ok, Err, MatchOption, OnOk, OnErr};
+ghost use Rattle.std.specs.Prelude.{◌≡◌, ◌<◌, ◌==◌, ◌+◌, ◌++◌, ◌∷◌, [], find, length, slice_get};
+ghost use Rattle.std.specs.Prelude.{Ok, Err, MatchOption, OnOk, OnErr};
 ghost use Rattle.std.specs.List.{AllPairs};
 ghost use Rattle.std.specs.Option.{option_map};
 ghost use Rattle.cred_event.specs.declared.answer.Answer.TheVariants.{Busy};
 ghost use Rattle.cred_ids.specs.Ordered.{in_order};
-ghost use Rattle.cred_model.specs.Casts.{not_busy, waits_in, waits_no_more, with_cast, without, joined, dropped};
+ghost use Rattle.cred_model.specs.Casts.{not_busy, waits_in, waits_no_more, with_cast, without};
+ghost use Rattle.cred_model.specs.Casts.{joined, dropped};
 ghost use Rattle.cred_machine.specs.Casts.{SharesNone};
 
 use cred_ids::NoMemory;
@@ -132,8 +134,8 @@ pub fn open_cast(casts: &mut Vec<Cast>, cast: Cast) -> Result<(), NoMemory>
     Ok(())
 }
 
-/// A task has created a thread, which waits where its creator waits. If an allocation fails, nothing
-/// changes.
+/// A task has created a thread, which waits where its creator waits. If an allocation fails,
+/// nothing changes.
 pub fn join(casts: &mut Vec<Cast>, parent: u32, child: u32) -> Result<(), NoMemory>
     requires { AllPairs SharesNone casts.old.items }
     ensures ok { OnOk result (casts.new.items ≡ joined parent child casts.old.items) }

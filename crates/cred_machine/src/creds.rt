@@ -1,5 +1,6 @@
 //! The sealed credentials.
-ghost use Rattle.std.specs.Prelude.{◌≡◌, ◌==◌, ◌++◌, ◌∷◌, [], All, false, find, length, nat_lt, slice_get, true, IfOk, OnOk};
+ghost use Rattle.std.specs.Prelude.{◌≡◌, ◌==◌, ◌++◌, ◌∷◌, [], All, false, find, length, nat_lt};
+ghost use Rattle.std.specs.Prelude.{slice_get, true, IfOk, OnOk};
 ghost use Rattle.std.specs.List.Sorted.{IsNonDecreasingBy, IsPartitionPoint};
 ghost use Rattle.std.specs.Option.{option_map};
 ghost use Rattle.cred_model.specs.State as model;

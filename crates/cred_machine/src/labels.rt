@@ -40,8 +40,8 @@ impl Model for Changed {
     ghost view = { λ c. record { change = c.change; cred = c.cred; gains = c.gains } };
 }
 
-/// A label that prepares a credential: the task that it is for, the number of the credential that it
-/// is based on, the slot that is kept for it, and what the base has become, once it was changed.
+/// A label that prepares a credential: the task that it is for, the number of the credential that
+/// it is based on, the slot that is kept for it, and what the base has become, once it was changed.
 #[derive(Drop, Debug)]
 pub struct Prepared {
     pub label: u32,

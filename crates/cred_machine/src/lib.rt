@@ -3,6 +3,7 @@
 //! looking through all that refers.
 #![tactic(auto)]
 
+pub mod cached;
 pub mod casts;
 pub mod creds;
 pub mod files;
@@ -18,5 +19,6 @@ pub mod state;
 mod step;
 pub mod tasks;
 
+pub use cached::Cached;
 pub use machine::Machine;
 pub use state::State;

@@ -1,8 +1,9 @@
 //! The id calls, which every thread of a process makes, one after another (nptl(7)).
-ghost use Rattle.std.specs.Prelude.{◌≡◌, ◌≤◌, length, IfOk, OnOk, OnErr};
+ghost use Rattle.std.specs.Prelude.{◌≡◌, ◌≤◌, is_some, length, not, IfOk, OnOk, OnErr};
 ghost use Rattle.cred_event.specs.declared.answer.Answer.TheVariants.{Aborted};
 ghost use Rattle.cred_model.specs.State.{Broadcast};
 ghost use Rattle.cred_model.specs.Like.{Gives};
+ghost use Rattle.cred_model.specs.Slots.{free, least_free};
 ghost use Rattle.cred_model.specs.Moves.{TASKS, in_slot, replaced, table_full};
 ghost use Rattle.cred_model.specs.Step.{aborted, by_act, by_begin};
 ghost use Rattle.cred_sound.specs.Sound.{IsSound};
@@ -100,6 +101,19 @@ impl State {
             Gives self.old (by_act self.old line) answer self.new) }
         ensures err { OnErr result (self.new ≡ self.old) }
     {
+        let room = self.room()?;
+        self.act_in(line, room)
+    }
+
+    /// The same, where this is the room for the credential that it makes.
+    pub(crate) fn act_in(&mut self, line: u32, room: Room) -> Result<Answer, NoMemory>
+        requires sound { IsSound self.old }
+        requires slot { room.slot ≡ free self.old }
+        requires swept { room.swept ≡ not (is_some (least_free self.old)) }
+        ensures ok { IfOk result (λ answer.
+            Gives self.old (by_act self.old line) answer self.new) }
+        ensures err { OnErr result (self.new ≡ self.old) }
+    {
         let Some(cast) = cast_of(&self.casts, line) else {
             return Ok(Answer::NoBroadcast(line));
         };
@@ -119,11 +133,10 @@ impl State {
             Err(Refusal::Invalid) => return self.end_process(process, task, AbortCause::Perm),
             Err(Refusal::Memory) => return Err(NoMemory),
         };
-        let Room { slot, swept } = self.room()?;
-        let Some(slot) = slot else {
+        let Some(slot) = room.slot else {
             return self.end_process(process, task, AbortCause::Full);
         };
-        let cred = self.replace(task, number, cred, slot, swept)?;
+        let cred = self.replace(task, number, cred, slot, room.swept)?;
         leave(&mut self.casts, task);
         Ok(Answer::Acted {
             task,

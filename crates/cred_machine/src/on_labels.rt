@@ -1,11 +1,13 @@
 //! The events on holds and prepared labels.
 ghost use Rattle.std.specs.Prelude.{◌≡◌, ◌<◌, length, slice_get, IfOk, IfSome, OnOk, OnErr};
 ghost use Rattle.cred_model.specs.Like.{Gives};
-ghost use Rattle.cred_model.specs.Step.{by_abort, by_alter, by_ask, by_commit, by_prepare, by_release, by_signal, by_take, take_hold};
+ghost use Rattle.cred_model.specs.Step.{by_abort, by_alter, by_ask, by_commit, by_prepare};
+ghost use Rattle.cred_model.specs.Step.{by_release, by_signal, by_take, take_hold};
 ghost use Rattle.cred_model.specs.Step as model;
 ghost use Rattle.cred_model.specs.Moves.{given_up};
 ghost use Rattle.cred_sound.specs.Sound.{IsSound};
-ghost use Rattle.cred_machine.specs.Labels.{numbered_in, casts_left, CanCommit, Commits, IsOnCurrent};
+ghost use Rattle.cred_machine.specs.Labels.{numbered_in, casts_left, CanCommit, Commits};
+ghost use Rattle.cred_machine.specs.Labels.{IsOnCurrent};
 ghost use Rattle.cred_machine.specs.Tasks.{ending_of};
 
 use crate::casts::{Cast, begun_by, drop_cast};
@@ -321,8 +323,8 @@ fn drop_with(casts: &mut Vec<Cast>, change: Change, process: u32)
     }
 }
 
-/// What a commit answers, by what the change was, and what the new credential gains: that was sealed
-/// under this number in this slot, and so many tasks ended.
+/// What a commit answers, by what the change was, and what the new credential gains: that was
+/// sealed under this number in this slot, and so many tasks ended.
 fn committed_by(change: Change, gains: &Gains, cred: u64, slot: u32, ended: u32) -> Answer
     ensures { result ≡ model.committed_by change gains.now cred slot ended }
 {

@@ -20,8 +20,8 @@ const DEPTH: u32 = 8;
 impl State {
     /// A task acts with another credential from now on (`override_creds` in the kernel;
     /// Documentation/security/credentials.rst): with the one that the label holds, or with what the
-    /// task prepared under the label for access(2). Its current credential stays. `NoTask`, `NoHold`
-    /// and `TooDeep` leave the state.
+    /// task prepared under the label for access(2). Its current credential stays. `NoTask`,
+    /// `NoHold` and `TooDeep` leave the state.
     pub(crate) fn override_with(&mut self, task: u32, label: u32) -> Result<Answer, NoMemory>
         requires { IsSound self.old }
         ensures ok { IfOk result (λ answer.
@@ -77,8 +77,8 @@ impl State {
     }
 
     /// A task acts again with the credential that it had before its newest override (`revert_creds`
-    /// in the kernel), and that override's credential is given up. `NoTask` and `NotOverridden` leave
-    /// the state.
+    /// in the kernel), and that override's credential is given up. `NoTask` and `NotOverridden`
+    /// leave the state.
     pub(crate) fn revert(&mut self, task: u32) -> Result<Answer, NoMemory>
         requires { IsSound self.old }
         ensures ok { IfOk result (λ answer.

@@ -55,8 +55,8 @@ impl State {
         Ok(Answer::Sealed { cred: next, slot })
     }
 
-    /// A task creates a thread of its process (clone(2) with CLONE_THREAD), which shares its current
-    /// credential, and waits where its creator waits. The refusals leave the state.
+    /// A task creates a thread of its process (clone(2) with CLONE_THREAD), which shares its
+    /// current credential, and waits where its creator waits. The refusals leave the state.
     pub(crate) fn spawn(&mut self, task: u32, child: u32) -> Result<Answer, NoMemory>
         requires { IsSound self.old }
         ensures ok { IfOk result (λ answer.
@@ -132,9 +132,9 @@ impl State {
         Ok(Answer::Sealed { cred: number, slot })
     }
 
-    /// A task ends, and what it referred to is given up. It waits in no broadcast any more; its holds
-    /// and prepared labels stay. `NoTask`, `Busy`, and `Overridden` while it acts with another
-    /// credential than its current one, leave the state.
+    /// A task ends, and what it referred to is given up. It waits in no broadcast any more; its
+    /// holds and prepared labels stay. `NoTask`, `Busy`, and `Overridden` while it acts with
+    /// another credential than its current one, leave the state.
     pub(crate) fn exit(&mut self, task: u32) -> Result<Answer, NoMemory>
         ensures ok { IfOk result (λ answer.
             Gives self.old (by_exit self.old task) answer self.new) }

@@ -1,10 +1,12 @@
 //! Which slot a new credential takes.
-ghost use Rattle.std.specs.Prelude.{◌≡◌, ℕ, ◌+◌, ◌<◌, ◌≤◌, ◌==◌, ◌||◌, ◌++◌, [], false, find, is_some, length, map, not, IfOk, IsOk, OnOk, OnErr, if◌then◌else◌, vec_capacity, vec_len};
+ghost use Rattle.std.specs.Prelude.{◌≡◌, ℕ, ◌+◌, ◌<◌, ◌≤◌, ◌==◌, ◌||◌, ◌++◌, [], false, true};
+ghost use Rattle.std.specs.Prelude.{find, is_some, length, map, not, if◌then◌else◌};
+ghost use Rattle.std.specs.Prelude.{IfOk, IsOk, OnOk, OnErr, vec_capacity, vec_len};
 ghost use Rattle.std.specs.List.{flat_map, list_any};
 ghost use Rattle.cred_event.specs.declared.answer.Answer.TheVariants.{TableFull};
 ghost use Rattle.cred_model.specs.Slots as model;
 ghost use Rattle.cred_model.specs.Slots.{SLOTS, least_free, free, in_use, stands_in};
-ghost use Rattle.cred_machine.specs.Slots.{is_live_by, is_marked};
+ghost use Rattle.cred_machine.specs.Slots.{AreLive, is_live_by, is_marked};
 
 use crate::creds::Creds;
 use crate::files::OpenFile;
@@ -21,30 +23,36 @@ const SLOTS: u32 = 256;
 
 /// The slots that something stands in or that are kept, as 256 marks.
 #[derive(Drop, Debug)]
-struct Marks {
+pub struct Marks {
     marks: [bool; 256],
+    /// All slots below this one are marked.
+    clear: u32,
 }
 
 impl Model for Marks {
-    ghost use Rattle.std.specs.Prelude.{List, Bool};
+    ghost use Rattle.std.specs.Prelude.{◌≡◌, ◌<◌, ℕ, List, Bool, true};
+    ghost use Rattle.cred_machine.specs.Slots.{is_marked};
 
     ghost Value = { List Bool };
 
     ghost view = { λ m. m.marks };
+
+    ghost invariant = { λ m. (slot : ℕ) → slot < m.clear → is_marked m.marks slot ≡ true };
 }
 
 impl Marks {
     /// No slot is marked.
-    fn new() -> Marks
+    pub fn new() -> Marks
         ensures { (slot : ℕ) → is_marked result slot ≡ false }
     {
         Marks {
             marks: [false; 256],
+            clear: 0,
         }
     }
 
     /// Marks a slot. There is none past the last.
-    fn put(&mut self, slot: u32)
+    pub fn put(&mut self, slot: u32)
         ensures { (other : ℕ) → other < SLOTS
             → is_marked self.new other ≡ (is_marked self.old other || (slot == other)) }
     {
@@ -83,17 +91,31 @@ impl Marks {
         }
     }
 
-    /// The least slot that isn't marked.
-    fn first_clear(&self) -> Option<u32>
-        ensures { result ≡ find (λ slot. not (is_marked self.now slot)) model.slots }
+    /// The least slot that isn't marked. What is below it isn't looked at the next time.
+    pub fn first_clear(&mut self) -> Option<u32>
+        ensures slot { result ≡ find (λ slot. not (is_marked self.old slot)) model.slots }
+        ensures marks { self.new ≡ self.old }
     {
-        for slot in 0..SLOTS {
-            if !self.marks[slot as usize] {
-                return Some(slot);
-            }
+        self.clear = clear_from(&self.marks, self.clear);
+        if self.clear < SLOTS {
+            return Some(self.clear);
         }
         None
     }
+}
+
+/// The first slot from this one on that isn't marked, or how many slots there are.
+fn clear_from(marks: &[bool; 256], first: u32) -> u32
+    requires { (slot : ℕ) → slot < first → is_marked marks.now slot ≡ true }
+    ensures marked { (slot : ℕ) → slot < result → is_marked marks.now slot ≡ true }
+    ensures clear { result < SLOTS → is_marked marks.now result ≡ false }
+{
+    for slot in first..SLOTS {
+        if !marks[slot as usize] {
+            return slot;
+        }
+    }
+    SLOTS
 }
 
 /// The slot that a new credential takes, if one is free, and whether that needs a sweep.
@@ -118,6 +140,26 @@ impl State {
         Ok(numbers)
     }
 
+    /// Which slots are live, by a look through all that refers.
+    ///
+    /// # Errors
+    ///
+    /// `NoMemory` if the allocation of a list fails.
+    pub(crate) fn look(&self) -> Result<Marks, NoMemory>
+        ensures { IfOk result (λ marks. AreLive marks self.now) }
+    {
+        let in_use = self.in_use()?;
+        Ok(marks_of(&self.creds, &in_use, &self.deferred, &self.prepared))
+    }
+
+    /// Which slots are live after a sweep.
+    fn look_swept(&self) -> Result<Marks, NoMemory>
+        ensures { IfOk result (λ marks. AreLive marks (model.swept self.now)) }
+    {
+        let in_use = self.in_use()?;
+        Ok(marks_of(&self.creds, &in_use, &[], &self.prepared))
+    }
+
     /// The slot that a new credential takes. Where all are live, those are free that only what was
     /// given up stands in.
     ///
@@ -128,12 +170,27 @@ impl State {
         ensures slot { IfOk result (λ room. room.slot ≡ free self.now) }
         ensures swept { IfOk result (λ room. room.swept ≡ not (is_some (least_free self.now))) }
     {
-        let in_use = self.in_use()?;
-        let slot = least_free(&self.creds, &in_use, &self.deferred, &self.prepared);
+        let mut live = self.look()?;
+        self.room_in(&mut live)
+    }
+
+    /// The same, where the live slots are marked.
+    ///
+    /// # Errors
+    ///
+    /// `NoMemory` if the allocation of a list fails.
+    pub(crate) fn room_in(&self, live: &mut Marks) -> Result<Room, NoMemory>
+        requires { AreLive live.old self.now }
+        ensures slot { IfOk result (λ room. room.slot ≡ free self.now) }
+        ensures swept { IfOk result (λ room. room.swept ≡ not (is_some (least_free self.now))) }
+        ensures marks { live.new ≡ live.old }
+    {
+        let slot = live.first_clear();
         if slot.is_some() {
             return Ok(Room { slot, swept: false });
         }
-        let slot = least_free(&self.creds, &in_use, &[], &self.prepared);
+        let mut live_swept = self.look_swept()?;
+        let slot = live_swept.first_clear();
         Ok(Room { slot, swept: true })
     }
 }
@@ -157,16 +214,16 @@ impl State {
     }
 }
 
-/// The least slot that isn't kept, and that none of these numbers stands in.
-fn least_free(creds: &Creds, in_use: &[u64], late: &[u64], prepared: &[Prepared]) -> Option<u32>
-    ensures { result ≡ find (λ slot. not (is_live_by creds.now.list (in_use.now ++ late.now)
-        (map (λ p. p.slot) prepared.now) slot)) model.slots }
+/// The slots that are kept, and those that one of these numbers stands in.
+fn marks_of(creds: &Creds, in_use: &[u64], late: &[u64], prepared: &[Prepared]) -> Marks
+    ensures { (slot : ℕ) → slot < SLOTS → is_marked result slot ≡ is_live_by creds.now.list
+        (in_use.now ++ late.now) (map (λ p. p.slot) prepared.now) slot }
 {
     let mut marks = Marks::new();
     marks.put_all(creds, in_use);
     marks.put_all(creds, late);
     marks.keep(prepared);
-    marks.first_clear()
+    marks
 }
 
 fn add_current(tasks: &[Task], numbers: &mut Vec<u64>) -> Result<(), NoMemory>

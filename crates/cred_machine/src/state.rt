@@ -2,7 +2,8 @@
 ghost use Rattle.std.specs.Prelude.{◌≡◌, ◌||◌, is_some, IfOk, MatchOption, Ok, Err};
 ghost use Rattle.std.specs.Option.{option_map};
 ghost use Rattle.cred_event.specs.declared.answer.Answer.TheVariants.{Overridden};
-ghost use Rattle.cred_model.specs.State.{opening, credential_of, current_of, held_by, hold_of, prepared_of};
+ghost use Rattle.cred_model.specs.State.{opening, credential_of, current_of, held_by, hold_of};
+ghost use Rattle.cred_model.specs.State.{prepared_of};
 ghost use Rattle.cred_model.specs.Moves.{not_overridden};
 ghost use Rattle.cred_machine.specs.Creds.{seen_numbered};
 

@@ -83,10 +83,10 @@ impl State {
         }
     }
 
-    /// Forgets the credentials that nothing refers to any more, if there was a sweep: no other event
-    /// leaves one to which nothing refers. Where there is no memory to list what is referred to, they
-    /// stay until the next event.
-    fn forget(&mut self)
+    /// Forgets the credentials that nothing refers to any more, if there was a sweep: no other
+    /// event leaves one to which nothing refers. Where there is no memory to list what is referred
+    /// to, they stay until the next event.
+    pub(crate) fn forget(&mut self)
         ensures { IsLike self.new self.old }
     {
         if !self.swept {

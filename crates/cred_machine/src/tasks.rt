@@ -1,9 +1,12 @@
 //! The tasks.
-ghost use Rattle.std.specs.Prelude.{◌≡◌, ◌-◌, ◌<◌, ◌≤◌, ◌==◌, ◌++◌, ◌∷◌, [], drop, filter, find, is_some, length, map, not, position, slice_get, take, count_by, nat_lt, IfOk, IfSome, OnOk, OnErr};
+ghost use Rattle.std.specs.Prelude.{◌≡◌, ◌-◌, ◌<◌, ◌≤◌, ◌==◌, ◌++◌, ◌∷◌, [], drop, filter, find};
+ghost use Rattle.std.specs.Prelude.{is_some, length, map, not, position, slice_get, take, count_by};
+ghost use Rattle.std.specs.Prelude.{nat_lt, IfOk, IfSome, OnOk, OnErr};
 ghost use Rattle.std.specs.Option.{option_map};
 ghost use Rattle.cred_model.specs.State.{acting};
 ghost use Rattle.cred_model.specs.Ends.{is_thread_of, left_by, numbers_of, survivors};
-ghost use Rattle.cred_model.specs.Moves.{DEPTH, TASKS, first_task, updated, with_current, with_overrides};
+ghost use Rattle.cred_model.specs.Moves.{DEPTH, TASKS, first_task, updated, with_current};
+ghost use Rattle.cred_model.specs.Moves.{with_overrides};
 ghost use Rattle.cred_machine.specs.Tasks.{ends_by, others_in, OfOneTask};
 
 use cred_ids::NoMemory;

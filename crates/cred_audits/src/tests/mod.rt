@@ -1,5 +1,6 @@
 //! The examples, a module for each kind.
 mod changes;
 mod edges;
+mod machine;
 mod reports;
 mod verdicts;

@@ -25,7 +25,7 @@ const ENTRIES: [&str; 8] = [
 
 #[test]
 fn other_words_get_the_usage_line(rt: HostRuntime) -> Result<(), Fail> {
-    let table: [&[&str]; 13] = [
+    let table: [&[&str]; 17] = [
         &[],
         &["frob"],
         &["run", "run"],
@@ -34,6 +34,10 @@ fn other_words_get_the_usage_line(rt: HostRuntime) -> Result<(), Fail> {
         &["gen"],
         &["gen", "10", "10"],
         &["-"],
+        &["-h"],
+        &["--help"],
+        &["--"],
+        &["run", "--help"],
         &["lanes"],
         &["decode"],
         &["decode", "0"],

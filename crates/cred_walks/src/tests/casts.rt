@@ -29,7 +29,7 @@ enum Call {
 /// slots then; to all others there are none.
 type Row = (u32, Call, &'static str, [u64; 8]);
 
-const ROWS: [Row; 7] = [
+const ROWS: [Row; 8] = [
     (
         6,
         Call::Init {
@@ -53,6 +53,13 @@ const ROWS: [Row; 7] = [
         5,
         Call::Begin { task: 2 },
         "5 begin t2 setgid 7 -> busy 5\n",
+        [1, 1, 1, 1, 1, 0, 0, 0],
+    ),
+    // Its own caller can't begin another either.
+    (
+        6,
+        Call::Begin { task: 1 },
+        "6 begin t1 setgid 7 -> busy 5\n",
         [1, 1, 1, 1, 1, 0, 0, 0],
     ),
     (

@@ -2,10 +2,13 @@ use Rattle.std.proofs.Common.{sym, arith}
 use Rattle.cred_machine.proofs.Marks.{first_clear-is, first_clear-none}
 use Rattle.cred_machine.proofs.slots.Marks.first_clear.Goals as goal
 
-pub returns-then-not-self-slot : goal.returns-then-not-self-slot
-returns-then-not-self-slot c =
+pub returns-then-self-lt-SLOTS-clause-slot : goal.returns-then-self-lt-SLOTS-clause-slot
+returns-then-self-lt-SLOTS-clause-slot c =
+    let from = c.clear_from-self-inside in
     rw (← c.self.view_is)
-    (sym (first_clear-is c.self.inside.marks c.loop-slot.slot (omega arith) c.if-not-self-slot.true (λ k h. c.loop-slot.invariant k h)))
+    (sym (first_clear-is c.self.inside.marks from.result c.if-self-lt-SLOTS.true (from.ensures.clear c.if-self-lt-SLOTS.true) from.ensures.marked))
 
-pub returns : goal.returns
-returns c = rw (← c.self.view_is) (sym (first_clear-none c.self.inside.marks (λ k h. c.loop-slot.invariant k (omega arith))))
+pub returns-clause-slot : goal.returns-clause-slot
+returns-clause-slot c =
+    let from = c.clear_from-self-inside in
+    rw (← c.self.view_is) (sym (first_clear-none c.self.inside.marks (λ k h. from.ensures.marked k (omega (arith, h, c.if-self-lt-SLOTS.false)))))

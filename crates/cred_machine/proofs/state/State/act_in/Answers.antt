@@ -8,7 +8,7 @@ use Rattle.cred_machine.proofs.Begins.{rule_invalid, rule_made, rule_perm}
 use Rattle.cred_machine.proofs.Follows.{aborts, act_unsealed, steps}
 use Rattle.cred_machine.proofs.Places.{none_is}
 use Rattle.cred_machine.proofs.Threads.{waits_rising}
-use Rattle.cred_machine.proofs.state.State.act.Goals as goal
+use Rattle.cred_machine.proofs.state.State.act_in.Goals as goal
 
 pub returns-in_default-get-2-clause-ok : goal.returns-in_default-get-2-clause-ok
 returns-in_default-get-2-clause-ok c =
@@ -52,7 +52,7 @@ others-left-requires-clause-rising c =
     } in
     let found : cast_of s c.args.line ≡ Some c.in-Some.cast.now
     = ap (λ (bs : List Broadcast). find (λ x. x.number == c.args.line) bs) (sym c.deref.ensures.value) ∙ sym c.in-Some.ensures in
-    waits_rising s c.args.line c.in-Some.cast.now (rw (← c.self.view_is) at c.requires) found
+    waits_rising s c.args.line c.in-Some.cast.now (rw (← c.self.view_is) at c.requires.sound) found
 
 pub returns-in-Err-Perm-clause-ok : goal.returns-in-Err-Perm-clause-ok
 returns-in-Err-Perm-clause-ok c =
@@ -183,7 +183,7 @@ returns-in_default-slot-clause-ok c =
     rw (← c.self.view_is)
     (aborts s ended.new.self c.args.line c.in-Some-least.task Full b ended.result
     (act_full s c.args.line c.in-Some-least.task b o (seen_numbered c.in-Some-get-2.current) next c.in-Ok.cred (rule_made _ c.in-Ok.cred c.in-Ok.ensures)
-    (rw (← c.self.view_is) at (sym c.in_ok-slot.ensures.slot ∙ c.in_default-slot.is)))
+    (rw (← c.self.view_is) at (sym c.requires.slot ∙ c.in_default-slot.is)))
     ended.ensures.answer (rw (← c.self.view_is) at ended.ensures.state))
 
 pub returns-clause-ok : goal.returns-clause-ok
@@ -236,8 +236,8 @@ returns-clause-ok c =
     } in
     rw (← c.self.view_is)
     (steps s c.args.line b next.found c.in-Some-least.task next.least o (seen_numbered c.in-Some-get-2.current) next.lives next.has
-    c.in-Ok.cred (rule_made _ c.in-Ok.cred c.in-Ok.ensures) after c.leave.new.casts.items c.in_ok-slot.field-0.swept c.in-Some-slot.slot
+    c.in-Ok.cred (rule_made _ c.in-Ok.cred c.in-Ok.ensures) after c.leave.new.casts.items c.args.room.swept c.in-Some-slot.slot
     c.others-left.result c.in_ok-cred.cred
-    (rw (← c.self.view_is) at (sym c.in_ok-slot.ensures.slot ∙ c.in-Some-slot.is)) (rw (← c.self.view_is) at c.in_ok-slot.ensures.swept)
+    (rw (← c.self.view_is) at (sym c.requires.slot ∙ c.in-Some-slot.is)) (rw (← c.self.view_is) at c.requires.swept)
     (rw (← c.cast.view_is) at c.others-left.ensures) (rw (← c.self.view_is) at c.in_ok-cred.ensures.number)
     (c.self-2.view_is ∙ (rw (← c.self.view_is) at c.in_ok-cred.ensures.ok)) c.leave.ensures)
