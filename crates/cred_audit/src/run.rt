@@ -6,7 +6,7 @@ use cred_course::Course;
 use cred_cursor::{cursor_after, first_cursor, next_event};
 use cred_event::Entry;
 use cred_ids::NoMemory;
-use cred_machine::Cached;
+use cred_machine::CachedState;
 use cred_script::Script;
 use std::alloc::Global;
 
@@ -14,7 +14,7 @@ use std::alloc::Global;
 /// the first line that has not ended, if there is one.
 #[derive(Drop, Debug)]
 pub struct Run {
-    state: Cached,
+    state: CachedState,
     cursor: Option<Course>,
 }
 
@@ -28,7 +28,7 @@ impl Run {
         ensures { IfOk result (λ run. IsAfter script.now [] run) }
     {
         Ok(Run {
-            state: Cached::new(alloc)?,
+            state: CachedState::new(alloc)?,
             cursor: first_cursor(script),
         })
     }

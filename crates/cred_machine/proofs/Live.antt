@@ -1,7 +1,7 @@
 -- Which slots are live after a thread's step, by those that were before it.
 use Rattle.std.proofs.Common.{◌≡◌, ◌≢◌, ℕ, zero, suc, ◌-◌, ◌<◌, ◌==◌, ◌||◌, not, Bool, true, false, cond, List, [], ◌∷◌, ◌++◌, find, length, map, is_some, slice_get, Option, Some, None, Result, Ok, Err, ok_or, refl, sym, ap, ◌∙◌, subst, arith}
 use Rattle.std.specs.List.{All, AllPairs, concat, flat_map, list_any}
-use Rattle.std.specs.Option.{option_map, option_map_or}
+use Rattle.std.specs.Option.{IfSome, option_map, option_map_or}
 use Rattle.std.proofs.lemmas.Bool.Decides.{nat_tests}
 use Rattle.std.proofs.lemmas.List.{length-map}
 use Rattle.std.proofs.lemmas.List.Elements.{All-head, All-tail}
@@ -16,12 +16,12 @@ use Rattle.cred_model.specs.State.{State, SealedCred, Prepared, Task, Broadcast,
 use Rattle.cred_model.specs.Change.{by_rule}
 use Rattle.cred_model.specs.Like.{IsLike}
 use Rattle.cred_model.specs.Moves.{◌>>=◌, replaced, updated, with_current}
-use Rattle.cred_model.specs.Slots.{SLOTS, free, is_kept, is_live, least_free, refs, stands_in}
+use Rattle.cred_model.specs.Slots.{free, is_kept, is_live, least_free, refs, stands_in}
 use Rattle.cred_model.specs.Step.{aborted, by_act, follow, outcome}
 use Rattle.cred_model.proofs.Rising.{AllPairs-head, AllPairs-tail}
 use Rattle.cred_sound.specs.Sound.{IsSound}
 use Rattle.cred_machine.specs.Creds.{slots_of}
-use Rattle.cred_machine.specs.Slots.{AreLive, is_marked}
+use Rattle.cred_machine.specs.Slots.{AreLive, TakesSlot}
 use Rattle.cred_machine.proofs.Free.{free_now}
 use Rattle.cred_machine.proofs.Places.{all_left}
 use Rattle.cred_machine.proofs.Rooms.{in_free}
@@ -242,18 +242,20 @@ live_acted s after sound task slot step k =
     ap (λ (t : State). is_live t k) step.leads
     ∙ live_replaced s sound task slot step.owner step.made step.lives step.casts k
 
-not_swept : (found sweep : Bool) → sweep ≡ not found → not sweep ≡ true → found ≡ true
-not_swept true sweep is unswept = refl
-not_swept false sweep is unswept = cc
+found_unswept : (found sweep : Bool) → sweep ≡ not found → sweep ≡ false → found ≡ true
+found_unswept true sweep is unswept = refl
+found_unswept false sweep is unswept = cc
 
 -- with the slot that the step took, the marks are those of the live slots again
-pub stays_known : (s after : State) → IsSound s → (number task cred slot left : ℕ) (answer : Answer) (marks now : List Bool) (sweep : Bool) → AreLive marks s
-    → ((k : ℕ) → k < SLOTS → is_marked now k ≡ (is_marked marks k || (slot == k))) → sweep ≡ not (is_some (least_free s))
-    → outcome s (by_act s number) ≡ (answer, after) → answer ≡ Acted task cred slot left → not sweep ≡ true → AreLive now after
-stays_known s after sound number task cred slot left answer marks now sweep live put is gives made unswept = λ k h.
-    let some = not_swept (is_some (least_free s)) sweep is unswept in
-    let step = acted s after number task cred slot left some (gives ∙ ap (λ (a : Answer). (a, after)) made) in
-    put k h ∙ ap (λ b. b || (slot == k)) (live k h) ∙ sym (live_acted s after sound task slot step k)
+pub known_after : (s after : State) → IsSound s → (number : ℕ) (answer : Answer) (marks : List Bool) (sweep : Bool) (known : Option (List Bool))
+    → AreLive marks s → sweep ≡ not (is_some (least_free s)) → outcome s (by_act s number) ≡ (answer, after)
+    → IfSome known (λ now. (sweep ≡ false) × TakesSlot marks answer now) → IfSome known (λ now. AreLive now after)
+known_after s after sound number answer marks sweep None live is gives takes = tt
+known_after s after sound number answer marks sweep (Some now) live is gives takes = λ k h.
+    let some = found_unswept (is_some (least_free s)) sweep is takes.0 in
+    let slot = takes.1.taken in
+    let step = acted s after number takes.1.task takes.1.cred slot takes.1.left some (gives ∙ ap (λ (a : Answer). (a, after)) takes.1.acted) in
+    takes.1.marks k h ∙ ap (λ b. b || (slot == k)) (live k h) ∙ sym (live_acted s after sound takes.1.task slot step k)
 
 -- where a credential stands, by the list of slots
 stands_by : (creds : List SealedCred) (slot n : ℕ) → stands_in creds slot n ≡ option_map_or (λ k. k == slot) (slice_get (slots_of creds) n) false
@@ -278,3 +280,7 @@ live_like a b like k =
   where
     same_refs : (a b : State) → IsLike a b → refs a ≡ refs b
     same_refs a b like = rw (like.tasks, like.files, like.holds, like.prepared, like.deferred) refl
+
+pub known_like : (known : Option (List Bool)) (a b : State) → IsLike a b → IfSome known (λ marks. AreLive marks b) → IfSome known (λ marks. AreLive marks a)
+known_like None a b like live = tt
+known_like (Some marks) a b like live = λ k h. live k h ∙ sym (live_like a b like k)

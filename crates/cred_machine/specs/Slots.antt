@@ -1,6 +1,8 @@
 -- Slots that are marked.
 use Rattle.std.specs.Prelude.{◌≡◌, ℕ, ◌<◌, ◌==◌, ◌||◌, Bool, false, List, slice_index_or}
 use Rattle.std.specs.List.{list_any}
+use Rattle.cred_event.specs.declared.answer.Answer.{Answer}
+use Rattle.cred_event.specs.declared.answer.Answer.TheVariants.{Acted}
 use Rattle.cred_model.specs.State.{State, SealedCred}
 use Rattle.cred_model.specs.Slots.{SLOTS, is_live, stands_in}
 
@@ -17,3 +19,13 @@ is_live_by creds numbers kept slot =
 -- The marked slots are those that are live.
 abbrev pub AreLive : List Bool → State → Type 0
 AreLive marks s = (slot : ℕ) → slot < SLOTS → is_marked marks slot ≡ is_live s slot
+
+-- A step that answered so took its slot: the marks after it have that one too.
+pub record TakesSlot (before : List Bool) (answer : Answer) (after : List Bool) : Type 0 where
+  pub task : ℕ
+  pub cred : ℕ
+  pub taken : ℕ
+  pub left : ℕ
+  pub acted : answer ≡ Acted task cred taken left
+  pub marks : (slot : ℕ) → slot < SLOTS
+      → is_marked after slot ≡ (is_marked before slot || (taken == slot))

@@ -3,22 +3,20 @@
 //! looking through all that refers.
 #![tactic(auto)]
 
-pub mod cached;
-pub mod casts;
-pub mod creds;
-pub mod files;
-pub mod labels;
-pub mod machine;
+mod cached;
+mod casts;
+mod creds;
+mod files;
+mod labels;
+mod machine;
 mod on_casts;
 mod on_files;
 mod on_labels;
 mod on_overrides;
 mod on_tasks;
-pub mod slots;
-pub mod state;
-mod step;
-pub mod tasks;
+mod slots;
+mod state;
+mod tasks;
 
-pub use cached::Cached;
+pub use cached::CachedState;
 pub use machine::Machine;
-pub use state::State;

@@ -5,7 +5,7 @@ ghost use Rattle.cred_model.specs.Step.{done};
 ghost use Rattle.cred_model.specs.Named.{IsEventOf};
 ghost use Rattle.cred_model.specs.Like.{GivesLike};
 
-use crate::cached::Cached;
+use crate::cached::CachedState;
 use cred_event::{Answer, Event};
 use cred_ids::NoMemory;
 use cred_script::Script;
@@ -16,7 +16,7 @@ use std::marker::Model;
 #[derive(Drop)]
 pub struct Machine<'a> {
     script: &'a Script,
-    state: Cached,
+    state: CachedState,
 }
 
 impl<'a> Model for Machine<'a> {
@@ -42,7 +42,7 @@ impl<'a> Machine<'a> {
     {
         Ok(Machine {
             script,
-            state: Cached::new(alloc)?,
+            state: CachedState::new(alloc)?,
         })
     }
 

@@ -73,7 +73,7 @@ impl State {
     {
         let Room { slot, swept } = self.room()?;
         let Some(slot) = slot else {
-            return Ok(self.full());
+            return Ok(self.table_full());
         };
         let (task, left) = (cast.caller, cast.waiting.len() as u32);
         let before = self.casts.len();
@@ -94,19 +94,9 @@ impl State {
 
     /// The least thread that waits in the broadcast makes the call of it on its own current
     /// credential. `NoBroadcast` leaves the state. Where the call is refused, or where no slot is
-    /// free even after a sweep, all threads of the process end and the broadcast is dropped.
-    pub(crate) fn act(&mut self, line: u32) -> Result<Answer, NoMemory>
-        requires { IsSound self.old }
-        ensures ok { IfOk result (λ answer.
-            Gives self.old (by_act self.old line) answer self.new) }
-        ensures err { OnErr result (self.new ≡ self.old) }
-    {
-        let room = self.room()?;
-        self.act_in(line, room)
-    }
-
-    /// The same, where this is the room for the credential that it makes.
-    pub(crate) fn act_in(&mut self, line: u32, room: Room) -> Result<Answer, NoMemory>
+    /// free even after a sweep, all threads of the process end and the broadcast is dropped. `room`
+    /// is where the credential goes that it makes.
+    pub(crate) fn act(&mut self, line: u32, room: Room) -> Result<Answer, NoMemory>
         requires sound { IsSound self.old }
         requires slot { room.slot ≡ free self.old }
         requires swept { room.swept ≡ not (is_some (least_free self.old)) }
@@ -186,7 +176,7 @@ impl State {
         let swept = matches!(cause, AbortCause::Full);
         let ending = Ending::Process(process);
         let mut numbers = Vec::new(self.alloc);
-        self.tasks.leave(ending, &mut numbers)?;
+        self.tasks.append_left(ending, &mut numbers)?;
         defer(&mut self.deferred, swept, &numbers)?;
         self.swept |= swept;
         self.tasks.end(ending);

@@ -145,7 +145,7 @@ impl State {
         }
         let Room { slot, swept } = self.room()?;
         let Some(slot) = slot else {
-            return Ok(self.full());
+            return Ok(self.table_full());
         };
         self.prepared.push(Prepared {
             label,
@@ -261,7 +261,7 @@ impl State {
         let ending = ends_with(last.change, process, task);
         let ended = self.tasks.count(ending);
         let mut numbers = Vec::new(self.alloc);
-        self.tasks.leave(ending, &mut numbers)?;
+        self.tasks.append_left(ending, &mut numbers)?;
         numbers.push(owner.current)?;
         numbers.push(own.base)?;
         self.creds.reserve()?;

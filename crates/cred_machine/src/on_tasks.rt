@@ -43,7 +43,7 @@ impl State {
         let cred = first(self.alloc, user, group, ns)?;
         let Room { slot, swept } = self.room()?;
         let Some(slot) = slot else {
-            return Ok(self.full());
+            return Ok(self.table_full());
         };
         self.creds.reserve()?;
         let next = self.creds.next_number();
@@ -151,7 +151,7 @@ impl State {
         }
         let ending = Ending::Task(task);
         let mut numbers = Vec::new(self.alloc);
-        self.tasks.leave(ending, &mut numbers)?;
+        self.tasks.append_left(ending, &mut numbers)?;
         defer(&mut self.deferred, false, &numbers)?;
         self.tasks.end(ending);
         leave(&mut self.casts, task);

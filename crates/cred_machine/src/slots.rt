@@ -26,7 +26,7 @@ const SLOTS: u32 = 256;
 pub struct Marks {
     marks: [bool; 256],
     /// All slots below this one are marked.
-    clear: u32,
+    marked_below: u32,
 }
 
 impl Model for Marks {
@@ -37,7 +37,7 @@ impl Model for Marks {
 
     ghost view = { λ m. m.marks };
 
-    ghost invariant = { λ m. (slot : ℕ) → slot < m.clear → is_marked m.marks slot ≡ true };
+    ghost invariant = { λ m. (slot : ℕ) → slot < m.marked_below → is_marked m.marks slot ≡ true };
 }
 
 impl Marks {
@@ -47,7 +47,7 @@ impl Marks {
     {
         Marks {
             marks: [false; 256],
-            clear: 0,
+            marked_below: 0,
         }
     }
 
@@ -96,9 +96,9 @@ impl Marks {
         ensures slot { result ≡ find (λ slot. not (is_marked self.old slot)) model.slots }
         ensures marks { self.new ≡ self.old }
     {
-        self.clear = clear_from(&self.marks, self.clear);
-        if self.clear < SLOTS {
-            return Some(self.clear);
+        self.marked_below = clear_from(&self.marks, self.marked_below);
+        if self.marked_below < SLOTS {
+            return Some(self.marked_below);
         }
         None
     }
@@ -205,7 +205,7 @@ impl State {
     }
 
     /// What is answered where no slot is free even after a sweep, which stands.
-    pub(crate) fn full(&mut self) -> Answer
+    pub(crate) fn table_full(&mut self) -> Answer
         ensures answer { result ≡ TableFull }
         ensures state { self.new ≡ model.swept self.old }
     {

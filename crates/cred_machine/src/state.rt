@@ -4,6 +4,7 @@ ghost use Rattle.std.specs.Option.{option_map};
 ghost use Rattle.cred_event.specs.declared.answer.Answer.TheVariants.{Overridden};
 ghost use Rattle.cred_model.specs.State.{opening, credential_of, current_of, held_by, hold_of};
 ghost use Rattle.cred_model.specs.State.{prepared_of};
+ghost use Rattle.cred_model.specs.Like.{IsLike};
 ghost use Rattle.cred_model.specs.Moves.{not_overridden};
 ghost use Rattle.cred_machine.specs.Creds.{seen_numbered};
 
@@ -104,6 +105,25 @@ impl State {
             ≡ (is_some (hold_of self.now label) || is_some (prepared_of self.now label)) }
     {
         hold_of(&self.holds, label).is_some() || prepared_of(&self.prepared, label).is_some()
+    }
+
+    /// Forgets the credentials that nothing refers to any more, if there was a sweep: no other
+    /// event leaves one to which nothing refers. Where there is no memory to list what is referred
+    /// to, they stay until the next event.
+    pub(crate) fn forget(&mut self)
+        ensures { IsLike self.new self.old }
+    {
+        if !self.swept {
+            return;
+        }
+        let Ok(mut numbers) = self.in_use() else {
+            return;
+        };
+        if numbers.extend_from_slice(&self.deferred).is_err() {
+            return;
+        }
+        self.creds.forget(&numbers);
+        self.swept = false;
     }
 }
 

@@ -295,7 +295,7 @@ impl Tasks {
     }
 
     /// Appends the numbers that those tasks refer to which end.
-    pub fn leave(&self, ending: Ending, numbers: &mut Vec<u64>) -> Result<(), NoMemory>
+    pub fn append_left(&self, ending: Ending, numbers: &mut Vec<u64>) -> Result<(), NoMemory>
         ensures { OnOk result (numbers.new.items
             ≡ numbers.old.items ++ left_by (ends_by ending) self.now) }
     {

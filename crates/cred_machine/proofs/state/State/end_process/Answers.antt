@@ -25,4 +25,4 @@ returns-clause-state c =
     ] in
     rw (← c.self.view_is)
     (process_ended s c.args.process _ _ _ _ c.match-matches.matches c.end.ensures c.drop_cast.ensures c.in_ok-defer.ensures.ok
-    (c.deref.ensures.value ∙ c.in_ok-leave.ensures ∙ rw c.new-numbers.ensures.items refl) c.args.cause swept)
+    (c.deref.ensures.value ∙ c.in_ok-append_left.ensures ∙ rw c.new-numbers.ensures.items refl) c.args.cause swept)

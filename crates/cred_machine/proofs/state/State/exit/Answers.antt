@@ -37,4 +37,4 @@ returns-clause-ok c =
     } in
     rw (← c.self.view_is)
     (exit_leads s c.args.task c.in-Some.owner.now _ _ _ _ (sym c.in-Some.ensures) (busy_at s _ c.args.task _ c.deref.ensures.value c.in_default-begun_by.ensures) c.in_default-overridden.ensures
-    c.end.ensures c.leave-2.ensures c.in_ok-defer.ensures.ok (c.deref-2.ensures.value ∙ c.in_ok-leave.ensures ∙ ap (λ (ms : List ℕ). ms ++ left_by (is_task c.args.task) s.tasks) c.new-numbers.ensures.items))
+    c.end.ensures c.leave.ensures c.in_ok-defer.ensures.ok (c.deref-2.ensures.value ∙ c.in_ok-append_left.ensures ∙ ap (λ (ms : List ℕ). ms ++ left_by (is_task c.args.task) s.tasks) c.new-numbers.ensures.items))

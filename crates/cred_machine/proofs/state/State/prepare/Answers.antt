@@ -48,7 +48,7 @@ returns-in_default-slot-clause-ok c =
       unprepared = unused.1;
       few = search rules;
     } in
-    rw (c.full.ensures.answer, c.full.ensures.state, ← c.self.view_is)
+    rw (c.table_full.ensures.answer, c.table_full.ensures.state, ← c.self.view_is)
     (prepare_full s c.args.label c.args.task c.args.hold held can (rw (← c.self.view_is) at (sym c.in_ok-slot.ensures.slot ∙ c.in_default-slot.is)))
 
 pub returns-clause-ok : goal.returns-clause-ok

@@ -45,5 +45,5 @@ returns-clause-ok c =
     (rw (← c.self.view_is) at c.requires.current) c.ends_with-ending.ensures c.seal-number.ensures.number c.in_ok-reserve.ensures.list c.count-ended.ensures
     c.committed_by-answer.ensures c.set_current.ensures c.end.ensures c.drop_with.ensures c.remove.ensures.items
     (c.deref.ensures.value
-    ∙ gathered _ _ _ _ _ owner.current own.base c.new-numbers.ensures.items c.in_ok-leave.ensures c.in_ok-push.ensures.items c.in_ok-push-2.ensures.items)
+    ∙ gathered _ _ _ _ _ owner.current own.base c.new-numbers.ensures.items c.in_ok-append_left.ensures c.in_ok-push.ensures.items c.in_ok-push-2.ensures.items)
     c.in_ok-defer.ensures.ok c.in_ok-cred.ensures c.seal-number.ensures.sealed)

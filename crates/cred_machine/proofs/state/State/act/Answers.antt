@@ -8,7 +8,7 @@ use Rattle.cred_machine.proofs.Begins.{rule_invalid, rule_made, rule_perm}
 use Rattle.cred_machine.proofs.Follows.{aborts, act_unsealed, steps}
 use Rattle.cred_machine.proofs.Places.{none_is}
 use Rattle.cred_machine.proofs.Threads.{waits_rising}
-use Rattle.cred_machine.proofs.state.State.act_in.Goals as goal
+use Rattle.cred_machine.proofs.state.State.act.Goals as goal
 
 pub returns-in_default-get-2-clause-ok : goal.returns-in_default-get-2-clause-ok
 returns-in_default-get-2-clause-ok c =
