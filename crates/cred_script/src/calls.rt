@@ -30,7 +30,9 @@ pub(crate) fn content_of(
     match words {
         [] => Err(LineRefusal::Bad(Reason::Word)),
         [name, words @ ..] => {
-            let name = call_name(name).ok_or(Reason::Word)?;
+            let Some(name) = call_name(name) else {
+                return Err(LineRefusal::Bad(Reason::Word));
+            };
             call_of(alloc, files, task, name, words)
         }
     }

@@ -70,7 +70,9 @@ fn info_of(alloc: Global, words: &[&[u8]]) -> Result<FileInfo, LineRefusal>
     match words {
         [kind, owner, group, mode, options @ ..] => {
             let (kind, owner, group) = three::<FileKind, Id, Id>(&[*kind, *owner, *group])?;
-            let mode = mode_of(mode).ok_or(Reason::Word)?;
+            let Some(mode) = mode_of(mode) else {
+                return Err(LineRefusal::Bad(Reason::Word));
+            };
             let (nosuid, attr) = options_of(alloc, options)?;
             Ok(FileInfo {
                 kind,
@@ -123,8 +125,10 @@ fn attr_of(alloc: Global, words: &[&[u8]]) -> Result<Option<Attr>, LineRefusal>
             if !is(word, "caps") {
                 return Err(LineRefusal::Bad(Reason::Word));
             }
-            let bytes = bytes_of(alloc, digits)?.ok_or(Reason::Word)?;
-            Ok(Some(Attr::from_vec(bytes)))
+            match bytes_of(alloc, digits)? {
+                Some(bytes) => Ok(Some(Attr::from_vec(bytes))),
+                None => Err(LineRefusal::Bad(Reason::Word)),
+            }
         }
         _ => Err(LineRefusal::Bad(Reason::Word)),
     }

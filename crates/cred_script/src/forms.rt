@@ -1,7 +1,7 @@
 //! The forms of a line: what its words are, and what it then declares or holds. Each function takes
 //! the words that stand after the one that names the form. Their number is asked before what they
 //! spell.
-ghost use Rattle.cred_spelling.specs.Read.{Says, nows};
+ghost use Rattle.cred_spelling.specs.Read.{nows};
 ghost use Rattle.cred_script.specs.Forms as spec;
 ghost use Rattle.cred_script.specs.Read.{GivesLine};
 
@@ -85,25 +85,25 @@ fn event_of(
     ensures { GivesLine (λ event. event) result (spec.event_of files.now name (nows words.now)) }
 {
     match name {
-        EventName::Take => Ok(take_of(Side::Subjective, words)?),
-        EventName::TakeReal => Ok(take_of(Side::Objective, words)?),
-        EventName::TakeFile => Ok(take_file_of(words)?),
+        EventName::Take => take_of(Side::Subjective, words),
+        EventName::TakeReal => take_of(Side::Objective, words),
+        EventName::TakeFile => take_file_of(words),
         EventName::Release => Ok(Event::Release {
             label: one::<Label>(words)?,
         }),
-        EventName::Ask => Ok(ask_of(files, words)?),
+        EventName::Ask => ask_of(files, words),
         EventName::Prepare => {
             let (label, task, hold) = three::<Label, Task, Label>(words)?;
             Ok(Event::Prepare { label, task, hold })
         }
-        EventName::Alter => Ok(alter_of(files, words)?),
+        EventName::Alter => alter_of(files, words),
         EventName::Commit => Ok(Event::Commit {
             label: one::<Label>(words)?,
         }),
         EventName::Abort => Ok(Event::Abort {
             label: one::<Label>(words)?,
         }),
-        EventName::Override => Ok(override_of(words)?),
+        EventName::Override => override_of(words),
         EventName::Revert => Ok(Event::Revert {
             task: one::<Task>(words)?,
         }),
@@ -120,8 +120,8 @@ fn event_of(
 
 /// `take H T` and `takereal H T`
 #[tactic(auto, unfolding(crate::specs::Forms::take_of))]
-fn take_of(side: Side, words: &[&[u8]]) -> Result<Event, Reason>
-    ensures { Says (λ event. event) result (spec.take_of side (nows words.now)) }
+fn take_of(side: Side, words: &[&[u8]]) -> Result<Event, LineRefusal>
+    ensures { GivesLine (λ event. event) result (spec.take_of side (nows words.now)) }
 {
     let (label, task) = two::<Label, Task>(words)?;
     Ok(Event::Take { label, task, side })
@@ -129,8 +129,8 @@ fn take_of(side: Side, words: &[&[u8]]) -> Result<Event, Reason>
 
 /// `takefile H F`
 #[tactic(auto, unfolding(crate::specs::Forms::take_file_of))]
-fn take_file_of(words: &[&[u8]]) -> Result<Event, Reason>
-    ensures { Says (λ event. event) result (spec.take_file_of (nows words.now)) }
+fn take_file_of(words: &[&[u8]]) -> Result<Event, LineRefusal>
+    ensures { GivesLine (λ event. event) result (spec.take_file_of (nows words.now)) }
 {
     let (label, fd) = two::<Label, Descriptor>(words)?;
     Ok(Event::TakeFile { label, fd })
@@ -138,8 +138,8 @@ fn take_file_of(words: &[&[u8]]) -> Result<Event, Reason>
 
 /// `ask H QUESTION`: the question is read before the label.
 #[tactic(auto, unfolding(crate::specs::Forms::ask_of))]
-fn ask_of(files: &Files, words: &[&[u8]]) -> Result<Event, Reason>
-    ensures { Says (λ event. event) result (spec.ask_of files.now (nows words.now)) }
+fn ask_of(files: &Files, words: &[&[u8]]) -> Result<Event, LineRefusal>
+    ensures { GivesLine (λ event. event) result (spec.ask_of files.now (nows words.now)) }
 {
     match words {
         [label, name, words @ ..] => {
@@ -147,30 +147,32 @@ fn ask_of(files: &Files, words: &[&[u8]]) -> Result<Event, Reason>
             let label = word::<Label>(label)?;
             Ok(Event::Ask { label, query })
         }
-        _ => Err(Reason::Count),
+        _ => Err(LineRefusal::Bad(Reason::Count)),
     }
 }
 
 /// `change H CHANGE`, `change H access`: the change is read before the label.
 #[tactic(auto, unfolding(crate::specs::Forms::alter_of))]
-fn alter_of(files: &Files, words: &[&[u8]]) -> Result<Event, Reason>
-    ensures { Says (λ event. event) result (spec.alter_of files.now (nows words.now)) }
+fn alter_of(files: &Files, words: &[&[u8]]) -> Result<Event, LineRefusal>
+    ensures { GivesLine (λ event. event) result (spec.alter_of files.now (nows words.now)) }
 {
     match words {
         [label, name, words @ ..] => {
-            let name = altered_name(name).ok_or(Reason::Word)?;
+            let Some(name) = altered_name(name) else {
+                return Err(LineRefusal::Bad(Reason::Word));
+            };
             let change = change_of(files, name, words)?;
             let label = word::<Label>(label)?;
             Ok(Event::Alter { label, change })
         }
-        _ => Err(Reason::Count),
+        _ => Err(LineRefusal::Bad(Reason::Count)),
     }
 }
 
 /// `override T H`
 #[tactic(auto, unfolding(crate::specs::Forms::override_of))]
-fn override_of(words: &[&[u8]]) -> Result<Event, Reason>
-    ensures { Says (λ event. event) result (spec.override_of (nows words.now)) }
+fn override_of(words: &[&[u8]]) -> Result<Event, LineRefusal>
+    ensures { GivesLine (λ event. event) result (spec.override_of (nows words.now)) }
 {
     let (task, label) = two::<Task, Label>(words)?;
     Ok(Event::Override { task, label })
@@ -183,7 +185,9 @@ fn begin_of(alloc: Global, words: &[&[u8]]) -> Result<Event, LineRefusal>
 {
     match words {
         [task, name, words @ ..] => {
-            let name = id_name(name).ok_or(Reason::Word)?;
+            let Some(name) = id_name(name) else {
+                return Err(LineRefusal::Bad(Reason::Word));
+            };
             let call = id_call_of(alloc, name, words)?;
             let task = word::<Task>(task)?;
             Ok(Event::Begin { task, call })

@@ -24,7 +24,10 @@ pub(crate) fn query_named(files: &Files, name: &[u8], words: &[&[u8]]) -> Result
     ensures { Says (λ query. query) result
         (spec.query_named files.now name.now (nows words.now)) }
 {
-    query_of(files, query_name(name).ok_or(Reason::Word)?, words)
+    match query_name(name) {
+        Some(name) => query_of(files, name, words),
+        None => Err(Reason::Word),
+    }
 }
 
 /// A question, by its name.

@@ -207,28 +207,23 @@ impl Reading {
         ensures { GivesLine (λ line. line) result
             (grammar.parse_full self.now first.now (nows words.now)) }
     {
-        let form = form_of(first).ok_or(Reason::Word)?;
+        let Some(form) = form_of(first) else {
+            return Err(LineRefusal::Bad(Reason::Word));
+        };
         let line = parse_form(alloc, &self.files, form, words)?;
         self.admits(&line)?;
         Ok(line)
     }
 
-    /// The line may stand here.
+    /// The line may stand here: no declaration stands after a call or an event, and then the
+    /// names are asked.
     fn admits(&self, line: &Parsed) -> Result<(), Reason>
         ensures { Says (λ x. x) result (spec.admits self.now line.now) }
-    {
-        self.in_order(line)?;
-        self.names_declared(line)
-    }
-
-    /// No declaration stands after a call or an event.
-    fn in_order(&self, line: &Parsed) -> Result<(), Reason>
-        ensures { Says (λ x. x) result (spec.in_order self.now line.now) }
     {
         if is_declaration(line) && self.is_used {
             Err(Reason::Order)
         } else {
-            Ok(())
+            self.names_declared(line)
         }
     }
 

@@ -93,7 +93,10 @@ pub fn two<A: Spelling, B: Spelling>(words: &[&[u8]]) -> Result<(A::Value, B::Va
     ensures { Says (λ x. x) result (spec.two_of A.spelled B.spelled (nows words.now)) }
 {
     match words {
-        [a, b] => Ok((word::<A>(a)?, word::<B>(b)?)),
+        [a, b] => match (A::of(a), B::of(b)) {
+            (Some(x), Some(y)) => Ok((x, y)),
+            _ => Err(Reason::Word),
+        },
         _ => Err(Reason::Count),
     }
 }
@@ -111,7 +114,10 @@ pub fn three<A: Spelling, B: Spelling, C: Spelling>(
         (spec.three_of A.spelled B.spelled C.spelled (nows words.now)) }
 {
     match words {
-        [a, b, c] => Ok((word::<A>(a)?, word::<B>(b)?, word::<C>(c)?)),
+        [a, b, c] => match (A::of(a), B::of(b), C::of(c)) {
+            (Some(x), Some(y), Some(z)) => Ok((x, y, z)),
+            _ => Err(Reason::Word),
+        },
         _ => Err(Reason::Count),
     }
 }
