@@ -21,3 +21,4 @@ mod setid;
 mod signals;
 mod slots;
 mod transitions;
+mod turns;

@@ -1,0 +1,4 @@
+pub mod Lists
+pub mod Points
+pub mod Seats
+pub mod Steps

@@ -1,0 +1,12 @@
+//! The passes of the lanes. A roll keeps a row of numbers for each lane, and lends each row as a
+//! pass. A pass that comes back has the numbers that its row has: nothing is compared when it does.
+#![tactic(auto)]
+
+pub mod laws;
+pub mod numbers;
+pub mod roll;
+mod rule;
+pub mod view;
+
+pub use numbers::Numbers;
+pub use roll::{Pass, Roll};

@@ -1,0 +1,66 @@
+//! The rule of the passes, and what each of the three kinds of step does to a view.
+use crate::view::View;
+use atomic_table::{Join, Play, Split, TableRule};
+use std::marker::{Brand, PhantomData};
+
+/// The rule. The table is told the number of lanes when it is made.
+pub struct Passes;
+
+impl TableRule<(), View, u32> for Passes {
+    ghost use Rattle.cred_turn.specs.Rule.{IsKept, opened};
+
+    ghost holds = { λ _ s. IsKept s.words s.views };
+
+    ghost first = { opened };
+}
+
+/// What one call lends. Each call picks it, since a step sees its view and no argument.
+pub trait Order {
+    ghost use Rattle.std.specs.Prelude.{ℕ};
+    ghost use Rattle.cred_turn.specs.declared.numbers.Numbers.{Numbers};
+
+    ghost lane: { ℕ };
+
+    ghost numbers: { Numbers };
+}
+
+impl Order for Brand {
+    ghost use Rattle.cred_turn.specs.Rows.{fresh};
+
+    ghost lane = { 0 };
+
+    ghost numbers = { fresh };
+}
+
+/// Lends a row.
+pub struct Lends<O>(PhantomData<O>);
+
+impl<O: Order> Split<View> for Lends<O> {
+    ghost use Rattle.cred_turn.specs.Rule.{lending, pass_of};
+
+    ghost left = { lending O.lane O.numbers };
+
+    ghost right = { λ _. pass_of O.lane O.numbers };
+}
+
+/// Takes a seat back, and keeps its pass aside.
+pub struct Returns;
+
+impl Join<View> for Returns {
+    ghost use Rattle.cred_turn.specs.Rule.{returned};
+    ghost use Rattle.cred_turn.specs.declared.view.View.TheVariants.{Spent};
+
+    ghost both = { returned };
+
+    ghost spent = { Spent };
+}
+
+/// Finds the row of the pass that is kept aside as it was lent, and marks it as not lent.
+pub struct Learns;
+
+impl Play<(), View> for Learns {
+    ghost use Rattle.std.specs.Prelude.{◌≡◌};
+    ghost use Rattle.cred_turn.specs.Rule.{Learned};
+
+    ghost then = { λ _ v _ w. Learned v.0 w.0 × (w.1 ≡ v.1) };
+}
