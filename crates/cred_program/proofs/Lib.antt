@@ -1,4 +1,1 @@
-pub mod Prefixes
-pub mod Finished
-pub mod ReportLine
-pub mod SetupLines
+pub mod Usage

@@ -1,8 +1,2 @@
 pub mod Words
-pub mod Texts
-pub mod Decoding
-pub mod Summing
-pub mod Ends
-pub mod Parts
-pub mod Auditing
-pub mod Statuses
+pub mod Commands

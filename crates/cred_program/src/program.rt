@@ -1,26 +1,23 @@
 //! The top call.
-ghost use Rattle.std.specs.Prelude.{◌≡◌, ◌≢◌, ◌⊎◌, ◌+◌, ℕ, List, true, Some, None};
+ghost use Rattle.std.specs.Prelude.{◌≡◌, ◌⊎◌, ◌+◌, ℕ, List, true, Some, None};
 ghost use Rattle.std.specs.Io.KnownBytes.{Appends};
 ghost use Rattle.cred_io.specs.Causes.{CountsFaults};
 ghost use Rattle.cred_io.specs.Ends.{AppendsPrefix, ReadsUpTo};
+ghost use Rattle.cred_commands.specs.Summing.{IsForCount, Sums, SumsPrefix};
+ghost use Rattle.cred_commands.specs.Decoding.{ShowsFault, Shows, ShowsPrefix, SuitsBytes};
+ghost use Rattle.cred_commands.specs.Auditing.{AuditReads, AuditReadsTooMuch, AuditReadsWithin};
+ghost use Rattle.cred_commands.specs.Auditing.{AuditSuits, Writes, WritesPrefix};
+ghost use Rattle.cred_commands.specs.Ends.{Begins, IsWhole, Reads, ReadsTooMuch, ReadsWithin};
+ghost use Rattle.cred_commands.specs.Ends.{Refuses, Reports, Suits};
+ghost use Rattle.cred_program.specs.Commands.{IsForNoCommand, limit_of, usage_text};
 ghost use Rattle.cred_program.specs.Words.{command_of, texts};
-ghost use Rattle.cred_program.specs.Texts.{usage_text};
-ghost use Rattle.cred_program.specs.Summing.{IsForCount, Sums, SumsPrefix};
-ghost use Rattle.cred_program.specs.Decoding.{ShowsFault, Shows, ShowsPrefix, SuitsBytes};
-ghost use Rattle.cred_program.specs.Auditing.{AuditReads, AuditReadsTooMuch, AuditReadsWithin};
-ghost use Rattle.cred_program.specs.Auditing.{AuditSuits, Writes, WritesPrefix, limit_of};
-ghost use Rattle.cred_program.specs.Ends.{Begins, IsForNoCommand, IsWhole, Reads, ReadsTooMuch};
-ghost use Rattle.cred_program.specs.Ends.{ReadsWithin, Refuses, Reports, Suits};
 
-use crate::auditing::{AUDIT_LIMIT, read_and_audit};
-use crate::decoding::show;
-use crate::script::{BYTE_LIMIT, run_script};
-use crate::status::{Status, finish};
-use crate::summing::sum;
 use crate::words::{Command, command_of};
-use crate::writing::write_text;
+use cred_commands::{
+    AUDIT_LIMIT, BYTE_LIMIT, Status, finish, read_and_audit, read_and_run, show, sum, write_text,
+};
 use cred_ids::NoMemory;
-use cred_io::{ReadRefusal, Sink, Source, read_all};
+use cred_io::{Sink, Source};
 use std::alloc::Global;
 
 /// What is written to words that are no command.
@@ -159,40 +156,5 @@ pub fn credtrace<S: Source, K: Sink>(
         Ok(Some(Command::Decode(bytes))) => show(alloc, bytes.items(), sink),
         Ok(None) => finish(write_text(sink, USAGE.as_bytes()), Status::Usage),
         Err(NoMemory) => Status::Memory,
-    }
-}
-
-/// Reads a script to its end, and runs it.
-fn read_and_run<S: Source, K: Sink>(alloc: Global, source: &mut S, sink: &mut K) -> Status
-    ensures done { result ≡ Status.Done → Reads (S.left source.old) (S.left source.new)
-        (Reports (K.written sink.old) (K.written sink.new)) }
-    ensures bad { result ≡ Status.Bad → Reads (S.left source.old) (S.left source.new)
-        (Refuses (K.written sink.old) (K.written sink.new)) }
-    ensures no_usage { result ≢ Status.Usage }
-    ensures no_not_legal { result ≢ Status.NotLegal }
-    ensures too_large { result ≡ Status.TooLarge
-        → ReadsTooMuch (S.left source.old) (S.left source.new) }
-    ensures write_fault { result ≡ Status.WriteFault
-        → ReadsWithin (S.left source.old) (S.left source.new) }
-    ensures suits { (input : List ℕ) → S.left source.old ≡ Some input → Suits input result }
-    ensures prefix { (K.written sink.new ≡ K.written sink.old)
-        ⊎ Reads (S.left source.old) (S.left source.new)
-        (Begins (K.written sink.old) (K.written sink.new)) }
-    ensures handed_on { IsWhole result → K.handed_on sink.new ≡ true }
-    ensures read_cause { CountsFaults (result ≡ Status.ReadFault)
-        (S.faults source.old) (S.faults source.new) }
-    ensures write_cause { CountsFaults (result ≡ Status.WriteFault)
-        (K.faults sink.old) (K.faults sink.new) }
-    ensures read_fault { result ≡ Status.ReadFault
-        → ReadsUpTo BYTE_LIMIT (S.left source.old) (S.left source.new) }
-    ensures no_more { ReadsUpTo (BYTE_LIMIT + 1) (S.left source.old) (S.left source.new) }
-    ensures silent { (result ≡ Status.ReadFault) ⊎ (result ≡ Status.TooLarge)
-        → sink.new ≡ sink.old }
-{
-    match read_all(alloc, source, BYTE_LIMIT) {
-        Ok(bytes) => run_script(alloc, bytes.items(), sink),
-        Err(ReadRefusal::Fault) => Status::ReadFault,
-        Err(ReadRefusal::TooLarge) => Status::TooLarge,
-        Err(ReadRefusal::Memory) => Status::Memory,
     }
 }

@@ -3,7 +3,8 @@ ghost use Rattle.std.specs.Prelude.{◌≡◌, IfOk, IfSome};
 ghost use Rattle.std.specs.Option.{option_map};
 ghost use Rattle.cred_args.specs.Positionals.{seen};
 ghost use Rattle.cred_script.specs.Spellings.{bytes_of, number_within};
-ghost use Rattle.cred_program.specs.Summing.{HasCount, IsCount};
+ghost use Rattle.cred_commands.specs.Summing.{IsCount};
+ghost use Rattle.cred_program.specs.Commands.{HasCount};
 ghost use Rattle.cred_program.specs.Words as spec;
 ghost use Rattle.cred_program.specs.Words.{command_of, texts};
 

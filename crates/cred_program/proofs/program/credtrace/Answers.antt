@@ -1,9 +1,10 @@
 use Rattle.std.proofs.Common.{◌≡◌, List, ℕ, None, inl, inr, sym, ap, subst, ◌∙◌}
-use Rattle.cred_program.specs.Decoding.{ShowsPrefix}
-use Rattle.cred_program.specs.Summing.{SumsPrefix}
-use Rattle.cred_program.specs.Texts.{usage_text}
+use Rattle.cred_commands.specs.Decoding.{ShowsPrefix}
+use Rattle.cred_commands.specs.Summing.{SumsPrefix}
+use Rattle.cred_commands.proofs.Prefixes.{prefix_either}
+use Rattle.cred_program.specs.Commands.{usage_text}
 use Rattle.cred_program.specs.Words.{command_of, texts}
-use Rattle.cred_program.proofs.Prefixes.{prefix_either, usage_written}
+use Rattle.cred_program.proofs.Usage.{usage_written}
 use Rattle.cred_program.proofs.program.credtrace.Goals as goal
 
 pub returns-in-Ok-None-clause-usage : goal.returns-in-Ok-None-clause-usage

@@ -1,0 +1,45 @@
+-- What the status after a text says of the writing of the text.
+use Rattle.std.proofs.Common.{◌≡◌, ℕ, List, Result, Ok, Err, OnOk, sym, subst, ◌∙◌}
+use Rattle.cred_io.specs.Causes.{CountsFaults}
+use Rattle.cred_io.specs.declared.sink.SinkRefusal.{SinkRefusal}
+use Rattle.cred_io.specs.declared.sink.SinkRefusal.TheVariants as sink
+use Rattle.cred_commands.specs.Ends.{finished, IsWhole, Suits}
+use Rattle.cred_commands.specs.declared.status.Status.{Status}
+use Rattle.cred_commands.specs.declared.status.Status.TheVariants as status
+
+-- the status is that of a fault just where the sink failed
+pub finished_counts : (r : Result (Unit {0}) SinkRefusal) (answer result : Status) (before now : ℕ) → (answer ≡ status.WriteFault → ⊥)
+    → result ≡ finished r answer → CountsFaults (r ≡ Err sink.Failed) before now → CountsFaults (result ≡ status.WriteFault) before now
+finished_counts (Ok done) answer result before now other is counts = record {
+  rose = λ fault. absurd (other cc);
+  stayed = λ no_fault. counts.stayed (λ failed. cc);
+  later = counts.later;
+}
+finished_counts (Err sink.Failed) answer result before now other is counts = record {
+  rose = λ fault. counts.rose cc;
+  stayed = λ no_fault. absurd (no_fault is);
+  later = counts.later;
+}
+finished_counts (Err sink.Memory) answer result before now other is counts = record {
+  rose = λ fault. cc;
+  stayed = λ no_fault. counts.stayed (λ failed. cc);
+  later = counts.later;
+}
+
+-- a status that is neither the answer nor that of a text which wasn't written
+pub finished_apart : (r : Result (Unit {0}) SinkRefusal) (answer result other : Status) → (answer ≡ other → ⊥) → (status.WriteFault ≡ other → ⊥) → (status.Memory ≡ other → ⊥)
+    → result ≡ finished r answer → result ≡ other → ⊥
+finished_apart (Ok done) answer result other apart fault memory is same = apart (sym is ∙ same)
+finished_apart (Err sink.Failed) answer result other apart fault memory is same = fault (sym is ∙ same)
+finished_apart (Err sink.Memory) answer result other apart fault memory is same = memory (sym is ∙ same)
+
+pub finished_suits : (input : List ℕ) (r : Result (Unit {0}) SinkRefusal) (result : Status) → Suits input status.Done
+    → result ≡ finished r status.Done → Suits input result
+finished_suits input (Ok done) result suits is = subst (Suits input) (sym is) suits
+finished_suits input (Err sink.Failed) result suits is = subst (Suits input) (sym is) suits.0
+finished_suits input (Err sink.Memory) result suits is = subst (Suits input) (sym is) tt
+
+pub finished_whole : {P : Type 0} (r : Result (Unit {0}) SinkRefusal) (answer result : Status) → OnOk r P → result ≡ finished r answer → IsWhole result → P
+finished_whole (Ok done) answer result handed is whole = handed
+finished_whole (Err sink.Failed) answer result handed is whole = absurd (subst IsWhole is whole)
+finished_whole (Err sink.Memory) answer result handed is whole = absurd (subst IsWhole is whole)

@@ -1,0 +1,4 @@
+pub mod Prefixes
+pub mod Finished
+pub mod ReportLine
+pub mod SetupLines

@@ -1,0 +1,44 @@
+-- What is written of the bytes of a file's capability attribute.
+use Rattle.std.specs.Prelude.{◌≡◌, ◌⊎◌, ℕ, List, ⊤}
+use Rattle.std.specs.declared.option.Option.{Option}
+use Rattle.std.specs.Io.KnownBytes.{Appends}
+use Rattle.cred_io.specs.Ends.{AppendsPrefix}
+use Rattle.cred_rules.specs.Attribute.{Attribute, Spells, fault}
+use Rattle.cred_commands.specs.declared.status.Status.{Status}
+use Rattle.cred_commands.specs.declared.status.Status.TheVariants as status
+use Rattle.cred_commands.specs.Texts.{attr_text, fault_text}
+
+-- the bytes spell an attribute
+abbrev pub IsAttribute : List ℕ → Type 0
+IsAttribute bytes = (a : Attribute) × Spells bytes a
+
+-- The bytes spell an attribute, and its text was written.
+pub record Shows (bytes : List ℕ) (before after : Option (List ℕ)) : Type 0 where
+  pub attribute : Attribute
+  pub spelled : Spells bytes attribute
+  pub written : Appends before after (attr_text attribute)
+
+-- The bytes spell none, and it was written why.
+pub record ShowsFault (bytes : List ℕ) (before after : Option (List ℕ)) : Type 0 where
+  pub none : ¬ IsAttribute bytes
+  pub written : Appends before after (fault_text (fault bytes))
+
+-- the text that the bytes have
+abbrev pub IsText : List ℕ → List ℕ → Type 0
+IsText bytes text =
+    ((a : Attribute) × Spells bytes a × (text ≡ attr_text a))
+    ⊎ (¬ IsAttribute bytes × (text ≡ fault_text (fault bytes)))
+
+-- a prefix of the text that the bytes have was written
+abbrev pub ShowsPrefix : List ℕ → Option (List ℕ) → Option (List ℕ) → Type 0
+ShowsPrefix bytes before after =
+    (text : List ℕ) × IsText bytes text × AppendsPrefix before after text
+
+-- The statuses that bytes may have: the bytes alone decide whether it is Done or Bad, and nothing
+-- but a fault or lack of memory takes their place.
+abbrev pub SuitsBytes : List ℕ → Status → Type 0
+SuitsBytes bytes status.Done = IsAttribute bytes
+SuitsBytes bytes status.Bad = ¬ IsAttribute bytes
+SuitsBytes bytes status.WriteFault = ⊤
+SuitsBytes bytes status.Memory = ⊤
+SuitsBytes bytes other = ⊥

@@ -1,0 +1,7 @@
+pub mod Texts
+pub mod Decoding
+pub mod Summing
+pub mod Ends
+pub mod Parts
+pub mod Auditing
+pub mod Statuses

@@ -1,0 +1,48 @@
+-- What is written of the script that is made from a number.
+use Rattle.std.specs.Prelude.{◌≡◌, ◌≤◌, ℕ, List, Ok, ⊤}
+use Rattle.std.specs.declared.option.Option.{Option}
+use Rattle.std.specs.Io.KnownBytes.{Appends}
+use Rattle.cred_io.specs.Ends.{AppendsPrefix}
+use Rattle.cred_event.specs.declared.entry.Entry.{Entry}
+use Rattle.cred_model.specs.Script.{Script}
+use Rattle.cred_model.specs.Journal.{IsSequence}
+use Rattle.cred_script.specs.Grammar.{script_of}
+use Rattle.cred_generate.specs.Generated.{generated, text_of}
+use Rattle.cred_generate.specs.Summary.{summary}
+use Rattle.cred_generate.specs.declared.generating.TheConstants.{GENERATED}
+use Rattle.cred_commands.specs.Texts.{summary_text}
+use Rattle.cred_commands.specs.declared.status.Status.{Status}
+use Rattle.cred_commands.specs.declared.status.Status.TheVariants as status
+
+-- a script may be made from the number
+pub record IsCount (n : ℕ) : Type 0 where
+  pub some : 1 ≤ n
+  pub few : n ≤ GENERATED
+
+-- The text tells the summary of the journal in which the lines of the script that is made from the
+-- number run whole and in order.
+pub record IsSummary (n : ℕ) (text : List ℕ) : Type 0 where
+  pub script : Script
+  pub made : script_of (text_of (generated n)) ≡ Ok script
+  pub journal : List Entry
+  pub run : IsSequence script journal
+  pub told : text ≡ summary_text (summary script journal)
+
+-- that text was written
+pub record Sums (n : ℕ) (before after : Option (List ℕ)) : Type 0 where
+  pub text : List ℕ
+  pub is : IsSummary n text
+  pub written : Appends before after text
+
+-- a prefix of that text was written
+pub record SumsPrefix (n : ℕ) (before after : Option (List ℕ)) : Type 0 where
+  pub text : List ℕ
+  pub is : IsSummary n text
+  pub written : AppendsPrefix before after text
+
+-- The statuses of such a run: nothing but a fault or lack of memory takes the place of its text.
+abbrev pub IsForCount : Status → Type 0
+IsForCount status.Done = ⊤
+IsForCount status.WriteFault = ⊤
+IsForCount status.Memory = ⊤
+IsForCount other = ⊥

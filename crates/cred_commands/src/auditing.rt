@@ -1,0 +1,160 @@
+//! Saying whether a report is the report of a script.
+ghost use Rattle.std.specs.Prelude.{◌≡◌, ◌≢◌, ◌≤◌, ◌⊎◌, ◌+◌, ℕ, List, true, Some, IfOk, MatchBool};
+ghost use Rattle.std.specs.Prelude.{length, string_bytes};
+ghost use Rattle.std.specs.Option.{option_map};
+ghost use Rattle.cred_io.specs.Causes.{CountsFaults};
+ghost use Rattle.cred_io.specs.Ends.{ReadsUpTo};
+ghost use Rattle.cred_script.specs.Lines.{lines_of};
+ghost use Rattle.cred_commands.specs.Auditing.{AuditReads, AuditReadsTooMuch, AuditReadsWithin};
+ghost use Rattle.cred_commands.specs.Auditing.{AuditSuits, IsAuditWithin, Judges, Says, Writes};
+ghost use Rattle.cred_commands.specs.Auditing.{WritesPrefix, no_report_text};
+ghost use Rattle.cred_commands.specs.Ends.{IsTooLarge, IsWhole, IsWithin};
+ghost use Rattle.cred_commands.specs.Parts as spec;
+ghost use Rattle.cred_commands.specs.Parts.{script_part};
+
+use crate::parts::parts_of;
+use crate::script::BYTE_LIMIT;
+use crate::status::{Status, finish};
+use crate::writing::{bad_text, write_text};
+use cred_audit::{Verdict, audit};
+use cred_event::LINE_LIMIT;
+use cred_ids::NoMemory;
+use cred_io::{ReadRefusal, Sink, Source, read_all};
+use cred_script::{ScriptRefusal, line_count, read};
+use std::alloc::Global;
+
+/// How many bytes an input may have, its report among them.
+pub const AUDIT_LIMIT: u32 = 134_217_728;
+
+/// What is said of an input, and the status if it was written.
+#[derive(Drop, Debug)]
+struct Said {
+    status: Status,
+    text: String,
+}
+
+/// Reads an input to its end, and says whether its report is one of its script's.
+pub fn read_and_audit<S: Source, K: Sink>(alloc: Global, source: &mut S, sink: &mut K) -> Status
+    ensures whole { IsWhole result → AuditReads (S.left source.old) (S.left source.new)
+        (Writes result (K.written sink.old) (K.written sink.new)) }
+    ensures no_usage { result ≢ Status.Usage }
+    ensures too_large { result ≡ Status.TooLarge
+        → AuditReadsTooMuch (S.left source.old) (S.left source.new) }
+    ensures write_fault { result ≡ Status.WriteFault
+        → AuditReadsWithin (S.left source.old) (S.left source.new) }
+    ensures suits { (input : List ℕ) → S.left source.old ≡ Some input → AuditSuits input result }
+    ensures prefix { (K.written sink.new ≡ K.written sink.old)
+        ⊎ AuditReads (S.left source.old) (S.left source.new)
+        (WritesPrefix (K.written sink.old) (K.written sink.new)) }
+    ensures handed_on { IsWhole result → K.handed_on sink.new ≡ true }
+    ensures read_cause { CountsFaults (result ≡ Status.ReadFault)
+        (S.faults source.old) (S.faults source.new) }
+    ensures write_cause { CountsFaults (result ≡ Status.WriteFault)
+        (K.faults sink.old) (K.faults sink.new) }
+    ensures read_fault { result ≡ Status.ReadFault
+        → ReadsUpTo AUDIT_LIMIT (S.left source.old) (S.left source.new) }
+    ensures no_more { ReadsUpTo (AUDIT_LIMIT + 1) (S.left source.old) (S.left source.new) }
+    ensures silent { (result ≡ Status.ReadFault) ⊎ (result ≡ Status.TooLarge)
+        → sink.new ≡ sink.old }
+{
+    match read_all(alloc, source, AUDIT_LIMIT) {
+        Ok(bytes) => run_audit(alloc, bytes.items(), sink),
+        Err(ReadRefusal::Fault) => Status::ReadFault,
+        Err(ReadRefusal::TooLarge) => Status::TooLarge,
+        Err(ReadRefusal::Memory) => Status::Memory,
+    }
+}
+
+/// Says whether the report in an input is one of its script's, or where it goes wrong, or why there
+/// is nothing to be said; writes nothing where the script is too large.
+fn run_audit<K: Sink>(alloc: Global, input: &[u8], sink: &mut K) -> Status
+    requires { length input.now ≤ AUDIT_LIMIT }
+    ensures whole { IsWhole result
+        → Writes result (K.written sink.old) (K.written sink.new) input.now }
+    ensures too_large { result ≡ Status.TooLarge
+        → IsTooLarge (script_part input.now) × (sink.new ≡ sink.old) }
+    ensures no_read_fault { result ≢ Status.ReadFault }
+    ensures suits { AuditSuits input.now result }
+    ensures handed_on { IsWhole result → K.handed_on sink.new ≡ true }
+    ensures cause { CountsFaults (result ≡ Status.WriteFault)
+        (K.faults sink.old) (K.faults sink.new) }
+    ensures prefix { (sink.new ≡ sink.old) ⊎ (IsAuditWithin input.now
+        × WritesPrefix (K.written sink.old) (K.written sink.new) input.now) }
+{
+    let parts = parts_of(input);
+    if is_too_large(script_part(input, parts)) {
+        return Status::TooLarge;
+    }
+    match say(alloc, input, parts) {
+        Ok(said) => finish(write_text(sink, said.text.as_bytes()), said.status),
+        Err(NoMemory) => Status::Memory,
+    }
+}
+
+/// What is to be a script: where no line is `report`, the whole input.
+fn script_part<'b>(input: &'b [u8], parts: Option<(&'b [u8], &'b [u8])>) -> &'b [u8]
+    requires { option_map (λ parts. (parts.0.now, parts.1.now)) parts ≡ spec.parts_of input.now }
+    ensures { result.now ≡ spec.script_part input.now }
+{
+    match parts {
+        Some((script, _)) => script,
+        None => input,
+    }
+}
+
+/// Whether this has more bytes, or more lines, than a script may have.
+fn is_too_large(script: &[u8]) -> bool
+    ensures { MatchBool result (IsTooLarge script.now) (IsWithin script.now) }
+{
+    script.len() > BYTE_LIMIT as usize || line_count(script) > LINE_LIMIT
+}
+
+/// What is said of an input within the limits.
+fn say(alloc: Global, input: &[u8], parts: Option<(&[u8], &[u8])>) -> Result<Said, NoMemory>
+    requires parts { option_map (λ parts. (parts.0.now, parts.1.now)) parts
+        ≡ spec.parts_of input.now }
+    requires within { IsWithin (spec.script_part input.now) }
+    ensures { IfOk result (λ said. Says input.now said.status (string_bytes said.text)) }
+{
+    match parts {
+        Some((script, report)) => judge(alloc, script, report),
+        None => Ok(Said {
+            status: Status::Bad,
+            text: no_report(alloc, input)?,
+        }),
+    }
+}
+
+/// What is said of an input of which no line is `report`.
+fn no_report(alloc: Global, input: &[u8]) -> Result<String, NoMemory>
+    requires { length (lines_of input.now) ≤ LINE_LIMIT }
+    ensures { IfOk result (λ text. string_bytes text ≡ no_report_text input.now) }
+{
+    let line = line_count(input) + 1;
+    Ok(format!(in alloc; "bad {line} report\n")?)
+}
+
+/// What is said of a script and of what is to be its report.
+fn judge(alloc: Global, script: &[u8], report: &[u8]) -> Result<Said, NoMemory>
+    requires { length (lines_of script.now) ≤ LINE_LIMIT }
+    ensures { IfOk result (λ said. Judges script.now report.now said.status
+        (string_bytes said.text)) }
+{
+    match read(alloc, script) {
+        Ok(script) => match audit(alloc, &script, report)? {
+            Verdict::Legal => Ok(Said {
+                status: Status::Done,
+                text: String::from_str(alloc, "legal\n")?,
+            }),
+            Verdict::NotLegal { entry } => Ok(Said {
+                status: Status::NotLegal,
+                text: format!(in alloc; "not legal {entry}\n")?,
+            }),
+        },
+        Err(ScriptRefusal::Bad { line, reason }) => Ok(Said {
+            status: Status::Bad,
+            text: bad_text(alloc, line, reason)?,
+        }),
+        Err(ScriptRefusal::Memory) => Err(NoMemory),
+    }
+}

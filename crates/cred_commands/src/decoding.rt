@@ -1,0 +1,67 @@
+//! What the bytes of a file's capability attribute say.
+ghost use Rattle.std.specs.Prelude.{◌≡◌, ◌⊎◌, true, IfOk, string_bytes};
+ghost use Rattle.cred_io.specs.Causes.{CountsFaults};
+ghost use Rattle.cred_commands.specs.Decoding.{ShowsFault, Shows, ShowsPrefix, SuitsBytes};
+ghost use Rattle.cred_commands.specs.Ends.{IsWhole};
+ghost use Rattle.cred_commands.specs.Texts as spec;
+ghost use Rattle.cred_commands.specs.Texts.{attr_text};
+
+use crate::status::{Status, finish};
+use crate::writing::write_text;
+use cred_filecap::{AttrRefusal, FileCaps, decode};
+use cred_ids::NoMemory;
+use cred_io::Sink;
+use cred_report::{append_flag, append_number, append_set, append_word};
+use std::alloc::Global;
+
+/// Writes what the bytes of an attribute say, or why they are none.
+pub fn show<K: Sink>(alloc: Global, bytes: &[u8], sink: &mut K) -> Status
+    ensures done { result ≡ Status.Done
+        → Shows bytes.now (K.written sink.old) (K.written sink.new) }
+    ensures bad { result ≡ Status.Bad
+        → ShowsFault bytes.now (K.written sink.old) (K.written sink.new) }
+    ensures suits { SuitsBytes bytes.now result }
+    ensures handed_on { IsWhole result → K.handed_on sink.new ≡ true }
+    ensures cause { CountsFaults (result ≡ Status.WriteFault)
+        (K.faults sink.old) (K.faults sink.new) }
+    ensures prefix { (sink.new ≡ sink.old)
+        ⊎ ShowsPrefix bytes.now (K.written sink.old) (K.written sink.new) }
+{
+    match decode(bytes) {
+        Ok(caps) => match text_of(alloc, caps) {
+            Ok(text) => finish(write_text(sink, &text), Status::Done),
+            Err(NoMemory) => Status::Memory,
+        },
+        Err(refusal) => match refusal_text(alloc, refusal) {
+            Ok(text) => finish(write_text(sink, text.as_bytes()), Status::Bad),
+            Err(NoMemory) => Status::Memory,
+        },
+    }
+}
+
+/// The text of what an attribute says.
+fn text_of(alloc: Global, caps: FileCaps) -> Result<Vec<u8>, NoMemory>
+    ensures { IfOk result (λ text. text.items ≡ attr_text caps) }
+{
+    let mut text = Vec::new(alloc);
+    append_number(&mut text, "version ", u32::from(caps.version))?;
+    append_word(&mut text, " perm")?;
+    append_set(&mut text, caps.perm)?;
+    append_word(&mut text, " inh")?;
+    append_set(&mut text, caps.inh)?;
+    append_word(&mut text, " effective")?;
+    append_flag(&mut text, caps.effective)?;
+    append_number(&mut text, " root ", caps.root)?;
+    append_word(&mut text, "\n")?;
+    Ok(text)
+}
+
+/// The text of why bytes are no attribute.
+fn refusal_text(alloc: Global, refusal: AttrRefusal) -> Result<String, NoMemory>
+    ensures { IfOk result (λ text. string_bytes text ≡ spec.refusal_text refusal) }
+{
+    match refusal {
+        AttrRefusal::BadLength(n) => Ok(format!(in alloc; "bad length {n}\n")?),
+        AttrRefusal::BadRevision(n) => Ok(format!(in alloc; "bad revision {n}\n")?),
+    }
+}

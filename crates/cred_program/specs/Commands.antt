@@ -1,0 +1,31 @@
+-- What is known of a command, and what words that are none get.
+use Rattle.std.specs.Prelude.{ℕ, List, codes, Some, ⊤}
+use Rattle.std.specs.declared.option.Option.{Option}
+use Rattle.cred_commands.specs.Auditing.{AUDIT_LIMIT}
+use Rattle.cred_commands.specs.Ends.{BYTE_LIMIT}
+use Rattle.cred_commands.specs.Summing.{IsCount}
+use Rattle.cred_commands.specs.declared.status.Status.{Status}
+use Rattle.cred_commands.specs.declared.status.Status.TheVariants as status
+use Rattle.cred_program.specs.declared.words.Command.{Command}
+use Rattle.cred_program.specs.declared.words.Command.TheVariants.{Audit, Gen}
+
+-- how many bytes the input of a command may have
+abbrev pub limit_of : Option Command → ℕ
+limit_of (Some Audit) = AUDIT_LIMIT
+limit_of other = BYTE_LIMIT
+
+-- a script may be made from the number that a command names
+abbrev pub HasCount : Command → Type 0
+HasCount (Gen n) = IsCount n
+HasCount other = ⊤
+
+-- to words that are no command
+abbrev pub usage_text : List ℕ
+usage_text = codes "usage: credtrace run|lanes|audit|gen N|decode HEX\n"
+
+-- The statuses of words that are no command.
+abbrev pub IsForNoCommand : Status → Type 0
+IsForNoCommand status.Usage = ⊤
+IsForNoCommand status.WriteFault = ⊤
+IsForNoCommand status.Memory = ⊤
+IsForNoCommand other = ⊥
