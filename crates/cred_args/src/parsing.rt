@@ -34,6 +34,7 @@ pub fn parse<'a>(alloc: Global, words: &'a [String]) -> Result<Option<Positional
     ensures { IfOk result (λ given. option_map seen given
         ≡ positionals (map string_bytes words.now)) }
 {
+    // clap would take a word that begins with `-` for a flag, and `--` for the end of flags.
     if !are_plain(words) {
         return Ok(None);
     }

@@ -1,5 +1,5 @@
 //! A run of a script in its order, of which no journal is kept.
-ghost use Rattle.std.specs.Prelude.{[], IfOk};
+ghost use Rattle.std.specs.Prelude.{◌≡◌, [], IfOk, OnErr};
 ghost use Rattle.cred_audit.specs.Run.{GoesOn, IsAfter, IsRun};
 
 use cred_course::Course;
@@ -38,10 +38,11 @@ impl Run {
     ///
     /// # Errors
     ///
-    /// `NoMemory` if an allocation of the event or of the state fails. The run is of no use then.
+    /// `NoMemory` if an allocation of the event or of the state fails: the run is as it was.
     pub fn next(&mut self, script: &Script) -> Result<Option<Entry>, NoMemory>
         requires { IsRun script.now self.old }
-        ensures { IfOk result (λ found. GoesOn script.now self.old self.new found) }
+        ensures ok { IfOk result (λ found. GoesOn script.now self.old self.new found) }
+        ensures err { OnErr result (self.new ≡ self.old) }
     {
         let Some(course) = self.cursor else {
             return Ok(None);

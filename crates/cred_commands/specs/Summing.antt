@@ -7,9 +7,8 @@ use Rattle.cred_event.specs.declared.entry.Entry.{Entry}
 use Rattle.cred_model.specs.Script.{Script}
 use Rattle.cred_model.specs.Journal.{IsSequence}
 use Rattle.cred_script.specs.Grammar.{script_of}
-use Rattle.cred_generate.specs.Generated.{generated, text_of}
+use Rattle.cred_generate.specs.Generated.{CALLS, generated, text_of}
 use Rattle.cred_generate.specs.Summary.{summary}
-use Rattle.cred_generate.specs.declared.generating.TheConstants.{GENERATED}
 use Rattle.cred_commands.specs.Texts.{summary_text}
 use Rattle.cred_commands.specs.declared.status.Status.{Status}
 use Rattle.cred_commands.specs.declared.status.Status.TheVariants as status
@@ -17,7 +16,7 @@ use Rattle.cred_commands.specs.declared.status.Status.TheVariants as status
 -- a script may be made from the number
 pub record IsCount (n : ℕ) : Type 0 where
   pub some : 1 ≤ n
-  pub few : n ≤ GENERATED
+  pub few : n ≤ CALLS
 
 -- The text tells the summary of the journal in which the lines of the script that is made from the
 -- number run whole and in order.

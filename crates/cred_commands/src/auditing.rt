@@ -33,7 +33,7 @@ struct Said {
     text: String,
 }
 
-/// Reads an input to its end, and says whether its report is one of its script's.
+/// Reads an input to its end, and says whether its report is its script's.
 pub fn read_and_audit<S: Source, K: Sink>(alloc: Global, source: &mut S, sink: &mut K) -> Status
     ensures whole { IsWhole result → AuditReads (S.left source.old) (S.left source.new)
         (Writes result (K.written sink.old) (K.written sink.new)) }
@@ -65,7 +65,7 @@ pub fn read_and_audit<S: Source, K: Sink>(alloc: Global, source: &mut S, sink: &
     }
 }
 
-/// Says whether the report in an input is one of its script's, or where it goes wrong, or why there
+/// Says whether the report in an input is its script's, or where it goes wrong, or why there
 /// is nothing to be said; writes nothing where the script is too large.
 fn run_audit<K: Sink>(alloc: Global, input: &[u8], sink: &mut K) -> Status
     requires { length input.now ≤ AUDIT_LIMIT }

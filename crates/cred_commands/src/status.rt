@@ -20,9 +20,10 @@ pub enum Status {
     WriteFault,
     /// Memory ran out.
     Memory,
-    /// The input has more bytes, or more lines, than it may have.
+    /// The input, or the script part of an input of `audit`, has more bytes or more lines than it
+    /// may have.
     TooLarge,
-    /// The report is not one of the script's, and the entry at which it goes wrong was written.
+    /// The report is not the script's, and the entry at which it goes wrong was written.
     NotLegal,
 }
 

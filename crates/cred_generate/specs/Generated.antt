@@ -3,6 +3,10 @@
 use Rattle.std.specs.Prelude.{ℕ, ◌%◌, ◌==◌, List, [], ◌∷◌, ◌++◌, map, codes, if◌then◌else◌}
 use Rattle.std.specs.List.{flat_map, range_with_len}
 
+-- how many calls it may have: its lines are then fewer than a script may have
+abbrev pub CALLS : ℕ
+CALLS = 19000
+
 -- the line that creates the task
 abbrev pub FIRST : List ℕ
 FIRST = codes "init t1 p1 0 0 n0"

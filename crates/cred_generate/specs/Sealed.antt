@@ -8,7 +8,7 @@ use Rattle.cred_event.specs.declared.answer.Answer.{Answer}
 use Rattle.cred_event.specs.declared.answer.Answer.TheVariants.{Sealed, Executed, Began, Acted}
 use Rattle.cred_event.specs.declared.entry.Entry.{Entry}
 
--- the number of the credential that an answer names
+-- the number of the one credential that an answer of success names
 abbrev pub named : Answer → Option ℕ
 named (Sealed number slot) = Some number
 named (Executed number slot ended gains) = Some number

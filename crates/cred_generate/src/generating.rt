@@ -3,14 +3,15 @@ ghost use Rattle.std.specs.Prelude.{◌≡◌, ◌≤◌, ◌∷◌, ◌++◌, [
 ghost use Rattle.cred_model.specs.Script.{SetupFirst};
 ghost use Rattle.cred_script.specs.Grammar.{script_of};
 ghost use Rattle.cred_generate.specs.Generated as spec;
-ghost use Rattle.cred_generate.specs.Generated.{FIRST, generated};
+ghost use Rattle.cred_generate.specs.Generated.{CALLS, FIRST, generated};
 
 use cred_ids::NoMemory;
 use cred_script::{Script, ScriptRefusal, read};
 use std::alloc::Global;
 
-/// How many calls a generated script may have.
-pub const GENERATED: u32 = 19_000;
+/// How many calls a generated script may have: with its first line it has fewer lines than a script
+/// may have.
+pub const CALLS: u32 = 19_000;
 
 /// The script that is made from a number: one task of root, and so many calls of it, the same at
 /// each run.
@@ -19,7 +20,7 @@ pub const GENERATED: u32 = 19_000;
 ///
 /// `NoMemory` if an allocation of the text or of the script fails. No line is refused.
 pub fn generate(alloc: Global, n: u32) -> Result<Script, NoMemory>
-    requires { (1 ≤ n) × (n ≤ GENERATED) }
+    requires { (1 ≤ n) × (n ≤ CALLS) }
     ensures script { IfOk result (λ script. script_of (spec.text_of (generated n)) ≡ Ok script) }
     ensures setup { IfOk result (λ script. SetupFirst script) }
 {
@@ -33,7 +34,7 @@ pub fn generate(alloc: Global, n: u32) -> Result<Script, NoMemory>
 
 /// The text of the script.
 fn text_of(alloc: Global, n: u32) -> Result<Vec<u8>, NoMemory>
-    requires { n ≤ GENERATED }
+    requires { n ≤ CALLS }
     ensures { IfOk result (λ text. text.items ≡ spec.text_of (generated n)) }
 {
     let mut text = Vec::new(alloc);

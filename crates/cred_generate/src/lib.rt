@@ -7,5 +7,5 @@ mod generating;
 mod sealing;
 mod summing;
 
-pub use generating::{GENERATED, generate};
+pub use generating::{CALLS, generate};
 pub use summing::{Summary, summary_of};

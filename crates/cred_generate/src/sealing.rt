@@ -17,7 +17,7 @@ pub(crate) fn count_sealed(journal: &[Entry]) -> u64
     count
 }
 
-/// The number of the credential that an answer names.
+/// The number of the one credential that an answer of success names.
 fn named(answer: &Answer) -> Option<u64>
     ensures { result ≡ spec.named answer.now }
 {

@@ -6,7 +6,7 @@ use Rattle.std.specs.Option.{option_map, option_and_then}
 use Rattle.std.specs.Str.{bytes_eq}
 use Rattle.std.specs.declared.alloc.Global.{Global}
 use Rattle.cred_args.specs.Positionals.{Words, positionals}
-use Rattle.cred_generate.specs.declared.generating.TheConstants.{GENERATED}
+use Rattle.cred_generate.specs.Generated.{CALLS}
 use Rattle.cred_script.specs.Spellings.{bytes_of, number_within}
 use Rattle.cred_program.specs.declared.words.Command.{Command}
 use Rattle.cred_program.specs.declared.words.Command.TheVariants.{Run, Audit, Gen, Decode}
@@ -26,7 +26,7 @@ alone word =
 -- zero, or bytes in hexadecimal
 abbrev pub with_operand : List ℕ → List ℕ → Option Command
 with_operand word operand =
-    if bytes_eq word (codes "gen") then option_map Gen (number_within 1 GENERATED operand)
+    if bytes_eq word (codes "gen") then option_map Gen (number_within 1 CALLS operand)
     else if bytes_eq word (codes "decode") then option_map Decode (bytes_of operand)
     else None
 

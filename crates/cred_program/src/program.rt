@@ -25,8 +25,8 @@ const USAGE: &str = "usage: credtrace run|lanes|audit|gen N|decode HEX\n";
 
 /// The program, over its words (those after its name), its input and its output: `run` reads a
 /// script and writes its report, `audit` reads a script, a line `report` and a report and writes
-/// whether that is the script's, `gen N` runs a script of N calls and writes what its journal comes
-/// to, `decode HEX` writes what an attribute says, and all other words get the usage line. It
+/// whether that is the script's, `gen N` runs a script of N calls and writes the summary of its
+/// journal, `decode HEX` writes what an attribute says, and all other words get the usage line. It
 /// returns how that ended.
 ///
 /// `Done`, `NotLegal`, `Bad` and `Usage` come with the whole text, handed on, and with no fault.

@@ -2,6 +2,7 @@
 ghost use Rattle.std.specs.Prelude.{◌≡◌, IfOk, IfSome};
 ghost use Rattle.std.specs.Option.{option_map};
 ghost use Rattle.cred_args.specs.Positionals.{seen};
+ghost use Rattle.cred_generate.specs.Generated.{CALLS};
 ghost use Rattle.cred_script.specs.Spellings.{bytes_of, number_within};
 ghost use Rattle.cred_commands.specs.Summing.{IsCount};
 ghost use Rattle.cred_program.specs.Commands.{HasCount};
@@ -9,7 +10,7 @@ ghost use Rattle.cred_program.specs.Words as spec;
 ghost use Rattle.cred_program.specs.Words.{command_of, texts};
 
 use cred_args::{Positionals, parse};
-use cred_generate::GENERATED;
+use cred_generate::CALLS;
 use cred_ids::NoMemory;
 use cred_io::Bytes;
 use cred_script::bytes_of;
@@ -85,15 +86,15 @@ fn with_operand(alloc: Global, word: &str, operand: &[u8]) -> Result<Option<Comm
     }
 }
 
-/// `gen` and this number.
+/// The command `gen`; none where the operand is no number from 1 to 19,000.
 fn generated(operand: &[u8]) -> Option<Command>
-    ensures command { result ≡ option_map Command.Gen (number_within 1 GENERATED operand.now) }
+    ensures command { result ≡ option_map Command.Gen (number_within 1 CALLS operand.now) }
     ensures count { IfSome result HasCount }
 {
     Some(Command::Gen(count_of(operand)?))
 }
 
-/// `decode` and these bytes.
+/// The command `decode`; none where the operand is no bytes in hexadecimal.
 fn decoded(alloc: Global, operand: &[u8]) -> Result<Option<Command>, NoMemory>
     ensures command { IfOk result (λ command.
         command ≡ option_map Command.Decode (bytes_of operand.now)) }
@@ -105,15 +106,11 @@ fn decoded(alloc: Global, operand: &[u8]) -> Result<Option<Command>, NoMemory>
     }
 }
 
-/// The number that a script is made from: from 1 to the greatest.
+/// The number that a script is made from: 1 to 19,000.
 fn count_of(word: &[u8]) -> Option<u32>
-    ensures number { result ≡ number_within 1 GENERATED word.now }
+    ensures number { result ≡ number_within 1 CALLS word.now }
     ensures range { IfSome result IsCount }
 {
     let n = Number::of(word)?;
-    if 1 <= n && n <= GENERATED {
-        Some(n)
-    } else {
-        None
-    }
+    if 1 <= n && n <= CALLS { Some(n) } else { None }
 }

@@ -1,4 +1,4 @@
-//! Runs a trace script over a book of Linux task credentials, and writes the report.
+//! Runs, audits and makes trace scripts of Linux task credentials.
 #![tactic(auto)]
 
 use cred_io::{StdSink, StdSource};
