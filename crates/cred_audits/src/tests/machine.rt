@@ -22,7 +22,15 @@ fn a_machine_answers_events_one_after_another(rt: HostRuntime) -> Result<(), Fai
     assert!(rt; matches!(first, Answer::Sealed { cred: 0, slot: 0 }));
     let call = IdCall::SetGid(Arg::of(7));
     let begun = machine.step(2, &Event::Begin { task: 1, call })?;
-    assert!(rt; matches!(begun, Answer::Began { cred: 1, slot: 1, left: 0 }));
+    let is_begun = matches!(
+        begun,
+        Answer::Began {
+            cred: 1,
+            slot: 1,
+            left: 0
+        }
+    );
+    assert!(rt; is_begun);
     let gone = machine.step(3, &Event::Exit { task: 2 })?;
     assert!(rt; matches!(gone, Answer::NoTask(2)));
     Ok(())

@@ -5,8 +5,8 @@ use std::test::Fail;
 /// A root task that becomes another user.
 const USER: &str = "init t1 p1 0 0 n0\nt1 setresuid 1000 1000 1000\nt1 caps\nt1 ids\n";
 
-/// A call that every thread makes, and a thread that is born while two still wait for their step.
-const BIRTH: &str = "init t1 p1 0 0 n0\nt1 spawn t2\nt1 spawn t3\nbegin t1 setresuid 5 5 5\n\
+/// A call that every thread makes, and a thread that is created while two still wait for their step.
+const SPAWNED: &str = "init t1 p1 0 0 n0\nt1 spawn t2\nt1 spawn t3\nbegin t1 setresuid 5 5 5\n\
     t2 spawn t4\nact 4\nact 4\nact 4\nt4 ids\n";
 
 /// A prepared credential whose task got another one meanwhile.
@@ -64,7 +64,7 @@ const ROWS: [Row; 10] = [
         Some(4),
     ),
     (
-        BIRTH,
+        SPAWNED,
         "1 init t1 p1 0 0 n0 -> ok c0 s0\n\
          2 spawn t1 t2 -> ok c0 s0\n\
          3 spawn t1 t3 -> ok c0 s0\n\
@@ -80,7 +80,7 @@ const ROWS: [Row; 10] = [
     ),
     // The new thread would not wait.
     (
-        BIRTH,
+        SPAWNED,
         "1 init t1 p1 0 0 n0 -> ok c0 s0\n\
          2 spawn t1 t2 -> ok c0 s0\n\
          3 spawn t1 t3 -> ok c0 s0\n\
@@ -93,7 +93,7 @@ const ROWS: [Row; 10] = [
     ),
     // The threads would act in another order.
     (
-        BIRTH,
+        SPAWNED,
         "1 init t1 p1 0 0 n0 -> ok c0 s0\n\
          2 spawn t1 t2 -> ok c0 s0\n\
          3 spawn t1 t3 -> ok c0 s0\n\

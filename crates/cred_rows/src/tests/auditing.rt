@@ -96,14 +96,14 @@ fn inputs_get_their_verdicts(rt: HostRuntime) -> Result<(), Fail> {
     for (pieces, status, text) in ROWS {
         let input = joined(rt.alloc(), pieces)?;
         let (answer, sink) = ran(rt.alloc(), &["audit"], &input)?;
-        let is_well = answer == status && sink.bytes() == text.as_bytes();
-        assert!(rt; is_well, "{text}");
+        let as_expected = answer == status && sink.bytes() == text.as_bytes();
+        assert!(rt; as_expected, "{text}");
     }
     Ok(())
 }
 
-/// Pieces, how often they stand one after another, what follows them, how the program must end on
-/// that, and what it must write.
+/// A piece, how often it is repeated, what follows it, how the program must end on that, and what it
+/// must write.
 const SIZES: [(&str, usize, &str, Status, &str); 7] = [
     ("#\n", 20_000, "report\n", Status::Done, "legal\n"),
     ("#\n", 20_001, "report\n", Status::TooLarge, ""),
@@ -121,8 +121,8 @@ fn scripts_above_the_limits_are_too_large(rt: HostRuntime) -> Result<(), Fail> {
         let mut input = repeated(rt.alloc(), piece, count)?;
         input.extend_from_slice(rest.as_bytes())?;
         let (answer, sink) = ran(rt.alloc(), &["audit"], &input)?;
-        let is_well = answer == status && sink.bytes() == text.as_bytes();
-        assert!(rt; is_well, "{piece} {count}");
+        let as_expected = answer == status && sink.bytes() == text.as_bytes();
+        assert!(rt; as_expected, "{piece} {count}");
     }
     Ok(())
 }

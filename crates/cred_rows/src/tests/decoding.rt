@@ -42,8 +42,8 @@ const ATTRIBUTES: [(&str, Status, &str); 7] = [
 fn attributes_get_their_line(rt: HostRuntime) -> Result<(), Fail> {
     for (digits, status, text) in ATTRIBUTES {
         let (answer, sink) = ran(rt.alloc(), &["decode", digits], b"input that is not read")?;
-        let is_well = answer == status && sink.bytes() == text.as_bytes();
-        assert!(rt; is_well, "{digits}");
+        let as_expected = answer == status && sink.bytes() == text.as_bytes();
+        assert!(rt; as_expected, "{digits}");
     }
     Ok(())
 }

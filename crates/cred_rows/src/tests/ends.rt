@@ -7,7 +7,7 @@ use std::io;
 use std::io::Write;
 use std::test::Fail;
 
-const USAGE: &str = "usage: credtrace run|lanes|audit|gen N|decode HEX\n";
+pub(crate) const USAGE: &str = "usage: credtrace run|lanes|audit|gen N|decode HEX\n";
 
 const SCRIPT: &str = "init t1 p1 0 0 n0\nt1 setresuid 1000 1000 1000\nt1 caps\nt1 ids\n";
 
@@ -103,10 +103,14 @@ impl Write for FullDisk {
 
 #[test]
 fn a_text_that_is_not_handed_on_is_a_write_fault(rt: HostRuntime) -> Result<(), Fail> {
-    // A report, none, the line of an attribute, the reason why bytes are none, and the usage line.
-    let table: [(&[&str], &str); 5] = [
+    // A report, an empty one, both verdicts, a summary, the line of an attribute, the reason why
+    // bytes are none, and the usage line.
+    let table: [(&[&str], &str); 8] = [
         (&["run"], SCRIPT),
         (&["run"], ""),
+        (&["audit"], "report\n"),
+        (&["audit"], "report\nx\n"),
+        (&["gen", "1"], ""),
         (&["decode", "0100000200200000000000000000000000000000"], ""),
         (&["decode", "0100"], ""),
         (&["frob"], ""),

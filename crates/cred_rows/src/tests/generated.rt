@@ -1,9 +1,12 @@
 //! Scripts that are made from a number, with the line that sums them up.
+use crate::tests::ends::USAGE;
 use crate::tests::runs::ran;
 use cred_program::Status;
 use std::test::Fail;
 
-/// The word after `gen`, how the program must end, and what it must write.
+/// The word after `gen`, and the line that must be written. Five calls in turn make 1, 5, 3, 5 and 5
+/// entries; three of them seal a credential, and the last is refused. The first line makes one entry
+/// and seals one.
 const SUMMARIES: [(&str, &str); 4] = [
     ("1", "lines 2 entries 2 credentials 2 refusals 0\n"),
     ("5", "lines 6 entries 20 credentials 4 refusals 1\n"),
@@ -32,8 +35,8 @@ const NO_NUMBERS: [&str; 10] = [
 fn generated_scripts_get_their_summary(rt: HostRuntime) -> Result<(), Fail> {
     for (number, text) in SUMMARIES {
         let (answer, sink) = ran(rt.alloc(), &["gen", number], b"input that is not read")?;
-        let is_well = answer == Status::Done && sink.bytes() == text.as_bytes();
-        assert!(rt; is_well, "{number}");
+        let as_expected = answer == Status::Done && sink.bytes() == text.as_bytes();
+        assert!(rt; as_expected, "{number}");
     }
     Ok(())
 }
@@ -42,8 +45,8 @@ fn generated_scripts_get_their_summary(rt: HostRuntime) -> Result<(), Fail> {
 fn other_numbers_are_no_command(rt: HostRuntime) -> Result<(), Fail> {
     for number in NO_NUMBERS {
         let (answer, sink) = ran(rt.alloc(), &["gen", number], b"input that is not read")?;
-        let is_well = answer == Status::Usage && sink.bytes().starts_with(b"usage: ");
-        assert!(rt; is_well, "{number}");
+        let as_expected = answer == Status::Usage && sink.bytes() == USAGE.as_bytes();
+        assert!(rt; as_expected, "{number}");
     }
     Ok(())
 }

@@ -87,8 +87,8 @@ fn long_scripts_get_their_last_entries(rt: HostRuntime) -> Result<(), Fail> {
     for long in &LONGS {
         let script = script_of(rt.alloc(), long)?;
         let (answer, sink) = ran(rt.alloc(), &["run"], script.as_bytes())?;
-        let is_well = answer == Status::Done && ends_in(sink.bytes(), long.last);
-        assert!(rt; is_well, "{}", long.end);
+        let as_expected = answer == Status::Done && ends_in(sink.bytes(), long.last);
+        assert!(rt; as_expected, "{}", long.end);
     }
     Ok(())
 }

@@ -57,8 +57,8 @@ const REFUSED: [(&str, &str); 38] = [
 fn other_texts_get_their_first_bad_line(rt: HostRuntime) -> Result<(), Fail> {
     for (script, text) in REFUSED {
         let (answer, sink) = ran(rt.alloc(), &["run"], script.as_bytes())?;
-        let is_well = answer == Status::Bad && sink.bytes() == text.as_bytes();
-        assert!(rt; is_well, "{script}");
+        let as_expected = answer == Status::Bad && sink.bytes() == text.as_bytes();
+        assert!(rt; as_expected, "{script}");
     }
     Ok(())
 }

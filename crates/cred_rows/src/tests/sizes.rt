@@ -19,8 +19,8 @@ fn inputs_above_the_limits_are_too_large(rt: HostRuntime) -> Result<(), Fail> {
     for (piece, count, status) in SIZES {
         let input = repeated(rt.alloc(), piece, count)?;
         let (answer, sink) = ran(rt.alloc(), &["run"], &input)?;
-        let is_well = answer == status && sink.bytes().is_empty();
-        assert!(rt; is_well, "{piece} {count}");
+        let as_expected = answer == status && sink.bytes().is_empty();
+        assert!(rt; as_expected, "{piece} {count}");
     }
     Ok(())
 }
