@@ -18,7 +18,7 @@ use std::alloc::Global;
 /// How many bytes an input may have.
 pub const BYTE_LIMIT: u32 = 1_048_576;
 
-/// Reads a script to its end, and runs it.
+/// Reads a script to its end, runs it, and writes its report, or its first bad line.
 pub fn read_and_run<S: Source, K: Sink>(alloc: Global, source: &mut S, sink: &mut K) -> Status
     ensures done { result ≡ Status.Done → Reads (S.left source.old) (S.left source.new)
         (Reports (K.written sink.old) (K.written sink.new)) }
