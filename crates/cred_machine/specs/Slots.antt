@@ -1,5 +1,6 @@
 -- Slots that are marked.
-use Rattle.std.specs.Prelude.{◌≡◌, ℕ, ◌<◌, ◌==◌, ◌||◌, Bool, false, List, slice_index_or}
+use Rattle.std.specs.Prelude.{◌≡◌, ℕ, ◌<◌, ◌==◌, ◌||◌, Bool, false, true}
+use Rattle.std.specs.Prelude.{List, length, slice_index_or}
 use Rattle.std.specs.List.{list_any}
 use Rattle.cred_event.specs.declared.answer.Answer.{Answer}
 use Rattle.cred_event.specs.declared.answer.Answer.TheVariants.{Acted}
@@ -9,6 +10,11 @@ use Rattle.cred_model.specs.Slots.{SLOTS, is_live, stands_in}
 -- a slot's mark; none past the last
 abbrev pub is_marked : List Bool → ℕ → Bool
 is_marked marks slot = slice_index_or marks slot false
+
+-- There is a mark for each slot, and all below this one are marked.
+pub record IsMarking (marks : List Bool) (below : ℕ) : Type 0 where
+  pub slots : length marks ≡ SLOTS
+  pub marked : (slot : ℕ) → slot < below → is_marked marks slot ≡ true
 
 -- One of these numbers stands in the slot, or it is one of those that are kept.
 abbrev pub is_live_by : List SealedCred → List ℕ → List ℕ → ℕ → Bool

@@ -24,31 +24,31 @@ const SLOTS: u32 = 256;
 /// The slots that something stands in or that are kept, as 256 marks.
 #[derive(Drop, Debug)]
 pub struct Marks {
-    marks: [bool; 256],
+    marks: Vec<bool>,
     /// All slots below this one are marked.
     marked_below: u32,
 }
 
 impl Model for Marks {
-    ghost use Rattle.std.specs.Prelude.{◌≡◌, ◌<◌, ℕ, List, Bool, true};
-    ghost use Rattle.cred_machine.specs.Slots.{is_marked};
+    ghost use Rattle.std.specs.Prelude.{List, Bool};
+    ghost use Rattle.cred_machine.specs.Slots.{IsMarking};
 
     ghost Value = { List Bool };
 
-    ghost view = { λ m. m.marks };
+    ghost view = { λ m. m.marks.items };
 
-    ghost invariant = { λ m. (slot : ℕ) → slot < m.marked_below → is_marked m.marks slot ≡ true };
+    ghost invariant = { λ m. IsMarking m.marks.items m.marked_below };
 }
 
 impl Marks {
     /// No slot is marked.
-    pub fn new() -> Marks
-        ensures { (slot : ℕ) → is_marked result slot ≡ false }
+    pub fn new(alloc: Global) -> Result<Marks, NoMemory>
+        ensures { IfOk result (λ marks. (slot : ℕ) → is_marked marks slot ≡ false) }
     {
-        Marks {
-            marks: [false; 256],
+        Ok(Marks {
+            marks: vec![in alloc; false; SLOTS as usize]?,
             marked_below: 0,
-        }
+        })
     }
 
     /// Marks a slot. There is none past the last.
@@ -105,8 +105,9 @@ impl Marks {
 }
 
 /// The first slot from this one on that isn't marked, or how many slots there are.
-fn clear_from(marks: &[bool; 256], first: u32) -> u32
-    requires { (slot : ℕ) → slot < first → is_marked marks.now slot ≡ true }
+fn clear_from(marks: &[bool], first: u32) -> u32
+    requires slots { length marks.now ≡ SLOTS }
+    requires below { (slot : ℕ) → slot < first → is_marked marks.now slot ≡ true }
     ensures marked { (slot : ℕ) → slot < result → is_marked marks.now slot ≡ true }
     ensures clear { result < SLOTS → is_marked marks.now result ≡ false }
 {
@@ -149,7 +150,13 @@ impl State {
         ensures { IfOk result (λ marks. AreLive marks self.now) }
     {
         let in_use = self.in_use()?;
-        Ok(marks_of(&self.creds, &in_use, &self.deferred, &self.prepared))
+        marks_of(
+            self.alloc,
+            &self.creds,
+            &in_use,
+            &self.deferred,
+            &self.prepared,
+        )
     }
 
     /// Which slots are live after a sweep.
@@ -157,7 +164,7 @@ impl State {
         ensures { IfOk result (λ marks. AreLive marks (model.swept self.now)) }
     {
         let in_use = self.in_use()?;
-        Ok(marks_of(&self.creds, &in_use, &[], &self.prepared))
+        marks_of(self.alloc, &self.creds, &in_use, &[], &self.prepared)
     }
 
     /// The slot that a new credential takes. Where all are live, those are free that only what was
@@ -215,15 +222,22 @@ impl State {
 }
 
 /// The slots that are kept, and those that one of these numbers stands in.
-fn marks_of(creds: &Creds, in_use: &[u64], late: &[u64], prepared: &[Prepared]) -> Marks
-    ensures { (slot : ℕ) → slot < SLOTS → is_marked result slot ≡ is_live_by creds.now.list
-        (in_use.now ++ late.now) (map (λ p. p.slot) prepared.now) slot }
+fn marks_of(
+    alloc: Global,
+    creds: &Creds,
+    in_use: &[u64],
+    late: &[u64],
+    prepared: &[Prepared],
+) -> Result<Marks, NoMemory>
+    ensures { IfOk result (λ marks. (slot : ℕ) → slot < SLOTS → is_marked marks slot
+        ≡ is_live_by creds.now.list (in_use.now ++ late.now)
+        (map (λ p. p.slot) prepared.now) slot) }
 {
-    let mut marks = Marks::new();
+    let mut marks = Marks::new(alloc)?;
     marks.put_all(creds, in_use);
     marks.put_all(creds, late);
     marks.keep(prepared);
-    marks
+    Ok(marks)
 }
 
 fn add_current(tasks: &[Task], numbers: &mut Vec<u64>) -> Result<(), NoMemory>

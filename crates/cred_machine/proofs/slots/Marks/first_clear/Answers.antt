@@ -6,9 +6,11 @@ pub returns-then-self-lt-SLOTS-clause-slot : goal.returns-then-self-lt-SLOTS-cla
 returns-then-self-lt-SLOTS-clause-slot c =
     let from = c.clear_from-self-inside in
     rw (← c.self.view_is)
-    (sym (first_clear-is c.self.inside.marks from.result c.if-self-lt-SLOTS.true (from.ensures.clear c.if-self-lt-SLOTS.true) from.ensures.marked))
+    (sym (first_clear-is c.self.inside.marks.items from.result c.if-self-lt-SLOTS.true
+    (rw c.deref.ensures.value at (from.ensures.clear c.if-self-lt-SLOTS.true)) (rw c.deref.ensures.value at from.ensures.marked)))
 
 pub returns-clause-slot : goal.returns-clause-slot
 returns-clause-slot c =
     let from = c.clear_from-self-inside in
-    rw (← c.self.view_is) (sym (first_clear-none c.self.inside.marks (λ k h. from.ensures.marked k (omega (arith, h, c.if-self-lt-SLOTS.false)))))
+    rw (← c.self.view_is)
+    (sym (first_clear-none c.self.inside.marks.items (λ k h. (rw c.deref.ensures.value at from.ensures.marked) k (omega (arith, h, c.if-self-lt-SLOTS.false)))))
