@@ -1,11 +1,10 @@
 -- An event seals a credential just where its answer names the next number.
-use Rattle.std.proofs.Common.{◌≡◌, ℕ, zero, suc, ◌+◌, ◌-◌, ◌<◌, ◌≤◌, ◌==◌, nat_lt, Bool, true, false, cond, is_some, List, [], ◌∷◌, ◌++◌, length, take, slice_get, Option, Some, None, Result, Ok, Err, refl, sym, ap, ◌∙◌, subst, arith}
+use Rattle.std.proofs.Common.{◌≡◌, ℕ, ◌+◌, ◌-◌, ◌==◌, nat_lt, Bool, true, false, cond, is_some, List, [], ◌∷◌, ◌++◌, length, slice_get, Option, Some, None, Result, Ok, Err, refl, ap, arith}
 use Rattle.std.specs.List.{find, position, count_by}
-use Rattle.std.specs.Option.{option_map_or, option_and_then, IfSome}
+use Rattle.std.specs.Option.{option_map_or, option_and_then}
 use Rattle.std.proofs.lemmas.Bool.Decides.{nat_tests}
-use Rattle.std.proofs.lemmas.List.{length_push, take_all, take_more}
-use Rattle.std.proofs.lemmas.List.Sums.{fold_push}
-use Rattle.std.proofs.lemmas.Option.{get_or_from_slice_get, slice_get_within}
+use Rattle.std.proofs.lemmas.List.{length_push}
+use Rattle.std.proofs.lemmas.Option.{slice_get_within}
 use Rattle.cred_record.specs.Credential.{Credential, first_credential}
 use Rattle.cred_record.specs.File.{File}
 use Rattle.cred_record.specs.declared.gains.Gains.{Gains}
@@ -21,7 +20,6 @@ use Rattle.cred_rules.specs.SetId.{set_id}
 use Rattle.cred_event.specs.declared.answer.Answer.{Answer}
 use Rattle.cred_event.specs.declared.answer.Answer.TheVariants as answer
 use Rattle.cred_event.specs.declared.answer.AbortCause.TheVariants as cause
-use Rattle.cred_event.specs.declared.entry.Entry.{Entry}
 use Rattle.cred_event.specs.declared.event.Change.{Change}
 use Rattle.cred_event.specs.declared.event.Change.TheVariants as change
 use Rattle.cred_event.specs.declared.event.Event.{Event}
@@ -33,19 +31,15 @@ use Rattle.cred_model.specs.Answers.{is_ok, refusal, flag, checked, reply}
 use Rattle.cred_model.specs.Casts.{others_of, with_cast, waits_no_more}
 use Rattle.cred_model.specs.Change.{Made, by_rule, made_by_rule, executed, made_by_exec, by_change}
 use Rattle.cred_model.specs.Ends.{ended, is_thread_of}
-use Rattle.cred_model.specs.Journal.{replay, IsAnswered}
 use Rattle.cred_model.specs.Moves.{TASKS, FILES, HOLDS, PREPARED, DEPTH, ◌>>=◌, in_slot, table_full, first_task, created, replaced, preparing, altered, committed, given_up}
 use Rattle.cred_model.specs.Named.{query_files, change_files}
 use Rattle.cred_model.specs.Script.{Script, info_of, chain_of}
 use Rattle.cred_model.specs.Slots.{room, free, least_free, swept}
 use Rattle.cred_model.specs.State.{State, SealedCred, Task, Numbered, Prepared, Changed, Broadcast, numbered, number_on, task_of, cast_of, cast_in, begun_by, open_of, hold_of, prepared_of, credential_of, opener_of, held_by}
-use Rattle.cred_model.specs.Step.{step, done, outcome, by_init, take_hold, by_take, by_take_file, by_release, by_ask, by_signal, by_prepare, by_alter, for_task, try_commit, ends_with, casts_after, committed_by, commit_answer, by_commit, by_abort, for_access, override_held, override_prepared, by_override, by_revert, by_begin, aborted, follow, by_act, by_open, by_close, by_spawn, by_fork, by_exit}
-use Rattle.cred_model.proofs.Lists.{slice_get_at}
+use Rattle.cred_model.specs.Step.{done, outcome, by_init, take_hold, by_take, by_take_file, by_release, by_ask, by_signal, by_prepare, by_alter, for_task, try_commit, ends_with, casts_after, committed_by, commit_answer, by_commit, by_abort, for_access, override_held, override_prepared, by_override, by_revert, by_begin, aborted, follow, by_act, by_open, by_close, by_spawn, by_fork, by_exit}
 use Rattle.cred_model.proofs.Numbers.{numbered_is, sealed_cred_of}
-use Rattle.cred_laws.specs.Journals.{state_at}
 use Rattle.cred_laws.proofs.Cases.{some_case, none_case, test_case, own_case, idle_case, rule_case}
-use Rattle.cred_laws.proofs.States.{step_at}
-use Rattle.cred_generate.specs.Sealed.{named, count_with, count_sealed}
+use Rattle.cred_generate.specs.Sealed.{named, count_with}
 
 -- what an event makes of the number of sealed credentials
 abbrev Counts : State → Answer × State → Type 0
@@ -351,7 +345,7 @@ of_exit s task =
     idle_case (Tells s) (begun_by s task) _ (λ number. refl) (λ idle.
     own_case (Tells s) owner _ (λ depth. refl) refl))
 
-tells : (script : Script) (s : State) (line : ℕ) (e : Event) → Tells s (done script s line e)
+pub tells : (script : Script) (s : State) (line : ℕ) (e : Event) → Tells s (done script s line e)
 tells script s line (event.Init task process user group ns) = of_init s task process user group ns
 tells script s line (event.Take label task side) = of_take s label task side
 tells script s line (event.TakeFile label fd) = of_take_file s label fd
@@ -372,37 +366,3 @@ tells script s line (event.Spawn task child) = of_spawn s task child
 tells script s line (event.Fork task child process) = of_fork s task child process
 tells script s line (event.Exit task) = of_exit s task
 tells script s line event.Sweep = refl
-
--- ---- a journal
-
--- so it is after one entry more
-counted_at : (script : Script) (journal : List Entry) (k : ℕ) (entry : Entry) → slice_get journal k ≡ Some entry
-    → entry.answer ≡ (step script (state_at script journal k) entry.line entry.event).0
-    → count_sealed (take k journal) ≡ length (state_at script journal k).creds
-    → count_sealed (take (k + 1) journal) ≡ length (state_at script journal (k + 1)).creds
-counted_at script journal k entry at answered before =
-    let s = state_at script journal k in
-    let here = take_more journal k entry (slice_get_within journal k entry at) ∙ ap (λ (e : Entry). take k journal ++ e ∷ []) (get_or_from_slice_get journal k entry entry at) in
-    ap count_sealed here
-    ∙ fold_push (λ (count : ℕ) (e : Entry). count_with count e.answer) 0 (take k journal) entry
-    ∙ ap (λ (n : ℕ). count_with n entry.answer) before
-    ∙ ap (count_with (length s.creds)) answered
-    ∙ sym (tells script s entry.line entry.event)
-    ∙ sym (ap (λ (t : State). length t.creds) (step_at script journal k entry at))
-
-counted : (script : Script) (journal : List Entry) → IsAnswered script journal → (k : ℕ) → k ≤ length journal
-    → count_sealed (take k journal) ≡ length (state_at script journal k).creds
-counted script journal answered zero le = refl
-counted script journal answered (suc k) le =
-    let lt : k < length journal = omega arith in
-    let there = slice_get_at journal k lt in
-    let said = subst (λ (o : Option Entry). IfSome o (λ entry. entry.answer ≡ (step script (state_at script journal k) entry.line entry.event).0)) there.1 (answered k lt) in
-    let one : k + 1 ≡ suc k = omega arith in
-    subst (λ (n : ℕ). count_sealed (take n journal) ≡ length (state_at script journal n).creds) one
-    (counted_at script journal k there.0 there.1 said (counted script journal answered k (omega arith)))
-
--- the answers of a journal tell how many credentials are sealed at its end
-pub sealed_count : (script : Script) (journal : List Entry) → IsAnswered script journal → count_sealed journal ≡ length (replay script journal).creds
-sealed_count script journal answered =
-    let all = take_all (length journal) journal (omega arith) in
-    subst (λ (entries : List Entry). count_sealed entries ≡ length (replay script entries).creds) all (counted script journal answered (length journal) (omega arith))

@@ -1,5 +1,5 @@
 use Rattle.std.proofs.Common.{refl, ◌∙◌}
-use Rattle.cred_generate.proofs.Growth.{sealed_count}
+use Rattle.cred_generate.proofs.Counted.{sealed_count}
 use Rattle.cred_generate.proofs.summing.summary_of.Goals as goal
 
 pub returns : goal.returns
