@@ -1,6 +1,5 @@
 pub mod Kept
 pub mod Joined
-pub mod Waiting
 pub mod Falling
 pub mod Left
 pub mod Conditions

@@ -2,7 +2,6 @@ pub mod Joined
 pub mod Lending
 pub mod Begins
 pub mod Follows
-pub mod Waiting
 pub mod Overwritten
 pub mod Marks
 pub mod Sealed

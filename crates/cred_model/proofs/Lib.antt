@@ -3,7 +3,9 @@ pub mod Courses
 pub mod Lines
 pub mod Order
 pub mod Lists
+pub mod Places
 pub mod Rising
+pub mod Waiting
 pub mod Numbers
 pub mod Names
 pub mod Referred

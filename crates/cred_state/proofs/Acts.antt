@@ -31,7 +31,7 @@ use Rattle.cred_state.proofs.Begins.{replaced_kept, replaced_made, counts_next}
 use Rattle.cred_state.proofs.Broadcasts.{kept_casts}
 use Rattle.cred_tables.proofs.Ending.{DropsAll, drops_all, ended_kept, ended_is}
 use Rattle.cred_tables.proofs.InUse.{Differ}
-use Rattle.cred_tables.proofs.Places.{if_some}
+use Rattle.cred_model.proofs.Places.{if_some}
 use Rattle.cred_tables.proofs.Sealing.{Drops, roomy, in_free_or, in_none_or}
 
 -- ---- what was found

@@ -25,7 +25,7 @@ use Rattle.cred_tables.specs.Prepared.{changed_of}
 use Rattle.cred_tables.specs.Kept.{Parts, casts_left, creds_in, state_of, IsKept, SealsKept}
 use Rattle.cred_tables.proofs.Bags.{bag-at, counts_itself}
 use Rattle.cred_state.proofs.Broadcasts.{kept_casts, like_casts}
-use Rattle.cred_tables.proofs.Places.{find-at, place-of_found}
+use Rattle.cred_model.proofs.Places.{find-at, place-of_found}
 use Rattle.cred_state.proofs.Labelling.{abort_tests, slot-kept}
 use Rattle.cred_tables.proofs.Sealing.{Drops}
 use Rattle.cred_tables.proofs.Owners.{no_number}

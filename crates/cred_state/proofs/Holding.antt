@@ -8,7 +8,7 @@ use Rattle.cred_model.specs.Step.{by_release, take_hold, outcome}
 use Rattle.cred_slots.specs.Table.{Table}
 use Rattle.cred_tables.specs.Kept.{Parts, numbered_in, state_of, IsKept}
 use Rattle.cred_tables.proofs.Bags.{bag-has, bag-at}
-use Rattle.cred_tables.proofs.Places.{place-of_found}
+use Rattle.cred_model.proofs.Places.{place-of_found}
 use Rattle.cred_tables.proofs.Sealing.{Drops, keeps_same, kept_less, over_later}
 use Rattle.cred_tables.proofs.InUse.{in_use-unhold}
 

@@ -18,7 +18,7 @@ use Rattle.cred_slots.specs.Table.{Table, IsSameBag, is_kept}
 use Rattle.cred_slots.specs.Table as table
 use Rattle.cred_tables.specs.Kept.{AreFilled, Parts, state_of, IsCounted, IsKept}
 use Rattle.cred_tables.proofs.Bags.{bag-more, bag-less, bag-has, bag-at}
-use Rattle.cred_tables.proofs.Places.{if_some}
+use Rattle.cred_model.proofs.Places.{if_some}
 use Rattle.cred_tables.proofs.Keeps.{is_among, keeps-push, keeps-remove, among-at}
 use Rattle.cred_tables.proofs.Sealing.{in_free, in_none, over_later}
 use Rattle.cred_tables.proofs.InUse.{in_use-label, in_use-unlabel, in_use-altered, kept-altered}

@@ -17,7 +17,7 @@ use Rattle.cred_tables.specs.Prepared.{changed_of}
 use Rattle.cred_tables.specs.Kept.{Parts, creds_in, state_of, IsKept, SealsKept}
 use Rattle.cred_slots.proofs.Counting.{count-cons}
 use Rattle.cred_tables.proofs.Bags.{one_if, bag-has, bag-at}
-use Rattle.cred_tables.proofs.Places.{find-at, place-of_found}
+use Rattle.cred_model.proofs.Places.{find-at, place-of_found}
 use Rattle.cred_tables.proofs.Sealing.{Drops, keeps_same, kept_less, kept_more, over_later}
 use Rattle.cred_tables.proofs.InUse.{Differ}
 use Rattle.cred_state.proofs.Overriding.{in_use-lent, in_use-reverted}

@@ -15,7 +15,7 @@ use Rattle.cred_tables.specs.Holds as held
 use Rattle.cred_tables.specs.Prepared.{prepared_as, all_prepared, GivesUp}
 use Rattle.cred_tables.specs.Prepared as prepared
 use Rattle.cred_tables.proofs.NewestApart.{remove-none}
-use Rattle.cred_tables.proofs.Places.{place-of_found}
+use Rattle.cred_model.proofs.Places.{place-of_found}
 
 pub test_sym : (a b : ℕ) → nat_eq a b ≡ nat_eq b a
 test_sym a b = grind (arith, nat_tests)

@@ -13,7 +13,7 @@ use Rattle.cred_model.specs.Step.{is_access}
 use Rattle.cred_tables.specs.declared.prepared.Preparation.{Preparation}
 use Rattle.cred_tables.specs.Prepared.{prepared_as, all_prepared, IsReady, Finishes}
 use Rattle.cred_tables.proofs.ByLabel.{test_sym}
-use Rattle.cred_tables.proofs.Places.{find-at}
+use Rattle.cred_model.proofs.Places.{find-at}
 
 -- ---- a label that was changed
 

@@ -1,5 +1,4 @@
 pub mod NewestApart
-pub mod Places
 pub mod ByLabel
 pub mod Labels
 pub mod Bags

@@ -7,7 +7,7 @@ use Rattle.cred_event.specs.declared.answer.Answer.TheVariants.{NoTask, Overridd
 use Rattle.cred_model.specs.State.{State, Task, Broadcast, Numbered, numbered, task_of, current_of}
 use Rattle.cred_model.specs.Moves.{◌>>=◌, not_overridden}
 use Rattle.cred_model.specs.Step.{outcome}
-use Rattle.cred_tables.proofs.Places.{if_some}
+use Rattle.cred_model.proofs.Places.{if_some}
 
 -- a task that acts with its current credential, if it is alive, or with another one
 abbrev pub IsOwn : State → ℕ → Type 0

@@ -2,7 +2,7 @@ use Rattle.std.proofs.Common.{◌≡◌, ◌∙◌, ◌-◌, ◌≤◌, ℕ, len
 use Rattle.std.specs.Option.{option_copied}
 use Rattle.std.proofs.lemmas.List.{length-reverse}
 use Rattle.cred_cast.proofs.Falling.{greatest_first}
-use Rattle.cred_cast.proofs.Waiting.{greatest_bounds}
+use Rattle.cred_model.proofs.Waiting.{greatest_bounds}
 use Rattle.cred_cast.proofs.cast.Cast.others.Goals as goal
 
 pub prove-unreachable-requires : goal.prove-unreachable-requires

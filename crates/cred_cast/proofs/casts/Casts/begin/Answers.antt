@@ -4,7 +4,7 @@ use Rattle.cred_model.specs.State.{Broadcast}
 use Rattle.cred_model.proofs.Rising.{All-in_order, rising-in_order}
 use Rattle.cred_cast.specs.Casts.{WaitsNowhere, AreCasts}
 use Rattle.cred_cast.proofs.Kept.{are_begun}
-use Rattle.cred_cast.proofs.Waiting.{open_in_order}
+use Rattle.cred_model.proofs.Waiting.{open_in_order}
 use Rattle.cred_cast.proofs.casts.Casts.begin.Goals as goal
 
 pub returns-then-is_empty-clause-ok : goal.returns-then-is_empty-clause-ok

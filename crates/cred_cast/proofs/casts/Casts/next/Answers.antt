@@ -4,7 +4,7 @@ use Rattle.cred_model.specs.State.{Broadcast}
 use Rattle.cred_model.specs.Casts.{is_open}
 use Rattle.cred_cast.specs.Casts.{cast_under}
 use Rattle.cred_cast.proofs.Kept.{open_under}
-use Rattle.cred_cast.proofs.Waiting.{has_first}
+use Rattle.cred_model.proofs.Waiting.{has_first}
 use Rattle.cred_cast.proofs.casts.Casts.next.Goals as goal
 
 pub returns-clause-none : goal.returns-clause-none

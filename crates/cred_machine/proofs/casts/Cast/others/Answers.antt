@@ -1,6 +1,6 @@
 use Rattle.std.proofs.Common.{◌≡◌, ◌∙◌, ◌-◌, ◌≤◌, length, slice_get, Some, sym, ap, arith}
 use Rattle.std.specs.Option.{option_copied}
-use Rattle.cred_machine.proofs.Waiting.{greatest_bounds}
+use Rattle.cred_model.proofs.Waiting.{greatest_bounds}
 use Rattle.cred_machine.proofs.casts.Cast.others.Goals as goal
 
 pub prove-unreachable-requires : goal.prove-unreachable-requires

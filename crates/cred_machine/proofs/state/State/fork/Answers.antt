@@ -3,7 +3,7 @@ use Rattle.cred_event.specs.declared.answer.Answer.TheVariants.{Busy, Overridden
 use Rattle.cred_model.specs.State.{State, Task}
 use Rattle.cred_machine.specs.Creds.{seen_numbered}
 use Rattle.cred_machine.proofs.Events.{CanCreate}
-use Rattle.cred_machine.proofs.Places.{none_by_test}
+use Rattle.cred_model.proofs.Places.{none_by_test}
 use Rattle.cred_machine.proofs.Refusals.{fork_busy, fork_used, fork_overridden}
 use Rattle.cred_machine.proofs.Leads.{busy_at, not_full, fork_leads}
 use Rattle.cred_machine.proofs.state.State.fork.Goals as goal

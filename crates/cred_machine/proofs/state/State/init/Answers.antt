@@ -1,6 +1,6 @@
 use Rattle.std.proofs.Common.{◌++◌, ◌∷◌, [], sym, ap, ◌∙◌}
 use Rattle.cred_model.specs.State.{State, Task}
-use Rattle.cred_machine.proofs.Places.{none_by_test}
+use Rattle.cred_model.proofs.Places.{none_by_test}
 use Rattle.cred_machine.proofs.Leads.{idle_in, init_leads, not_full}
 use Rattle.cred_machine.proofs.state.State.init.Goals as goal
 

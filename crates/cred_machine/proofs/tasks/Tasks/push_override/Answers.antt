@@ -1,7 +1,8 @@
 use Rattle.std.proofs.Common.{◌<◌, length, ℕ, ◌∷◌, List, sym}
 use Rattle.std.proofs.lemmas.Result.{on_ok_weaker}
 use Rattle.cred_model.specs.State.{Task}
-use Rattle.cred_machine.proofs.Places.{found_one, if_some, one_none, one_overrides}
+use Rattle.cred_model.proofs.Places.{if_some}
+use Rattle.cred_machine.proofs.Places.{found_one, one_none, one_overrides}
 use Rattle.cred_machine.proofs.tasks.Tasks.push_override.Goals as goal
 
 pub returns-clause-ok : goal.returns-clause-ok

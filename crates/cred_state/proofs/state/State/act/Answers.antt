@@ -8,7 +8,7 @@ use Rattle.cred_tables.specs.Kept.{parts_of, state_of}
 use Rattle.cred_state.proofs.Acts.{next_is, next-lives, act_none, act_without, some_mapped, mapped_is, aborts_so, act_refused, denied, same_spare, act_full, act_kept, act_sealed}
 use Rattle.cred_tables.proofs.Bags.{bag-keeps}
 use Rattle.cred_state.proofs.Inits.{is_sealed, sealed_there}
-use Rattle.cred_tables.proofs.Places.{if_some, none_by_other, some_by_test}
+use Rattle.cred_model.proofs.Places.{if_some, none_by_other, some_by_test}
 use Rattle.cred_tables.proofs.Sealing.{current-held, drops, none_spare, seals_spare}
 use Rattle.cred_state.proofs.state.State.act.Goals as goal
 

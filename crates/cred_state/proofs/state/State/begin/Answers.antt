@@ -12,7 +12,7 @@ use Rattle.cred_state.proofs.Begins.{begun_casts, few_those, others_apart, other
 use Rattle.cred_tables.proofs.Free.{full_swept}
 use Rattle.cred_state.proofs.Inits.{is_sealed, sealed_there}
 use Rattle.cred_tables.proofs.Owners.{has_process, owner_process}
-use Rattle.cred_tables.proofs.Places.{if_some, none_by_other, some_by_test}
+use Rattle.cred_model.proofs.Places.{if_some, none_by_other, some_by_test}
 use Rattle.cred_tables.proofs.Sealing.{current-held, drops, none_spare, roomy_spare, seals_spare}
 use Rattle.cred_state.proofs.state.State.begin.Goals as goal
 

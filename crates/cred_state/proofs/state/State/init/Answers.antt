@@ -4,7 +4,7 @@ use Rattle.cred_record.specs.Credential.{first_credential}
 use Rattle.cred_tables.specs.Kept.{parts_of}
 use Rattle.cred_tables.proofs.Free.{full_swept}
 use Rattle.cred_state.proofs.Inits.{init_full, init_kept, init_sealed, few_by_test, is_sealed, sealed_there, started}
-use Rattle.cred_tables.proofs.Places.{none_by_test, none_by_other, some_by_test}
+use Rattle.cred_model.proofs.Places.{none_by_test, none_by_other, some_by_test}
 use Rattle.cred_tables.proofs.Sealing.{none_spare, roomy_spare, seals_spare}
 use Rattle.cred_state.proofs.state.State.init.Goals as goal
 

@@ -6,7 +6,7 @@ use Rattle.cred_tables.specs.Kept.{parts_of, state_of}
 use Rattle.cred_state.proofs.Begins.{begin_without, begin_busy, begin_exists, begin_overridden}
 use Rattle.cred_state.proofs.Broadcasts.{busy_by, none_open, some_open}
 use Rattle.cred_tables.proofs.Owners.{has_process, own_owner, over_owner, owner_process}
-use Rattle.cred_tables.proofs.Places.{none_by_test}
+use Rattle.cred_model.proofs.Places.{none_by_test}
 use Rattle.cred_state.proofs.state.State.may_begin.Goals as goal
 
 pub returns-in_default : goal.returns-in_default

@@ -5,7 +5,7 @@ use Rattle.cred_slots.proofs.Tables.{held_is_referred}
 use Rattle.cred_tables.specs.Kept.{parts_of}
 use Rattle.cred_tables.proofs.Free.{full_swept}
 use Rattle.cred_state.proofs.Holding.{hold-held_found}
-use Rattle.cred_tables.proofs.Places.{if_some}
+use Rattle.cred_model.proofs.Places.{if_some}
 use Rattle.cred_state.proofs.Labelling.{claims, present, held_hold, neither_found, prepare_full, prepare_kept, prepare_done}
 use Rattle.cred_tables.proofs.Sealing.{none_spare, roomy_spare}
 use Rattle.cred_state.proofs.state.State.prepare.Goals as goal

@@ -1,7 +1,7 @@
 use Rattle.std.proofs.Common.{sym}
 use Rattle.cred_cast.proofs.Conditions.{dead_waits_nowhere}
 use Rattle.cred_tables.specs.Kept.{parts_of, state_of}
-use Rattle.cred_tables.proofs.Places.{none_by_test}
+use Rattle.cred_model.proofs.Places.{none_by_test}
 use Rattle.cred_tables.proofs.Sealing.{current-held, referred_to}
 use Rattle.cred_state.proofs.state.State.spawn.Goals as goal
 
