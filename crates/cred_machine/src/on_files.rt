@@ -7,8 +7,9 @@ ghost use Rattle.cred_model.specs.Step.{by_close, by_open, by_take_file};
 ghost use Rattle.cred_machine.specs.Creds.{seen_numbered};
 
 use crate::creds::Numbered;
-use crate::files::{OpenFile, may_open, open_of, open_place};
+use crate::files::{OpenFile, open_of, open_place};
 use crate::state::State;
+use cred_declared::may_open;
 use cred_event::{Answer, Counted, Named};
 use cred_ids::NoMemory;
 use cred_record::Want;

@@ -12,7 +12,6 @@ ghost use Rattle.cred_machine.specs.Tasks.{ending_of};
 
 use crate::casts::{Cast, begun_by, drop_cast};
 use crate::creds::Numbered;
-use crate::files::{asked_file, chain_of, executed_file};
 use crate::labels::{
     Changed, Hold, Prepared, change_at, hold_of, hold_place, prepared_of, prepared_place,
 };
@@ -21,6 +20,7 @@ use crate::state::{State, overridden};
 use crate::tasks::Ending;
 use cred_access::may_signal;
 use cred_decide::{Made, change as change_of, reply};
+use cred_declared::{asked_file, chain_of, executed_file};
 use cred_event::{Answer, Change, Counted, Named, Query, Side};
 use cred_ids::NoMemory;
 use cred_record::{Gains, copy};

@@ -3,7 +3,6 @@
 //! slots that counts the references to them. One call makes one event.
 #![tactic(auto)]
 
-mod files;
 pub mod state;
 
 pub use state::State;

@@ -18,10 +18,10 @@ mod overrides;
 mod prepare;
 mod tasks;
 
-use crate::files::asked_file;
 use cred_access::may_signal;
 use cred_cast::Casts;
 use cred_decide::reply;
+use cred_declared::asked_file;
 use cred_event::{Answer, Counted, Event, Named, Query, Side};
 use cred_files::Files;
 use cred_ids::NoMemory;

@@ -6,8 +6,8 @@ ghost use Rattle.cred_model.specs.Like.{Gives};
 ghost use Rattle.cred_model.specs.Step.{by_close, by_open, by_take_file};
 ghost use Rattle.cred_tables.specs.Kept.{seen_numbered};
 
-use crate::files::may_open;
 use crate::state::State;
+use cred_declared::may_open;
 use cred_event::{Answer, Counted, Named};
 use cred_ids::NoMemory;
 use cred_record::Want;

@@ -7,9 +7,9 @@ ghost use Rattle.cred_sound.specs.Sound.{IsSound};
 ghost use Rattle.cred_model.specs.Step.{by_abort, by_alter, by_commit, by_prepare};
 ghost use Rattle.cred_tables.specs.Kept.{seen_numbered};
 
-use crate::files::{chain_of, executed_file};
 use crate::state::State;
 use cred_decide::{Made, change as change_of};
+use cred_declared::{chain_of, executed_file};
 use cred_event::{Answer, Change, Counted, Named};
 use cred_ids::NoMemory;
 use cred_script::Script;

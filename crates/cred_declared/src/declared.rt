@@ -1,4 +1,4 @@
-//! What an event sees of the script besides the kernel's state.
+//! The file that an event names, and what may be done with it; the chain of a user namespace.
 ghost use Rattle.std.specs.Prelude.{◌≡◌, ◌∷◌, [], if◌then◌else◌};
 ghost use Rattle.std.specs.Option.{option_map};
 ghost use Rattle.cred_model.specs.Answers.{checked};

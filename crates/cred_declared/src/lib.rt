@@ -1,0 +1,7 @@
+//! What an event sees of the script besides the kernel's state: the files and the user namespaces
+//! that the script declares. Both bodies of a step ask here.
+#![tactic(auto)]
+
+mod declared;
+
+pub use declared::{asked_file, chain_of, executed_file, may_open};
