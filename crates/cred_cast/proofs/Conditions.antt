@@ -43,7 +43,7 @@ casts_are s sound = record {
   some = λ k d lt. (sound.under_way k d lt).some;
 }
 
--- `born`: a task that isn't alive waits nowhere
+-- `created`: a task that isn't alive waits nowhere
 pub dead_waits_nowhere : (s : State) (task : ℕ) → IsSound s → task_of s task ≡ None → WaitsNowhere s.casts task
 dead_waits_nowhere s task sound dead k d lt =
     let cast = get_or s.casts k d in

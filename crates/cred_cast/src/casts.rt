@@ -36,6 +36,10 @@ impl Model for Casts {
 
 impl Casts {
     /// No broadcast.
+    ///
+    /// # Errors
+    ///
+    /// `NoMemory` if an allocation fails.
     pub fn new(alloc: Global) -> Result<Casts, NoMemory>
         ensures { IfOk result (λ casts. casts ≡ []) }
     {
@@ -47,6 +51,10 @@ impl Casts {
 
     /// A broadcast is begun: its caller has made the call, and these other threads of the process
     /// wait for their step. Where there is none, it is completed and isn't open.
+    ///
+    /// # Errors
+    ///
+    /// `NoMemory` if an allocation fails: nothing changes.
     pub fn begin(
         &mut self,
         number: u32,
@@ -111,7 +119,11 @@ impl Casts {
     }
 
     /// A task has created a thread, which waits where its creator waits.
-    pub fn born(&mut self, parent: u32, child: u32) -> Result<(), NoMemory>
+    ///
+    /// # Errors
+    ///
+    /// `NoMemory` if an allocation fails: nothing changes.
+    pub fn created(&mut self, parent: u32, child: u32) -> Result<(), NoMemory>
         requires { WaitsNowhere self.old child }
         ensures ok { OnOk result (self.new ≡ joined parent child self.old) }
         ensures err { OnErr result (self.new ≡ self.old) }

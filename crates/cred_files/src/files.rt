@@ -34,6 +34,10 @@ impl Model for Files {
 
 impl Files {
     /// No file.
+    ///
+    /// # Errors
+    ///
+    /// `NoMemory` if an allocation fails.
     pub fn new(alloc: Global) -> Result<Files, NoMemory>
         ensures { IfOk result (λ files. files ≡ []) }
     {

@@ -21,6 +21,10 @@ impl Model for TaskList {
 
 impl TaskList {
     /// The list of these tasks.
+    ///
+    /// # Errors
+    ///
+    /// `NoMemory` if an allocation fails.
     pub fn of(alloc: Global, items: &[u32]) -> Result<TaskList, NoMemory>
         ensures { IfOk result (λ l. l ≡ items.now) }
     {
@@ -60,6 +64,10 @@ impl Model for Numbers {
 
 impl Numbers {
     /// The list of these numbers.
+    ///
+    /// # Errors
+    ///
+    /// `NoMemory` if an allocation fails.
     pub fn of(alloc: Global, items: &[u64]) -> Result<Numbers, NoMemory>
         ensures { IfOk result (λ l. l ≡ items.now) }
     {

@@ -57,6 +57,10 @@ pub struct Ended {
 
 impl Procs {
     /// No task.
+    ///
+    /// # Errors
+    ///
+    /// `NoMemory` if an allocation fails.
     pub fn new(alloc: Global) -> Result<Procs, NoMemory>
         ensures { IfOk result (λ procs. procs ≡ []) }
     {
@@ -121,6 +125,10 @@ impl Procs {
     }
 
     /// A first task is created.
+    ///
+    /// # Errors
+    ///
+    /// `NoMemory` if an allocation fails: nothing changes.
     pub fn start(&mut self, task: u32, process: u32, number: u64) -> Result<(), NoMemory>
         requires new { task_in self.old task ≡ None }
         requires room { length self.old < TASKS }
@@ -143,6 +151,10 @@ impl Procs {
 
     /// A task creates a thread of its process (clone(2) with CLONE_THREAD), which shares its
     /// current credential and overrides nothing.
+    ///
+    /// # Errors
+    ///
+    /// `NoMemory` if an allocation fails: nothing changes.
     pub fn spawn(&mut self, task: u32, child: u32) -> Result<(), NoMemory>
         requires alive { IsSome (task_in self.old task) }
         requires new { task_in self.old child ≡ None }
@@ -158,6 +170,10 @@ impl Procs {
 
     /// A task creates a process (fork(2)), whose one thread shares its current credential and
     /// overrides nothing.
+    ///
+    /// # Errors
+    ///
+    /// `NoMemory` if an allocation fails: nothing changes.
     pub fn fork(&mut self, task: u32, child: u32, process: u32) -> Result<(), NoMemory>
         requires alive { IsSome (task_in self.old task) }
         requires new { task_in self.old child ≡ None }
@@ -172,6 +188,10 @@ impl Procs {
     }
 
     /// The threads of a process, in rising order. None where the process has none.
+    ///
+    /// # Errors
+    ///
+    /// `NoMemory` if an allocation fails.
     pub fn threads(&self, process: u32) -> Result<TaskList, NoMemory>
         ensures { IfOk result (λ tasks. tasks ≡ threads_of self.now process) }
     {
@@ -223,6 +243,10 @@ impl Procs {
 
     /// A task ends. Returns the numbers that it referred to: its current credential's first, and
     /// then those of its overrides, the newest first.
+    ///
+    /// # Errors
+    ///
+    /// `NoMemory` if an allocation fails: nothing changes.
     pub fn exit(&mut self, task: u32) -> Result<Numbers, NoMemory>
         requires { IsSome (task_in self.old task) }
         ensures numbers { IfOk result (λ numbers. numbers ≡ left_by (is_task task) self.old) }
@@ -235,6 +259,10 @@ impl Procs {
     }
 
     /// All other threads of a task's process end, as when it calls execve(2).
+    ///
+    /// # Errors
+    ///
+    /// `NoMemory` if an allocation fails: nothing changes.
     pub fn dethread(&mut self, task: u32) -> Result<Ended, NoMemory>
         requires { IsSome (task_in self.old task) }
         ensures ended { IfOk result (λ ended. IfSome (task_in self.old task) (λ owner.
@@ -246,6 +274,10 @@ impl Procs {
     }
 
     /// All threads of a process end. None does where the process has none.
+    ///
+    /// # Errors
+    ///
+    /// `NoMemory` if an allocation fails: nothing changes.
     pub fn end_process(&mut self, process: u32) -> Result<Ended, NoMemory>
         ensures ended { IfOk result (λ ended.
             Ends (is_thread_of process) self.old self.new ended.tasks ended.numbers) }
@@ -263,6 +295,10 @@ impl Procs {
     }
 
     /// The other threads of a task's process, in the order in which they were created.
+    ///
+    /// # Errors
+    ///
+    /// `NoMemory` if an allocation fails.
     pub fn others(&self, task: u32) -> Result<TaskList, NoMemory>
         requires { IsSome (task_in self.now task) }
         ensures others { IfOk result (λ tasks. IfSome (task_in self.now task) (λ owner.

@@ -30,7 +30,11 @@ pub fn prepend(out: &mut Pen, script: &Script, entry: &Entry) -> Result<(), NoMe
     Ok(())
 }
 
-/// Writes the text of the entries, in their order. The errors are those of one entry.
+/// Writes the text of the entries, in their order.
+///
+/// # Errors
+///
+/// `NoMemory` where the buffer cannot grow. Nothing is said of what it holds then.
 // A function of its own, in which no call stands for an entry.
 #[inline(never)]
 pub fn prepend_all(out: &mut Pen, script: &Script, entries: &[Entry]) -> Result<(), NoMemory>

@@ -103,7 +103,7 @@ fn a_new_thread_waits_where_its_creator_does(rt: HostRuntime) -> Result<(), Fail
     let creations: [(u32, u32); 3] = [(9, 2), (5, 3), (60, 3)];
     for (parent, next) in creations {
         let mut casts = begun(rt.alloc())?;
-        casts.born(parent, 2)?;
+        casts.created(parent, 2)?;
         assert_eq!(rt; seen(&casts), open(next));
     }
     Ok(())

@@ -8,7 +8,7 @@ use Rattle.cred_model.specs.Casts.{waits_in}
 use Rattle.cred_cast.specs.Casts.{AreCasts}
 use Rattle.cred_cast.proofs.Joined.{joined_nowhere, joined_place}
 use Rattle.cred_cast.proofs.Kept.{are_joined}
-use Rattle.cred_cast.proofs.casts.Casts.born.Goals as goal
+use Rattle.cred_cast.proofs.casts.Casts.created.Goals as goal
 
 by_result : {X E P Q : Type 0} (R : Type 0) (result : Result X E) → OnOk result P → OnErr result Q → (P → R) → (Q → R) → R
 by_result R (Ok x) ok err done same = done ok
