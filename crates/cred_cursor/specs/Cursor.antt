@@ -18,13 +18,13 @@ use Rattle.cred_cursor.specs.declared.lines.Lines.{Lines}
 use Rattle.cred_cursor.specs.declared.lines.Lines.TheVariants.{Every, Lane}
 
 -- a line of this lane is one of the lines
-abbrev pub holds : Lines → ℕ → Bool
-holds Every lane = true
-holds (Lane own) lane = lane == own
+abbrev pub includes : Lines → ℕ → Bool
+includes Every lane = true
+includes (Lane own) lane = lane == own
 
 -- the line is one of the lines
 abbrev pub is_among : Lines → Line → Bool
-is_among lines line = holds lines line.lane
+is_among lines line = includes lines line.lane
 
 -- the line at this place, where it is one of these, has ended
 abbrev pub HasEnded : (Line → Bool) → Script → List Entry → ℕ → Type 0
@@ -119,7 +119,7 @@ pub record PassesAmong (these : Line → Bool) (script : Script) (course : Cours
 abbrev pub Passes : Script → Course → Option Course → Type 0
 Passes script course to = PassesAmong (is_among Every) script course to
 
--- Behind the line of this number, this is the cursor of these lines.
+-- Where the lines up to this number are past, this is the cursor of these lines.
 pub record PassesFrom (these : Line → Bool) (script : Script) (number : ℕ) (to : Option Course)
     : Type 0 where
   pub stands : (journal : List Entry) → IsPast these script journal number

@@ -4,7 +4,8 @@ ghost use Rattle.std.specs.Option.{option_and_then};
 ghost use Rattle.cred_model.specs.Course as model;
 ghost use Rattle.cred_model.specs.Named.{IsEventOf};
 ghost use Rattle.cred_script.specs.Grammar.{line_at};
-ghost use Rattle.cred_cursor.specs.Cursor.{IsCursorAmong, IsOfLine, PassesAmong, PassesFrom, is_among};
+ghost use Rattle.cred_cursor.specs.Cursor.{IsCursorAmong, IsOfLine, is_among};
+ghost use Rattle.cred_cursor.specs.Cursor.{PassesAmong, PassesFrom};
 
 use crate::lines::Lines;
 use cred_course::Course;
@@ -70,8 +71,8 @@ fn first_left(script: &Script, lines: Lines, course: Course) -> Option<Course>
     }
 }
 
-/// The cursor of the lines behind the line of this number: the course of the first one that makes
-/// events, before its first event.
+/// The cursor of the lines, where those up to this number have ended and no later one has begun: the
+/// course of the first later one that makes events.
 fn first_after(script: &Script, lines: Lines, line: u32) -> Option<Course>
     requires { line ≤ LINE_LIMIT }
     ensures { PassesFrom (is_among lines) script.now line result }
@@ -80,7 +81,7 @@ fn first_after(script: &Script, lines: Lines, line: u32) -> Option<Course>
     'lines: loop {
         number += 1;
         let (lane, content) = script.line(number)?;
-        if lines.holds(lane) {
+        if lines.includes(lane) {
             let course = Course::start(number, content);
             if !course.ended() {
                 return Some(course);
