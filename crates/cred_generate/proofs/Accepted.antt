@@ -1,4 +1,4 @@
--- Each line of a generated script is accepted, whatever was read before it.
+-- Each line of a generated script is accepted, whatever was read before it in the setup.
 use Rattle.std.proofs.Common.{◌≡◌, ℕ, zero, suc, ◌+◌, ◌%◌, ◌==◌, true, false, cond, List, [], ◌∷◌, ◌++◌, map, length, codes, Result, Ok, Err, refl, sym, ap, ◌∙◌, arith}
 use Rattle.std.specs.List.{range_with_len}
 use Rattle.std.proofs.lemmas.List.FromFn.{length-map-range_with_len, map-range_with_len_more}
@@ -37,44 +37,52 @@ each P a b c d e remainder =
 
 -- ---- each line is accepted
 
+-- before the first lane line
+abbrev in_setup : Reading → Reading
+in_setup reading = record reading { lanes = record reading.lanes { current = 0 } }
+
+setup_is : (reading : Reading) → reading.lanes.current ≡ 0 → in_setup reading ≡ reading
+setup_is reading is = ap (λ (n : ℕ). record reading { lanes = record reading.lanes { current = n } }) (sym is)
+
 abbrev IsAccepted : List ℕ → Type 0
-IsAccepted text = (reading : Reading) → (next : Reading) × (add_line reading text ≡ Ok next)
+IsAccepted text = (reading : Reading) → (next : Reading) × (add_line (in_setup reading) text ≡ Ok next) × (next.lanes.current ≡ 0)
 
 accept_setresuid : IsAccepted (codes "t1 setresuid 0 0 0")
 unfolding add_line parse_full parse_form content_of call_of id_call_of three_of forms query_names id_names
-accept_setresuid reading = (_, refl)
+accept_setresuid reading = (_, refl, refl)
 
 accept_keepcaps : IsAccepted (codes "t1 keepcaps 1")
 unfolding add_line parse_full parse_form content_of call_of change_of forms query_names id_names change_names
-accept_keepcaps reading = (_, refl)
+accept_keepcaps reading = (_, refl, refl)
 
 accept_capable : IsAccepted (codes "t1 capable 21")
 unfolding add_line parse_full parse_form content_of call_of query_of forms query_names
-accept_capable reading = (_, refl)
+accept_capable reading = (_, refl, refl)
 
 accept_setfsuid : IsAccepted (codes "t1 setfsuid 1000")
 unfolding add_line parse_full parse_form content_of call_of change_of forms query_names id_names change_names
-accept_setfsuid reading = (_, refl)
+accept_setfsuid reading = (_, refl, refl)
 
 accept_ambraise : IsAccepted (codes "t1 ambraise 0")
 unfolding add_line parse_full parse_form content_of call_of change_of forms query_names id_names change_names
-accept_ambraise reading = (_, refl)
+accept_ambraise reading = (_, refl, refl)
 
 accept_call : (number : ℕ) → IsAccepted (call number)
 accept_call number =
     each IsAccepted accept_setresuid accept_keepcaps accept_capable accept_setfsuid accept_ambraise (number % 5)
 
-accept_first : (next : Reading) × (add_line nothing FIRST ≡ Ok next)
+accept_first : (next : Reading) × (add_line nothing FIRST ≡ Ok next) × (next.lanes.current ≡ 0)
 unfolding add_line parse_full parse_form two_of three_of five_of forms
-accept_first = (_, refl)
+accept_first = (_, refl, refl)
 
 accept_calls : (count from : ℕ) (reading : Reading)
-    → (last : Reading) × (add_lines reading (map call (range_with_len from count)) ≡ Ok last)
-accept_calls zero from reading = (reading, refl)
+    → (last : Reading) × (add_lines (in_setup reading) (map call (range_with_len from count)) ≡ Ok last)
+accept_calls zero from reading = (in_setup reading, refl)
 accept_calls (suc count) from reading =
     let next = accept_call from reading in
     let last = accept_calls count (from + 1) next.0 in
-    (last.0, rw next.1 last.1)
+    let rest = rw (setup_is next.0 next.2) at last.1 in
+    (last.0, rw next.1 rest)
 
 -- ---- the text has these lines
 
@@ -100,7 +108,8 @@ accepted : (n : ℕ) → (last : Reading) × (add_lines nothing (generated n) �
 accepted n =
     let next = accept_first in
     let last = accept_calls n 1 next.0 in
-    (last.0, rw next.1 last.1)
+    let rest = rw (setup_is next.0 next.2) at last.1 in
+    (last.0, rw next.1 rest)
 
 -- the text is a script
 pub is_script : (n : ℕ) → (s : Script) × (script_of (text_of (generated n)) ≡ Ok s)

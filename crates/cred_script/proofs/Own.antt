@@ -1,5 +1,5 @@
--- What is true of each line that the grammar gives: its labels are small, and what it names
--- is declared.
+-- What is true of each line that the grammar gives: its labels are small, what it names is declared,
+-- and the task that acts by it is the one that it is tested for.
 use Rattle.std.proofs.Common.{◌≡◌, ℕ, ◌≤◌, ◌<◌, Bool, true, false, not, ◌&&◌, ◌==◌, nat_le, nat_lt, cond, List, [], ◌∷◌, length, Option, Some, None, is_some, Result, Ok, Err, ok_or, codes, refl, subst, arith}
 use Rattle.std.specs.List.{All, list_all}
 use Rattle.std.specs.Option.{IfSome, IsSome, option_and_then}
@@ -11,7 +11,7 @@ use Rattle.cred_event.specs.declared.event.Event.{Event}
 use Rattle.cred_event.specs.declared.event.Side.{Side}
 use Rattle.cred_event.specs.declared.content.Content.{Content}
 use Rattle.cred_model.specs.Script.{NamedFile, Namespace, chain_in}
-use Rattle.cred_model.specs.Named.{files, namespaces}
+use Rattle.cred_model.specs.Named.{files, namespaces, IsContentOf}
 use Rattle.cred_spelling.specs.declared.names.Form.{Form}
 use Rattle.cred_spelling.specs.declared.names.Form.TheVariants as form
 use Rattle.cred_spelling.specs.declared.names.EventName.{EventName}
@@ -22,12 +22,13 @@ use Rattle.cred_spelling.specs.declared.names.CallName.{CallName}
 use Rattle.cred_spelling.specs.declared.names.CallName.TheVariants as call
 use Rattle.cred_spelling.specs.declared.reason.Reason.{Reason}
 use Rattle.cred_spelling.specs.declared.reason.Reason.TheVariants.{Word, Name, Byte}
+use Rattle.cred_spelling.specs.declared.reason.Reason.TheVariants as reason
 use Rattle.cred_spelling.specs.Lines.{is_printable}
 use Rattle.cred_spelling.specs.Names.{id_name, altered_name, call_name, form_of}
-use Rattle.cred_spelling.specs.Spellings.{letter, number_of, within, id_of, cap_of, label_of, task_of, process_of, descriptor_of, line_number_of, namespace_of, new_namespace_of, parent_of}
+use Rattle.cred_spelling.specs.Spellings.{LAST_LANE, letter, number_of, within, id_of, cap_of, label_of, task_of, process_of, descriptor_of, line_number_of, lane_number_of, namespace_of, new_namespace_of, parent_of}
 use Rattle.cred_spelling.specs.Words.{◌>>=◌, words_of, is_comment, word_of, no_words, one_of, two_of, three_of, five_of}
 use Rattle.cred_script.specs.declared.forms.Parsed.{Parsed}
-use Rattle.cred_script.specs.declared.forms.Parsed.TheVariants.{Empty, File, Starts, Holds}
+use Rattle.cred_script.specs.declared.forms.Parsed.TheVariants.{Empty, File, Starts, Lane, Holds}
 use Rattle.cred_script.specs.declared.forms.Parsed.TheVariants as parsed
 use Rattle.cred_script.specs.Changes.{change_of}
 use Rattle.cred_script.specs.Files.{FILES, place_of, has_room, file_of}
@@ -36,8 +37,9 @@ use Rattle.cred_script.specs.Questions.{query_of, query_named, file_and_want}
 use Rattle.cred_script.specs.Calls.{open_of, other_of, call_of, content_of}
 use Rattle.cred_script.specs.Forms.{take_of, take_file_of, ask_of, alter_of, override_of, begin_of, event_of, parse_form}
 use Rattle.cred_script.specs.Grammar.{parse_full, parse_words, parse_line}
-use Rattle.cred_script.specs.Reading.{Reading, has_namespaces, has_files, uses_declared, has_names, in_order, admits}
-use Rattle.cred_script.specs.Sound.{LAST_LABEL, event_labels, labels, IsNext, IsParsed}
+use Rattle.cred_script.specs.Acting.{event_actor, actor, event_labels, labels}
+use Rattle.cred_script.specs.Reading.{Reading, has_namespaces, has_files, uses_declared, has_names, names_declared, is_apart, in_order, admits}
+use Rattle.cred_script.specs.Sound.{LAST_LABEL, IsParsed}
 
 -- ---- what holds of a value, if there is one, through the steps that lead to it
 
@@ -64,6 +66,11 @@ one_of_both P false r s good other = other
 tested : {E : Type 0} (b : Bool) (e : E) → Good (λ _. b ≡ true) (let r : Result (Unit {0}) E = cond b (Ok tt) (Err e) in r)
 tested true e = record { is = refl }
 tested false e = record { is = tt }
+
+-- what held before a last test, and the test
+and_tested : {E : Type 0} (P : Type 0) → P → (b : Bool) (e : E) → Good (λ _. P × (b ≡ true)) (let r : Result (Unit {0}) E = cond b (Ok tt) (Err e) in r)
+and_tested P holds true e = record { is = (holds, refl) }
+and_tested P holds false e = record { is = tt }
 
 -- ---- labels
 
@@ -192,48 +199,50 @@ own_event files name.Sweep words = skip OwnEvent (no_words words) _ (λ end. rec
 
 -- ---- lines
 
-abbrev OwnContent : Content → Type 0
-OwnContent content = All IsLabel (labels content)
+-- by this task, or by none
+abbrev OwnContent : Option ℕ → Content → Type 0
+OwnContent by content = All IsLabel (labels content) × IfSome (actor content) (λ task. by ≡ Some task)
 
-own_open : (files : List NamedFile) (task : ℕ) (words : List (List ℕ)) → Good OwnContent (open_of files task words)
+own_open : (files : List NamedFile) (task : ℕ) (words : List (List ℕ)) → Good (OwnContent (Some task)) (open_of files task words)
 unfolding open_of
 own_open files task [] = record { is = tt }
 own_open files task (name ∷ []) = record { is = tt }
 own_open files task (name ∷ want ∷ []) = record { is = tt }
 own_open files task (name ∷ want ∷ descriptor ∷ []) =
-    skip OwnContent (file_and_want files (name ∷ want ∷ [])) _ (λ asked. skip OwnContent (word_of descriptor_of descriptor) _ (λ fd. record { is = none }))
+    skip (OwnContent (Some task)) (file_and_want files (name ∷ want ∷ [])) _ (λ asked. skip (OwnContent (Some task)) (word_of descriptor_of descriptor) _ (λ fd. record { is = (none, refl) }))
 own_open files task (name ∷ want ∷ descriptor ∷ more ∷ words) = record { is = tt }
 
-own_other : (files : List NamedFile) (task : ℕ) (called : OtherName) (words : List (List ℕ)) → Good OwnContent (other_of files task called words)
+own_other : (files : List NamedFile) (task : ℕ) (called : OtherName) (words : List (List ℕ)) → Good (OwnContent (Some task)) (other_of files task called words)
 unfolding other_of
 own_other files task other.Open words = own_open files task words
-own_other files task other.Close words = skip OwnContent (one_of descriptor_of words) _ (λ fd. record { is = none })
-own_other files task other.Fcap words = skip OwnContent (two_of descriptor_of cap_of words) _ (λ word. record { is = none })
-own_other files task other.Access words = skip OwnContent (file_and_want files words) _ (λ asked. record { is = none })
-own_other files task other.Signal words = skip OwnContent (one_of task_of words) _ (λ to. record { is = none })
-own_other files task other.Spawn words = skip OwnContent (one_of task_of words) _ (λ child. record { is = none })
-own_other files task other.Fork words = skip OwnContent (two_of task_of process_of words) _ (λ word. record { is = none })
-own_other files task other.Exit words = skip OwnContent (no_words words) _ (λ end. record { is = none })
+own_other files task other.Close words = skip (OwnContent (Some task)) (one_of descriptor_of words) _ (λ fd. record { is = (none, tt) })
+own_other files task other.Fcap words = skip (OwnContent (Some task)) (two_of descriptor_of cap_of words) _ (λ word. record { is = (none, refl) })
+own_other files task other.Access words = skip (OwnContent (Some task)) (file_and_want files words) _ (λ asked. record { is = (none, refl) })
+own_other files task other.Signal words = skip (OwnContent (Some task)) (one_of task_of words) _ (λ to. record { is = (none, refl) })
+own_other files task other.Spawn words = skip (OwnContent (Some task)) (one_of task_of words) _ (λ child. record { is = (none, refl) })
+own_other files task other.Fork words = skip (OwnContent (Some task)) (two_of task_of process_of words) _ (λ word. record { is = (none, refl) })
+own_other files task other.Exit words = skip (OwnContent (Some task)) (no_words words) _ (λ end. record { is = (none, refl) })
 
-own_call : (files : List NamedFile) (task : ℕ) (called : CallName) (words : List (List ℕ)) → Good OwnContent (call_of files task called words)
+own_call : (files : List NamedFile) (task : ℕ) (called : CallName) (words : List (List ℕ)) → Good (OwnContent (Some task)) (call_of files task called words)
 unfolding call_of
-own_call files task (call.Id called) words = skip OwnContent (id_call_of called words) _ (λ made. record { is = none })
-own_call files task (call.Change changed) words = skip OwnContent (change_of files changed words) _ (λ made. record { is = none })
-own_call files task (call.Question asked) words = skip OwnContent (query_of files asked words) _ (λ query. record { is = none })
+own_call files task (call.Id called) words = skip (OwnContent (Some task)) (id_call_of called words) _ (λ made. record { is = (none, refl) })
+own_call files task (call.Change changed) words = skip (OwnContent (Some task)) (change_of files changed words) _ (λ made. record { is = (none, refl) })
+own_call files task (call.Question asked) words = skip (OwnContent (Some task)) (query_of files asked words) _ (λ query. record { is = (none, refl) })
 own_call files task (call.Other called) words = own_other files task called words
 
-own_content : (files : List NamedFile) (task : ℕ) (words : List (List ℕ)) → Good OwnContent (content_of files task words)
+own_content : (files : List NamedFile) (task : ℕ) (words : List (List ℕ)) → Good (OwnContent (Some task)) (content_of files task words)
 unfolding content_of
 own_content files task [] = record { is = tt }
-own_content files task (word ∷ words) = skip OwnContent (ok_or (call_name word) Word) _ (λ called. own_call files task called words)
+own_content files task (word ∷ words) = skip (OwnContent (Some task)) (ok_or (call_name word) Word) _ (λ called. own_call files task called words)
 
 -- what is true of a line before its names are looked up
 abbrev OwnLine : List NamedFile → Parsed → Type 0
 OwnLine declared Empty = Unit {0}
 OwnLine declared (File file) = length declared < FILES
 OwnLine declared (parsed.Namespace number root parent) = Unit {0}
-OwnLine declared (Starts content) = OwnContent content
-OwnLine declared (Holds content) = OwnContent content
+OwnLine declared (Starts content) = (labels content ≡ []) × (actor content ≡ None)
+OwnLine declared (Lane number) = (1 ≤ number) × (number ≤ LAST_LANE)
+OwnLine declared (Holds by content) = OwnContent by content
 
 room : (declared : List NamedFile) → Good (λ _. nat_lt (length declared) FILES ≡ true) (has_room declared)
 room declared = tested (nat_lt (length declared) FILES) _
@@ -242,13 +251,33 @@ own_file : (declared : List NamedFile) (words : List (List ℕ)) → Good (λ _.
 unfolding file_of
 own_file declared words = after _ _ _ _ (room declared) (λ end test. always _ (grind (arith, nat_tests)) _)
 
+-- the number of a lane is one
+between : (a b : Bool) (n least most : ℕ) → nat_le least n ≡ a → nat_le n most ≡ b → IfSome (cond (a && b) (Some n) None) (λ number. (least ≤ number) × (number ≤ most))
+between false b n least most low high = tt
+between true false n least most low high = tt
+between true true n least most low high = (grind (arith, nat_tests), grind (arith, nat_tests))
+
+in_range : (least most : ℕ) (o : Option ℕ) → IfSome (option_and_then (within least most) o) (λ number. (least ≤ number) × (number ≤ most))
+in_range least most None = tt
+in_range least most (Some n) = between (nat_le least n) (nat_le n most) n least most refl refl
+
+one_lane : (words : List (List ℕ)) → Good (λ number. (1 ≤ number) × (number ≤ LAST_LANE)) (one_of lane_number_of words)
+one_lane [] = record { is = tt }
+one_lane (a ∷ []) = spelled_good _ (lane_number_of a) (in_range 1 LAST_LANE (number_of a))
+one_lane (a ∷ b ∷ words) = record { is = tt }
+
+itself : (o : Option ℕ) → IfSome o (λ task. o ≡ Some task)
+itself None = tt
+itself (Some task) = refl
+
 own_form : (declared : List NamedFile) (named : Form) (words : List (List ℕ)) → Good (OwnLine declared) (parse_form declared named words)
 unfolding parse_form
-own_form declared form.Init words = skip _ (five_of task_of process_of id_of id_of namespace_of words) _ (λ word. record { is = none })
+own_form declared form.Init words = skip _ (five_of task_of process_of id_of id_of namespace_of words) _ (λ word. record { is = (refl, refl) })
 own_form declared form.File words = after _ _ _ _ (own_file declared words) (λ file few. record { is = few })
 own_form declared form.Namespace words = skip _ (three_of new_namespace_of id_of parent_of words) _ (λ word. record { is = tt })
+own_form declared form.Lane words = after _ _ _ _ (one_lane words) (λ number range. record { is = range })
 own_form declared (form.Task task) words = after _ _ _ _ (own_content declared task words) (λ content own. record { is = own })
-own_form declared (form.Event named) words = after _ _ _ _ (own_event declared named words) (λ event own. record { is = own })
+own_form declared (form.Event named) words = after _ _ _ _ (own_event declared named words) (λ event own. record { is = (own, itself (event_actor event)) })
 
 -- ---- names
 
@@ -267,33 +296,32 @@ all_declared declared numbers h = AllPass-from_list_all (λ number. is_some (cha
 all_among : (count : ℕ) (places : List ℕ) → list_all (λ file. nat_lt file count) places ≡ true → All (λ file. file < count) places
 all_among count places h k d inside = let test = AllPass-from_list_all (λ file. nat_lt file count) places h k d inside in grind (arith, nat_tests)
 
-sound : (reading : Reading) (content : Content) → OwnContent content → uses_declared reading content ≡ true → IsNext reading content
-sound reading content own h =
+declares : (reading : Reading) (content : Content) → uses_declared reading content ≡ true → IsContentOf (length reading.files) reading.namespaces content
+declares reading content h =
     let parts = both (has_namespaces reading.namespaces content) (has_files reading.files content) h in
     record {
-      lane = omega arith;
-      labels = own;
-      content = record {
-        files = all_among (length reading.files) (files content) parts.1;
-        namespaces = all_declared reading.namespaces (namespaces content) parts.0;
-      };
+      files = all_among (length reading.files) (files content) parts.1;
+      namespaces = all_declared reading.namespaces (namespaces content) parts.0;
     }
 
-parsed_line : (reading : Reading) (line : Parsed) → OwnLine reading.files line → has_names reading line ≡ true → IsParsed reading line
-parsed_line reading Empty own named = tt
-parsed_line reading (File file) own named = (own, no_place (place_of reading.files file.name) named)
-parsed_line reading (parsed.Namespace number root parent) own named = (both (is_some (chain_in reading.namespaces parent)) _ named).0
-parsed_line reading (Starts content) own named = sound reading content own named
-parsed_line reading (Holds content) own named = sound reading content own named
+parsed_line : (reading : Reading) (line : Parsed) → OwnLine reading.files line → (has_names reading line ≡ true) × (is_apart reading line ≡ true) → IsParsed reading line
+parsed_line reading Empty own tests = tt
+parsed_line reading (File file) own tests = (own, no_place (place_of reading.files file.name) tests.0)
+parsed_line reading (parsed.Namespace number root parent) own tests = (both (is_some (chain_in reading.namespaces parent)) _ tests.0).0
+parsed_line reading (Starts content) own tests = record { labels = own.0; actor = own.1; named = declares reading content tests.0 }
+parsed_line reading (Lane number) own tests = own
+parsed_line reading (Holds by content) own tests = record { labels = own.0; actor = own.1; named = declares reading content tests.0; apart = tests.1 }
 
-admitted : (reading : Reading) (line : Parsed) → Good (λ _. has_names reading line ≡ true) (admits reading line)
-admitted reading line = skip _ (in_order reading line) _ (λ order. tested (has_names reading line) Name)
+admitted : (reading : Reading) (line : Parsed) → Good (λ _. (has_names reading line ≡ true) × (is_apart reading line ≡ true)) (admits reading line)
+admitted reading line =
+    skip _ (in_order reading line) _ (λ order. after _ _ (names_declared reading line) _ (tested (has_names reading line) Name)
+    (λ end names. and_tested (has_names reading line ≡ true) names (is_apart reading line) reason.Lane))
 
 full : (reading : Reading) (first : List ℕ) (words : List (List ℕ)) → Good (IsParsed reading) (parse_full reading first words)
 unfolding parse_full
 full reading first words =
     skip _ (ok_or (form_of first) Word) _ (λ named. after _ _ (parse_form reading.files named words) _ (own_form reading.files named words)
-    (λ line own. after _ _ (admits reading line) _ (admitted reading line) (λ end names. record { is = parsed_line reading line own names })))
+    (λ line own. after _ _ (admits reading line) _ (admitted reading line) (λ end tests. record { is = parsed_line reading line own tests })))
 
 words_good : (reading : Reading) (words : List (List ℕ)) → Good (IsParsed reading) (parse_words reading words)
 words_good reading [] = record { is = tt }

@@ -1,15 +1,12 @@
 -- One more line of a script.
-use Rattle.std.proofs.Common.{◌≡◌, ℕ, ◌+◌, ◌<◌, List, [], ◌∷◌, ◌++◌, length, Result, Ok, Err, refl, ap, length-append, arith}
-use Rattle.std.proofs.lemmas.List.Elements.{All-push}
-use Rattle.cred_model.specs.Script.{Line, Namespace}
+use Rattle.std.proofs.Common.{◌≡◌, ℕ, ◌+◌, List, ◌∷◌, length, Result, Ok, Err, refl, ap, length-append}
 use Rattle.cred_spelling.specs.declared.reason.Reason.{Reason}
 use Rattle.cred_spelling.specs.Words.{◌>>=◌}
 use Rattle.cred_script.specs.declared.forms.Parsed.{Parsed}
-use Rattle.cred_script.specs.declared.forms.Parsed.TheVariants.{Empty, File, Starts, Holds}
+use Rattle.cred_script.specs.declared.forms.Parsed.TheVariants.{Empty, File, Starts, Lane, Holds}
 use Rattle.cred_script.specs.declared.forms.Parsed.TheVariants as parsed
 use Rattle.cred_script.specs.Grammar.{parse_line, add_line, at_line, add_lines}
 use Rattle.cred_script.specs.Reading.{Reading, keep}
-use Rattle.cred_script.specs.Sound.{IsSound, IsReading}
 
 -- each line that is read is one line more
 longer_keep : (reading : Reading) (line : Parsed) → length (keep reading line).lines ≡ length reading.lines + 1
@@ -17,7 +14,8 @@ longer_keep reading Empty = rw (length-append reading.lines) refl
 longer_keep reading (File file) = rw (length-append reading.lines) refl
 longer_keep reading (parsed.Namespace number root parent) = rw (length-append reading.lines) refl
 longer_keep reading (Starts content) = rw (length-append reading.lines) refl
-longer_keep reading (Holds content) = rw (length-append reading.lines) refl
+longer_keep reading (Lane number) = rw (length-append reading.lines) refl
+longer_keep reading (Holds by content) = rw (length-append reading.lines) refl
 
 longer_by : (reading next : Reading) (found : Result Parsed Reason)
     → (found >>= λ line. Ok (keep reading line)) ≡ Ok next → length next.lines ≡ length reading.lines + 1
@@ -38,12 +36,3 @@ at_ok number (Err reason) next is = absurd (cc)
 pub read_one : (reading next : Reading) (text : List ℕ) (texts all : List (List ℕ))
     → at_line (length reading.lines + 1) (add_line reading text) ≡ Ok next → all ≡ text ∷ texts → add_lines next texts ≡ add_lines reading all
 read_one reading next text texts all is all_is = rw (all_is, is) refl
-
--- what was read stays sound with a sound line more
-pub pushed : (count : ℕ) (declared : List Namespace) (lines longer : List Line) (line : Line) → longer ≡ lines ++ line ∷ [] → length lines < 20000
-    → IsReading count declared lines → IsSound count declared line → line.lane ≡ 0 → IsReading count declared longer
-pushed count declared lines longer line longer_is room old sound setup = rw longer_is (record {
-  few = rw (length-append lines (line ∷ [])) (omega arith);
-  each = All-push (IsSound count declared) lines line old.each sound;
-  setup = All-push (λ l. l.lane ≡ 0) lines line old.setup setup;
-})

@@ -1,7 +1,7 @@
 -- The forms of a line: what its words are, and what it then declares or holds. Each definition
 -- takes the words that stand after the one that names the form. How many there are is asked before
 -- what they spell.
-use Rattle.std.specs.Prelude.{ℕ, List, ◌∷◌, Result, Ok, Err, ok_or}
+use Rattle.std.specs.Prelude.{ℕ, List, ◌∷◌, Some, Result, Ok, Err, ok_or}
 use Rattle.cred_event.specs.declared.event.Event.{Event}
 use Rattle.cred_event.specs.declared.event.Event.TheVariants.{Init, Take, TakeFile, Release, Ask}
 use Rattle.cred_event.specs.declared.event.Event.TheVariants.{Prepare, Alter, Commit, Abort}
@@ -18,10 +18,13 @@ use Rattle.cred_spelling.specs.declared.reason.Reason.{Reason}
 use Rattle.cred_spelling.specs.declared.reason.Reason.TheVariants.{Word, Count}
 use Rattle.cred_spelling.specs.Names as names
 use Rattle.cred_spelling.specs.Spellings.{id_of, task_of, process_of, label_of, descriptor_of}
-use Rattle.cred_spelling.specs.Spellings.{line_number_of, namespace_of, new_namespace_of, parent_of}
+use Rattle.cred_spelling.specs.Spellings.{line_number_of, lane_number_of, namespace_of}
+use Rattle.cred_spelling.specs.Spellings.{new_namespace_of, parent_of}
 use Rattle.cred_spelling.specs.Words.{◌>>=◌, word_of, no_words, one_of, two_of, three_of, five_of}
 use Rattle.cred_script.specs.declared.forms.Parsed.{Parsed}
-use Rattle.cred_script.specs.declared.forms.Parsed.TheVariants.{File, Namespace, Starts, Holds}
+use Rattle.cred_script.specs.declared.forms.Parsed.TheVariants.{File, Namespace}
+use Rattle.cred_script.specs.declared.forms.Parsed.TheVariants.{Starts, Lane, Holds}
+use Rattle.cred_script.specs.Acting.{event_actor}
 use Rattle.cred_script.specs.Files.{file_of}
 use Rattle.cred_script.specs.IdCalls.{id_call_of}
 use Rattle.cred_script.specs.Changes.{change_of}
@@ -94,7 +97,9 @@ event_of files name.Sweep words = no_words words >>= λ end. Ok Sweep
 
 -- A line of this form, where these files are declared before it. `init T P ID ID N` creates a
 -- first task, with its process, user, group and namespace. `ns NUM ID NUM` declares a namespace,
--- with its number, its root id and its parent's number.
+-- with its number, its root id and its parent's number. `lane NUM` opens a lane, or continues it.
+-- A line that a task begins names that task as the one that acts, also `close`, whose event names
+-- none.
 unfoldable pub parse_form : List NamedFile → Form → List (List ℕ) → Result Parsed Reason
 parse_form files form.Init words = do
   word ← five_of task_of process_of id_of id_of namespace_of words
@@ -105,9 +110,12 @@ parse_form files form.File words = do
 parse_form files form.Namespace words = do
   word ← three_of new_namespace_of id_of parent_of words
   Ok (Namespace word.0 word.1 word.2)
+parse_form files form.Lane words = do
+  number ← one_of lane_number_of words
+  Ok (Lane number)
 parse_form files (form.Task task) words = do
   content ← content_of files task words
-  Ok (Holds content)
+  Ok (Holds (Some task) content)
 parse_form files (form.Event named) words = do
   event ← event_of files named words
-  Ok (Holds (One event))
+  Ok (Holds (event_actor event) (One event))

@@ -6,6 +6,8 @@ pub mod IdCalls
 pub mod Changes
 pub mod Questions
 pub mod Calls
+pub mod Acting
+pub mod Lanes
 pub mod Forms
 pub mod Reading
 pub mod Grammar

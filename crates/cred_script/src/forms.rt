@@ -12,11 +12,12 @@ use crate::files::{Files, ScriptFile};
 use crate::id_calls::id_call_of;
 use crate::questions::query_named;
 use crate::refusal::LineRefusal;
+use crate::uses::event_actor;
 use cred_event::{Content, Event, Side};
 use cred_ids::Id;
 use cred_spelling::{
-    Descriptor, EventName, Form, Label, LineNumber, Namespace, NewNamespace, Parent, Process,
-    Reason, Task, altered_name, five, id_name, no_words, one, three, two, word,
+    Descriptor, EventName, Form, Label, LaneNumber, LineNumber, Namespace, NewNamespace, Parent,
+    Process, Reason, Task, altered_name, five, id_name, no_words, one, three, two, word,
 };
 use std::alloc::Global;
 
@@ -31,8 +32,10 @@ pub(crate) enum Parsed {
     Namespace { number: u32, root: Id, parent: u32 },
     /// It creates a first task, which is a declaration too.
     Starts(Content),
-    /// It is a call, a question or an event.
-    Holds(Content),
+    /// It opens a lane, or continues it.
+    Lane(u32),
+    /// It is a call, a question or an event, with the task that acts by it.
+    Holds { by: Option<u32>, content: Content },
 }
 
 /// A line of this form, where these files are declared before it.
@@ -66,10 +69,17 @@ pub(crate) fn parse_form(
                 parent,
             })
         }
-        Form::Task(task) => Ok(Parsed::Holds(content_of(alloc, files, task, words)?)),
+        Form::Lane => Ok(Parsed::Lane(one::<LaneNumber>(words)?)),
+        Form::Task(task) => Ok(Parsed::Holds {
+            by: Some(task),
+            content: content_of(alloc, files, task, words)?,
+        }),
         Form::Event(name) => {
             let event = event_of(alloc, files, name, words)?;
-            Ok(Parsed::Holds(Content::One(event)))
+            Ok(Parsed::Holds {
+                by: event_actor(&event),
+                content: Content::One(event),
+            })
         }
     }
 }

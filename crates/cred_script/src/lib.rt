@@ -15,6 +15,7 @@ mod file_line;
 mod files;
 mod forms;
 mod id_calls;
+mod lanes;
 mod namespaces;
 mod parts;
 mod questions;

@@ -1,5 +1,5 @@
 //! What was read of a script, and one more line of it.
-ghost use Rattle.std.specs.Prelude.{◌≡◌, ◌<◌, ◌+◌, IfErr, OnOk, length};
+ghost use Rattle.std.specs.Prelude.{◌≡◌, ◌<◌, ◌≤◌, ◌+◌, IfErr, OnOk, length};
 ghost use Rattle.cred_model.specs.Script.{SetupFirst};
 ghost use Rattle.cred_spelling.specs.Lines.{is_printable};
 ghost use Rattle.cred_spelling.specs.Read.{Says, nows};
@@ -7,10 +7,13 @@ ghost use Rattle.cred_script.specs.Grammar as grammar;
 ghost use Rattle.cred_script.specs.Grammar.{at_line};
 ghost use Rattle.cred_script.specs.Read.{Gives, GivesLine};
 ghost use Rattle.cred_script.specs.Reading as spec;
-ghost use Rattle.cred_script.specs.Sound.{IsNext, IsParsed};
+ghost use Rattle.cred_script.specs.Sound.{IsHeld, IsNext, IsParsed};
+ghost use Rattle.cred_spelling.specs.Spellings.{LAST_LANE};
+ghost use Rattle.cred_event.specs.declared.content.Content.TheVariants.{Nothing};
 
 use crate::files::Files;
 use crate::forms::{Parsed, parse_form};
+use crate::lanes::Lanes;
 use crate::namespaces::Namespaces;
 use crate::refusal::{LineRefusal, ScriptRefusal};
 use crate::script::{Script, ScriptLine};
@@ -26,8 +29,9 @@ pub(crate) struct Reading {
     files: Files,
     namespaces: Namespaces,
     lines: Vec<ScriptLine>,
-    /// A call or an event stands there, so that nothing more may be declared.
+    /// A call, an event or a lane line stands there, so that nothing more may be declared.
     is_used: bool,
+    lanes: Lanes,
 }
 
 impl Model for Reading {
@@ -42,9 +46,10 @@ impl Model for Reading {
       namespaces = r.namespaces;
       lines = r.lines.items;
       is_used = r.is_used;
+      lanes = r.lanes;
     } };
 
-    ghost invariant = { λ r. IsReading (length r.files) r.namespaces r.lines.items };
+    ghost invariant = { λ r. IsReading (length r.files) r.namespaces r.lanes r.lines.items };
 }
 
 impl Reading {
@@ -57,6 +62,7 @@ impl Reading {
             namespaces: Namespaces::new(alloc),
             lines: Vec::new(alloc),
             is_used: false,
+            lanes: Lanes::new(alloc),
         }
     }
 
@@ -144,11 +150,34 @@ impl Reading {
                 Ok(())
             }
             Parsed::Starts(content) => self.push(content),
-            Parsed::Holds(content) => {
-                self.is_used = true;
-                self.push(content)
-            }
+            Parsed::Lane(number) => self.open_lane(number),
+            Parsed::Holds { by, content } => self.hold(by, content),
         }
+    }
+
+    /// One more line, which opens this lane and belongs to it.
+    fn open_lane(&mut self, number: u32) -> Result<(), LineRefusal>
+        requires few { length self.old.lines < LINE_LIMIT }
+        requires lane { (1 ≤ number) × (number ≤ LAST_LANE) }
+        ensures ok { OnOk result (self.new ≡ spec.push (spec.in_lane self.old number) Nothing) }
+        ensures err { IfErr result (λ e. e ≡ LineRefusal.Memory) }
+    {
+        self.is_used = true;
+        self.lanes.open(number);
+        self.push(Content::Nothing)
+    }
+
+    /// One more line, which holds this, and by which this task acts.
+    fn hold(&mut self, by: Option<u32>, content: Content) -> Result<(), LineRefusal>
+        requires few { length self.old.lines < LINE_LIMIT }
+        requires sound { IsHeld self.old by content }
+        ensures ok { OnOk result
+            (self.new ≡ spec.push (spec.used_by self.old by content) content) }
+        ensures err { IfErr result (λ e. e ≡ LineRefusal.Memory) }
+    {
+        self.is_used = true;
+        self.lanes.name(by, &content)?;
+        self.push(content)
     }
 
     /// One more line, which holds this.
@@ -158,7 +187,8 @@ impl Reading {
         ensures ok { OnOk result (self.new ≡ spec.push self.old content) }
         ensures err { IfErr result (λ e. e ≡ LineRefusal.Memory) }
     {
-        self.lines.push(ScriptLine { lane: 0, content })?;
+        let lane = self.lanes.current();
+        self.lines.push(ScriptLine { lane, content })?;
         Ok(())
     }
 
@@ -215,37 +245,52 @@ impl Reading {
         Ok(line)
     }
 
-    /// The line may stand here: no declaration stands after a call or an event, and then the
-    /// names are asked.
+    /// The line may stand here: no declaration stands after a call, an event or a lane line, then
+    /// the names are asked, and then the lanes.
     fn admits(&self, line: &Parsed) -> Result<(), Reason>
         ensures { Says (λ x. x) result (spec.admits self.now line.now) }
     {
         if is_declaration(line) && self.is_used {
             Err(Reason::Order)
+        } else if !self.has_names(line) {
+            Err(Reason::Name)
+        } else if !self.is_apart(line) {
+            Err(Reason::Lane)
         } else {
-            self.names_declared(line)
+            Ok(())
         }
     }
 
     /// The names that the line uses are declared, and the one that it declares is not.
-    fn names_declared(&self, line: &Parsed) -> Result<(), Reason>
-        ensures { Says (λ x. x) result (spec.names_declared self.now line.now) }
+    fn has_names(&self, line: &Parsed) -> bool
+        ensures { result ≡ spec.has_names self.now line.now }
     {
-        let good = match line {
-            Parsed::Empty => true,
+        match line {
+            Parsed::Empty | Parsed::Lane(_) => true,
             Parsed::File(file) => self.files.place_of(&file.name).is_none(),
             Parsed::Namespace { number, parent, .. } => {
                 self.namespaces.has(*parent) && !self.namespaces.has(*number)
             }
-            Parsed::Starts(content) | Parsed::Holds(content) => {
+            Parsed::Starts(content) | Parsed::Holds { content, .. } => {
                 has_namespaces(&self.namespaces, content) && has_files(&self.files, content)
             }
-        };
-        if good { Ok(()) } else { Err(Reason::Name) }
+        }
+    }
+
+    /// No line of another lane but the setup has named the task that acts by the line, or a label
+    /// of it.
+    fn is_apart(&self, line: &Parsed) -> bool
+        ensures { result ≡ spec.is_apart self.now line.now }
+    {
+        match line {
+            Parsed::Holds { by, content } => self.lanes.may_name(*by, content),
+            _ => true,
+        }
     }
 }
 
-/// Whether the line declares something, so that it has to stand before all calls and events.
+/// Whether the line declares something, so that it has to stand before all calls, events and lane
+/// lines.
 fn is_declaration(line: &Parsed) -> bool
     ensures { result ≡ spec.is_declaration line.now }
 {

@@ -6,8 +6,10 @@ ghost use Rattle.cred_model.specs.Named.{IsContentOf};
 ghost use Rattle.cred_model.specs.Script.{SetupFirst, chain_in};
 ghost use Rattle.cred_script.specs.Files as spec;
 ghost use Rattle.cred_script.specs.Grammar.{line_at};
+ghost use Rattle.cred_script.specs.Lanes.{lanes};
 ghost use Rattle.cred_script.specs.Read.{seen};
 ghost use Rattle.cred_script.specs.Sound.{IsSound};
+ghost use Rattle.cred_spelling.specs.Spellings.{LAST_LANE};
 
 use crate::files::{FILES, Files};
 use crate::namespaces::Namespaces;
@@ -63,6 +65,18 @@ impl Script {
         ensures setup { SetupFirst self.now }
     {
         self.lines.len() as u32
+    }
+
+    /// The greatest number of a lane that a lane line names, from 1 to 16; 0 where there is none.
+    pub fn lanes(&self) -> u32
+        ensures greatest { result ≡ lanes self.now.lines }
+        ensures few { result ≤ LAST_LANE }
+    {
+        let mut greatest = 0;
+        for line in &self.lines {
+            greatest = greatest.max(line.lane);
+        }
+        greatest
     }
 
     /// The name of the file at this place, counted from 0 in the order of the lines that declare

@@ -120,6 +120,10 @@ LAST_NAMESPACE = 15
 abbrev pub LAST_LINE : ℕ
 LAST_LINE = 20000
 
+-- the last number of a lane
+abbrev pub LAST_LANE : ℕ
+LAST_LANE = 16
+
 -- a task, as `t1`
 abbrev pub task_of : List ℕ → Option ℕ
 task_of word = numbered (letter (codes "t")) 1 LAST_NUMBER word
@@ -151,6 +155,10 @@ parent_of word = number_within 0 LAST_NAMESPACE word
 -- the number of a line
 abbrev pub line_number_of : List ℕ → Option ℕ
 line_number_of word = number_within 1 LAST_LINE word
+
+-- the number of a lane
+abbrev pub lane_number_of : List ℕ → Option ℕ
+lane_number_of word = number_within 1 LAST_LANE word
 
 -- a letter of either case
 abbrev pub is_letter : ℕ → Bool

@@ -149,6 +149,19 @@ impl Spelling for LineNumber {
     }
 }
 
+/// The number of a lane, from 1 to 16.
+pub enum LaneNumber {}
+
+impl Spelling for LaneNumber {
+    type Value = u32;
+
+    ghost spelled = { spec.lane_number_of };
+
+    fn of(word: &[u8]) -> Option<u32> {
+        spellings::lane_number_of(word)
+    }
+}
+
 impl Spelling for Id {
     type Value = Id;
 

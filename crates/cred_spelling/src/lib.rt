@@ -20,8 +20,8 @@ mod words;
 pub use bytes::bytes_of;
 pub use file_name::name_of;
 pub use kinds::{
-    Cap, Descriptor, Label, LineNumber, Namespace, NewNamespace, Number, Parent, Process, Spelling,
-    Task,
+    Cap, Descriptor, Label, LaneNumber, LineNumber, Namespace, NewNamespace, Number, Parent,
+    Process, Spelling, Task,
 };
 pub use lines::{first_line, line_count};
 pub use long::long_of;

@@ -15,6 +15,8 @@ pub enum Form {
     File,
     /// A user namespace is declared.
     Namespace,
+    /// A lane is opened or continued.
+    Lane,
     /// A call or a question of the task.
     Task(u32),
     /// An event.
@@ -121,10 +123,11 @@ pub enum CallName {
     Other(OtherName),
 }
 
-static FORMS: [(&str, Form); 17] = [
+static FORMS: [(&str, Form); 18] = [
     ("init", Form::Init),
     ("file", Form::File),
     ("ns", Form::Namespace),
+    ("lane", Form::Lane),
     ("take", Form::Event(EventName::Take)),
     ("takereal", Form::Event(EventName::TakeReal)),
     ("takefile", Form::Event(EventName::TakeFile)),

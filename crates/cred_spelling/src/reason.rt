@@ -9,10 +9,10 @@ pub enum Reason {
     Word,
     /// It has too many words, or too few; or it declares a file after 256 others.
     Count,
-    /// It declares something, and stands after a call or an event.
+    /// It declares something, and stands after a call, an event or a lane line.
     Order,
     /// A name is used before it is declared, or declared a second time.
     Name,
-    /// It names what a line of another lane has named.
+    /// It names a task that acts, or a label, which a line of another lane has named.
     Lane,
 }

@@ -22,6 +22,9 @@ const LAST_NAMESPACE: u32 = 15;
 /// The last number of a line.
 const LAST_LINE: u32 = 20_000;
 
+/// The last number of a lane.
+const LAST_LANE: u32 = 16;
+
 /// Whether the word is this text.
 pub fn is(word: &[u8], text: &str) -> bool
     ensures { result ≡ bytes_eq word.now text.now }
@@ -216,6 +219,13 @@ pub(crate) fn line_number_of(word: &[u8]) -> Option<u32>
     ensures { result ≡ spec.line_number_of word.now }
 {
     number_within(1, LAST_LINE, word)
+}
+
+/// The number of a lane.
+pub(crate) fn lane_number_of(word: &[u8]) -> Option<u32>
+    ensures { result ≡ spec.lane_number_of word.now }
+{
+    number_within(1, LAST_LANE, word)
 }
 
 /// A letter, and a number from the least to the most.

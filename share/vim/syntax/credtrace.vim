@@ -6,7 +6,7 @@ endif
 " No keyword of a name: a file may be called like an event.
 syntax match credtraceComment /^ *#.*/
 syntax match credtraceLine /^\d\+\ze / nextgroup=credtraceEvent,credtraceTask skipwhite
-syntax match credtraceDeclares /^ *\zs\%(file\|ns\|init\)\ze /
+syntax match credtraceDeclares /^ *\zs\%(file\|ns\|init\|lane\)\ze /
 syntax match credtraceEvent /\%(^ *\|^\d\+ \)\zs\%(init\|take\|takereal\|takefile\|drop\|ask\)\>/
 syntax match credtraceEvent /\%(^ *\|^\d\+ \)\zs\%(prepare\|change\|commit\|abort\)\>/
 syntax match credtraceEvent /\%(^ *\|^\d\+ \)\zs\%(override\|revert\|begin\|act\|sweep\)\>/

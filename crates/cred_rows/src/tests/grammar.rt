@@ -1,5 +1,6 @@
 //! What the reader answers at the edges of the grammar.
 mod files;
+mod lanes;
 mod opens;
 mod tasks;
 

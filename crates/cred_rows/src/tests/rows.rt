@@ -7,7 +7,7 @@ use std::test::Fail;
 /// A script, how the program must end on it, and what it must write.
 pub(crate) type Row = (&'static str, Status, &'static str);
 
-const ROWS: [Row; 13] = [
+const ROWS: [Row; 15] = [
     ("", Status::Done, ""),
     (
         // A root task that sets its three user ids to another's loses all that root has.
@@ -183,6 +183,25 @@ const ROWS: [Row; 13] = [
          15 drop h1 -> ok\n\
          16 sweep -> ok\n\
          17 drop h1 -> no hold h1\n",
+    ),
+    (
+        // Lines of two lanes run whole, in the script's order.
+        "init t1 p1 0 0 n0\ninit t2 p2 1000 1000 n0\nlane 1\nt1 ids\nlane 2\nt2 ids\n",
+        Status::Done,
+        "1 init t1 p1 0 0 n0 -> ok c0 s0\n\
+         2 init t2 p2 1000 1000 n0 -> ok c1 s1\n\
+         4 take h100040 t1 -> ok c0 s0\n\
+         4 ask h100040 ids -> ok 0 0 0 0 0 0 0 0\n\
+         4 drop h100040 -> ok\n\
+         6 take h100060 t2 -> ok c1 s1\n\
+         6 ask h100060 ids -> ok 1000 1000 1000 1000 1000 1000 1000 1000\n\
+         6 drop h100060 -> ok\n",
+    ),
+    (
+        // A task acts in one lane alone.
+        "init t1 p1 0 0 n0\ninit t2 p2 1000 1000 n0\nlane 1\nt1 ids\nlane 2\nt2 ids\nt1 ids\n",
+        Status::Bad,
+        "bad 7 lane\n",
     ),
 ];
 
