@@ -3,14 +3,21 @@ ghost use Rattle.std.specs.Prelude.{◌≡◌, ℕ, List};
 ghost use Rattle.std.specs.declared.option.Option.{Option};
 ghost use Rattle.cred_spelling.specs.Spellings as spec;
 
-use crate::spellings::{
-    LAST_LINE, LAST_NAMESPACE, LAST_NUMBER, cap_named, hexadecimal, is, number_of, number_within,
-    numbered,
-};
+use crate::spellings::{cap_named, hexadecimal, is, number_of, number_within, numbered};
 use crate::table::named;
 use cred_caps::CapSet;
 use cred_ids::{Arg, Id};
 use cred_record::{FileKind, Want};
+
+/// The last number of a task, a process, a label or a descriptor. Greater labels are those that a
+/// line takes for itself.
+const LAST_NUMBER: u32 = 99999;
+
+/// The last number of a namespace.
+const LAST_NAMESPACE: u32 = 15;
+
+/// The last number of a line.
+const LAST_LINE: u32 = 20_000;
 
 /// A kind of words, and what such a word spells.
 pub trait Spelling {

@@ -9,16 +9,6 @@ ghost use Rattle.cred_spelling.specs.Spellings as spec;
 use cred_caps::cap_of_name;
 use std::str;
 
-/// The last number of a task, a process, a label or a descriptor. Greater labels are those that a
-/// line takes for itself.
-pub(crate) const LAST_NUMBER: u32 = 99999;
-
-/// The last number of a namespace.
-pub(crate) const LAST_NAMESPACE: u32 = 15;
-
-/// The last number of a line.
-pub(crate) const LAST_LINE: u32 = 20_000;
-
 /// Whether the word is this text.
 pub fn is(word: &[u8], text: &str) -> bool
     ensures { result ≡ bytes_eq word.now text.now }
@@ -193,6 +183,6 @@ pub fn mode_of(word: &[u8]) -> Option<u16>
             let high = 512 * octal_of(*a)? + 64 * octal_of(*b)?;
             Some(high + 8 * octal_of(*c)? + octal_of(*d)?)
         }
-        _ => None,
+        [] | [_] | [_, _] | [_, _, _] | [_, _, _, _, _, ..] => None,
     }
 }
