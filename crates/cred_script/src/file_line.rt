@@ -1,10 +1,10 @@
 //! The lines that declare files.
 ghost use Rattle.std.specs.Prelude.{◌≡◌};
-ghost use Rattle.cred_spelling.specs.Read.{Says, nows};
+ghost use Rattle.cred_spelling.specs.Read.{nows};
 ghost use Rattle.cred_script.specs.Files as spec;
 ghost use Rattle.cred_script.specs.Read.{GivesLine};
 
-use crate::files::{Files, ScriptFile};
+use crate::files::{FILES, Files, ScriptFile};
 use crate::refusal::LineRefusal;
 use cred_ids::Id;
 use cred_record::{Attr, FileInfo, FileKind};
@@ -26,22 +26,12 @@ pub(crate) fn file_of(
 ) -> Result<ScriptFile, LineRefusal>
     ensures { GivesLine (λ file. file) result (spec.file_of files.now (nows words.now)) }
 {
-    if files.is_full() {
+    let has_room = files.len() < FILES;
+    let has_count = LEAST_WORDS <= words.len() && words.len() <= MOST_WORDS;
+    if !has_room || !has_count {
         return Err(LineRefusal::Bad(Reason::Count));
     }
-    has_count(words)?;
     declared_of(alloc, words)
-}
-
-/// The words are as many as such a line may have.
-fn has_count(words: &[&[u8]]) -> Result<(), Reason>
-    ensures { Says (λ x. x) result (spec.has_count (nows words.now)) }
-{
-    if LEAST_WORDS <= words.len() && words.len() <= MOST_WORDS {
-        Ok(())
-    } else {
-        Err(Reason::Count)
-    }
 }
 
 /// `NAME KIND ID ID MODE`, and what may follow.
@@ -83,7 +73,7 @@ fn info_of(alloc: Global, words: &[&[u8]]) -> Result<FileInfo, LineRefusal>
                 attr,
             })
         }
-        _ => Err(LineRefusal::Bad(Reason::Count)),
+        [] | [_] | [_, _] | [_, _, _] => Err(LineRefusal::Bad(Reason::Count)),
     }
 }
 
@@ -130,6 +120,6 @@ fn attr_of(alloc: Global, words: &[&[u8]]) -> Result<Option<Attr>, LineRefusal>
                 None => Err(LineRefusal::Bad(Reason::Word)),
             }
         }
-        _ => Err(LineRefusal::Bad(Reason::Word)),
+        [_] | [_, _, _, ..] => Err(LineRefusal::Bad(Reason::Word)),
     }
 }

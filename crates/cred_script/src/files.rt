@@ -1,6 +1,6 @@
 //! The files that a script declares.
 ghost use Rattle.std.specs.Prelude.{◌≡◌, ◌<◌, ◌∷◌, ◌++◌, [], IfSome, None, Some, OnErr, OnOk};
-ghost use Rattle.std.specs.Prelude.{length, nat_lt, not, slice_get};
+ghost use Rattle.std.specs.Prelude.{length, slice_get};
 ghost use Rattle.std.specs.Option.{option_map};
 ghost use Rattle.cred_spelling.specs.Read.{Says};
 ghost use Rattle.cred_script.specs.Files as spec;
@@ -65,13 +65,6 @@ impl Files {
         ensures { result ≡ length self.now }
     {
         self.by_name.len()
-    }
-
-    /// Whether there are as many as there may be.
-    pub(crate) fn is_full(&self) -> bool
-        ensures { result ≡ not (nat_lt (length self.now) FILES) }
-    {
-        self.by_name.len() >= FILES
     }
 
     /// The place of the file of this name, or none.

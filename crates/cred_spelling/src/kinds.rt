@@ -3,10 +3,24 @@ ghost use Rattle.std.specs.Prelude.{◌≡◌, ℕ, List};
 ghost use Rattle.std.specs.declared.option.Option.{Option};
 ghost use Rattle.cred_spelling.specs.Spellings as spec;
 
-use crate::spellings;
+use crate::spellings::{cap_named, hexadecimal, is, number_of, number_within, numbered};
+use crate::table::named;
 use cred_caps::CapSet;
 use cred_ids::{Arg, Id};
 use cred_record::{FileKind, Want};
+
+/// The last number of a task, a process, a label or a descriptor. Greater labels are those that a
+/// line takes for itself.
+const LAST_NUMBER: u32 = 99999;
+
+/// The last number of a namespace.
+const LAST_NAMESPACE: u32 = 15;
+
+/// The last number of a line.
+const LAST_LINE: u32 = 20_000;
+
+/// The last number of a lane.
+const LAST_LANE: u32 = 16;
 
 /// A kind of words, and what such a word spells.
 pub trait Spelling {
@@ -28,7 +42,7 @@ impl Spelling for Number {
     ghost spelled = { spec.number_of };
 
     fn of(word: &[u8]) -> Option<u32> {
-        spellings::number_of(word)
+        number_of(word)
     }
 }
 
@@ -41,7 +55,10 @@ impl Spelling for Cap {
     ghost spelled = { spec.cap_of };
 
     fn of(word: &[u8]) -> Option<u32> {
-        spellings::cap_of(word)
+        if let Some(number) = number_of(word) {
+            return Some(number);
+        }
+        cap_named(word)
     }
 }
 
@@ -54,7 +71,7 @@ impl Spelling for Task {
     ghost spelled = { spec.task_of };
 
     fn of(word: &[u8]) -> Option<u32> {
-        spellings::task_of(word)
+        numbered(b't', 1, LAST_NUMBER, word)
     }
 }
 
@@ -67,7 +84,7 @@ impl Spelling for Process {
     ghost spelled = { spec.process_of };
 
     fn of(word: &[u8]) -> Option<u32> {
-        spellings::process_of(word)
+        numbered(b'p', 1, LAST_NUMBER, word)
     }
 }
 
@@ -80,7 +97,7 @@ impl Spelling for Label {
     ghost spelled = { spec.label_of };
 
     fn of(word: &[u8]) -> Option<u32> {
-        spellings::label_of(word)
+        numbered(b'h', 1, LAST_NUMBER, word)
     }
 }
 
@@ -93,7 +110,7 @@ impl Spelling for Descriptor {
     ghost spelled = { spec.descriptor_of };
 
     fn of(word: &[u8]) -> Option<u32> {
-        spellings::descriptor_of(word)
+        numbered(b'f', 1, LAST_NUMBER, word)
     }
 }
 
@@ -106,7 +123,7 @@ impl Spelling for Namespace {
     ghost spelled = { spec.namespace_of };
 
     fn of(word: &[u8]) -> Option<u32> {
-        spellings::namespace_of(word)
+        numbered(b'n', 0, LAST_NAMESPACE, word)
     }
 }
 
@@ -119,7 +136,7 @@ impl Spelling for NewNamespace {
     ghost spelled = { spec.new_namespace_of };
 
     fn of(word: &[u8]) -> Option<u32> {
-        spellings::new_namespace_of(word)
+        number_within(1, LAST_NAMESPACE, word)
     }
 }
 
@@ -132,7 +149,7 @@ impl Spelling for Parent {
     ghost spelled = { spec.parent_of };
 
     fn of(word: &[u8]) -> Option<u32> {
-        spellings::parent_of(word)
+        number_within(0, LAST_NAMESPACE, word)
     }
 }
 
@@ -145,7 +162,7 @@ impl Spelling for LineNumber {
     ghost spelled = { spec.line_number_of };
 
     fn of(word: &[u8]) -> Option<u32> {
-        spellings::line_number_of(word)
+        number_within(1, LAST_LINE, word)
     }
 }
 
@@ -158,7 +175,7 @@ impl Spelling for LaneNumber {
     ghost spelled = { spec.lane_number_of };
 
     fn of(word: &[u8]) -> Option<u32> {
-        spellings::lane_number_of(word)
+        number_within(1, LAST_LANE, word)
     }
 }
 
@@ -168,7 +185,7 @@ impl Spelling for Id {
     ghost spelled = { spec.id_of };
 
     fn of(word: &[u8]) -> Option<Id> {
-        spellings::id_of(word)
+        Id::new(number_of(word)?)
     }
 }
 
@@ -178,7 +195,10 @@ impl Spelling for Arg {
     ghost spelled = { spec.arg_of };
 
     fn of(word: &[u8]) -> Option<Arg> {
-        spellings::arg_of(word)
+        if is(word, "-1") {
+            return Some(Arg::Keep);
+        }
+        Some(Arg::Set(Id::of(word)?))
     }
 }
 
@@ -188,26 +208,92 @@ impl Spelling for CapSet {
     ghost spelled = { spec.set_of };
 
     fn of(word: &[u8]) -> Option<CapSet> {
-        spellings::set_of(word)
+        if word.is_empty() || 16 < word.len() {
+            return None;
+        }
+        CapSet::of_bits(hexadecimal(word)?)
     }
 }
+
+static KINDS: [(&str, FileKind); 2] = [("reg", FileKind::Regular), ("dir", FileKind::Directory)];
 
 impl Spelling for FileKind {
     type Value = FileKind;
 
     ghost spelled = { spec.kind_of };
 
+    #[tactic(auto, unfolding(crate::specs::Spellings::kinds))]
     fn of(word: &[u8]) -> Option<FileKind> {
-        spellings::kind_of(word)
+        named(&KINDS, word)
     }
 }
+
+static WANTS: [(&str, Want); 7] = [
+    (
+        "r",
+        Want {
+            r: true,
+            w: false,
+            x: false,
+        },
+    ),
+    (
+        "w",
+        Want {
+            r: false,
+            w: true,
+            x: false,
+        },
+    ),
+    (
+        "x",
+        Want {
+            r: false,
+            w: false,
+            x: true,
+        },
+    ),
+    (
+        "rw",
+        Want {
+            r: true,
+            w: true,
+            x: false,
+        },
+    ),
+    (
+        "rx",
+        Want {
+            r: true,
+            w: false,
+            x: true,
+        },
+    ),
+    (
+        "wx",
+        Want {
+            r: false,
+            w: true,
+            x: true,
+        },
+    ),
+    (
+        "rwx",
+        Want {
+            r: true,
+            w: true,
+            x: true,
+        },
+    ),
+];
 
 impl Spelling for Want {
     type Value = Want;
 
     ghost spelled = { spec.want_of };
 
+    #[tactic(auto, unfolding(crate::specs::Spellings::wants))]
     fn of(word: &[u8]) -> Option<Want> {
-        spellings::want_of(word)
+        named(&WANTS, word)
     }
 }

@@ -2,7 +2,8 @@
 ghost use Rattle.std.specs.Prelude.{◌≡◌};
 ghost use Rattle.cred_spelling.specs.Names as spec;
 
-use crate::spellings::{is, task_of};
+use crate::kinds::{Spelling, Task};
+use crate::spellings::is;
 use crate::table::named;
 use cred_ids::Kind;
 
@@ -197,7 +198,7 @@ static OTHER_NAMES: [(&str, OtherName); 8] = [
 pub fn form_of(word: &[u8]) -> Option<Form>
     ensures { result ≡ spec.form_of word.now }
 {
-    if let Some(task) = task_of(word) {
+    if let Some(task) = Task::of(word) {
         return Some(Form::Task(task));
     }
     named(&FORMS, word)

@@ -1,5 +1,5 @@
 use Rattle.std.proofs.Common.{rules}
-use Rattle.cred_spelling.proofs.spellings.id_of.Goals as goal
+use Rattle.cred_spelling.proofs.kinds.CapSetSpelling.of.Goals as goal
 
 pub returns : goal.returns
 returns c = search rules
