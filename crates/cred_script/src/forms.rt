@@ -147,7 +147,7 @@ fn ask_of(files: &Files, words: &[&[u8]]) -> Result<Event, LineRefusal>
             let label = word::<Label>(label)?;
             Ok(Event::Ask { label, query })
         }
-        [] | [_] => Err(LineRefusal::Bad(Reason::Count)),
+        _ => Err(LineRefusal::Bad(Reason::Count)),
     }
 }
 
@@ -165,7 +165,7 @@ fn alter_of(files: &Files, words: &[&[u8]]) -> Result<Event, LineRefusal>
             let label = word::<Label>(label)?;
             Ok(Event::Alter { label, change })
         }
-        [] | [_] => Err(LineRefusal::Bad(Reason::Count)),
+        _ => Err(LineRefusal::Bad(Reason::Count)),
     }
 }
 
@@ -192,6 +192,6 @@ fn begin_of(alloc: Global, words: &[&[u8]]) -> Result<Event, LineRefusal>
             let task = word::<Task>(task)?;
             Ok(Event::Begin { task, call })
         }
-        [] | [_] => Err(LineRefusal::Bad(Reason::Count)),
+        _ => Err(LineRefusal::Bad(Reason::Count)),
     }
 }
