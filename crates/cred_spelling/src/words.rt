@@ -135,11 +135,10 @@ pub fn five<A: Spelling, B: Spelling, C: Spelling, D: Spelling, E: Spelling>(
         (spec.five_of A.spelled B.spelled C.spelled D.spelled E.spelled (nows words.now)) }
 {
     match words {
-        [a, b, c, d, e] => {
-            let (v, w) = two::<A, B>(&[*a, *b])?;
-            let (x, y, z) = three::<C, D, E>(&[*c, *d, *e])?;
-            Ok((v, w, x, y, z))
-        }
+        [a, b, c, d, e] => match (two::<A, B>(&[*a, *b]), three::<C, D, E>(&[*c, *d, *e])) {
+            (Ok((v, w)), Ok((x, y, z))) => Ok((v, w, x, y, z)),
+            (Err(reason), _) | (_, Err(reason)) => Err(reason),
+        },
         _ => Err(Reason::Count),
     }
 }
