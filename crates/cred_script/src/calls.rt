@@ -127,6 +127,6 @@ fn open_of(files: &Files, task: u32, words: &[&[u8]]) -> Result<Content, Reason>
                 fd,
             })
         }
-        [] | [_] | [_, _] | [_, _, _, _, ..] => Err(Reason::Count),
+        _ => Err(Reason::Count),
     }
 }

@@ -41,6 +41,6 @@ fn exec_of(files: &Files, words: &[&[u8]]) -> Result<Change, Reason>
         [name] => Ok(Change::Exec {
             file: files.file_at(name)?,
         }),
-        [] | [_, _, ..] => Err(Reason::Count),
+        _ => Err(Reason::Count),
     }
 }

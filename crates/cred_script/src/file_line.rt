@@ -73,7 +73,7 @@ fn info_of(alloc: Global, words: &[&[u8]]) -> Result<FileInfo, LineRefusal>
                 attr,
             })
         }
-        [] | [_] | [_, _] | [_, _, _] => Err(LineRefusal::Bad(Reason::Count)),
+        _ => Err(LineRefusal::Bad(Reason::Count)),
     }
 }
 
@@ -120,6 +120,6 @@ fn attr_of(alloc: Global, words: &[&[u8]]) -> Result<Option<Attr>, LineRefusal>
                 None => Err(LineRefusal::Bad(Reason::Word)),
             }
         }
-        [_] | [_, _, _, ..] => Err(LineRefusal::Bad(Reason::Word)),
+        _ => Err(LineRefusal::Bad(Reason::Word)),
     }
 }

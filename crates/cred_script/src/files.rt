@@ -75,22 +75,13 @@ impl Files {
         Some(self.by_name.get_index_of(name)? as u32)
     }
 
-    /// The place of the file of this name, or, where none has it, the next one that a file may
-    /// take.
-    pub(crate) fn place_or_next(&self, name: &str) -> u32
-        ensures { result ≡ spec.place_or_next self.now name.now }
-    {
-        match self.place_of(name) {
-            Some(place) => place,
-            None => self.by_name.len() as u32,
-        }
-    }
-
-    /// The file that the word names, by its place.
+    /// The file that the word names, by its place, or, where none has that name, the next place that
+    /// a file may take.
     pub(crate) fn file_at(&self, word: &[u8]) -> Result<u32, Reason>
         ensures { Says (λ place. place) result (spec.file_at self.now word.now) }
     {
-        Ok(self.place_or_next(name_of(word)?))
+        let name = name_of(word)?;
+        Ok(self.place_of(name).unwrap_or(self.by_name.len() as u32))
     }
 
     /// The name of the file at this place; none past the last. No other file has it.

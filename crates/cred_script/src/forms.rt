@@ -157,7 +157,7 @@ fn ask_of(files: &Files, words: &[&[u8]]) -> Result<Event, LineRefusal>
             let label = word::<Label>(label)?;
             Ok(Event::Ask { label, query })
         }
-        [] | [_] => Err(LineRefusal::Bad(Reason::Count)),
+        _ => Err(LineRefusal::Bad(Reason::Count)),
     }
 }
 
@@ -175,7 +175,7 @@ fn alter_of(files: &Files, words: &[&[u8]]) -> Result<Event, LineRefusal>
             let label = word::<Label>(label)?;
             Ok(Event::Alter { label, change })
         }
-        [] | [_] => Err(LineRefusal::Bad(Reason::Count)),
+        _ => Err(LineRefusal::Bad(Reason::Count)),
     }
 }
 
@@ -202,6 +202,6 @@ fn begin_of(alloc: Global, words: &[&[u8]]) -> Result<Event, LineRefusal>
             let task = word::<Task>(task)?;
             Ok(Event::Begin { task, call })
         }
-        [] | [_] => Err(LineRefusal::Bad(Reason::Count)),
+        _ => Err(LineRefusal::Bad(Reason::Count)),
     }
 }

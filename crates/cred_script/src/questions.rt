@@ -14,7 +14,7 @@ pub(crate) fn file_and_want(files: &Files, words: &[&[u8]]) -> Result<(u32, Want
 {
     match words {
         [name, want] => Ok((files.file_at(name)?, word::<Want>(want)?)),
-        [] | [_] | [_, _, _, ..] => Err(Reason::Count),
+        _ => Err(Reason::Count),
     }
 }
 

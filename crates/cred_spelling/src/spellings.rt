@@ -183,6 +183,6 @@ pub fn mode_of(word: &[u8]) -> Option<u16>
             let high = 512 * octal_of(*a)? + 64 * octal_of(*b)?;
             Some(high + 8 * octal_of(*c)? + octal_of(*d)?)
         }
-        [] | [_] | [_, _] | [_, _, _] | [_, _, _, _, _, ..] => None,
+        _ => None,
     }
 }

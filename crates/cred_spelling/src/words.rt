@@ -79,7 +79,7 @@ pub fn one<A: Spelling>(words: &[&[u8]]) -> Result<A::Value, Reason>
 {
     match words {
         [a] => word::<A>(a),
-        [] | [_, _, ..] => Err(Reason::Count),
+        _ => Err(Reason::Count),
     }
 }
 
@@ -97,7 +97,7 @@ pub fn two<A: Spelling, B: Spelling>(words: &[&[u8]]) -> Result<(A::Value, B::Va
             (Some(x), Some(y)) => Ok((x, y)),
             _ => Err(Reason::Word),
         },
-        [] | [_] | [_, _, _, ..] => Err(Reason::Count),
+        _ => Err(Reason::Count),
     }
 }
 
@@ -118,7 +118,7 @@ pub fn three<A: Spelling, B: Spelling, C: Spelling>(
             (Some(x), Some(y), Some(z)) => Ok((x, y, z)),
             _ => Err(Reason::Word),
         },
-        [] | [_] | [_, _] | [_, _, _, _, ..] => Err(Reason::Count),
+        _ => Err(Reason::Count),
     }
 }
 
@@ -135,11 +135,10 @@ pub fn five<A: Spelling, B: Spelling, C: Spelling, D: Spelling, E: Spelling>(
         (spec.five_of A.spelled B.spelled C.spelled D.spelled E.spelled (nows words.now)) }
 {
     match words {
-        [a, b, c, d, e] => {
-            let (v, w) = two::<A, B>(&[*a, *b])?;
-            let (x, y, z) = three::<C, D, E>(&[*c, *d, *e])?;
-            Ok((v, w, x, y, z))
-        }
-        [] | [_] | [_, _] | [_, _, _] | [_, _, _, _] | [_, _, _, _, _, _, ..] => Err(Reason::Count),
+        [a, b, c, d, e] => match (two::<A, B>(&[*a, *b]), three::<C, D, E>(&[*c, *d, *e])) {
+            (Ok((v, w)), Ok((x, y, z))) => Ok((v, w, x, y, z)),
+            (Err(reason), _) | (_, Err(reason)) => Err(reason),
+        },
+        _ => Err(Reason::Count),
     }
 }
