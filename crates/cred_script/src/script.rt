@@ -1,13 +1,13 @@
 //! A script: the files and the namespaces that it declares, and its lines, each with its lane and
 //! what it holds.
-ghost use Rattle.std.specs.Prelude.{◌≡◌, ◌≤◌, ◌<◌, IfSome, Some, length, slice_get};
+ghost use Rattle.std.specs.Prelude.{◌≡◌, ◌≤◌, ◌<◌, ◌+◌, IfSome, Some, length, slice_get};
 ghost use Rattle.std.specs.Option.{option_map};
 ghost use Rattle.cred_model.specs.Named.{IsContentOf};
 ghost use Rattle.cred_model.specs.Script.{SetupFirst, chain_in};
 ghost use Rattle.cred_script.specs.Files as spec;
 ghost use Rattle.cred_script.specs.Grammar.{line_at};
 ghost use Rattle.cred_script.specs.Read.{seen};
-ghost use Rattle.cred_script.specs.Sound.{IsSound};
+ghost use Rattle.cred_script.specs.Sound.{IsSound, IsSoundScript, LAST_LANE};
 
 use crate::files::{FILES, Files};
 use crate::namespaces::Namespaces;
@@ -15,6 +15,9 @@ use cred_event::{Content, LINE_LIMIT};
 use cred_ids::Id;
 use cred_record::FileInfo;
 use std::marker::Model;
+
+/// How many lanes there are: lane 0, the setup, and lanes 1 to 16.
+const LANES: u32 = 17;
 
 /// One line of a script.
 #[derive(Drop, Debug)]
@@ -63,6 +66,15 @@ impl Script {
         ensures setup { SetupFirst self.now }
     {
         self.lines.len() as u32
+    }
+
+    /// How many lanes the lines may have: each line's lane is less than this.
+    pub fn lanes(&self) -> u32
+        ensures count { result ≡ LAST_LANE + 1 }
+        ensures sound { IsSoundScript (length self.now.files) self.now.namespaces self.now.lines }
+    {
+        let _lines = &self.lines;
+        LANES
     }
 
     /// The name of the file at this place, counted from 0 in the order of the lines that declare
