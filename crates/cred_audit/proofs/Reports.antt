@@ -11,7 +11,6 @@ use Rattle.cred_report.specs.Text.{entry_text, text}
 use Rattle.cred_report.specs.Events.{event_text}
 use Rattle.cred_report.specs.Answers.{answer_text}
 use Rattle.cred_cursor.specs.Cursor.{IsSetup}
-use Rattle.cred_cursor.proofs.Stands.{cursor_in_order}
 use Rattle.cred_audit.specs.Report.{IsReport, Begins, IsFault}
 use Rattle.cred_audit.specs.Run.{IsAfter, GoesOn}
 use Rattle.cred_audit.specs.declared.run.Run.{Run}
@@ -147,7 +146,7 @@ pub record Compared (script : Script) (bytes rest : List ℕ) (entry : ℕ) (run
   pub few : entry + length rest ≤ length bytes + 1
 
 ordered_by : (script : Script) (journal : List Entry) (run : Run) → IsAfter script journal run → IsInOrder script journal
-ordered_by script journal run after = cursor_in_order script journal run.cursor after.cursor
+ordered_by script journal run after = after.cursor.in_order
 
 pub nothing_compared : (script : Script) (bytes : List ℕ) (run : Run) → IsAfter script [] run → Compared script bytes bytes 1 run
 nothing_compared script bytes run after = record {

@@ -1,5 +1,5 @@
 -- A run that goes on by an event, or has ended.
-use Rattle.std.proofs.Common.{◌≡◌, ℕ, true, List, [], ◌∷◌, ◌++◌, Option, Some, None, is_some, sym, ap, ◌∙◌, subst}
+use Rattle.std.proofs.Common.{◌≡◌, ℕ, true, List, Option, Some, None, is_some, sym, ap, ◌∙◌, subst}
 use Rattle.std.specs.Option.{IfSome, option_and_then}
 use Rattle.cred_event.specs.declared.event.Event.{Event}
 use Rattle.cred_event.specs.declared.answer.Answer.{Answer}
@@ -15,30 +15,30 @@ use Rattle.cred_model.proofs.Likes.{does_like}
 use Rattle.cred_sound.specs.Sound.{IsSound}
 use Rattle.cred_sound.proofs.Sound.{like_sound, sound_after}
 use Rattle.cred_script.specs.Grammar.{line_at}
-use Rattle.cred_cursor.specs.Cursor.{StandsOn, IsCursor, IsOfLine, Passes}
-use Rattle.cred_cursor.proofs.Courses.{line_is, of_line, next_due, goes_on}
-use Rattle.cred_cursor.proofs.Stands.{due_here, makes_due, none_next}
+use Rattle.cred_cursor.specs.Cursor.{IsCursor, IsOfLine, Passes}
+use Rattle.cred_cursor.proofs.Courses.{line_is, of_line}
+use Rattle.cred_cursor.proofs.Stands.{due_here, goes_in_order, makes_due, next_due, none_next}
 use Rattle.cred_audit.specs.Run.{IsAfter, IsRun, GoesOn}
 use Rattle.cred_audit.specs.declared.run.Run.{Run}
 
 -- ---- where it stands
 
 stands_at : (script : Script) (journal : List Entry) (run : Run) (course : Course) → run.cursor ≡ Some course → IsAfter script journal run
-    → StandsOn script journal course × (is_some course.stage ≡ true)
+    → IsCursor script journal (Some course)
 stands_at script journal run course here after = subst (IsCursor script journal) here after.cursor
 
 pub course_of_line : (script : Script) (run : Run) (course : Course) → run.cursor ≡ Some course → IsRun script run → IsOfLine script course
-course_of_line script run course here is = of_line script is.0 course (stands_at script is.0 run course here is.1).0
+course_of_line script run course here is = of_line script is.0 course (stands_at script is.0 run course here is.1).at.0
 
 pub course_goes_on : (script : Script) (run : Run) (course : Course) → run.cursor ≡ Some course → IsRun script run → is_some course.stage ≡ true
-course_goes_on script run course here is = (stands_at script is.0 run course here is.1).1
+course_goes_on script run course here is = (stands_at script is.0 run course here is.1).at.1
 
 -- its course makes an event
 pub course_is_due : (script : Script) (run : Run) (course : Course) → run.cursor ≡ Some course → IsRun script run
     → is_some (option_and_then (λ (line : Line). event_at line.content course) (line_at script course.line)) ≡ true
 course_is_due script run course here is =
-    let both = stands_at script is.0 run course here is.1 in
-    makes_due script is.0 course both.0 both.1
+    let on = stands_at script is.0 run course here is.1 in
+    makes_due script is.0 course on.at.0 on.at.1
 
 pub run_is_sound : (script : Script) (run : Run) → IsRun script run → IsSound run.state
 run_is_sound script run is = like_sound run.state (replay script is.0) is.1.state (sound_after script is.0)
@@ -75,12 +75,13 @@ pub goes_on_by : (script : Script) (before after : Run) (course : Course) (event
     → GoesOn script before after (Some (entry_with line event answer))
 goes_on_by script before after course event line answer here has number does passes = record {
   next = λ journal is.
-      let at = (stands_at script journal before course here is).0 in
+      let at = (stands_at script journal before course here is).at.0 in
       let due = due_here script journal course event at has in
       let same = entry_is script journal course event line answer number (made script before after line event answer journal is does).answers in
       next_due script journal course event at due ∙ ap Some (sym same);
   leads = λ journal is.
-      let at = (stands_at script journal before course here is).0 in
+      let on = stands_at script journal before course here is in
+      let at = on.at.0 in
       let due = due_here script journal course event at has in
       let m = made script before after line event answer journal is does in
       let entry = entry_with line event answer in
@@ -88,6 +89,6 @@ goes_on_by script before after course event line answer here has number does pas
       let passed = subst (λ (o : Option Line). IfSome o (λ l. Passes script (model.after l.content course answer) after.cursor)) (line_is script journal course at) passes in
       record {
         state = subst (IsLike after.state) (sym (replay-push script journal entry)) m.leads;
-        cursor = passed.stands (journal ++ entry ∷ []) (goes_on script journal course event entry at due same);
+        cursor = goes_in_order script journal course event entry after.cursor on due same passed;
       };
 }

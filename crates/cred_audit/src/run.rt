@@ -3,7 +3,7 @@ ghost use Rattle.std.specs.Prelude.{◌≡◌, [], IfOk, OnErr};
 ghost use Rattle.cred_audit.specs.Run.{GoesOn, IsAfter, IsRun};
 
 use cred_course::Course;
-use cred_cursor::{cursor_after, first_cursor, next_event};
+use cred_cursor::{Lines, cursor_after, first_cursor, next_event};
 use cred_event::Entry;
 use cred_ids::NoMemory;
 use cred_machine::CachedState;
@@ -29,7 +29,7 @@ impl Run {
     {
         Ok(Run {
             state: CachedState::new(alloc)?,
-            cursor: first_cursor(script),
+            cursor: first_cursor(script, Lines::Every),
         })
     }
 
@@ -52,7 +52,7 @@ impl Run {
         };
         let line = course.line();
         let answer = self.state.step(script, line, &event)?;
-        self.cursor = cursor_after(script, course, &answer);
+        self.cursor = cursor_after(script, Lines::Every, course, &answer);
         Ok(Some(Entry {
             line,
             event,

@@ -11,9 +11,9 @@ use Rattle.cred_model.specs.Course as model
 use Rattle.cred_model.specs.Course.{Course, Leads, event_at}
 use Rattle.cred_model.specs.Journal.{entry_of, next, next_in_order, replay, IsSequence}
 use Rattle.cred_script.specs.Grammar.{line_at}
-use Rattle.cred_cursor.specs.Cursor.{StandsOn, IsCursor, IsSetup, Passes, left_at}
-use Rattle.cred_cursor.proofs.Courses.{line_is, of_line, next_due, goes_on}
-use Rattle.cred_cursor.proofs.Stands.{cursor_in_order, due_here, makes_due, none_next}
+use Rattle.cred_cursor.specs.Cursor.{IsCursor, IsSetup, Passes, left_at}
+use Rattle.cred_cursor.proofs.Courses.{line_is, of_line}
+use Rattle.cred_cursor.proofs.Stands.{due_here, goes_in_order, makes_due, next_due, none_next}
 use Rattle.cred_cursor.proofs.Setup.{next_of_setup, next_of_other}
 use Rattle.cred_book.specs.Book.{Recorded, with_event, answer_of, next_of}
 use Rattle.cred_book.specs.Cursor.{left, waiting, Stands, Makes}
@@ -50,18 +50,18 @@ pub moves : (book after : Recorded) (course : Course) (event : Event) (line : Li
     → Passes book.script (model.after line.content course (answer_of book course.line event)) after.cursor
     → Moves book after
 moves book after course event line here stands line_here due script_is journal_is passes =
-    let both = subst (IsCursor book.script book.journal) here stands in
-    let at = both.0 in
+    let is = subst (IsCursor book.script book.journal) here stands in
+    let at = is.at.0 in
     let entry : Entry = entry_of book.script book.journal (record { line = course.line; event = event }) in
     let lines : Some at.line ≡ Some line = sym (line_is book.script book.journal course at) ∙ line_here in
     let same : at.line ≡ line = cc in
     let due_at : event_at at.line.content course ≡ Some event = ap (λ (l : Line). event_at l.content course) same ∙ due in
-    let on : StandsOn book.script (book.journal ++ entry ∷ []) (model.after line.content course entry.answer)
-    = subst (λ (l : Line). StandsOn book.script (book.journal ++ entry ∷ []) (model.after l.content course entry.answer)) same
-    (goes_on book.script book.journal course event entry at due_at refl) in
+    let on : IsCursor book.script (book.journal ++ entry ∷ []) after.cursor
+    = goes_in_order book.script book.journal course event entry after.cursor is due_at refl
+    (subst (λ (l : Line). Passes book.script (model.after l.content course entry.answer) after.cursor) (sym same) passes) in
     let own : Leads line.content course
     = subst (λ (o : Option Line). IfSome o (λ l. Leads l.content course)) line_here (of_line book.script book.journal course at) in
-    let here_is = stage_is course both.1 in
+    let here_is = stage_is course is.at.1 in
     let fell = step_falls book.script book.journal course here_is.stage line event here_is.is line_here own due in
     let most : left_at book.script after.cursor ≤ left_at book.script (Some (model.after line.content course entry.answer)) = passes.falls in
     let before : left book ≡ left_at book.script (Some course) + waiting (replay book.script book.journal)
@@ -72,7 +72,7 @@ moves book after course event line here stands line_here due script_is journal_i
     record {
       script = script_is;
       stands = subst (λ (s : Script). IsCursor s after.journal after.cursor) (sym script_is)
-          (subst (λ (j : List Entry). IsCursor book.script j after.cursor) (sym journal_is) (passes.stands (book.journal ++ entry ∷ []) on));
+          (subst (λ (j : List Entry). IsCursor book.script j after.cursor) (sym journal_is) on);
       entry = entry;
       next = next_due book.script book.journal course event at due_at;
       entered = journal_is;
@@ -88,7 +88,7 @@ pub moves_by : (book grown after : Recorded) (course : Course) (event : Event) (
     → IfSome (line_at grown.script course.line) (λ line. Passes grown.script (model.after line.content course answer) after.cursor)
     → Moves book after
 moves_by book grown after course event answer here stands has is answer_is script_is journal_is passes =
-    let at = (subst (IsCursor book.script book.journal) here stands).0 in
+    let at = (subst (IsCursor book.script book.journal) here stands).at.0 in
     let line = line_is book.script book.journal course at in
     let same : grown.script ≡ book.script = ap (λ (b : Recorded). b.script) is in
     let due_at = due_here book.script book.journal course event at has in
@@ -105,8 +105,8 @@ over book stands none = none_next book.script book.journal (subst (IsCursor book
 pub due : (book : Recorded) (course : Course) → book.cursor ≡ Some course → Stands book
     → is_some (option_and_then (λ (line : Line). event_at line.content course) (line_at book.script course.line)) ≡ true
 due book course here stands =
-    let both = subst (IsCursor book.script book.journal) here stands in
-    makes_due book.script book.journal course both.0 both.1
+    let is = subst (IsCursor book.script book.journal) here stands in
+    makes_due book.script book.journal course is.at.0 is.at.1
 
 -- ---- what a step makes
 
@@ -128,7 +128,7 @@ pub is_sequence : (before after : Recorded) → Stands after → Makes before af
     → IsSequence after.script after.journal
 is_sequence before after at made =
     let none = made_none before after (next_of before 0) made in
-    record { in_order = cursor_in_order after.script after.journal after.cursor at; ended = rw none.1 none.0 }
+    record { in_order = at.in_order; ended = rw none.1 none.0 }
 
 zero_test : (lane : ℕ) → lane ≡ 0 → (lane == 0) ≡ true
 zero_test lane is = grind (arith, nat_tests)

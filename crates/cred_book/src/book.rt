@@ -13,7 +13,7 @@ ghost use Rattle.cred_book.specs.declared.step.Step.TheVariants.{More};
 
 use crate::step::Step;
 use cred_course::Course;
-use cred_cursor::{cursor_after, first_cursor, next_event};
+use cred_cursor::{Lines, cursor_after, first_cursor, next_event};
 use cred_event::{Answer, Entry, Event, copy_answer};
 use cred_ids::NoMemory;
 use cred_script::Script;
@@ -62,7 +62,7 @@ impl Book {
         ensures journal { IfOk result (λ book. book.journal ≡ []) }
         ensures stands { IfOk result (λ book. Stands book) }
     {
-        let cursor = first_cursor(&script);
+        let cursor = first_cursor(&script, Lines::Every);
         Ok(Book {
             script,
             state: State::new(alloc)?,
@@ -166,7 +166,7 @@ impl Book {
         self.journal.reserve(1)?;
         let line = course.line();
         let answer = self.state.step(&self.script, line, &event)?;
-        let cursor = cursor_after(&self.script, course, &answer);
+        let cursor = cursor_after(&self.script, Lines::Every, course, &answer);
         self.journal.push_reserved(Entry {
             line,
             event,

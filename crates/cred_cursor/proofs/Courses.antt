@@ -1,6 +1,6 @@
--- The course of a line, from event to event and from line to line.
-use Rattle.std.proofs.Common.{◌≡◌, ℕ, zero, suc, ◌+◌, ◌-◌, ◌<◌, ◌≤◌, ◌==◌, cond, List, [], ◌∷◌, ◌++◌, length, slice_get, Option, Some, None, is_some, is_none, true, false, refl, sym, ap, ◌∙◌, subst, inl, inr, arith}
-use Rattle.std.specs.Option.{IfSome, option_map, option_and_then, option_map_or}
+-- The course of a line of some lines, from event to event and from line to line.
+use Rattle.std.proofs.Common.{◌≡◌, ◌≢◌, ℕ, zero, suc, ◌+◌, ◌-◌, ◌<◌, ◌≤◌, ◌==◌, cond, List, [], ◌∷◌, ◌++◌, length, slice_get, Option, Some, None, is_some, is_none, Bool, true, false, refl, sym, ap, ◌∙◌, subst, inl, inr, arith}
+use Rattle.std.specs.Option.{IfSome, option_and_then, option_map_or}
 use Rattle.std.proofs.lemmas.List.Sums.{fold_push}
 use Rattle.std.proofs.lemmas.Bool.{cases_lt}
 use Rattle.std.proofs.lemmas.Bool.Decides.{nat_tests}
@@ -8,17 +8,15 @@ use Rattle.cred_event.specs.declared.content.Content.{Content}
 use Rattle.cred_event.specs.declared.content.Content.TheVariants.{One, Id}
 use Rattle.cred_event.specs.declared.content.Stage.{Stage}
 use Rattle.cred_event.specs.declared.content.Stage.TheVariants.{First}
-use Rattle.cred_event.specs.declared.event.Event.{Event}
 use Rattle.cred_event.specs.declared.entry.Entry.{Entry}
 use Rattle.cred_model.specs.Script.{Script, Line}
 use Rattle.cred_model.specs.Course as model
 use Rattle.cred_model.specs.Course.{Course, Leads, start, event_in, event_at, leads}
-use Rattle.cred_model.specs.Journal.{answers_of, next_event, entry_of, next, next_in_order}
-use Rattle.cred_model.proofs.Journals.{IsInOrder-push}
+use Rattle.cred_model.specs.Journal.{answers_of, next_event}
 use Rattle.cred_model.proofs.Courses.{after_line}
-use Rattle.cred_model.proofs.Lines.{answers_of-push_same, answers_of-push_other, first_due_at}
+use Rattle.cred_model.proofs.Lines.{answers_of-push_same, answers_of-push_other}
 use Rattle.cred_script.specs.Grammar.{line_at}
-use Rattle.cred_cursor.specs.Cursor.{HasEnded, IsOver, StandsOn, left_at, may_wait, may_wait_at, IsOfLine, next_start, Passes}
+use Rattle.cred_cursor.specs.Cursor.{HasEnded, NotBegun, IsOver, IsPast, StandsOn, IsCursorAmong, may_wait, may_wait_at, IsOfLine, PassesAmong, PassesFrom}
 
 -- the line at a place has the next number
 line_at-place : (script : Script) (place : ℕ) → line_at script (place + 1) ≡ slice_get script.lines place
@@ -39,11 +37,12 @@ slice_get-past (y ∷ ys) (suc i) x past found = slice_get-past ys i x (omega ar
 
 -- ---- a course and its line
 
-pub line_is : (script : Script) (journal : List Entry) (course : Course) (at : StandsOn script journal course)
+pub line_is : {these : Line → Bool} (script : Script) (journal : List Entry) (course : Course) (at : StandsOn these script journal course)
     → line_at script course.line ≡ Some at.line
 line_is script journal course at = ap (line_at script) at.number ∙ line_at-place script at.place ∙ at.here
 
-pub of_line : (script : Script) (journal : List Entry) (course : Course) → StandsOn script journal course → IsOfLine script course
+pub of_line : {these : Line → Bool} (script : Script) (journal : List Entry) (course : Course) → StandsOn these script journal course
+    → IsOfLine script course
 of_line script journal course at =
     let own : Leads at.line.content course = record {
       answers = answers_of journal (at.place + 1);
@@ -52,69 +51,107 @@ of_line script journal course at =
     subst (λ (o : Option Line). IfSome o (λ line. Leads line.content course)) (sym (line_is script journal course at)) own
 
 -- its next event is that of its line
-next_is : (script : Script) (journal : List Entry) (course : Course) (at : StandsOn script journal course)
+pub next_is : {these : Line → Bool} (script : Script) (journal : List Entry) (course : Course) (at : StandsOn these script journal course)
     → next_event journal (at.place + 1) at.line.content ≡ event_at at.line.content course
 next_is script journal course at = ap (event_at at.line.content) (sym at.stands)
 
--- ---- from line to line
+-- ---- the end of a line
 
 -- a line whose course has no stage has ended
-ended_here : (script : Script) (journal : List Entry) (course : Course) (at : StandsOn script journal course) → course.stage ≡ None
-    → HasEnded script journal at.place
-ended_here script journal course at over =
-    subst (λ (o : Option Line). IfSome o (λ line. next_event journal (at.place + 1) line.content ≡ None)) (sym at.here)
-    (next_is script journal course at ∙ ap (option_and_then (event_in course.line at.line.content)) over)
+ended_here : (these : Line → Bool) (script : Script) (journal : List Entry) (course : Course) (at : StandsOn these script journal course)
+    → course.stage ≡ None → HasEnded these script journal at.place
+ended_here these script journal course at over =
+    subst (λ (o : Option Line). IfSome o (λ line. these line ≡ true → next_event journal (at.place + 1) line.content ≡ None)) (sym at.here)
+    (λ own. next_is script journal course at ∙ ap (option_and_then (event_in course.line at.line.content)) over)
 
-up_to : (script : Script) (journal : List Entry) (course : Course) (at : StandsOn script journal course) → course.stage ≡ None
-    → (k : ℕ) → k < at.place + 1 → HasEnded script journal k
-up_to script journal course at over k lt = elim (cases_lt k at.place) [
-  | inl below ↦ at.ended k below
-  | inr above ↦ let same : at.place ≡ k = omega arith in subst (HasEnded script journal) same (ended_here script journal course at over)
+-- one line more
+one_more : (P : ℕ → Type 0) (number : ℕ) → ((k : ℕ) → k < number → P k) → P number → (k : ℕ) → k < number + 1 → P k
+one_more P number before here k lt = elim (cases_lt k number) [
+  | inl below ↦ before k below
+  | inr above ↦ let same : number ≡ k = omega arith in subst P same here
 ]
 
--- the next line begins where a line has ended
-pub passes_on : (script : Script) (journal : List Entry) (course : Course) (line : Line) → course.stage ≡ None
-    → line_at script (course.line + 1) ≡ Some line → StandsOn script journal course
-    → StandsOn script journal (start (course.line + 1) line.content)
-passes_on script journal course line over following at =
-    let number : course.line + 1 ≡ at.place + 1 + 1 = ap (λ n. n + 1) at.number in
+past : (these : Line → Bool) (script : Script) (journal : List Entry) (course : Course) → StandsOn these script journal course
+    → course.stage ≡ None → IsPast these script journal course.line
+past these script journal course at over =
+    subst (IsPast these script journal) (sym at.number) (record {
+      ended = one_more (HasEnded these script journal) at.place at.ended (ended_here these script journal course at over);
+      later = λ k le. at.later k (omega arith);
+    })
+
+-- ---- from line to line
+
+-- the line behind those that are past
+line_behind : (script : Script) (number : ℕ) (line : Line) → line_at script (number + 1) ≡ Some line → slice_get script.lines number ≡ Some line
+line_behind script number line following = sym (line_at-place script number) ∙ following
+
+no_answers : (these : Line → Bool) (script : Script) (journal : List Entry) (number : ℕ) (line : Line) → IsPast these script journal number
+    → line_at script (number + 1) ≡ Some line → these line ≡ true → answers_of journal (number + 1) ≡ []
+no_answers these script journal number line at following own =
+    subst (λ (o : Option Line). IfSome o (λ l. these l ≡ true → answers_of journal (number + 1) ≡ [])) (line_behind script number line following)
+    (at.later number (omega arith)) own
+
+-- it begins there
+begins : (these : Line → Bool) (script : Script) (journal : List Entry) (number : ℕ) (line : Line) → IsPast these script journal number
+    → line_at script (number + 1) ≡ Some line → these line ≡ true → StandsOn these script journal (start (number + 1) line.content)
+begins these script journal number line at following own = record {
+  place = number;
+  number = refl;
+  line = line;
+  here = line_behind script number line following;
+  own = own;
+  ended = at.ended;
+  later = λ k lt. at.later k (omega arith);
+  stands = sym (ap (leads (number + 1) line.content) (no_answers these script journal number line at following own));
+}
+
+-- a line that isn't one of these is passed over, and so is one without events
+passes_by : (these : Line → Bool) (script : Script) (journal : List Entry) (number : ℕ) (line : Line) → IsPast these script journal number
+    → line_at script (number + 1) ≡ Some line → (these line ≡ true → (start (number + 1) line.content).stage ≡ None)
+    → IsPast these script journal (number + 1)
+passes_by these script journal number line at following over =
+    let here : HasEnded these script journal number
+    = subst (λ (o : Option Line). IfSome o (λ l. these l ≡ true → next_event journal (number + 1) l.content ≡ None))
+    (sym (line_behind script number line following))
+    (λ own. ap (λ answers. event_at line.content (leads (number + 1) line.content answers)) (no_answers these script journal number line at following own)
+    ∙ ap (option_and_then (event_in (number + 1) line.content)) (over own)) in
     record {
-      in_order = at.in_order;
-      place = at.place + 1;
-      number = number;
-      line = line;
-      here = sym (line_at-place script (at.place + 1)) ∙ ap (line_at script) (sym number) ∙ following;
-      ended = up_to script journal course at over;
-      later = λ k lt. at.later k (omega arith);
-      stands = ap (λ n. start n line.content) number
-          ∙ sym (ap (leads (at.place + 1 + 1) line.content) (at.later (at.place + 1) (omega arith)));
+      ended = one_more (HasEnded these script journal) number at.ended here;
+      later = λ k le. at.later k (omega arith);
     }
 
--- where no line follows all have ended
-pub passes_over : (script : Script) (journal : List Entry) (course : Course) → course.stage ≡ None
-    → line_at script (course.line + 1) ≡ None → StandsOn script journal course → IsOver script journal
-passes_over script journal course over none at =
-    let number : course.line + 1 ≡ at.place + 1 + 1 = ap (λ n. n + 1) at.number in
-    let long = slice_get-none script.lines (at.place + 1) (sym (line_at-place script (at.place + 1)) ∙ ap (line_at script) (sym number) ∙ none) in
-    record {
-      in_order = at.in_order;
-      ended = λ k lt. up_to script journal course at over k (omega (arith, long, lt));
-    }
+-- where no line follows all of these have ended
+all_past : (these : Line → Bool) (script : Script) (journal : List Entry) (number : ℕ) → IsPast these script journal number
+    → line_at script (number + 1) ≡ None → IsOver these script journal
+all_past these script journal number at none =
+    let long = slice_get-none script.lines number (sym (line_at-place script number) ∙ none) in
+    record { ended = λ k lt. at.ended k (omega (arith, long, lt)) }
 
 -- a line that follows has a place
 later_line : (script : Script) (number : ℕ) (line : Line) → line_at script (number + 1) ≡ Some line → number < length script.lines
 later_line script number line following =
     elim (cases_lt number (length script.lines)) [
       | inl within ↦ within
-      | inr past ↦ absurd (slice_get-past script.lines number line past (sym (line_at-place script number) ∙ following))
+      | inr past ↦ absurd (slice_get-past script.lines number line past (line_behind script number line following))
     ]
 
--- ---- from course to course
+-- before the first event no line is past
+nothing_begun : (o : Option Line) (these : Line → Bool) (number : ℕ) → IfSome o (λ line. these line ≡ true → answers_of [] number ≡ [])
+nothing_begun None these number = tt
+nothing_begun (Some line) these number = λ own. refl
 
--- from the one course on the cursor is that of the other, or of a later line
-pub record Reaches (script : Script) (from course : Course) : Type 0 where
-  pub stands : (journal : List Entry) → StandsOn script journal from → StandsOn script journal course
-  pub falls : left_at script (Some course) ≤ left_at script (Some from)
+pub first_among : (these : Line → Bool) (script : Script) (to : Option Course) → PassesFrom these script 0 to → IsCursorAmong these script [] to
+first_among these script to from = from.stands [] (record {
+  ended = λ k lt. absurd (omega arith);
+  later = λ k le. nothing_begun (slice_get script.lines k) these (k + 1);
+})
+
+-- ---- over the lines
+
+-- behind the one line, where those of these lines that come before the other have ended at once
+pub record Reaches (these : Line → Bool) (script : Script) (from number : ℕ) : Type 0 where
+  pub stands : (journal : List Entry) → IsPast these script journal from → IsPast these script journal number
+  pub on : from ≤ number
 
 none_of : {A : Type 0} (o : Option A) → is_none o ≡ true → o ≡ None
 none_of None is = refl
@@ -144,90 +181,130 @@ few_wait_at script course = by (line_at script course.line)
     by None = omega arith
     by (Some line) = few_wait line.content course.stage
 
-record IsNext (script : Script) (course next : Course) : Type 0 where
-  line : Line
-  following : line_at script (course.line + 1) ≡ Some line
-  is : start (course.line + 1) line.content ≡ next
+pub reaches_self : (these : Line → Bool) (script : Script) (number : ℕ) → Reaches these script number number
+reaches_self these script number = record { stands = λ journal at. at; on = omega arith }
 
-next_of_line : (script : Script) (course next : Course) (o : Option Line) → line_at script (course.line + 1) ≡ o
-    → option_map (λ (line : Line). start (course.line + 1) line.content) o ≡ Some next → IsNext script course next
-next_of_line script course next None at is = cc
-next_of_line script course next (Some line) at is = record { line = line; following = at; is = (let both : start (course.line + 1) line.content ≡ next = cc in both) }
+pub reaches_next : (these : Line → Bool) (script : Script) (from number : ℕ) (line : Line) → Reaches these script from number
+    → line_at script (number + 1) ≡ Some line → (these line ≡ true → (start (number + 1) line.content).stage ≡ None)
+    → Reaches these script from (number + 1)
+reaches_next these script from number line at following over = record {
+  stands = λ journal before. passes_by these script journal number line (at.stands journal before) following over;
+  on = let on = at.on in omega (arith, on);
+}
 
-is_next : (script : Script) (course next : Course) → next_start script course ≡ Some next → IsNext script course next
-is_next script course next is = next_of_line script course next (line_at script (course.line + 1)) refl is
+pub next_shorter : (script : Script) (number : ℕ) (line : Line) → line_at script (number + 1) ≡ Some line
+    → length script.lines - (number + 1) < length script.lines - number
+next_shorter script number line following =
+    let within = later_line script number line following in
+    omega (arith, within)
 
-pub next_shorter : (script : Script) (course next : Course) → next_start script course ≡ Some next
-    → length script.lines - next.line < length script.lines - course.line
-next_shorter script course next is =
-    let n = is_next script course next is in
-    let within = later_line script course.line n.line n.following in
-    let number : course.line + 1 ≡ next.line = ap (λ (c : Course). c.line) n.is in
-    omega (arith, within, number)
-
-pub reaches_next : (script : Script) (from course next : Course) → is_none course.stage ≡ true → next_start script course ≡ Some next
-    → Reaches script from course → Reaches script from next
-reaches_next script from course next over is at =
-    let n = is_next script course next is in
-    let within = later_line script course.line n.line n.following in
-    let few = few_left n.line (course.line + 1) in
-    let none = none_of course.stage over in
-    let fell : left_at script (Some (start (course.line + 1) n.line.content)) ≤ left_at script (Some course)
-    = omega (arith, within, few, few_wait_at script (start (course.line + 1) n.line.content)) in
-    let before = at.falls in
-    subst (Reaches script from) n.is (record {
-      stands = λ journal on. passes_on script journal course n.line none n.following (at.stands journal on);
-      falls = omega (arith, fell, before);
-    })
-
-no_line : (script : Script) (course : Course) (o : Option Line)
-    → option_map (λ (line : Line). start (course.line + 1) line.content) o ≡ None → o ≡ None
-no_line script course None is = refl
-no_line script course (Some line) is = cc
-
-pub reaches_end : (script : Script) (from course : Course) → is_none course.stage ≡ true → next_start script course ≡ None
-    → Reaches script from course → Passes script from None
-reaches_end script from course over is at = record {
-  stands = λ journal on.
-      passes_over script journal course (none_of course.stage over) (no_line script course (line_at script (course.line + 1)) is) (at.stands journal on);
+pub reaches_end : (these : Line → Bool) (script : Script) (from number : ℕ) → Reaches these script from number → line_at script (number + 1) ≡ None
+    → PassesFrom these script from None
+reaches_end these script from number at none = record {
+  stands = λ journal before. all_past these script journal number (at.stands journal before) none;
   falls = omega arith;
 }
 
-pub reaches_due : (script : Script) (from course : Course) → is_none course.stage ≡ false → Reaches script from course
-    → Passes script from (Some course)
-reaches_due script from course going at = record {
-  stands = λ journal on. (at.stands journal on, some_of course.stage going);
-  falls = at.falls;
+pub reaches_due : (these : Line → Bool) (script : Script) (from number : ℕ) (line : Line) → Reaches these script from number
+    → line_at script (number + 1) ≡ Some line → these line ≡ true → is_none (start (number + 1) line.content).stage ≡ false
+    → PassesFrom these script from (Some (start (number + 1) line.content))
+reaches_due these script from number line at following own going =
+    let course = start (number + 1) line.content in
+    let within = later_line script number line following in
+    let few = few_left line (number + 1) in
+    let wait = few_wait_at script course in
+    let on = at.on in
+    record {
+      stands = λ journal before. (
+        begins these script journal number line (at.stands journal before) following own,
+        some_of course.stage going,
+      );
+      falls = omega (arith, within, few, wait, on);
+    }
+
+-- ---- from a course on
+
+pub passes_ended : (these : Line → Bool) (script : Script) (course : Course) (to : Option Course) → is_none course.stage ≡ true
+    → PassesFrom these script course.line to → PassesAmong these script course to
+passes_ended these script course to over from =
+    let fell = from.falls in
+    record {
+      stands = λ journal at. from.stands journal (past these script journal course at (none_of course.stage over));
+      falls = omega (arith, fell);
+    }
+
+pub passes_due : (these : Line → Bool) (script : Script) (course : Course) → is_none course.stage ≡ false → PassesAmong these script course (Some course)
+passes_due these script course going = record {
+  stands = λ journal at. (at, some_of course.stage going);
+  falls = omega arith;
 }
 
--- ---- an answer
+-- ---- an entry
 
--- the next event in order is that of the course's line
-pub next_due : (script : Script) (journal : List Entry) (course : Course) (event : Event) (at : StandsOn script journal course)
-    → event_at at.line.content course ≡ Some event
-    → next_in_order script journal ≡ Some (entry_of script journal (record { line = course.line; event = event }))
-next_due script journal course event at due =
-    let first = first_due_at journal 1 script.lines at.place at.line event at.ended at.here (next_is script journal course at ∙ due) in
-    ap (option_map (entry_of script journal)) first
-    ∙ ap (λ n. Some (entry_of script journal (record { line = n; event = event }))) (sym at.number)
-
-pub goes_on : (script : Script) (journal : List Entry) (course : Course) (event : Event) (entry : Entry) (at : StandsOn script journal course)
-    → event_at at.line.content course ≡ Some event
-    → entry ≡ entry_of script journal (record { line = course.line; event = event })
-    → StandsOn script (journal ++ entry ∷ []) (model.after at.line.content course entry.answer)
-goes_on script journal course event entry at due is =
-    let number : entry.line ≡ at.place + 1 = ap (λ (e : Entry). e.line) is ∙ at.number in
+-- an entry of the course's line leads it on
+pub goes_on : {these : Line → Bool} (script : Script) (journal : List Entry) (course : Course) (entry : Entry) (at : StandsOn these script journal course)
+    → entry.line ≡ course.line → StandsOn these script (journal ++ entry ∷ []) (model.after at.line.content course entry.answer)
+goes_on {these} script journal course entry at same =
+    let number : entry.line ≡ at.place + 1 = same ∙ at.number in
     record {
-      in_order = IsInOrder-push script journal entry at.in_order (next_due script journal course event at due ∙ ap Some (sym is));
       place = at.place;
       number = after_line at.line.content course entry.answer ∙ at.number;
       line = at.line;
       here = at.here;
+      own = at.own;
       ended = λ k lt.
           let other = answers_of-push_other journal entry (k + 1) (λ e. omega arith) in
-          subst (λ answers. IfSome (slice_get script.lines k) (λ l. event_at l.content (leads (k + 1) l.content answers) ≡ None)) (sym other) (at.ended k lt);
-      later = λ k lt. answers_of-push_other journal entry (k + 1) (λ e. omega arith) ∙ at.later k lt;
+          subst (λ answers. IfSome (slice_get script.lines k) (λ l. these l ≡ true → event_at l.content (leads (k + 1) l.content answers) ≡ None)) (sym other)
+          (at.ended k lt);
+      later = λ k lt.
+          let other = answers_of-push_other journal entry (k + 1) (λ e. omega arith) in
+          subst (λ answers. IfSome (slice_get script.lines k) (λ l. these l ≡ true → answers ≡ [])) (sym other) (at.later k lt);
       stands = ap (λ c. model.after at.line.content c entry.answer) at.stands
           ∙ sym (ap (leads (at.place + 1) at.line.content) (answers_of-push_same journal entry (at.place + 1) number)
           ∙ fold_push (model.after at.line.content) (start (at.place + 1) at.line.content) (answers_of journal (at.place + 1)) entry.answer);
     }
+
+-- the entry is of none of these lines
+abbrev pub IsOther : (Line → Bool) → Script → Entry → Type 0
+IsOther these script entry = (k : ℕ) → IfSome (slice_get script.lines k) (λ line. these line ≡ true → entry.line ≢ k + 1)
+
+both : {A : Type 0} (o : Option A) {P Q R : A → Type 0} → IfSome o P → IfSome o Q → ((x : A) → P x → Q x → R x) → IfSome o R
+both None p q f = tt
+both (Some x) p q f = f x p q
+
+ended_stays : (these : Line → Bool) (script : Script) (journal : List Entry) (entry : Entry) (k : ℕ) → IsOther these script entry
+    → HasEnded these script journal k → HasEnded these script (journal ++ entry ∷ []) k
+ended_stays these script journal entry k other ended =
+    both (slice_get script.lines k) (other k) ended
+    (λ line differ over own. ap (λ answers. event_at line.content (leads (k + 1) line.content answers))
+    (answers_of-push_other journal entry (k + 1) (differ own)) ∙ over own)
+
+later_stays : (these : Line → Bool) (script : Script) (journal : List Entry) (entry : Entry) (k : ℕ) → IsOther these script entry
+    → NotBegun these script journal k → NotBegun these script (journal ++ entry ∷ []) k
+later_stays these script journal entry k other later =
+    both (slice_get script.lines k) (other k) later
+    (λ line differ none own. answers_of-push_other journal entry (k + 1) (differ own) ∙ none own)
+
+course_stays : (these : Line → Bool) (script : Script) (journal : List Entry) (course : Course) (entry : Entry) → IsOther these script entry
+    → StandsOn these script journal course → StandsOn these script (journal ++ entry ∷ []) course
+course_stays these script journal course entry other at =
+    let differ : entry.line ≢ at.place + 1
+    = subst (λ (o : Option Line). IfSome o (λ line. these line ≡ true → entry.line ≢ at.place + 1)) at.here (other at.place) at.own in
+    record {
+      place = at.place;
+      number = at.number;
+      line = at.line;
+      here = at.here;
+      own = at.own;
+      ended = λ k lt. ended_stays these script journal entry k other (at.ended k lt);
+      later = λ k lt. later_stays these script journal entry k other (at.later k lt);
+      stands = at.stands ∙ sym (ap (leads (at.place + 1) at.line.content) (answers_of-push_other journal entry (at.place + 1) differ));
+    }
+
+-- an entry of none of these lines leaves their cursor where it is
+pub cursor_stays : (these : Line → Bool) (script : Script) (journal : List Entry) (cursor : Option Course) (entry : Entry) → IsOther these script entry
+    → IsCursorAmong these script journal cursor → IsCursorAmong these script (journal ++ entry ∷ []) cursor
+cursor_stays these script journal None entry other at = record {
+  ended = λ k lt. ended_stays these script journal entry k other (at.ended k lt);
+}
+cursor_stays these script journal (Some course) entry other at = (course_stays these script journal course entry other at.0, at.1)

@@ -1,3 +1,5 @@
 pub mod Courses
-pub mod Stands
 pub mod Setup
+pub mod Due
+pub mod Stands
+pub mod Lanes

@@ -1,22 +1,23 @@
 //! The cursor: the course of the first line that has not ended.
-ghost use Rattle.std.specs.Prelude.{◌≡◌, true, [], length, IfOk, IfSome, is_some};
+ghost use Rattle.std.specs.Prelude.{◌≡◌, ◌≤◌, true, [], length, IfOk, IfSome, is_some};
 ghost use Rattle.std.specs.Option.{option_and_then};
 ghost use Rattle.cred_model.specs.Course as model;
 ghost use Rattle.cred_model.specs.Named.{IsEventOf};
 ghost use Rattle.cred_script.specs.Grammar.{line_at};
-ghost use Rattle.cred_cursor.specs.Cursor.{IsCursor, IsOfLine, Passes, next_start};
+ghost use Rattle.cred_cursor.specs.Cursor.{IsCursorAmong, IsOfLine, is_among};
+ghost use Rattle.cred_cursor.specs.Cursor.{PassesAmong, PassesFrom};
 
+use crate::lines::Lines;
 use cred_course::Course;
-use cred_event::{Answer, Event};
+use cred_event::{Answer, Event, LINE_LIMIT};
 use cred_ids::NoMemory;
 use cred_script::Script;
 
-/// The cursor before the first event.
-pub fn first_cursor(script: &Script) -> Option<Course>
-    ensures { IsCursor script.now [] result }
+/// The cursor of the lines before the first event.
+pub fn first_cursor(script: &Script, lines: Lines) -> Option<Course>
+    ensures { IsCursorAmong (is_among lines) script.now [] result }
 {
-    let (_, content) = script.line(1)?;
-    first_left(script, Course::start(1, content))
+    first_after(script, lines, 0)
 }
 
 /// The next event of the course's line. It names only declared files and namespaces, as its line
@@ -39,36 +40,52 @@ pub fn next_event(script: &Script, course: Course) -> Result<Option<Event>, NoMe
     }
 }
 
-/// The cursor after an answer to the course's line.
-pub fn cursor_after(script: &Script, course: Course, answer: &Answer) -> Option<Course>
+/// The cursor of the lines after an answer to the course's line.
+pub fn cursor_after(
+    script: &Script,
+    lines: Lines,
+    course: Course,
+    answer: &Answer,
+) -> Option<Course>
     requires line { IsOfLine script.now course }
     requires going { is_some course.stage ≡ true }
-    ensures { IfSome (line_at script.now course.line)
-        (λ line. Passes script.now (model.after line.content course answer.now) result) }
+    ensures { IfSome (line_at script.now course.line) (λ line.
+        PassesAmong (is_among lines) script.now (model.after line.content course answer.now)
+        result) }
 {
     let (_, content) = script.line(course.line())?;
     let mut course = course;
     course.took(content, answer);
-    first_left(script, course)
+    first_left(script, lines, course)
 }
 
-/// The cursor from a course on: that course, or, where its line has ended, that of the first later
-/// line that has not.
-fn first_left(script: &Script, course: Course) -> Option<Course>
-    ensures { Passes script.now course result }
+/// The cursor of the lines from a course on: that course, or, where its line has ended, that of the
+/// first later one of the lines that has not.
+fn first_left(script: &Script, lines: Lines, course: Course) -> Option<Course>
+    ensures { PassesAmong (is_among lines) script.now course result }
 {
-    let mut course = course;
-    'lines: while course.ended() {
-        course = next_start(script, course)?;
+    if course.ended() {
+        first_after(script, lines, course.line())
+    } else {
+        Some(course)
     }
-    Some(course)
 }
 
-/// The line after a course's own, before its first event; none where no line is left.
-fn next_start(script: &Script, course: Course) -> Option<Course>
-    ensures { result ≡ next_start script.now course }
+/// The cursor of the lines, where those up to this number have ended and no later one has begun: the
+/// course of the first later one that makes events.
+fn first_after(script: &Script, lines: Lines, line: u32) -> Option<Course>
+    requires { line ≤ LINE_LIMIT }
+    ensures { PassesFrom (is_among lines) script.now line result }
 {
-    let number = course.line() + 1;
-    let (_, content) = script.line(number)?;
-    Some(Course::start(number, content))
+    let mut number = line;
+    'lines: loop {
+        number += 1;
+        let (lane, content) = script.line(number)?;
+        if lines.includes(lane) {
+            let course = Course::start(number, content);
+            if !course.ended() {
+                return Some(course);
+            }
+        }
+    }
 }
