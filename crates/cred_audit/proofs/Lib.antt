@@ -1,4 +1,5 @@
+pub mod Numbers
 pub mod Prefixes
-pub mod Setup
+pub mod Cursors
 pub mod Runs
 pub mod Reports

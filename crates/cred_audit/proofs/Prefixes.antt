@@ -1,10 +1,16 @@
--- Journals in order, of which one begins another.
+-- Journals so far, of which one begins another.
 use Rattle.std.proofs.Common.{◌≡◌, ℕ, zero, suc, ◌<◌, ◌≤◌, List, [], ◌∷◌, ◌++◌, length, take, slice_get, Option, Some, refl, sym, ap, ◌∙◌, subst, append_assoc, arith}
 use Rattle.std.specs.Prelude.{⊤}
-use Rattle.std.proofs.lemmas.List.{append-nil, take_at}
+use Rattle.std.specs.Option.{IfSome}
+use Rattle.std.proofs.lemmas.List.{append-nil, append_cancel_left, take_at}
 use Rattle.cred_event.specs.declared.entry.Entry.{Entry}
+use Rattle.cred_event.specs.declared.entry.TheConstants.{LINE_LIMIT}
+use Rattle.cred_model.proofs.Lists.{slice_get-left}
 use Rattle.cred_model.specs.Script.{Script}
-use Rattle.cred_model.specs.Journal.{next_in_order, IsInOrder}
+use Rattle.cred_model.specs.Journal.{SoFar, lane_of, next}
+use Rattle.cred_report.specs.Text.{entry_text, text}
+use Rattle.cred_audit.specs.Next.{ComesNext}
+use Rattle.cred_audit.proofs.Numbers.{same_line}
 
 -- ---- lists
 
@@ -12,11 +18,6 @@ take_in_prefix : {A : Type 0} (a b : List A) (k : ℕ) → k < length a → take
 take_in_prefix [] b k lt = absurd (omega arith)
 take_in_prefix (x ∷ a) b zero lt = refl
 take_in_prefix (x ∷ a) b (suc k) lt = ap (λ xs. x ∷ xs) (take_in_prefix a b k (omega arith))
-
-slice_get_in_prefix : {A : Type 0} (a b : List A) (k : ℕ) → k < length a → slice_get (a ++ b) k ≡ slice_get a k
-slice_get_in_prefix [] b k lt = absurd (omega arith)
-slice_get_in_prefix (x ∷ a) b zero lt = refl
-slice_get_in_prefix (x ∷ a) b (suc k) lt = slice_get_in_prefix a b k (omega arith)
 
 slice_get_behind : {A : Type 0} (a : List A) (x : A) (b : List A) → slice_get (a ++ x ∷ b) (length a) ≡ Some x
 slice_get_behind [] x b = refl
@@ -37,34 +38,35 @@ pub each_of_prefix : {A : Type 0} (Q : List A → Option A → Type 0) (a b : Li
     → (k : ℕ) → k < length a → Q (take k a) (slice_get a k)
 each_of_prefix Q a b each k lt =
     subst (λ xs. Q xs (slice_get a k)) (take_in_prefix a b k lt)
-    (subst (λ o. Q (take k (a ++ b)) o) (slice_get_in_prefix a b k lt) (each k (index_in_longer a b k lt)))
+    (subst (λ o. Q (take k (a ++ b)) o) (slice_get-left a b k lt) (each k (index_in_longer a b k lt)))
 
 -- ---- journals
 
-pub in_order_prefix : (script : Script) (a b : List Entry) → IsInOrder script (a ++ b) → IsInOrder script a
-in_order_prefix script a b each = each_of_prefix (λ before o. next_in_order script before ≡ o) a b each
+pub so_far_prefix : (script : Script) (a b : List Entry) → SoFar script (a ++ b) → SoFar script a
+so_far_prefix script a b each = each_of_prefix (λ before o. IfSome o (λ entry. ComesNext script before entry)) a b each
 
--- the entry behind a prefix is the next one after it
-pub next_behind : (script : Script) (a : List Entry) (entry : Entry) (b : List Entry) → IsInOrder script (a ++ entry ∷ b)
-    → next_in_order script a ≡ Some entry
-next_behind script a entry b each =
-    ap (next_in_order script) (sym (take_at a (entry ∷ b) (length a) refl))
-    ∙ each (length a) (length_behind a entry b)
-    ∙ slice_get_behind a entry b
+-- the entry behind a prefix comes next after it
+pub comes_behind : (script : Script) (a : List Entry) (entry : Entry) (b : List Entry) → SoFar script (a ++ entry ∷ b)
+    → ComesNext script a entry
+comes_behind script a entry b each =
+    subst (λ before. ComesNext script before entry) (take_at a (entry ∷ b) (length a) refl)
+    (subst (λ o. IfSome o (λ e. ComesNext script (take (length a) (a ++ entry ∷ b)) e)) (slice_get_behind a entry b)
+    (each (length a) (length_behind a entry b)))
 
--- these entries come in order after those that are done
+-- these entries come one after another behind those that are done
 abbrev Comes : Script → List Entry → List Entry → Type 0
 Comes script done [] = ⊤
-Comes script done (entry ∷ entries) = (next_in_order script done ≡ Some entry) × Comes script (done ++ entry ∷ []) entries
+Comes script done (entry ∷ entries) = ComesNext script done entry × Comes script (done ++ entry ∷ []) entries
 
 comes_from : (script : Script) (done entries : List Entry)
-    → ((k : ℕ) → k < length entries → next_in_order script (done ++ take k entries) ≡ slice_get entries k)
+    → ((k : ℕ) → k < length entries → IfSome (slice_get entries k) (λ entry. ComesNext script (done ++ take k entries) entry))
     → Comes script done entries
 comes_from script done [] each = tt
 comes_from script done (e ∷ es) each = (
-  ap (next_in_order script) (sym (append-nil done)) ∙ each zero (omega arith),
+  subst (λ before. ComesNext script before e) (append-nil done) (each zero (omega arith)),
   comes_from script (done ++ e ∷ []) es
-      (λ k lt. ap (next_in_order script) (append_assoc done (e ∷ []) (take k es)) ∙ each (suc k) (omega arith)),
+      (λ k lt. subst (λ before. IfSome (slice_get es k) (λ entry. ComesNext script before entry))
+      (sym (append_assoc done (e ∷ []) (take k es))) (each (suc k) (omega arith))),
 )
 
 -- the second list is the first, and these
@@ -72,16 +74,36 @@ pub record Extends (a b : List Entry) : Type 0 where
   pub tail : List Entry
   pub is : b ≡ a ++ tail
 
-one_is_prefix : (script : Script) (done a b : List Entry) → Comes script done a → Comes script done b → length a ≤ length b → Extends a b
-one_is_prefix script done [] b h k le = record { tail = b; is = refl }
-one_is_prefix script done (e ∷ es) [] h k le = absurd (omega arith)
-one_is_prefix script done (e ∷ es) (f ∷ fs) h k le =
-    let p = h.0 in
-    let q = k.0 in
-    let same : f ≡ e = cc in
-    let more = one_is_prefix script (done ++ e ∷ []) es fs h.1 (subst (λ (x : Entry). Comes script (done ++ x ∷ []) fs) same k.1) (omega arith) in
+-- of two entries that come next, and whose texts stand at one place, the line is one, so its lane, and so the entry
+same_next : (script : Script) (done : List Entry) (e f : Entry) (p q : List ℕ) → length script.lines ≤ LINE_LIMIT
+    → ComesNext script done e → ComesNext script done f → entry_text script e ++ p ≡ entry_text script f ++ q → f ≡ e
+same_next script done e f p q few h k is =
+    let line = same_line script e f h.0 k.0 p q few h.1 k.1 is in
+    let lanes : Some k.0 ≡ Some h.0 = sym k.1 ∙ ap (lane_of script) (sym line) ∙ h.1 in
+    let lane : k.0 ≡ h.0 = cc in
+    let both : Some f ≡ Some e = sym k.2 ∙ ap (next script done) lane ∙ h.2 in
+    cc
+
+regroup : (a b c x y z : List ℕ) → (a ++ b) ++ c ≡ (x ++ y) ++ z → a ++ (b ++ c) ≡ x ++ (y ++ z)
+regroup a b c x y z is = sym (append_assoc a b c) ∙ is ∙ append_assoc x y z
+
+one_is_prefix : (script : Script) (done a b : List Entry) (p q : List ℕ) → length script.lines ≤ LINE_LIMIT
+    → Comes script done a → Comes script done b → text script a ++ p ≡ text script b ++ q → length a ≤ length b → Extends a b
+one_is_prefix script done [] b p q few h k is le = record { tail = b; is = refl }
+one_is_prefix script done (e ∷ es) [] p q few h k is le = absurd (omega arith)
+one_is_prefix script done (e ∷ es) (f ∷ fs) p q few h k is le =
+    let regrouped : entry_text script e ++ (text script es ++ p) ≡ entry_text script f ++ (text script fs ++ q)
+    = regroup (entry_text script e) (text script es) p (entry_text script f) (text script fs) q is in
+    let same : f ≡ e = same_next script done e f (text script es ++ p) (text script fs ++ q) few h.0 k.0 regrouped in
+    let behind : text script es ++ p ≡ text script fs ++ q
+    = append_cancel_left (entry_text script e) (text script es ++ p) (text script fs ++ q)
+    (regrouped ∙ ap (λ (x : Entry). entry_text script x ++ (text script fs ++ q)) same) in
+    let more = one_is_prefix script (done ++ e ∷ []) es fs p q few h.1
+    (subst (λ (x : Entry). Comes script (done ++ x ∷ []) fs) same k.1) behind (omega arith) in
     record { tail = more.tail; is = ap (λ (x : Entry). x ∷ fs) same ∙ ap (λ xs. e ∷ xs) more.is }
 
--- of two journals in order the longer one begins with the other
-pub longer_begins : (script : Script) (a b : List Entry) → IsInOrder script a → IsInOrder script b → length a ≤ length b → Extends a b
-longer_begins script a b h k le = one_is_prefix script [] a b (comes_from script [] a h) (comes_from script [] b k) le
+-- of two journals so far, with whose texts the same bytes begin, the longer one begins with the other
+pub longer_begins : (script : Script) (a b : List Entry) (p q : List ℕ) → length script.lines ≤ LINE_LIMIT
+    → SoFar script a → SoFar script b → text script a ++ p ≡ text script b ++ q → length a ≤ length b → Extends a b
+longer_begins script a b p q few h k is le =
+    one_is_prefix script [] a b p q few (comes_from script [] a h) (comes_from script [] b k) is le

@@ -1,2 +1,3 @@
 pub mod Report
+pub mod Next
 pub mod Run

@@ -1,32 +1,78 @@
--- A run of a script in order, whose journal isn't kept.
-use Rattle.std.specs.Prelude.{◌≡◌, List, [], ◌∷◌, ◌++◌, Some, None}
+-- A run of a script whose lanes take turns in any way, and whose journal isn't kept.
+use Rattle.std.specs.Prelude.{◌≡◌, ◌≢◌, ◌≤◌, ◌==◌, ◌&&◌, ℕ, not, true, List, [], ◌∷◌, ◌++◌}
+use Rattle.std.specs.Prelude.{length, slice_get, Some, None, is_some}
+use Rattle.std.specs.Prelude.{if◌then◌else◌}
 use Rattle.std.specs.declared.option.Option.{Option}
+use Rattle.std.specs.Option.{option_and_then}
 use Rattle.cred_event.specs.declared.entry.Entry.{Entry}
+use Rattle.cred_event.specs.declared.entry.TheConstants.{LINE_LIMIT}
+use Rattle.cred_model.specs.Course.{Course}
 use Rattle.cred_model.specs.Script.{Script}
 use Rattle.cred_model.specs.Like.{IsLike}
-use Rattle.cred_model.specs.Journal.{replay, next_in_order}
-use Rattle.cred_cursor.specs.Cursor.{IsCursor}
+use Rattle.cred_model.specs.Journal.{SoFar, next, replay}
+use Rattle.cred_report.specs.Text.{entry_text}
+use Rattle.cred_cursor.specs.Cursor.{IsLaneCursor}
+use Rattle.cred_audit.specs.Next.{ComesNext}
 use Rattle.cred_audit.specs.declared.run.Run.{Run}
 
+-- the lane's cursor; none past the last lane
+abbrev pub cursor_of : List (Option Course) → ℕ → Option Course
+cursor_of cursors lane = option_and_then (λ cursor. cursor) (slice_get cursors lane)
+
 -- The run has come as far as the journal: no event can tell its state from the one that the journal
--- leads to, and its cursor is the journal's.
+-- leads to, the journal is one so far, and each lane's cursor is the journal's.
 pub record IsAfter (script : Script) (journal : List Entry) (run : Run) : Type 0 where
+  pub few : length script.lines ≤ LINE_LIMIT
   pub state : IsLike run.state (replay script journal)
-  pub cursor : IsCursor script journal run.cursor
+  pub so_far : SoFar script journal
+  pub cursors : (lane : ℕ) → IsLaneCursor script journal lane (cursor_of run.cursors.items lane)
 
 -- the run has come as far as some journal
 abbrev pub IsRun : Script → Run → Type 0
 IsRun script run = (journal : List Entry) × IsAfter script journal run
+
+-- The course that makes the lane's next event. All other lanes wait for the setup.
+abbrev pub due_of : List (Option Course) → ℕ → Option Course
+due_of cursors lane =
+    if not (lane == 0) && is_some (cursor_of cursors 0) then None else cursor_of cursors lane
 
 -- the journal with one entry more, or as it is
 abbrev pub grown : List Entry → Option Entry → List Entry
 grown journal None = journal
 grown journal (Some entry) = journal ++ entry ∷ []
 
--- Whatever journal the run before had come to, this is its next entry in order, and the run after
--- has come to the journal with it.
-pub record GoesOn (script : Script) (before after : Run) (found : Option Entry) : Type 0 where
+-- Whatever journal the run before had come to, this is the lane's next entry, and the run after has
+-- come to the journal with it.
+pub record GoesOn (script : Script) (lane : ℕ) (before after : Run) (found : Option Entry)
+    : Type 0 where
   pub next : (journal : List Entry) → IsAfter script journal before
-      → next_in_order script journal ≡ found
+      → next script journal lane ≡ found
   pub leads : (journal : List Entry) → IsAfter script journal before
       → IsAfter script (grown journal found) after
+
+-- Whatever script and journal it is that the run has come to, no lane has a next entry.
+abbrev pub HasEnded : Run → Type 0
+HasEnded run =
+    (script : Script) (journal : List Entry) → IsAfter script journal run
+    → (lane : ℕ) → next script journal lane ≡ None
+
+-- Whatever script and journal it is that the run has come to, some lane has a next entry.
+abbrev pub IsLeft : Run → Type 0
+IsLeft run =
+    (script : Script) (journal : List Entry) → IsAfter script journal run
+    → (lane : ℕ) × (is_some (next script journal lane) ≡ true)
+
+-- Whatever journal the run before had come to, the bytes begin with the text of an entry with which
+-- the run after has come to it, and this is what follows.
+pub record Passes (script : Script) (before after : Run) (bytes rest : List ℕ) : Type 0 where
+  pub entry : Entry
+  pub leads : (journal : List Entry) → IsAfter script journal before
+      → IsAfter script (journal ++ entry ∷ []) after
+  pub is : bytes ≡ entry_text script entry ++ rest
+
+-- Whatever journal the run has come to, the bytes begin with the text of no entry that comes next.
+abbrev pub GoesWrong : Script → Run → List ℕ → Type 0
+GoesWrong script run bytes =
+    (journal : List Entry) → IsAfter script journal run
+    → (entry : Entry) (rest : List ℕ) → ComesNext script journal entry
+    → bytes ≢ entry_text script entry ++ rest

@@ -5,6 +5,7 @@
 //! its place; so nothing is read back, and no journal is kept.
 #![tactic(auto)]
 
+mod lane;
 mod run;
 mod verdict;
 

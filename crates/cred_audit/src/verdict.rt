@@ -1,10 +1,10 @@
 //! The verdict on a report.
 ghost use Rattle.std.specs.Prelude.{◌≡◌, ◌≢◌, ◌++◌, [], IfOk, MatchOption, List, ℕ};
 ghost use Rattle.cred_report.specs.Text.{entry_text};
-ghost use Rattle.cred_cursor.specs.Cursor.{IsSetup};
 ghost use Rattle.cred_audit.specs.Report.{IsVerdict};
-ghost use Rattle.cred_audit.specs.Run.{IsAfter};
+ghost use Rattle.cred_audit.specs.Run.{GoesWrong, IsAfter, IsRun, Passes};
 
+use crate::lane::lane_at;
 use crate::run::Run;
 use cred_event::Entry;
 use cred_ids::NoMemory;
@@ -25,14 +25,13 @@ pub enum Verdict {
 }
 
 /// Whether the bytes are the report of a run of the script, and else which entry is the first that
-/// is wrong. The script's lines are all of lane 0.
+/// is wrong. A script with lanes has many such reports: each that keeps the order of every lane.
 ///
 /// # Errors
 ///
 /// `NoMemory` if an allocation of the run or of an entry's text fails.
 pub fn audit(alloc: Global, script: &Script, report: &[u8]) -> Result<Verdict, NoMemory>
-    ensures { IfOk result (λ verdict. IsSetup script.now
-        → IsVerdict script.now report.now verdict) }
+    ensures { IfOk result (λ verdict. IsVerdict script.now report.now verdict) }
 {
     let mut run = Run::new(alloc, script)?;
     let mut pen = Pen::new(alloc);
@@ -47,23 +46,43 @@ fn compare(
     report: &[u8],
 ) -> Result<Verdict, NoMemory>
     requires { IsAfter script.now [] run.old }
-    ensures { IfOk result (λ verdict. IsSetup script.now
-        → IsVerdict script.now report.now verdict) }
+    ensures { IfOk result (λ verdict. IsVerdict script.now report.now verdict) }
 {
     let mut rest = report;
     let mut entry = 1;
-    'entries: while let Some(next) = run.next(script)? {
-        let Some(after) = behind(pen, script, rest, &next)? else {
+    'entries: while !rest.is_empty() {
+        let Some(after) = behind_next(run, pen, script, rest)? else {
             return Ok(Verdict::NotLegal { entry });
         };
         rest = after;
         entry += 1;
     }
-    Ok(if rest.is_empty() {
+    Ok(if run.has_ended() {
         Verdict::Legal
     } else {
         Verdict::NotLegal { entry }
     })
+}
+
+/// Makes the next event of the lane whose line's number the bytes begin with, and answers what
+/// follows the text of its entry; none where the bytes do not begin with it.
+fn behind_next<'b>(
+    run: &mut Run,
+    pen: &mut Pen,
+    script: &Script,
+    bytes: &'b [u8],
+) -> Result<Option<&'b [u8]>, NoMemory>
+    requires { IsRun script.now run.old }
+    ensures { IfOk result (λ found. MatchOption found (GoesWrong script.now run.old bytes.now)
+        (λ rest. Passes script.now run.old run.new bytes.now rest.now)) }
+{
+    let Some(lane) = lane_at(script, bytes) else {
+        return Ok(None);
+    };
+    let Some(next) = run.next(script, lane)? else {
+        return Ok(None);
+    };
+    behind(pen, script, bytes, next)
 }
 
 /// What follows the text of the entry, with which the bytes are to begin; none where they do not.
@@ -71,13 +90,13 @@ fn behind<'b>(
     pen: &mut Pen,
     script: &Script,
     bytes: &'b [u8],
-    entry: &Entry,
+    entry: Entry,
 ) -> Result<Option<&'b [u8]>, NoMemory>
     ensures { IfOk result (λ found. MatchOption found
-        ((rest : List ℕ) → bytes.now ≢ entry_text script.now entry.now ++ rest)
-        (λ rest. bytes.now ≡ entry_text script.now entry.now ++ rest.now)) }
+        ((rest : List ℕ) → bytes.now ≢ entry_text script.now entry ++ rest)
+        (λ rest. bytes.now ≡ entry_text script.now entry ++ rest.now)) }
 {
     pen.clear();
-    prepend(pen, script, entry)?;
+    prepend(pen, script, &entry)?;
     Ok(bytes.strip_prefix(pen.items()))
 }

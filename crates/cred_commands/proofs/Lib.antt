@@ -1,4 +1,3 @@
 pub mod Prefixes
 pub mod Finished
 pub mod ReportLine
-pub mod SetupLines

@@ -1,6 +1,6 @@
 //! A script: the files and the namespaces that it declares, and its lines, each with its lane and
 //! what it holds.
-ghost use Rattle.std.specs.Prelude.{◌≡◌, ◌≤◌, ◌<◌, IfSome, Some, length, slice_get};
+ghost use Rattle.std.specs.Prelude.{◌≡◌, ◌≤◌, ◌<◌, ◌+◌, IfSome, Some, length, slice_get};
 ghost use Rattle.std.specs.Option.{option_map};
 ghost use Rattle.cred_model.specs.Named.{IsContentOf};
 ghost use Rattle.cred_model.specs.Script.{SetupFirst, chain_in};
@@ -8,7 +8,7 @@ ghost use Rattle.cred_script.specs.Files as spec;
 ghost use Rattle.cred_script.specs.Grammar.{line_at};
 ghost use Rattle.cred_script.specs.Lanes.{lanes};
 ghost use Rattle.cred_script.specs.Read.{seen};
-ghost use Rattle.cred_script.specs.Sound.{IsSound};
+ghost use Rattle.cred_script.specs.Sound.{IsSound, IsSoundScript};
 ghost use Rattle.cred_spelling.specs.Spellings.{LAST_LANE};
 
 use crate::files::{FILES, Files};
@@ -67,10 +67,12 @@ impl Script {
         self.lines.len() as u32
     }
 
-    /// The greatest number of a lane that a lane line names, from 1 to 16; 0 where there is none.
+    /// The greatest number of a lane that a lane line names, from 1 to 16; 0 where there is none. The
+    /// lines are sound, as those of every script.
     pub fn lanes(&self) -> u32
         ensures greatest { result ≡ lanes self.now.lines }
         ensures few { result ≤ LAST_LANE }
+        ensures sound { IsSoundScript (length self.now.files) self.now.namespaces self.now.lines }
     {
         let mut greatest = 0;
         for line in &self.lines {

@@ -1,52 +1,23 @@
-use Rattle.std.proofs.Common.{sym, ◌∙◌, subst}
-use Rattle.cred_audit.specs.Run.{GoesOn}
-use Rattle.cred_audit.proofs.Reports.{nothing_compared, one_more_compared, wrong_entry, bytes_left, nothing_left, empty_by_test, some_by_test}
+use Rattle.std.proofs.Common.{sym, ◌∙◌}
+use Rattle.cred_audit.proofs.Reports.{one_more_compared, wrong_entry, stops_early, nothing_left, empty_by_test, some_by_test}
 use Rattle.cred_audit.proofs.verdict.compare.Goals as goal
 
-pub entries-init : goal.entries-init
-entries-init c = nothing_compared c.args.script.now c.args.report.now c.args.run.now c.requires
-
-pub returns-in_default-2 : goal.returns-in_default-2
-returns-in_default-2 c =
-    let script = c.args.script.now in
-    let on = subst (GoesOn script c.entries.run c.next.new.self) c.in-Some.is c.in_ok-next.ensures.ok in
-    λ setup.
-    wrong_entry script c.args.report.now c.entries.rest.now c.entries.entry c.entries.run c.next.new.self c.in-Some.next setup
-    c.entries.invariant on (rw c.in_default-2.is at c.in_ok-after.ensures)
-
-pub entries-preserved-in-Some-2 : goal.entries-preserved-in-Some-2
-entries-preserved-in-Some-2 c =
-    let script = c.args.script.now in
-    let on = subst (GoesOn script c.entries.run c.next.new.self) c.in-Some.is c.in_ok-next.ensures.ok in
-    one_more_compared script c.args.report.now c.entries.rest.now c.entries.entry c.entries.run c.next.new.self c.in-Some.next
-    c.in-Some-2.after.now c.entries.invariant on (rw c.in-Some-2.is at c.in_ok-after.ensures)
-
-pub entries-preserved-in-Some-2-2 : goal.entries-preserved-in-Some-2-2
-entries-preserved-in-Some-2-2 c =
-    let script = c.args.script.now in
-    let on = subst (GoesOn script c.entries.run c.next.new.self) c.in-Some.is c.in_ok-next.ensures.ok in
-    one_more_compared script c.args.report.now c.entries.rest.now c.entries.entry c.entries.run c.next.new.self c.in-Some.next
-    c.in-Some-2.after.now c.entries.invariant on (rw c.in-Some-2.is at c.in_ok-after.ensures)
+pub returns-in_default : goal.returns-in_default
+returns-in_default c =
+    wrong_entry c.args.script.now c.args.report.now c.entries.rest.now c.entries.entry c.entries.run c.entries.invariant
+    (some_by_test c.entries.rest.now (sym c.is_empty.ensures ∙ c.entries-test.true)) (rw c.in_default.is at c.in_ok-after.ensures)
 
 pub entries-preserved : goal.entries-preserved
 entries-preserved c =
-    let script = c.args.script.now in
-    let on = subst (GoesOn script c.entries.run c.next.new.self) c.in-Some.is c.in_ok-next.ensures.ok in
-    one_more_compared script c.args.report.now c.entries.rest.now c.entries.entry c.entries.run c.next.new.self c.in-Some.next
-    c.in-Some-2.after.now c.entries.invariant on (rw c.in-Some-2.is at c.in_ok-after.ensures)
+    one_more_compared c.args.script.now c.args.report.now c.entries.rest.now c.entries.entry c.entries.run c.behind_next.new.run c.in-Some.after.now
+    c.entries.invariant (rw c.in-Some.is at c.in_ok-after.ensures)
 
-pub returns-then-is_empty : goal.returns-then-is_empty
-returns-then-is_empty c =
-    let script = c.args.script.now in
-    let on = subst (GoesOn script c.entries.run c.next.new.self) c.in_default.is c.in_ok-next.ensures.ok in
-    λ setup.
-    nothing_left script c.args.report.now c.entries.rest.now c.entries.entry c.entries.run c.next.new.self setup c.entries.invariant on
-    (empty_by_test c.entries.rest.now (sym c.is_empty.ensures ∙ c.if-is_empty.true))
+pub returns-else-has_ended : goal.returns-else-has_ended
+returns-else-has_ended c =
+    stops_early c.args.script.now c.args.report.now c.entries.rest.now c.entries.entry c.entries.run c.entries.invariant
+    (empty_by_test c.entries.rest.now (sym c.is_empty.ensures ∙ c.entries-test.false)) (rw c.if-has_ended.false at c.has_ended.ensures)
 
-pub returns-else-is_empty : goal.returns-else-is_empty
-returns-else-is_empty c =
-    let script = c.args.script.now in
-    let on = subst (GoesOn script c.entries.run c.next.new.self) c.in_default.is c.in_ok-next.ensures.ok in
-    λ setup.
-    bytes_left script c.args.report.now c.entries.rest.now c.entries.entry c.entries.run c.next.new.self setup c.entries.invariant on
-    (some_by_test c.entries.rest.now (sym c.is_empty.ensures ∙ c.if-is_empty.false))
+pub returns-then-has_ended : goal.returns-then-has_ended
+returns-then-has_ended c =
+    nothing_left c.args.script.now c.args.report.now c.entries.rest.now c.entries.entry c.entries.run c.entries.invariant
+    (empty_by_test c.entries.rest.now (sym c.is_empty.ensures ∙ c.entries-test.false)) (rw c.if-has_ended.true at c.has_ended.ensures)

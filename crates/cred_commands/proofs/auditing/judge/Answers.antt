@@ -1,18 +1,17 @@
 use Rattle.std.proofs.Common.{subst}
 use Rattle.cred_audit.specs.Report.{IsVerdict}
-use Rattle.cred_commands.proofs.SetupLines.{lines_are_setup}
 use Rattle.cred_commands.proofs.auditing.judge.Goals as goal
 
 pub returns-in-Legal : goal.returns-in-Legal
 returns-in-Legal c =
     let read = c.in-Ok.ensures.given in
-    let verdict = c.in_ok-audit-in-Ok.ensures (lines_are_setup c.args.script.now c.in-Ok.script read) in
+    let verdict = c.in_ok-audit-in-Ok.ensures in
     (c.in-Ok.script, read, subst (IsVerdict c.in-Ok.script c.args.report.now) c.in-Legal.is verdict, c.in_ok-from_str-in-Legal.ensures.ok)
 
 pub returns-in-Ok : goal.returns-in-Ok
 returns-in-Ok c =
     let read = c.in-Ok.ensures.given in
-    let verdict = c.in_ok-audit-in-Ok.ensures (lines_are_setup c.args.script.now c.in-Ok.script read) in (
+    let verdict = c.in_ok-audit-in-Ok.ensures in (
       c.in-Ok.script,
       c.in-NotLegal.entry,
       read,
