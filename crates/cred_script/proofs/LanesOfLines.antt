@@ -2,7 +2,7 @@
 use Rattle.std.proofs.Common.{◌≡◌, ◌≢◌, ℕ, ◌==◌, ◌≤◌, ◌<◌, Bool, true, false, ◌&&◌, cond, List, [], ◌∷◌, ◌++◌, length, All, AllPairs, Option, Some, None, IfSome, refl, sym, subst, ◌∙◌, length-append, arith}
 use Rattle.std.specs.List.{cons_option}
 use Rattle.std.proofs.lemmas.Bool.Decides.{nat_tests}
-use Rattle.std.proofs.lemmas.List.Elements.{All-nil, All-push, All-head, All-tail, All-weaker, All-contains}
+use Rattle.std.proofs.lemmas.List.Elements.{All-nil, All-cons, All-push, All-head, All-tail, All-weaker, All-contains}
 use Rattle.std.proofs.lemmas.List.Quantifiers.{all_pairs_push}
 use Rattle.cred_event.specs.declared.content.Content.{Content}
 use Rattle.cred_model.specs.Script.{Line, Namespace, SetupBefore}
@@ -123,3 +123,8 @@ lanes_small count declared (line ∷ lines) all =
     let head = (All-head (IsSound count declared) line lines all).lane in
     let tail = lanes_small count declared lines (All-tail (IsSound count declared) line lines all) in
     omega arith
+
+-- where none is named all lines are the setup's
+pub setup_only : (lines : List Line) → lanes lines ≡ 0 → All (λ line. line.lane ≡ 0) lines
+setup_only [] none = All-nil _
+setup_only (line ∷ lines) none = All-cons (λ (l : Line). l.lane ≡ 0) line lines (omega arith) (setup_only lines (omega arith))

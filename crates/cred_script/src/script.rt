@@ -1,6 +1,6 @@
 //! A script: the files and the namespaces that it declares, and its lines, each with its lane and
 //! what it holds.
-ghost use Rattle.std.specs.Prelude.{◌≡◌, ◌≤◌, ◌<◌, ◌+◌, IfSome, Some, length, slice_get};
+ghost use Rattle.std.specs.Prelude.{◌≡◌, ◌≤◌, ◌<◌, All, AllPairs, IfSome, Some, length, slice_get};
 ghost use Rattle.std.specs.Option.{option_map};
 ghost use Rattle.cred_model.specs.Named.{IsContentOf};
 ghost use Rattle.cred_model.specs.Script.{SetupFirst, chain_in};
@@ -8,7 +8,7 @@ ghost use Rattle.cred_script.specs.Files as spec;
 ghost use Rattle.cred_script.specs.Grammar.{line_at};
 ghost use Rattle.cred_script.specs.Lanes.{lanes};
 ghost use Rattle.cred_script.specs.Read.{seen};
-ghost use Rattle.cred_script.specs.Sound.{IsSound, IsSoundScript};
+ghost use Rattle.cred_script.specs.Sound.{AreApart, IsSound};
 ghost use Rattle.cred_spelling.specs.Spellings.{LAST_LANE};
 
 use crate::files::{FILES, Files};
@@ -67,18 +67,17 @@ impl Script {
         self.lines.len() as u32
     }
 
-    /// The greatest number of a lane that a lane line names, from 1 to 16; 0 where there is none. The
-    /// lines are sound, as those of every script.
+    /// The greatest number of a lane that a lane line names, from 1 to 16; 0 where there is none,
+    /// and all lines are the setup's. No task acts by lines of two lanes but the setup, and no label
+    /// stands in two.
     pub fn lanes(&self) -> u32
         ensures greatest { result ≡ lanes self.now.lines }
         ensures few { result ≤ LAST_LANE }
-        ensures sound { IsSoundScript (length self.now.files) self.now.namespaces self.now.lines }
+        ensures setup { result ≡ 0 → All (λ line. line.lane ≡ 0) self.now.lines }
+        ensures apart { AllPairs AreApart self.now.lines }
+        ensures lines { length self.now.lines ≤ LINE_LIMIT }
     {
-        let mut greatest = 0;
-        for line in &self.lines {
-            greatest = greatest.max(line.lane);
-        }
-        greatest
+        greatest_lane(&self.lines)
     }
 
     /// The name of the file at this place, counted from 0 in the order of the lines that declare
@@ -128,4 +127,15 @@ impl Script {
         let line = self.lines.get(place as usize)?;
         Some((line.lane, &line.content))
     }
+}
+
+/// The greatest lane of these lines, 0 where there are none.
+fn greatest_lane(lines: &[ScriptLine]) -> u32
+    ensures { result ≡ lanes lines.now }
+{
+    let mut greatest = 0;
+    for line in lines {
+        greatest = greatest.max(line.lane);
+    }
+    greatest
 }

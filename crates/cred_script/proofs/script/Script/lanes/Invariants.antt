@@ -1,6 +1,0 @@
-use Rattle.std.proofs.Common.{◌≡◌, drop, max}
-use Rattle.cred_script.specs.Lanes.{lanes}
-use Rattle.cred_script.proofs.script.Script.lanes.Given as goal
-
-abbrev pub invariant-loop-line : goal.invariant-loop-line
-invariant-loop-line l = max l.greatest (lanes (drop l.line-index l.self.lines)) ≡ lanes l.self.lines
