@@ -3,8 +3,9 @@
 //! What text is a script, and which script it is, is defined in `specs/`: a script is its lines,
 //! added one after another to what was read before them. `IdCalls`, `Changes`, `Questions`,
 //! `Calls`, `Files` and `Forms` say what the words of each form are, `Namespaces` which root ids a
-//! declared namespace has, `Reading` what was read before a line, what that asks of the line and
-//! what the line adds to it. `Grammar` puts these together, and `read` answers exactly that.
+//! declared namespace has, `Acting` which task acts by a line and which labels it names, `Lanes`
+//! which lane has them, `Reading` what was read before a line, what that asks of the line and what
+//! the line adds to it. `Grammar` puts these together, and `read` answers exactly that.
 //! `Sound` says what is true of each script, and `Kept` how it keeps its files. How a text is
 //! split, what a word spells and the tables of keywords stand in `cred_spelling`.
 #![tactic(auto)]

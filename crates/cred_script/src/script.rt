@@ -68,8 +68,8 @@ impl Script {
     }
 
     /// The greatest number of a lane that a lane line names, from 1 to 16; 0 where there is none,
-    /// and all lines are the setup's. No task acts by lines of two lanes but the setup, and no label
-    /// stands in two.
+    /// and all lines are the setup's. The setup apart, no task acts by lines of two lanes, and no
+    /// label stands in two.
     pub fn lanes(&self) -> u32
         ensures greatest { result ≡ lanes self.now.lines }
         ensures few { result ≤ LAST_LANE }
