@@ -1,8 +1,7 @@
 -- A run of which a lane goes on by an event, or has none.
-use Rattle.std.proofs.Common.{◌≡◌, ◌≢◌, ℕ, ◌+◌, ◌<◌, ◌≤◌, ◌==◌, ◌&&◌, not, cond, Bool, true, false, List, [], ◌∷◌, ◌++◌, length, set, Option, Some, None, is_some, is_none, MatchBool, refl, sym, ap, ◌∙◌, subst, arith}
+use Rattle.std.proofs.Common.{◌≡◌, ℕ, ◌≤◌, ◌==◌, ◌&&◌, not, cond, Bool, true, false, List, [], ◌∷◌, ◌++◌, length, set, Option, Some, None, is_some, is_none, MatchBool, refl, sym, ap, ◌∙◌, subst, arith}
 use Rattle.std.specs.List.{list_all}
 use Rattle.std.specs.Option.{IfSome, option_map, option_and_then}
-use Rattle.std.proofs.lemmas.Bool.Decides.{nat_tests}
 use Rattle.cred_event.specs.declared.event.Event.{Event}
 use Rattle.cred_event.specs.declared.answer.Answer.{Answer}
 use Rattle.cred_event.specs.declared.entry.Entry.{Entry}
@@ -19,74 +18,37 @@ use Rattle.cred_model.proofs.Likes.{does_like, like_self}
 use Rattle.cred_sound.specs.Sound.{IsSound}
 use Rattle.cred_sound.proofs.Sound.{like_sound, sound_after}
 use Rattle.cred_script.specs.Grammar.{line_at}
-use Rattle.cred_script.specs.Lanes.{lanes}
-use Rattle.cred_cursor.specs.declared.lines.Lines.TheVariants.{Lane}
-use Rattle.cred_cursor.specs.Cursor.{IsLaneCursor, IsOfLine, PassesAmong, is_among}
-use Rattle.cred_cursor.proofs.Lanes.{lane_over, lane_due, lane_makes_due, lane_of_line, lane_of_course, lane_goes_on, lane_stays, SoFar-push}
-use Rattle.cred_audit.specs.Run.{IsAfter, IsRun, GoesOn, HasEnded, IsLeft, cursor_of, due_of}
+use Rattle.cred_cursor.specs.Cursor.{IsOfLine, PassesTo}
+use Rattle.cred_cursor.specs.Cursors.{AreCursors, cursor_of, due_of, waits}
+use Rattle.cred_cursor.proofs.AllLanes.{is_due, no_cursor, some_cursor}
+use Rattle.cred_cursor.proofs.Lanes.{lane_makes_due, lane_of_line, lane_of_course, SoFar-push}
+use Rattle.cred_cursor.proofs.Turns.{next_by, next_none, next_some, stands_at, lanes_go_on}
+use Rattle.cred_audit.specs.Run.{IsAfter, IsRun, GoesOn, HasEnded, IsLeft}
 use Rattle.cred_audit.specs.declared.run.Run.{Run}
-use Rattle.cred_audit.proofs.Cursors.{AreFirst, all_first, has_place, cursor_set, other_cursor, is_due, no_cursor, some_cursor}
 
 -- ---- where it stands
 
--- whether the lane waits for the setup
-abbrev waits : List (Option Course) → ℕ → Bool
-waits cursors lane = not (lane == 0) && is_some (cursor_of cursors 0)
-
--- what the lane's next entry is, by the cursors
-next_by : (script : Script) (journal : List Entry) (run : Run) (lane : ℕ) → IsAfter script journal run
-    → next script journal lane ≡ cond (waits run.cursors.items lane) None (option_map (entry_of script journal) (due_in script journal lane))
-next_by script journal run lane after =
-    ap (λ b. cond (not (lane == 0) && b) None (option_map (entry_of script journal) (due_in script journal lane)))
-    (is_due script journal 0 (cursor_of run.cursors.items 0) (after.cursors 0))
-
-not_waiting : (b : Bool) (cursor : Option Course) (course : Course) → cond b None cursor ≡ Some course → (b ≡ false) × (cursor ≡ Some course)
-not_waiting true cursor course is = absurd (cc)
-not_waiting false cursor course is = (refl, is)
-
--- the course that is due is the lane's cursor, and the lane doesn't wait
-due_is : (cursors : List (Option Course)) (lane : ℕ) (course : Course) → due_of cursors lane ≡ Some course
-    → (waits cursors lane ≡ false) × (cursor_of cursors lane ≡ Some course)
-due_is cursors lane course is = not_waiting (waits cursors lane) (cursor_of cursors lane) course is
-
-pub stands_at : (script : Script) (journal : List Entry) (run : Run) (lane : ℕ) (course : Course) → due_of run.cursors.items lane ≡ Some course
-    → IsAfter script journal run → IsLaneCursor script journal lane (Some course)
-stands_at script journal run lane course due after =
-    subst (IsLaneCursor script journal lane) (due_is run.cursors.items lane course due).1 (after.cursors lane)
-
-pub course_of_line : (script : Script) (run : Run) (lane : ℕ) (course : Course) → due_of run.cursors.items lane ≡ Some course → IsRun script run
+pub course_of_line : (script : Script) (run : Run) (lane : ℕ) (course : Course) → due_of run.cursors lane ≡ Some course → IsRun script run
     → IsOfLine script course
-course_of_line script run lane course due is = lane_of_line script is.0 lane course (stands_at script is.0 run lane course due is.1)
+course_of_line script run lane course due is = lane_of_line script is.0 lane course (stands_at script is.0 run.cursors lane course is.1.cursors due)
 
-pub course_goes_on : (script : Script) (run : Run) (lane : ℕ) (course : Course) → due_of run.cursors.items lane ≡ Some course → IsRun script run
+pub course_goes_on : (script : Script) (run : Run) (lane : ℕ) (course : Course) → due_of run.cursors lane ≡ Some course → IsRun script run
     → is_some course.stage ≡ true
-course_goes_on script run lane course due is = (stands_at script is.0 run lane course due is.1).1
+course_goes_on script run lane course due is = (stands_at script is.0 run.cursors lane course is.1.cursors due).1
 
 -- its course makes an event
-pub course_is_due : (script : Script) (run : Run) (lane : ℕ) (course : Course) → due_of run.cursors.items lane ≡ Some course → IsRun script run
+pub course_is_due : (script : Script) (run : Run) (lane : ℕ) (course : Course) → due_of run.cursors lane ≡ Some course → IsRun script run
     → is_some (option_and_then (λ (line : Line). event_at line.content course) (line_at script course.line)) ≡ true
-course_is_due script run lane course due is = lane_makes_due script is.0 lane course (stands_at script is.0 run lane course due is.1)
+course_is_due script run lane course due is = lane_makes_due script is.0 lane course (stands_at script is.0 run.cursors lane course is.1.cursors due)
 
 pub run_is_sound : (script : Script) (run : Run) → IsRun script run → IsSound run.state
 run_is_sound script run is = like_sound run.state (replay script is.0) is.1.state (sound_after script is.0)
 
--- the lane's cursor has a place
-pub lane_has_place : (run : Run) (lane : ℕ) (course : Course) → due_of run.cursors.items lane ≡ Some course → lane < length run.cursors.items
-lane_has_place run lane course due = has_place run.cursors.items lane course (due_is run.cursors.items lane course due).1
-
 -- ---- how it goes on
 
-none_by : (b : Bool) (cursor : Option Course) (due : Option Entry) → cond b None cursor ≡ None → (cursor ≡ None → due ≡ None) → cond b None due ≡ None
-none_by true cursor due is from = refl
-none_by false cursor due is from = from is
-
-pub stops : (script : Script) (lane : ℕ) (run : Run) → due_of run.cursors.items lane ≡ None → GoesOn script lane run run None
+pub stops : (script : Script) (lane : ℕ) (run : Run) → due_of run.cursors lane ≡ None → GoesOn script lane run run None
 stops script lane run none = record {
-  next = λ journal after.
-      next_by script journal run lane after
-      ∙ none_by (waits run.cursors.items lane) (cursor_of run.cursors.items lane) (option_map (entry_of script journal) (due_in script journal lane)) none
-      (λ (over : cursor_of run.cursors.items lane ≡ None).
-      ap (option_map (entry_of script journal)) (lane_over script journal lane (subst (IsLaneCursor script journal lane) over (after.cursors lane))));
+  next = λ journal after. next_none script journal run.cursors lane after.cursors none;
   leads = λ journal after. after;
 }
 
@@ -108,51 +70,22 @@ made script before after line event answer journal is does =
 
 -- the entry is the lane's next
 next_is : (script : Script) (lane : ℕ) (before after : Run) (course : Course) (event : Event) (line : ℕ) (answer : Answer)
-    → due_of before.cursors.items lane ≡ Some course
+    → due_of before.cursors lane ≡ Some course
     → option_and_then (λ (l : Line). event_at l.content course) (line_at script course.line) ≡ Some event
     → line ≡ course.line
     → IsOutcomeLike (step script before.state line event) answer after.state
     → (journal : List Entry) → IsAfter script journal before → next script journal lane ≡ Some (entry_with line event answer)
 next_is script lane before after course event line answer due has number does journal is =
-    let at = stands_at script journal before lane course due is in
     let same = entry_is script journal course event line answer number (made script before after line event answer journal is does).answers in
-    next_by script journal before lane is
-    ∙ ap (λ b. cond b None (option_map (entry_of script journal) (due_in script journal lane))) (due_is before.cursors.items lane course due).0
-    ∙ ap (option_map (entry_of script journal)) (lane_due script journal lane course event at has)
-    ∙ ap Some (sym same)
-
--- the cursors after it: the lane's own has gone on, all others have stayed
-cursor_by : (script : Script) (lane : ℕ) (before after : Run) (course : Course) (entry : Entry) (to : Option Course)
-    → due_of before.cursors.items lane ≡ Some course → entry.line ≡ course.line
-    → IfSome (line_at script course.line) (λ l. PassesAmong (is_among (Lane lane)) script (model.after l.content course entry.answer) to)
-    → after.cursors.items ≡ set before.cursors.items lane to
-    → (journal : List Entry) → IsAfter script journal before → (other : ℕ) (b : Bool) → (other == lane) ≡ b
-    → IsLaneCursor script (journal ++ entry ∷ []) other (cursor_of after.cursors.items other)
-cursor_by script lane before after course entry to due number passes kept journal is other true test =
-    let here : lane ≡ other = grind (arith, nat_tests) in
-    let at = stands_at script journal before lane course due is in
-    let goes = lane_goes_on script journal lane course entry to at number passes in
-    let cursor : to ≡ cursor_of after.cursors.items lane
-    = sym (ap (λ cs. cursor_of cs lane) kept ∙ cursor_set before.cursors.items lane to (lane_has_place before lane course due)) in
-    subst (λ l. IsLaneCursor script (journal ++ entry ∷ []) l (cursor_of after.cursors.items l)) here
-    (subst (IsLaneCursor script (journal ++ entry ∷ []) lane) cursor goes)
-cursor_by script lane before after course entry to due number passes kept journal is other false test =
-    let differ : other ≢ lane = grind (arith, nat_tests) in
-    let apart : lane ≢ other = grind (arith, nat_tests) in
-    let at = stands_at script journal before lane course due is in
-    let own : lane_of script entry.line ≡ Some lane = ap (lane_of script) number ∙ lane_of_course script journal lane course at in
-    let cursor : cursor_of before.cursors.items other ≡ cursor_of after.cursors.items other
-    = sym (ap (λ cs. cursor_of cs other) kept ∙ other_cursor before.cursors.items lane other to differ) in
-    subst (IsLaneCursor script (journal ++ entry ∷ []) other) cursor
-    (lane_stays script journal other lane entry (cursor_of before.cursors.items other) own apart (is.cursors other))
+    next_some script journal before.cursors lane course event is.cursors due has ∙ ap Some (sym same)
 
 pub goes_on_by : (script : Script) (lane : ℕ) (before after : Run) (course : Course) (event : Event) (line : ℕ) (answer : Answer) (to : Option Course)
-    → due_of before.cursors.items lane ≡ Some course
+    → due_of before.cursors lane ≡ Some course
     → option_and_then (λ (l : Line). event_at l.content course) (line_at script course.line) ≡ Some event
     → line ≡ course.line
     → IsOutcomeLike (step script before.state line event) answer after.state
-    → IfSome (line_at script course.line) (λ l. PassesAmong (is_among (Lane lane)) script (model.after l.content course answer) to)
-    → after.cursors.items ≡ set before.cursors.items lane to
+    → IfSome (line_at script course.line) (λ l. PassesTo script lane (model.after l.content course answer) to)
+    → after.cursors ≡ set before.cursors lane to
     → GoesOn script lane before after (Some (entry_with line event answer))
 goes_on_by script lane before after course event line answer to due has number does passes kept =
     let entry = entry_with line event answer in
@@ -160,60 +93,61 @@ goes_on_by script lane before after course event line answer to due has number d
     record {
       next = next;
       leads = λ journal is.
-          let at = stands_at script journal before lane course due is in
+          let at = stands_at script journal before.cursors lane course is.cursors due in
           let own : lane_of script line ≡ Some lane = ap (lane_of script) number ∙ lane_of_course script journal lane course at in
           let m = made script before after line event answer journal is does in
           record {
             few = is.few;
             state = subst (IsLike after.state) (sym (replay-push script journal entry)) m.leads;
             so_far = SoFar-push script journal lane entry is.so_far own (next journal is);
-            cursors = λ other. cursor_by script lane before after course entry to due number passes kept journal is other (other == lane) refl;
+            cursors = subst (AreCursors script (journal ++ entry ∷ [])) (sym kept)
+                (lanes_go_on script journal before.cursors lane course entry to is.cursors due number passes);
           };
     }
 
 -- ---- its start and its end
 
 -- where no lane has a cursor
-pub no_cursor_ended : (run : Run) → ((lane : ℕ) → cursor_of run.cursors.items lane ≡ None) → HasEnded run
+pub no_cursor_ended : (run : Run) → ((lane : ℕ) → cursor_of run.cursors lane ≡ None) → HasEnded run
 no_cursor_ended run none script journal after lane =
-    (stops script lane run (by (waits run.cursors.items lane) (none lane))).next journal after
+    (stops script lane run (by (waits run.cursors lane) (none lane))).next journal after
   where
     by : (b : Bool) {cursor : Option Course} → cursor ≡ None → cond b None cursor ≡ None
     by true is = refl
     by false is = is
 
 -- where some lane has one, the setup goes on, or that lane does
-pub cursor_left : (run : Run) (lane : ℕ) → is_some (cursor_of run.cursors.items lane) ≡ true → IsLeft run
-cursor_left run lane some script journal after = by (cursor_of run.cursors.items 0) refl
+pub cursor_left : (run : Run) (lane : ℕ) → is_some (cursor_of run.cursors lane) ≡ true → IsLeft run
+cursor_left run lane some script journal after = by (cursor_of run.cursors 0) refl
   where
-    due : (l : ℕ) → is_some (cursor_of run.cursors.items l) ≡ true → waits run.cursors.items l ≡ false
+    due : (l : ℕ) → is_some (cursor_of run.cursors l) ≡ true → waits run.cursors l ≡ false
         → is_some (next script journal l) ≡ true
     due l some free =
-        let is = is_due script journal l (cursor_of run.cursors.items l) (after.cursors l) ∙ some in
+        let is = is_due script journal l (cursor_of run.cursors l) (after.cursors l) ∙ some in
         let all : next script journal l ≡ option_map (entry_of script journal) (due_in script journal l)
-        = next_by script journal run l after ∙ ap (λ b. cond b None (option_map (entry_of script journal) (due_in script journal l))) free in
+        = next_by script journal run.cursors l after.cursors ∙ ap (λ b. cond b None (option_map (entry_of script journal) (due_in script journal l))) free in
         ap is_some all ∙ some_map (due_in script journal l) ∙ is
       where
         some_map : (o : Option Due) → is_some (option_map (entry_of script journal) o) ≡ is_some o
         some_map None = refl
         some_map (Some d) = refl
 
-    by : (first : Option Course) → cursor_of run.cursors.items 0 ≡ first → (l : ℕ) × (is_some (next script journal l) ≡ true)
+    by : (first : Option Course) → cursor_of run.cursors 0 ≡ first → (l : ℕ) × (is_some (next script journal l) ≡ true)
     by None at =
-        let free : waits run.cursors.items lane ≡ false
+        let free : waits run.cursors lane ≡ false
         = ap (λ o. not (lane == 0) && is_some o) at ∙ elim (lane == 0) as (λ b. (not b && false) ≡ false) [ true ↦ refl | false ↦ refl ] in
         (lane, due lane some free)
     by (Some course) at = (0, due 0 (ap is_some at) refl)
 
-pub ended_by : (run : Run) (ended : Bool) → ended ≡ list_all is_none run.cursors.items → MatchBool ended (HasEnded run) (IsLeft run)
-ended_by run true is = no_cursor_ended run (no_cursor run.cursors.items (sym is))
-ended_by run false is = let left = some_cursor run.cursors.items (sym is) in cursor_left run left.0 left.1
+pub ended_by : (run : Run) (ended : Bool) → ended ≡ list_all is_none run.cursors → MatchBool ended (HasEnded run) (IsLeft run)
+ended_by run true is = no_cursor_ended run (no_cursor run.cursors (sym is))
+ended_by run false is = let left = some_cursor run.cursors (sym is) in cursor_left run left.0 left.1
 
-pub nothing_run : (script : Script) (run : Run) → length script.lines ≤ LINE_LIMIT → run.state ≡ opening
-    → length run.cursors.items ≡ lanes script.lines + 1 → AreFirst script run.cursors.items → IsAfter script [] run
-nothing_run script run few state long each = record {
+pub nothing_run : (script : Script) (run : Run) → length script.lines ≤ LINE_LIMIT → run.state ≡ opening → AreCursors script [] run.cursors
+    → IsAfter script [] run
+nothing_run script run few state cursors = record {
   few = few;
   state = subst (λ (s : State). IsLike s opening) (sym state) (like_self opening);
   so_far = λ k lt. absurd (omega (arith, lt));
-  cursors = λ lane. all_first script run.cursors.items lane long each;
+  cursors = cursors;
 }

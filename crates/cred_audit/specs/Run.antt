@@ -1,23 +1,16 @@
 -- A run of a script whose lanes take turns in any way, and whose journal isn't kept.
-use Rattle.std.specs.Prelude.{◌≡◌, ◌≢◌, ◌≤◌, ◌==◌, ◌&&◌, ℕ, not, true, List, [], ◌∷◌, ◌++◌}
-use Rattle.std.specs.Prelude.{length, slice_get, Some, None, is_some}
-use Rattle.std.specs.Prelude.{if◌then◌else◌}
+use Rattle.std.specs.Prelude.{◌≡◌, ◌≢◌, ◌≤◌, ℕ, true, List, [], ◌∷◌, ◌++◌}
+use Rattle.std.specs.Prelude.{length, Some, None, is_some}
 use Rattle.std.specs.declared.option.Option.{Option}
-use Rattle.std.specs.Option.{option_and_then}
 use Rattle.cred_event.specs.declared.entry.Entry.{Entry}
 use Rattle.cred_event.specs.declared.entry.TheConstants.{LINE_LIMIT}
-use Rattle.cred_model.specs.Course.{Course}
 use Rattle.cred_model.specs.Script.{Script}
 use Rattle.cred_model.specs.Like.{IsLike}
 use Rattle.cred_model.specs.Journal.{SoFar, next, replay}
 use Rattle.cred_report.specs.Text.{entry_text}
-use Rattle.cred_cursor.specs.Cursor.{IsLaneCursor}
+use Rattle.cred_cursor.specs.Cursors.{AreCursors}
 use Rattle.cred_audit.specs.Next.{ComesNext}
 use Rattle.cred_audit.specs.declared.run.Run.{Run}
-
--- the lane's cursor; none past the last lane
-abbrev pub cursor_of : List (Option Course) → ℕ → Option Course
-cursor_of cursors lane = option_and_then (λ cursor. cursor) (slice_get cursors lane)
 
 -- The run has come as far as the journal: no event can tell its state from the one that the journal
 -- leads to, the journal is one so far, and each lane's cursor is the journal's.
@@ -25,16 +18,11 @@ pub record IsAfter (script : Script) (journal : List Entry) (run : Run) : Type 0
   pub few : length script.lines ≤ LINE_LIMIT
   pub state : IsLike run.state (replay script journal)
   pub so_far : SoFar script journal
-  pub cursors : (lane : ℕ) → IsLaneCursor script journal lane (cursor_of run.cursors.items lane)
+  pub cursors : AreCursors script journal run.cursors
 
 -- the run has come as far as some journal
 abbrev pub IsRun : Script → Run → Type 0
 IsRun script run = (journal : List Entry) × IsAfter script journal run
-
--- The course that makes the lane's next event. All other lanes wait for the setup.
-abbrev pub due_of : List (Option Course) → ℕ → Option Course
-due_of cursors lane =
-    if not (lane == 0) && is_some (cursor_of cursors 0) then None else cursor_of cursors lane
 
 -- the journal with one entry more, or as it is
 abbrev pub grown : List Entry → Option Entry → List Entry

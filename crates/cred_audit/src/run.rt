@@ -1,21 +1,19 @@
 //! A run of a script whose lanes take turns in any way, of which no journal is kept.
 ghost use Rattle.std.specs.Prelude.{◌≡◌, [], IfOk, OnErr, MatchBool};
-ghost use Rattle.cred_audit.specs.Run.{GoesOn, HasEnded, IsAfter, IsLeft, IsRun, cursor_of, due_of};
+ghost use Rattle.cred_audit.specs.Run.{GoesOn, HasEnded, IsAfter, IsLeft, IsRun};
 
-use cred_course::Course;
-use cred_cursor::{Lines, cursor_after, first_cursor, next_event};
+use cred_cursor::{Cursors, cursor_after, next_event};
 use cred_event::Entry;
 use cred_ids::NoMemory;
 use cred_machine::CachedState;
 use cred_script::Script;
 use std::alloc::Global;
 
-/// How far a script has run: the state, and for each lane the course of its first line that has
-/// not ended, if there is one.
+/// How far a script has run: the state, and the cursors of its lanes.
 #[derive(Drop, Debug)]
 pub struct Run {
     state: CachedState,
-    cursors: Vec<Option<Course>>,
+    cursors: Cursors,
 }
 
 impl Run {
@@ -27,14 +25,9 @@ impl Run {
     pub fn new(alloc: Global, script: &Script) -> Result<Run, NoMemory>
         ensures { IfOk result (λ run. IsAfter script.now [] run) }
     {
-        let mut cursors = Vec::new(alloc);
-        'lanes: for lane in 0..script.lanes() + 1 {
-            cursors.push(first_cursor(script, Lines::Lane(lane)))?;
-        }
-        Ok(Run {
-            state: CachedState::new(alloc)?,
-            cursors,
-        })
+        let cursors = Cursors::new(alloc, script)?;
+        let state = CachedState::new(alloc)?;
+        Ok(Run { state, cursors })
     }
 
     /// Makes the next event of a lane, and answers its entry; none where no line of the lane is
@@ -48,7 +41,7 @@ impl Run {
         ensures ok { IfOk result (λ found. GoesOn script.now lane self.old self.new found) }
         ensures err { OnErr result (self.new ≡ self.old) }
     {
-        let Some(course) = due(&self.cursors, lane) else {
+        let Some(course) = self.cursors.due(lane) else {
             return Ok(None);
         };
         let Some(event) = next_event(script, course)? else {
@@ -56,7 +49,8 @@ impl Run {
         };
         let line = course.line();
         let answer = self.state.step(script, line, &event)?;
-        self.cursors[lane as usize] = cursor_after(script, Lines::Lane(lane), course, &answer);
+        let cursor = cursor_after(script, lane, course, &answer);
+        self.cursors.pass(lane, cursor);
         Ok(Some(Entry {
             line,
             event,
@@ -68,23 +62,6 @@ impl Run {
     pub fn has_ended(&self) -> bool
         ensures { MatchBool result (HasEnded self.now) (IsLeft self.now) }
     {
-        self.cursors.iter().all(|cursor| cursor.is_none())
+        self.cursors.has_ended()
     }
-}
-
-/// The course that makes the lane's next event. All other lanes wait for the setup.
-fn due(cursors: &[Option<Course>], lane: u32) -> Option<Course>
-    ensures { result ≡ due_of cursors.now lane }
-{
-    if lane != 0 && cursor_of(cursors, 0).is_some() {
-        return None;
-    }
-    cursor_of(cursors, lane)
-}
-
-/// The lane's cursor; none past the last lane.
-fn cursor_of(cursors: &[Option<Course>], lane: u32) -> Option<Course>
-    ensures { result ≡ cursor_of cursors.now lane }
-{
-    *cursors.get(lane as usize)?
 }

@@ -1,6 +1,10 @@
+pub mod Counts
+pub mod Before
+pub mod Left
 pub mod Cursors
 pub mod ListAnswers
 pub mod Entered
 pub mod Waiting
 pub mod WaitingSteps
 pub mod Measure
+pub mod Ends

@@ -1,20 +1,25 @@
 //! The journal of a run.
-ghost use Rattle.std.specs.Prelude.{◌≡◌, ◌<◌, [], length, true, is_some, IfOk, IfSome, OnOk, OnErr};
+ghost use Rattle.std.specs.Prelude.{◌≡◌, ◌<◌, [], length, true, is_some, IfOk, IfSome, MatchOption};
+ghost use Rattle.std.specs.Prelude.{OnOk, OnErr, slice_index_or};
 ghost use Rattle.cred_model.specs.Course as course_model;
 ghost use Rattle.cred_model.specs.Journal as model;
 ghost use Rattle.cred_model.specs.Journal.{replay};
 ghost use Rattle.cred_model.specs.Named.{IsEventOf};
 ghost use Rattle.cred_model.specs.Slots.{uses};
 ghost use Rattle.cred_script.specs.Grammar.{line_at};
-ghost use Rattle.cred_cursor.specs.Cursor.{IsOfLine, IsSetup, Passes};
-ghost use Rattle.cred_book.specs.Book.{with_event, answer_of, next_of};
-ghost use Rattle.cred_book.specs.Cursor.{Makes, Stands, left};
+ghost use Rattle.cred_cursor.specs.Cursor.{IsOfLine, PassesTo};
+ghost use Rattle.cred_book.specs.Book.{with_event, answer_of};
+ghost use Rattle.cred_book.specs.Counts.{Counts, ended_of};
+ghost use Rattle.cred_book.specs.Cursor.{HasEnded, IsLeastLane, Makes, Stands, has_left};
+ghost use Rattle.cred_book.specs.Cursor.{left, passed};
 ghost use Rattle.cred_book.specs.declared.step.Step.TheVariants.{More};
 
+use crate::ended::lines_without_events;
+use crate::journal::Journal;
 use crate::step::Step;
 use cred_course::Course;
-use cred_cursor::{Lines, cursor_after, first_cursor, next_event};
-use cred_event::{Answer, Entry, Event, copy_answer};
+use cred_cursor::{Cursors, cursor_after, next_event};
+use cred_event::{Answer, Entry, Event, LINE_LIMIT, copy_answer};
 use cred_ids::NoMemory;
 use cred_script::Script;
 use cred_state::State;
@@ -22,7 +27,8 @@ use std::alloc::Global;
 use std::marker::Model;
 
 /// A script, the journal of its run so far, and a state like the one that the journal leads to: no
-/// event can tell the two apart. And a cursor, the course of a line, or none.
+/// event can tell the two apart. And for each lane a cursor, the course of a line or none, and how
+/// many of its lines have ended.
 ///
 /// Every entry has the answer that its event gets in the state after the entries before it.
 #[derive(Drop, Debug)]
@@ -30,7 +36,8 @@ pub struct Book {
     script: Script,
     state: State,
     journal: Vec<Entry>,
-    cursor: Option<Course>,
+    cursors: Cursors,
+    ended: Vec<u32>,
 }
 
 impl Model for Book {
@@ -43,7 +50,8 @@ impl Model for Book {
     ghost view = { λ b. record {
       script = b.script;
       journal = b.journal.items;
-      cursor = b.cursor;
+      cursors = b.cursors;
+      ended = b.ended.items;
     } };
 
     ghost invariant = { λ b.
@@ -52,22 +60,26 @@ impl Model for Book {
 }
 
 impl Book {
-    /// The book of a script of which nothing has run. Its cursor is the journal's.
+    /// The book of a script of which nothing has run. Its cursors and its counts of ended lines are
+    /// the journal's.
     ///
     /// # Errors
     ///
-    /// `NoMemory` if an allocation of the state fails.
+    /// `NoMemory` if an allocation of the state, of the cursors or of the counts fails.
     pub fn new(alloc: Global, script: Script) -> Result<Book, NoMemory>
         ensures script { IfOk result (λ book. book.script ≡ script) }
         ensures journal { IfOk result (λ book. book.journal ≡ []) }
         ensures stands { IfOk result (λ book. Stands book) }
     {
-        let cursor = first_cursor(&script, Lines::Every);
+        let cursors = Cursors::new(alloc, &script)?;
+        let ended = lines_without_events(alloc, &script)?;
+        let state = State::new(alloc)?;
         Ok(Book {
             script,
-            state: State::new(alloc)?,
+            state,
             journal: Vec::new(alloc),
-            cursor,
+            cursors,
+            ended,
         })
     }
 
@@ -85,6 +97,30 @@ impl Book {
         &self.journal
     }
 
+    /// The script and the entries. No memory is taken.
+    pub fn into_journal(self) -> Journal
+        ensures script { result.script ≡ self.script }
+        ensures entries { result.entries.items ≡ self.journal }
+    {
+        let Book {
+            script,
+            journal,
+            ..
+        } = self;
+        Journal {
+            script,
+            entries: journal,
+        }
+    }
+
+    /// How many lines of the lane have ended. No memory is taken.
+    pub fn ended(&self, lane: u32) -> u32
+        requires { Stands self.now }
+        ensures { result ≡ ended_of self.now.script self.now.journal lane }
+    {
+        self.ended.get(lane as usize).copied().unwrap_or(0)
+    }
+
     /// How many references there are to credentials in the slot, those that were given up since the
     /// last sweep among them.
     pub fn uses(&self, slot: u32) -> u64
@@ -93,8 +129,8 @@ impl Book {
         self.state.uses(slot)
     }
 
-    /// Enters one event of a line, and answers it with a copy of the entry's answer. The cursor
-    /// stays. The event names only declared files and namespaces.
+    /// Enters one event of a line, and answers it with a copy of the entry's answer. The cursors
+    /// stay. The event names only declared files and namespaces.
     ///
     /// # Errors
     ///
@@ -117,10 +153,10 @@ impl Book {
         Ok(copied)
     }
 
-    /// Makes the next event of a lane, whose lines come whole, one after another. All lines are run
-    /// as lane 0's; any other lane has ended.
+    /// Makes the next event of a lane, whose lines come whole, one after another. All other lanes
+    /// wait for the setup, lane 0.
     ///
-    /// The cursor is the journal's before, and stays so.
+    /// The cursors and the counts of ended lines are the journal's before, and stay so.
     ///
     /// # Errors
     ///
@@ -131,34 +167,40 @@ impl Book {
         ensures script { self.new.script ≡ self.old.script }
         ensures stands { Stands self.new }
         ensures made { IfOk result (λ step.
-            Makes self.old self.new (next_of self.old lane) step) }
-        ensures lane { IfOk result (λ step. IsSetup self.old.script
-            → Makes self.old self.new (model.next self.old.script self.old.journal lane) step) }
+            Makes self.old self.new (model.next self.old.script self.old.journal lane) step) }
         ensures falls { IfOk result (λ step. step ≡ More → left self.new < left self.old) }
+        ensures counts { IfOk result (Counts self.old self.new lane) }
         ensures err { OnErr result (self.new ≡ self.old) }
     {
-        if lane != 0 {
-            return Ok(Step::Ended);
-        }
-        let Some(course) = self.cursor else {
+        let Some(course) = self.cursors.due(lane) else {
             return Ok(Step::Ended);
         };
         let Some(event) = next_event(&self.script, course)? else {
             return Ok(Step::Ended);
         };
-        self.cursor = self.enter(course, event)?;
+        let cursor = self.enter(lane, course, event)?;
+        self.pass(lane, course.line(), cursor);
         Ok(Step::More)
     }
 
-    /// Enters the next event of a course, and answers the cursor after it; the book's own stays.
-    /// The answer moves into the entry, where `event` makes a copy of it.
-    fn enter(&mut self, course: Course, event: Event) -> Result<Option<Course>, NoMemory>
+    /// The lane of the least line that has not ended; none where every line has. No memory is
+    /// taken.
+    pub fn least(&self) -> Option<u32>
+        requires { Stands self.now }
+        ensures { MatchOption result (HasEnded self.now) (IsLeastLane self.now) }
+    {
+        self.cursors.least()
+    }
+
+    /// Enters the next event of a lane's course, and answers the lane's cursor after it; the book's
+    /// own stay. The answer moves into the entry, where `event` makes a copy of it.
+    fn enter(&mut self, lane: u32, course: Course, event: Event) -> Result<Option<Course>, NoMemory>
         requires kind { IsEventOf (length self.old.script.files) self.old.script.namespaces event }
         requires line { IsOfLine self.old.script course }
         requires going { is_some course.stage ≡ true }
         ensures entered { OnOk result (self.new ≡ with_event self.old course.line event) }
         ensures passes { IfOk result (λ cursor. IfSome (line_at self.old.script course.line)
-            (λ line. Passes self.old.script
+            (λ line. PassesTo self.old.script lane
             (course_model.after line.content course (answer_of self.old course.line event))
             cursor)) }
         ensures err { OnErr result (self.new ≡ self.old) }
@@ -166,12 +208,37 @@ impl Book {
         self.journal.reserve(1)?;
         let line = course.line();
         let answer = self.state.step(&self.script, line, &event)?;
-        let cursor = cursor_after(&self.script, Lines::Every, course, &answer);
+        let cursor = cursor_after(&self.script, lane, course, &answer);
         self.journal.push_reserved(Entry {
             line,
             event,
             answer,
         });
         Ok(cursor)
+    }
+
+    /// Lets the lane pass on from this line to its next cursor, and counts the line where that has
+    /// ended.
+    fn pass(&mut self, lane: u32, line: u32, cursor: Option<Course>)
+        requires cursors { lane < length self.old.cursors }
+        requires counts { lane < length self.old.ended }
+        requires few { slice_index_or self.old.ended lane 0 < LINE_LIMIT }
+        ensures { self.new ≡ passed self.old lane line cursor }
+    {
+        let has_ended = has_left(&cursor, line);
+        self.cursors.pass(lane, cursor);
+        if has_ended {
+            self.ended[lane as usize] += 1;
+        }
+    }
+}
+
+/// Whether the cursor stands on no line of this number.
+fn has_left(cursor: &Option<Course>, line: u32) -> bool
+    ensures { result ≡ has_left cursor.now line }
+{
+    match cursor {
+        Some(course) => course.line() != line,
+        None => true,
     }
 }

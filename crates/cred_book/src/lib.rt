@@ -2,9 +2,12 @@
 #![tactic(auto)]
 
 mod book;
+mod ended;
+mod journal;
 mod sequence;
 mod step;
 
 pub use book::Book;
+pub use journal::Journal;
 pub use sequence::run;
 pub use step::Step;

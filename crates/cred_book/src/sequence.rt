@@ -3,7 +3,6 @@ ghost use Rattle.std.specs.Prelude.{◌≡◌, IfOk};
 ghost use Rattle.cred_model.specs.Journal.{IsSequence};
 
 use crate::book::Book;
-use crate::step::Step;
 use cred_ids::NoMemory;
 use cred_script::Script;
 use std::alloc::Global;
@@ -18,6 +17,8 @@ pub fn run(alloc: Global, script: Script) -> Result<Book, NoMemory>
     ensures sequence { IfOk result (λ book. IsSequence book.script book.journal) }
 {
     let mut book = Book::new(alloc, script)?;
-    'steps: while let Step::More = book.next(0)? {}
+    'steps: while let Some(lane) = book.least() {
+        book.next(lane)?;
+    }
     Ok(book)
 }

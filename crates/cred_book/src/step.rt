@@ -5,6 +5,6 @@
 pub enum Step {
     /// One event of the lane was entered.
     More,
-    /// The lane has no line left.
+    /// The lane has no line left, or waits for the setup.
     Ended,
 }

@@ -1,5 +1,5 @@
--- The course of a line of some lines, from event to event and from line to line.
-use Rattle.std.proofs.Common.{◌≡◌, ◌≢◌, ℕ, zero, suc, ◌+◌, ◌-◌, ◌<◌, ◌≤◌, ◌==◌, cond, List, [], ◌∷◌, ◌++◌, length, slice_get, Option, Some, None, is_some, is_none, Bool, true, false, refl, sym, ap, ◌∙◌, subst, inl, inr, arith}
+-- The course of a lane's line, from event to event and from line to line.
+use Rattle.std.proofs.Common.{◌≡◌, ◌≢◌, ℕ, zero, suc, ◌+◌, ◌-◌, ◌<◌, ◌≤◌, ◌==◌, cond, List, [], ◌∷◌, ◌++◌, length, slice_get, Option, Some, None, is_some, is_none, true, false, refl, sym, ap, ◌∙◌, subst, inl, inr, arith}
 use Rattle.std.specs.Option.{IfSome, option_and_then, option_map_or}
 use Rattle.std.proofs.lemmas.List.Sums.{fold_push}
 use Rattle.std.proofs.lemmas.Bool.{cases_lt}
@@ -16,7 +16,7 @@ use Rattle.cred_model.specs.Journal.{answers_of, next_event}
 use Rattle.cred_model.proofs.Courses.{after_line}
 use Rattle.cred_model.proofs.Lines.{answers_of-push_same, answers_of-push_other}
 use Rattle.cred_script.specs.Grammar.{line_at}
-use Rattle.cred_cursor.specs.Cursor.{HasEnded, NotBegun, IsOver, IsPast, StandsOn, IsCursorAmong, may_wait, may_wait_at, IsOfLine, PassesAmong, PassesFrom}
+use Rattle.cred_cursor.specs.Cursor.{HasEnded, NotBegun, IsOver, IsPast, StandsOn, IsLaneCursor, may_wait, may_wait_at, IsOfLine, PassesTo, PassesFrom, is_of}
 
 -- the line at a place has the next number
 line_at-place : (script : Script) (place : ℕ) → line_at script (place + 1) ≡ slice_get script.lines place
@@ -37,11 +37,11 @@ slice_get-past (y ∷ ys) (suc i) x past found = slice_get-past ys i x (omega ar
 
 -- ---- a course and its line
 
-pub line_is : {these : Line → Bool} (script : Script) (journal : List Entry) (course : Course) (at : StandsOn these script journal course)
+pub line_is : {lane : ℕ} (script : Script) (journal : List Entry) (course : Course) (at : StandsOn script journal lane course)
     → line_at script course.line ≡ Some at.line
 line_is script journal course at = ap (line_at script) at.number ∙ line_at-place script at.place ∙ at.here
 
-pub of_line : {these : Line → Bool} (script : Script) (journal : List Entry) (course : Course) → StandsOn these script journal course
+pub of_line : {lane : ℕ} (script : Script) (journal : List Entry) (course : Course) → StandsOn script journal lane course
     → IsOfLine script course
 of_line script journal course at =
     let own : Leads at.line.content course = record {
@@ -51,17 +51,17 @@ of_line script journal course at =
     subst (λ (o : Option Line). IfSome o (λ line. Leads line.content course)) (sym (line_is script journal course at)) own
 
 -- its next event is that of its line
-pub next_is : {these : Line → Bool} (script : Script) (journal : List Entry) (course : Course) (at : StandsOn these script journal course)
+pub next_is : {lane : ℕ} (script : Script) (journal : List Entry) (course : Course) (at : StandsOn script journal lane course)
     → next_event journal (at.place + 1) at.line.content ≡ event_at at.line.content course
 next_is script journal course at = ap (event_at at.line.content) (sym at.stands)
 
 -- ---- the end of a line
 
 -- a line whose course has no stage has ended
-ended_here : (these : Line → Bool) (script : Script) (journal : List Entry) (course : Course) (at : StandsOn these script journal course)
-    → course.stage ≡ None → HasEnded these script journal at.place
-ended_here these script journal course at over =
-    subst (λ (o : Option Line). IfSome o (λ line. these line ≡ true → next_event journal (at.place + 1) line.content ≡ None)) (sym at.here)
+ended_here : (script : Script) (journal : List Entry) (lane : ℕ) (course : Course) (at : StandsOn script journal lane course)
+    → course.stage ≡ None → HasEnded script journal lane at.place
+ended_here script journal lane course at over =
+    subst (λ (o : Option Line). IfSome o (λ line. is_of lane line ≡ true → next_event journal (at.place + 1) line.content ≡ None)) (sym at.here)
     (λ own. next_is script journal course at ∙ ap (option_and_then (event_in course.line at.line.content)) over)
 
 -- one line more
@@ -71,11 +71,11 @@ one_more P number before here k lt = elim (cases_lt k number) [
   | inr above ↦ let same : number ≡ k = omega arith in subst P same here
 ]
 
-past : (these : Line → Bool) (script : Script) (journal : List Entry) (course : Course) → StandsOn these script journal course
-    → course.stage ≡ None → IsPast these script journal course.line
-past these script journal course at over =
-    subst (IsPast these script journal) (sym at.number) (record {
-      ended = one_more (HasEnded these script journal) at.place at.ended (ended_here these script journal course at over);
+past : (script : Script) (journal : List Entry) (lane : ℕ) (course : Course) → StandsOn script journal lane course
+    → course.stage ≡ None → IsPast script journal lane course.line
+past script journal lane course at over =
+    subst (IsPast script journal lane) (sym at.number) (record {
+      ended = one_more (HasEnded script journal lane) at.place at.ended (ended_here script journal lane course at over);
       later = λ k le. at.later k (omega arith);
     })
 
@@ -85,16 +85,16 @@ past these script journal course at over =
 line_behind : (script : Script) (number : ℕ) (line : Line) → line_at script (number + 1) ≡ Some line → slice_get script.lines number ≡ Some line
 line_behind script number line following = sym (line_at-place script number) ∙ following
 
-no_answers : (these : Line → Bool) (script : Script) (journal : List Entry) (number : ℕ) (line : Line) → IsPast these script journal number
-    → line_at script (number + 1) ≡ Some line → these line ≡ true → answers_of journal (number + 1) ≡ []
-no_answers these script journal number line at following own =
-    subst (λ (o : Option Line). IfSome o (λ l. these l ≡ true → answers_of journal (number + 1) ≡ [])) (line_behind script number line following)
+no_answers : (script : Script) (journal : List Entry) (lane : ℕ) (number : ℕ) (line : Line) → IsPast script journal lane number
+    → line_at script (number + 1) ≡ Some line → is_of lane line ≡ true → answers_of journal (number + 1) ≡ []
+no_answers script journal lane number line at following own =
+    subst (λ (o : Option Line). IfSome o (λ l. is_of lane l ≡ true → answers_of journal (number + 1) ≡ [])) (line_behind script number line following)
     (at.later number (omega arith)) own
 
 -- it begins there
-begins : (these : Line → Bool) (script : Script) (journal : List Entry) (number : ℕ) (line : Line) → IsPast these script journal number
-    → line_at script (number + 1) ≡ Some line → these line ≡ true → StandsOn these script journal (start (number + 1) line.content)
-begins these script journal number line at following own = record {
+begins : (script : Script) (journal : List Entry) (lane : ℕ) (number : ℕ) (line : Line) → IsPast script journal lane number
+    → line_at script (number + 1) ≡ Some line → is_of lane line ≡ true → StandsOn script journal lane (start (number + 1) line.content)
+begins script journal lane number line at following own = record {
   place = number;
   number = refl;
   line = line;
@@ -102,28 +102,28 @@ begins these script journal number line at following own = record {
   own = own;
   ended = at.ended;
   later = λ k lt. at.later k (omega arith);
-  stands = sym (ap (leads (number + 1) line.content) (no_answers these script journal number line at following own));
+  stands = sym (ap (leads (number + 1) line.content) (no_answers script journal lane number line at following own));
 }
 
--- a line that isn't one of these is passed over, and so is one without events
-passes_by : (these : Line → Bool) (script : Script) (journal : List Entry) (number : ℕ) (line : Line) → IsPast these script journal number
-    → line_at script (number + 1) ≡ Some line → (these line ≡ true → (start (number + 1) line.content).stage ≡ None)
-    → IsPast these script journal (number + 1)
-passes_by these script journal number line at following over =
-    let here : HasEnded these script journal number
-    = subst (λ (o : Option Line). IfSome o (λ l. these l ≡ true → next_event journal (number + 1) l.content ≡ None))
+-- a line of another lane is passed over, and so is one without events
+passes_by : (script : Script) (journal : List Entry) (lane : ℕ) (number : ℕ) (line : Line) → IsPast script journal lane number
+    → line_at script (number + 1) ≡ Some line → (is_of lane line ≡ true → (start (number + 1) line.content).stage ≡ None)
+    → IsPast script journal lane (number + 1)
+passes_by script journal lane number line at following over =
+    let here : HasEnded script journal lane number
+    = subst (λ (o : Option Line). IfSome o (λ l. is_of lane l ≡ true → next_event journal (number + 1) l.content ≡ None))
     (sym (line_behind script number line following))
-    (λ own. ap (λ answers. event_at line.content (leads (number + 1) line.content answers)) (no_answers these script journal number line at following own)
+    (λ own. ap (λ answers. event_at line.content (leads (number + 1) line.content answers)) (no_answers script journal lane number line at following own)
     ∙ ap (option_and_then (event_in (number + 1) line.content)) (over own)) in
     record {
-      ended = one_more (HasEnded these script journal) number at.ended here;
+      ended = one_more (HasEnded script journal lane) number at.ended here;
       later = λ k le. at.later k (omega arith);
     }
 
--- where no line follows all of these have ended
-all_past : (these : Line → Bool) (script : Script) (journal : List Entry) (number : ℕ) → IsPast these script journal number
-    → line_at script (number + 1) ≡ None → IsOver these script journal
-all_past these script journal number at none =
+-- where no line follows all of the lane's have ended
+all_past : (script : Script) (journal : List Entry) (lane : ℕ) (number : ℕ) → IsPast script journal lane number
+    → line_at script (number + 1) ≡ None → IsOver script journal lane
+all_past script journal lane number at none =
     let long = slice_get-none script.lines number (sym (line_at-place script number) ∙ none) in
     record { ended = λ k lt. at.ended k (omega (arith, long, lt)) }
 
@@ -136,21 +136,21 @@ later_line script number line following =
     ]
 
 -- before the first event no line is past
-nothing_begun : (o : Option Line) (these : Line → Bool) (number : ℕ) → IfSome o (λ line. these line ≡ true → answers_of [] number ≡ [])
-nothing_begun None these number = tt
-nothing_begun (Some line) these number = λ own. refl
+nothing_begun : (o : Option Line) (lane number : ℕ) → IfSome o (λ line. is_of lane line ≡ true → answers_of [] number ≡ [])
+nothing_begun None lane number = tt
+nothing_begun (Some line) lane number = λ own. refl
 
-pub first_among : (these : Line → Bool) (script : Script) (to : Option Course) → PassesFrom these script 0 to → IsCursorAmong these script [] to
-first_among these script to from = from.stands [] (record {
+pub first_of_lane : (script : Script) (lane : ℕ) (to : Option Course) → PassesFrom script lane 0 to → IsLaneCursor script [] lane to
+first_of_lane script lane to from = from.stands [] (record {
   ended = λ k lt. absurd (omega arith);
-  later = λ k le. nothing_begun (slice_get script.lines k) these (k + 1);
+  later = λ k le. nothing_begun (slice_get script.lines k) lane (k + 1);
 })
 
 -- ---- over the lines
 
--- behind the one line, where those of these lines that come before the other have ended at once
-pub record Reaches (these : Line → Bool) (script : Script) (from number : ℕ) : Type 0 where
-  pub stands : (journal : List Entry) → IsPast these script journal from → IsPast these script journal number
+-- behind the one line, where those of the lane's lines that come before the other have ended at once
+pub record Reaches (script : Script) (lane : ℕ) (from number : ℕ) : Type 0 where
+  pub stands : (journal : List Entry) → IsPast script journal lane from → IsPast script journal lane number
   pub on : from ≤ number
 
 none_of : {A : Type 0} (o : Option A) → is_none o ≡ true → o ≡ None
@@ -181,14 +181,14 @@ few_wait_at script course = by (line_at script course.line)
     by None = omega arith
     by (Some line) = few_wait line.content course.stage
 
-pub reaches_self : (these : Line → Bool) (script : Script) (number : ℕ) → Reaches these script number number
-reaches_self these script number = record { stands = λ journal at. at; on = omega arith }
+pub reaches_self : (script : Script) (lane : ℕ) (number : ℕ) → Reaches script lane number number
+reaches_self script lane number = record { stands = λ journal at. at; on = omega arith }
 
-pub reaches_next : (these : Line → Bool) (script : Script) (from number : ℕ) (line : Line) → Reaches these script from number
-    → line_at script (number + 1) ≡ Some line → (these line ≡ true → (start (number + 1) line.content).stage ≡ None)
-    → Reaches these script from (number + 1)
-reaches_next these script from number line at following over = record {
-  stands = λ journal before. passes_by these script journal number line (at.stands journal before) following over;
+pub reaches_next : (script : Script) (lane : ℕ) (from number : ℕ) (line : Line) → Reaches script lane from number
+    → line_at script (number + 1) ≡ Some line → (is_of lane line ≡ true → (start (number + 1) line.content).stage ≡ None)
+    → Reaches script lane from (number + 1)
+reaches_next script lane from number line at following over = record {
+  stands = λ journal before. passes_by script journal lane number line (at.stands journal before) following over;
   on = let on = at.on in omega (arith, on);
 }
 
@@ -198,17 +198,17 @@ next_shorter script number line following =
     let within = later_line script number line following in
     omega (arith, within)
 
-pub reaches_end : (these : Line → Bool) (script : Script) (from number : ℕ) → Reaches these script from number → line_at script (number + 1) ≡ None
-    → PassesFrom these script from None
-reaches_end these script from number at none = record {
-  stands = λ journal before. all_past these script journal number (at.stands journal before) none;
+pub reaches_end : (script : Script) (lane : ℕ) (from number : ℕ) → Reaches script lane from number → line_at script (number + 1) ≡ None
+    → PassesFrom script lane from None
+reaches_end script lane from number at none = record {
+  stands = λ journal before. all_past script journal lane number (at.stands journal before) none;
   falls = omega arith;
 }
 
-pub reaches_due : (these : Line → Bool) (script : Script) (from number : ℕ) (line : Line) → Reaches these script from number
-    → line_at script (number + 1) ≡ Some line → these line ≡ true → is_none (start (number + 1) line.content).stage ≡ false
-    → PassesFrom these script from (Some (start (number + 1) line.content))
-reaches_due these script from number line at following own going =
+pub reaches_due : (script : Script) (lane : ℕ) (from number : ℕ) (line : Line) → Reaches script lane from number
+    → line_at script (number + 1) ≡ Some line → is_of lane line ≡ true → is_none (start (number + 1) line.content).stage ≡ false
+    → PassesFrom script lane from (Some (start (number + 1) line.content))
+reaches_due script lane from number line at following own going =
     let course = start (number + 1) line.content in
     let within = later_line script number line following in
     let few = few_left line (number + 1) in
@@ -216,7 +216,7 @@ reaches_due these script from number line at following own going =
     let on = at.on in
     record {
       stands = λ journal before. (
-        begins these script journal number line (at.stands journal before) following own,
+        begins script journal lane number line (at.stands journal before) following own,
         some_of course.stage going,
       );
       falls = omega (arith, within, few, wait, on);
@@ -224,17 +224,17 @@ reaches_due these script from number line at following own going =
 
 -- ---- from a course on
 
-pub passes_ended : (these : Line → Bool) (script : Script) (course : Course) (to : Option Course) → is_none course.stage ≡ true
-    → PassesFrom these script course.line to → PassesAmong these script course to
-passes_ended these script course to over from =
+pub passes_ended : (script : Script) (lane : ℕ) (course : Course) (to : Option Course) → is_none course.stage ≡ true
+    → PassesFrom script lane course.line to → PassesTo script lane course to
+passes_ended script lane course to over from =
     let fell = from.falls in
     record {
-      stands = λ journal at. from.stands journal (past these script journal course at (none_of course.stage over));
+      stands = λ journal at. from.stands journal (past script journal lane course at (none_of course.stage over));
       falls = omega (arith, fell);
     }
 
-pub passes_due : (these : Line → Bool) (script : Script) (course : Course) → is_none course.stage ≡ false → PassesAmong these script course (Some course)
-passes_due these script course going = record {
+pub passes_due : (script : Script) (lane : ℕ) (course : Course) → is_none course.stage ≡ false → PassesTo script lane course (Some course)
+passes_due script lane course going = record {
   stands = λ journal at. (at, some_of course.stage going);
   falls = omega arith;
 }
@@ -242,9 +242,9 @@ passes_due these script course going = record {
 -- ---- an entry
 
 -- an entry of the course's line leads it on
-pub goes_on : {these : Line → Bool} (script : Script) (journal : List Entry) (course : Course) (entry : Entry) (at : StandsOn these script journal course)
-    → entry.line ≡ course.line → StandsOn these script (journal ++ entry ∷ []) (model.after at.line.content course entry.answer)
-goes_on {these} script journal course entry at same =
+pub goes_on : {lane : ℕ} (script : Script) (journal : List Entry) (course : Course) (entry : Entry) (at : StandsOn script journal lane course)
+    → entry.line ≡ course.line → StandsOn script (journal ++ entry ∷ []) lane (model.after at.line.content course entry.answer)
+goes_on {lane} script journal course entry at same =
     let number : entry.line ≡ at.place + 1 = same ∙ at.number in
     record {
       place = at.place;
@@ -254,57 +254,57 @@ goes_on {these} script journal course entry at same =
       own = at.own;
       ended = λ k lt.
           let other = answers_of-push_other journal entry (k + 1) (λ e. omega arith) in
-          subst (λ answers. IfSome (slice_get script.lines k) (λ l. these l ≡ true → event_at l.content (leads (k + 1) l.content answers) ≡ None)) (sym other)
+          subst (λ answers. IfSome (slice_get script.lines k) (λ l. is_of lane l ≡ true → event_at l.content (leads (k + 1) l.content answers) ≡ None)) (sym other)
           (at.ended k lt);
       later = λ k lt.
           let other = answers_of-push_other journal entry (k + 1) (λ e. omega arith) in
-          subst (λ answers. IfSome (slice_get script.lines k) (λ l. these l ≡ true → answers ≡ [])) (sym other) (at.later k lt);
+          subst (λ answers. IfSome (slice_get script.lines k) (λ l. is_of lane l ≡ true → answers ≡ [])) (sym other) (at.later k lt);
       stands = ap (λ c. model.after at.line.content c entry.answer) at.stands
           ∙ sym (ap (leads (at.place + 1) at.line.content) (answers_of-push_same journal entry (at.place + 1) number)
           ∙ fold_push (model.after at.line.content) (start (at.place + 1) at.line.content) (answers_of journal (at.place + 1)) entry.answer);
     }
 
--- the entry is of none of these lines
-abbrev pub IsOther : (Line → Bool) → Script → Entry → Type 0
-IsOther these script entry = (k : ℕ) → IfSome (slice_get script.lines k) (λ line. these line ≡ true → entry.line ≢ k + 1)
+-- the entry is of none of the lane's lines
+abbrev pub IsOther : Script → ℕ → Entry → Type 0
+IsOther script lane entry = (k : ℕ) → IfSome (slice_get script.lines k) (λ line. is_of lane line ≡ true → entry.line ≢ k + 1)
 
 both : {A : Type 0} (o : Option A) {P Q R : A → Type 0} → IfSome o P → IfSome o Q → ((x : A) → P x → Q x → R x) → IfSome o R
 both None p q f = tt
 both (Some x) p q f = f x p q
 
-ended_stays : (these : Line → Bool) (script : Script) (journal : List Entry) (entry : Entry) (k : ℕ) → IsOther these script entry
-    → HasEnded these script journal k → HasEnded these script (journal ++ entry ∷ []) k
-ended_stays these script journal entry k other ended =
+ended_stays : (script : Script) (journal : List Entry) (lane : ℕ) (entry : Entry) (k : ℕ) → IsOther script lane entry
+    → HasEnded script journal lane k → HasEnded script (journal ++ entry ∷ []) lane k
+ended_stays script journal lane entry k other ended =
     both (slice_get script.lines k) (other k) ended
     (λ line differ over own. ap (λ answers. event_at line.content (leads (k + 1) line.content answers))
     (answers_of-push_other journal entry (k + 1) (differ own)) ∙ over own)
 
-later_stays : (these : Line → Bool) (script : Script) (journal : List Entry) (entry : Entry) (k : ℕ) → IsOther these script entry
-    → NotBegun these script journal k → NotBegun these script (journal ++ entry ∷ []) k
-later_stays these script journal entry k other later =
+later_stays : (script : Script) (journal : List Entry) (lane : ℕ) (entry : Entry) (k : ℕ) → IsOther script lane entry
+    → NotBegun script journal lane k → NotBegun script (journal ++ entry ∷ []) lane k
+later_stays script journal lane entry k other later =
     both (slice_get script.lines k) (other k) later
     (λ line differ none own. answers_of-push_other journal entry (k + 1) (differ own) ∙ none own)
 
-course_stays : (these : Line → Bool) (script : Script) (journal : List Entry) (course : Course) (entry : Entry) → IsOther these script entry
-    → StandsOn these script journal course → StandsOn these script (journal ++ entry ∷ []) course
-course_stays these script journal course entry other at =
+course_stays : (script : Script) (journal : List Entry) (lane : ℕ) (course : Course) (entry : Entry) → IsOther script lane entry
+    → StandsOn script journal lane course → StandsOn script (journal ++ entry ∷ []) lane course
+course_stays script journal lane course entry other at =
     let differ : entry.line ≢ at.place + 1
-    = subst (λ (o : Option Line). IfSome o (λ line. these line ≡ true → entry.line ≢ at.place + 1)) at.here (other at.place) at.own in
+    = subst (λ (o : Option Line). IfSome o (λ line. is_of lane line ≡ true → entry.line ≢ at.place + 1)) at.here (other at.place) at.own in
     record {
       place = at.place;
       number = at.number;
       line = at.line;
       here = at.here;
       own = at.own;
-      ended = λ k lt. ended_stays these script journal entry k other (at.ended k lt);
-      later = λ k lt. later_stays these script journal entry k other (at.later k lt);
+      ended = λ k lt. ended_stays script journal lane entry k other (at.ended k lt);
+      later = λ k lt. later_stays script journal lane entry k other (at.later k lt);
       stands = at.stands ∙ sym (ap (leads (at.place + 1) at.line.content) (answers_of-push_other journal entry (at.place + 1) differ));
     }
 
--- an entry of none of these lines leaves their cursor where it is
-pub cursor_stays : (these : Line → Bool) (script : Script) (journal : List Entry) (cursor : Option Course) (entry : Entry) → IsOther these script entry
-    → IsCursorAmong these script journal cursor → IsCursorAmong these script (journal ++ entry ∷ []) cursor
-cursor_stays these script journal None entry other at = record {
-  ended = λ k lt. ended_stays these script journal entry k other (at.ended k lt);
+-- an entry of none of the lane's lines leaves its cursor where it is
+pub cursor_stays : (script : Script) (journal : List Entry) (lane : ℕ) (cursor : Option Course) (entry : Entry) → IsOther script lane entry
+    → IsLaneCursor script journal lane cursor → IsLaneCursor script (journal ++ entry ∷ []) lane cursor
+cursor_stays script journal lane None entry other at = record {
+  ended = λ k lt. ended_stays script journal lane entry k other (at.ended k lt);
 }
-cursor_stays these script journal (Some course) entry other at = (course_stays these script journal course entry other at.0, at.1)
+cursor_stays script journal lane (Some course) entry other at = (course_stays script journal lane course entry other at.0, at.1)

@@ -1,19 +1,22 @@
 -- The first line of some lines that has not ended.
 use Rattle.std.proofs.Common.{◌≡◌, ℕ, zero, suc, ◌+◌, ◌<◌, List, [], ◌∷◌, length, slice_get, Option, Some, None, Bool, true, false, cond, refl, sym, ap, ◌∙◌, subst, arith}
-use Rattle.std.specs.Option.{IfSome}
+use Rattle.std.specs.Option.{IfSome, option_map_or}
 use Rattle.cred_event.specs.declared.event.Event.{Event}
 use Rattle.cred_event.specs.declared.entry.Entry.{Entry}
 use Rattle.cred_model.specs.Script.{Line}
 use Rattle.cred_model.specs.Journal.{Due, next_event, first_due}
-use Rattle.cred_cursor.proofs.Setup.{due_of}
+
+-- the event that is due of the line at a number, or what is due of those behind it
+abbrev due_or : ℕ → Option Event → Option Due → Option Due
+due_or n event rest = option_map_or (λ event. Some (record { line = n; event = event })) event rest
 
 -- of the lines from number n on, that at this place has ended if it is one of these
-abbrev IsEnded : (Line → Bool) → List Entry → ℕ → List Line → ℕ → Type 0
+abbrev pub IsEnded : (Line → Bool) → List Entry → ℕ → List Line → ℕ → Type 0
 IsEnded these journal n lines k = IfSome (slice_get lines k) (λ l. these l ≡ true → next_event journal (k + n) l.content ≡ None)
 
 -- a line that isn't one of these, or has ended, is passed over
-passed : (n : ℕ) (b : Bool) (event : Option Event) (rest : Option Due) → (b ≡ true → event ≡ None) → cond b (due_of n event rest) rest ≡ rest
-passed n true event rest over = ap (λ e. due_of n e rest) (over refl)
+passed : (n : ℕ) (b : Bool) (event : Option Event) (rest : Option Due) → (b ≡ true → event ≡ None) → cond b (due_or n event rest) rest ≡ rest
+passed n true event rest over = ap (λ e. due_or n e rest) (over refl)
 passed n false event rest over = refl
 
 first_passed : (these : Line → Bool) (journal : List Entry) (n : ℕ) (line : Line) (lines : List Line) → IsEnded these journal n (line ∷ lines) 0
@@ -32,7 +35,7 @@ ended_behind these journal n line lines k ended =
 
 -- the first of these lines that has not ended makes the next event
 pub first_due_at : (these : Line → Bool) (journal : List Entry) (n : ℕ) (lines : List Line) (i : ℕ) (line : Line) (event : Event)
-    → ((k : ℕ) → k < i → IfSome (slice_get lines k) (λ l. these l ≡ true → next_event journal (k + n) l.content ≡ None))
+    → ((k : ℕ) → k < i → IsEnded these journal n lines k)
     → slice_get lines i ≡ Some line → these line ≡ true → next_event journal (i + n) line.content ≡ Some event
     → first_due these journal n lines ≡ Some (record { line = i + n; event = event })
 first_due_at these journal n [] i line event ended here own due = cc
@@ -52,7 +55,7 @@ first_due_at these journal n (l ∷ ls) (suc i) line event ended here own due =
 
 -- where all of these lines have ended none is left
 pub first_due_none : (these : Line → Bool) (journal : List Entry) (n : ℕ) (lines : List Line)
-    → ((k : ℕ) → k < length lines → IfSome (slice_get lines k) (λ l. these l ≡ true → next_event journal (k + n) l.content ≡ None))
+    → ((k : ℕ) → k < length lines → IsEnded these journal n lines k)
     → first_due these journal n lines ≡ None
 first_due_none these journal n [] ended = refl
 first_due_none these journal n (l ∷ ls) ended =

@@ -1,5 +1,6 @@
 pub mod Courses
-pub mod Setup
 pub mod Due
-pub mod Stands
 pub mod Lanes
+pub mod AllLanes
+pub mod Turns
+pub mod Least

@@ -1,14 +1,14 @@
-//! How far a run has come whose lines run whole, one after another: the cursor, the course of the
-//! first line that has not ended. The lines are all of a script, in its order, or those of one
-//! lane; between two events of a lane's line those of other lanes may come.
+//! How far a run has come in which the lines of each lane come whole, one after another: a cursor
+//! for each lane, the course of its first line that has not ended. Between two events of a lane's
+//! line those of other lanes may come.
 //!
-//! `specs/Cursor` says which cursor is that of a journal. The functions are the three steps of a
-//! run: its start, its next event, and what an answer leads to. They keep neither state nor
-//! journal.
+//! `specs/Cursor` says which cursor of a lane is that of a journal, `specs/Cursors` which lane waits
+//! for the setup. The functions are the three steps of a lane: its start, its next event, and what
+//! an answer leads to. They keep neither state nor journal.
 #![tactic(auto)]
 
 mod cursor;
-mod lines;
+mod cursors;
 
 pub use cursor::{cursor_after, first_cursor, next_event};
-pub use lines::Lines;
+pub use cursors::Cursors;

@@ -128,7 +128,7 @@ fn is_entered(
 }
 
 /// Whether there are so many references to the first slots, and none to the others.
-fn are_used(book: &Book, first: &[u64]) -> bool {
+fn are_used(book: &Book, first: [u64; 8]) -> bool {
     (0..256).all(|slot| {
         let uses = first.get(slot as usize).copied().unwrap_or(0);
         book.uses(slot) == uses
@@ -140,7 +140,7 @@ fn refusals_of_an_open_broadcast_leave_the_state(rt: HostRuntime) -> Result<(), 
     let mut book = run(rt.alloc(), read(rt.alloc(), SCRIPT.as_bytes())?)?;
     for (line, call, text, first) in ROWS {
         let is_entered = is_entered(rt.alloc(), &mut book, line, call, text)?;
-        assert!(rt; is_entered && are_used(&book, &first), "{text}");
+        assert!(rt; is_entered && are_used(&book, first), "{text}");
     }
     Ok(())
 }

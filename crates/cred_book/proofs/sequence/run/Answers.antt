@@ -1,11 +1,10 @@
-use Rattle.std.proofs.Common.{subst}
-use Rattle.cred_book.specs.Book.{next_of}
-use Rattle.cred_book.specs.Cursor.{Makes}
-use Rattle.cred_book.specs.declared.step.Step.{Step}
-use Rattle.cred_book.proofs.Cursors.{is_sequence}
+use Rattle.cred_book.proofs.Cursors.{is_sequence, runs_on}
 use Rattle.cred_book.proofs.sequence.run.Goals as goal
 
+pub steps-preserved : goal.steps-preserved
+steps-preserved c =
+    runs_on c.in_ok-book.book.script c.steps.book c.next.new.self c.in-Some.lane _ c.steps.invariant (rw c.in-Some.is at c.least.ensures)
+    c.in_ok-next.ensures.made c.next.ensures.script c.next.ensures.stands
+
 pub returns-clause-sequence : goal.returns-clause-sequence
-returns-clause-sequence c =
-    is_sequence c.steps.book c.next.new.self c.in_ok-next.ensures.stands
-    (subst (λ (step : Step). Makes c.steps.book c.next.new.self (next_of c.steps.book 0) step) c.in_default.is c.in_ok-next.ensures.made)
+returns-clause-sequence c = is_sequence c.in_ok-book.book.script c.steps.book c.steps.invariant (rw c.in_default.is at c.least.ensures)

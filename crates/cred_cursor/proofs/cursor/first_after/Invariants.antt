@@ -1,11 +1,10 @@
 use Rattle.std.proofs.Common.{◌-◌, ◌≤◌, length}
-use Rattle.cred_cursor.specs.Cursor.{is_among}
 use Rattle.cred_cursor.proofs.Courses.{Reaches}
 use Rattle.cred_cursor.proofs.cursor.first_after.Given as goal
 
 abbrev pub invariant-lines : goal.invariant-lines
 invariant-lines l = record {
-  reaches : Reaches (is_among l.lines) l.script l.fn.line l.number;
+  reaches : Reaches l.script l.lane l.fn.line l.number;
   few : l.number ≤ 20000;
 }
 

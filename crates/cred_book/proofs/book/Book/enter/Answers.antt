@@ -4,7 +4,7 @@ use Rattle.cred_event.specs.declared.answer.Answer.{Answer}
 use Rattle.cred_event.specs.declared.entry.Entry.{Entry}
 use Rattle.cred_model.specs.Course as model
 use Rattle.cred_script.specs.Grammar.{line_at}
-use Rattle.cred_cursor.specs.Cursor.{Passes}
+use Rattle.cred_cursor.specs.Cursor.{PassesTo}
 use Rattle.cred_book.specs.Book.{Recorded, answer_of}
 use Rattle.cred_book.proofs.Entered.{follows_sound, replays, enters}
 use Rattle.cred_book.proofs.book.Book.enter.Goals as goal
@@ -27,9 +27,9 @@ returns-clause-entered c =
     let longer = c.push_reserved.ensures.items ∙ ap (λ (js : List Entry). js ++ entry c.line-line.result c.in_ok-answer.answer ∷ []) c.in_ok-reserve.ensures.items in
     let made = replays b.script b.state c.step.new.self b.journal.items (entry c.line-line.result c.in_ok-answer.answer) c.self.invariant c.in_ok-answer.ensures.ok in
     rw (← c.self.view_is)
-    (ap (λ (js : List Entry). record { script = b.script; journal = js; cursor = b.cursor })
+    (ap (λ (js : List Entry). record { script = b.script; journal = js; cursors = b.cursors; ended = b.ended.items })
     (longer ∙ ap (λ (answer : Answer). b.journal.items ++ entry c.line-line.result answer ∷ []) (sym made.answers)
-    ∙ ap (λ (n : ℕ). b.journal.items ++ entry n (answer_of (record { script = b.script; journal = b.journal.items; cursor = b.cursor }) n c.args.event) ∷ []) number))
+    ∙ ap (λ (n : ℕ). b.journal.items ++ entry n (answer_of (record { script = b.script; journal = b.journal.items; cursors = b.cursors; ended = b.ended.items }) n c.args.event) ∷ []) number))
 
 pub returns-clause-passes : goal.returns-clause-passes
 returns-clause-passes c =
@@ -37,13 +37,13 @@ returns-clause-passes c =
     let number : c.line-line.result ≡ c.args.course.line = c.line-line.ensures.value in
     let entry : Entry = record { line = c.line-line.result; event = c.args.event; answer = c.in_ok-answer.answer } in
     let made = replays b.script b.state c.step.new.self b.journal.items entry c.self.invariant c.in_ok-answer.ensures.ok in
-    let book : Recorded = record { script = b.script; journal = b.journal.items; cursor = b.cursor } in
+    let book : Recorded = record { script = b.script; journal = b.journal.items; cursors = b.cursors; ended = b.ended.items } in
     let answer : c.in_ok-answer.answer ≡ answer_of book c.args.course.line c.args.event
     = sym made.answers ∙ ap (λ (n : ℕ). answer_of book n c.args.event) number in
     let passes = subst
-    (λ (a : Answer). IfSome (line_at b.script c.args.course.line) (λ line. Passes b.script (model.after line.content c.args.course a) c.cursor_after-cursor.result))
+    (λ (a : Answer). IfSome (line_at b.script c.args.course.line) (λ line. PassesTo b.script c.args.lane (model.after line.content c.args.course a) c.cursor_after-cursor.result))
     answer c.cursor_after-cursor.ensures in
     subst
     (λ (r : Recorded). IfSome (line_at r.script c.args.course.line)
-    (λ line. Passes r.script (model.after line.content c.args.course (answer_of r c.args.course.line c.args.event)) c.cursor_after-cursor.result))
+    (λ line. PassesTo r.script c.args.lane (model.after line.content c.args.course (answer_of r c.args.course.line c.args.event)) c.cursor_after-cursor.result))
     c.self.view_is passes

@@ -29,7 +29,7 @@ returns-clause-entered c =
     let longer = c.in_ok-push.ensures.items ∙ ap (λ (js : List Entry). js ++ entry c.in_ok-answer.answer ∷ []) c.in_ok-reserve.ensures.items in
     let made = replays b.script b.state c.step.new.self b.journal.items (entry c.in_ok-answer.answer) c.self.invariant c.in_ok-answer.ensures.ok in
     rw (← c.self.view_is)
-    (ap (λ (js : List Entry). record { script = b.script; journal = js; cursor = b.cursor })
+    (ap (λ (js : List Entry). record { script = b.script; journal = js; cursors = b.cursors; ended = b.ended.items })
     (longer ∙ ap (λ (answer : Answer). b.journal.items ++ entry answer ∷ []) (sym made.answers)))
 
 pub returns-clause-answer : goal.returns-clause-answer

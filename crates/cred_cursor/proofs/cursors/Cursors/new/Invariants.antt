@@ -1,6 +1,6 @@
 use Rattle.std.proofs.Common.{◌≡◌, length}
-use Rattle.cred_audit.proofs.Cursors.{AreFirst}
-use Rattle.cred_audit.proofs.run.Run.new.Given as goal
+use Rattle.cred_cursor.proofs.AllLanes.{AreFirst}
+use Rattle.cred_cursor.proofs.cursors.Cursors.new.Given as goal
 
 abbrev pub invariant-lanes : goal.invariant-lanes
 invariant-lanes l = record {

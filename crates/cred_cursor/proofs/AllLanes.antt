@@ -1,4 +1,4 @@
--- The cursors of a run's lanes.
+-- The cursors of a script's lanes.
 use Rattle.std.proofs.Common.{◌≡◌, ◌≢◌, ℕ, zero, suc, ◌+◌, ◌<◌, ◌≤◌, true, false, List, [], ◌∷◌, ◌++◌, length, slice_get, set, Option, Some, None, is_some, is_none, refl, sym, ap, ◌∙◌, subst, inl, inr, arith}
 use Rattle.std.specs.List.{list_all}
 use Rattle.std.specs.Option.{IfSome, option_and_then}
@@ -14,10 +14,9 @@ use Rattle.cred_model.specs.Course.{Course, event_at}
 use Rattle.cred_model.specs.Journal.{due_in, next_event}
 use Rattle.cred_script.specs.Grammar.{line_at}
 use Rattle.cred_script.specs.Lanes.{lanes}
-use Rattle.cred_cursor.specs.declared.lines.Lines.TheVariants.{Lane}
-use Rattle.cred_cursor.specs.Cursor.{IsLaneCursor, is_among}
+use Rattle.cred_cursor.specs.Cursor.{IsLaneCursor, is_of}
 use Rattle.cred_cursor.proofs.Lanes.{lane_over, lane_due, lane_makes_due}
-use Rattle.cred_audit.specs.Run.{cursor_of}
+use Rattle.cred_cursor.specs.Cursors.{cursor_of}
 
 -- ---- lists
 
@@ -70,7 +69,7 @@ past_last : (script : Script) (lane : ℕ) → lanes script.lines < lane → IsL
 past_last script lane past = record { ended = λ k lt. by k (slice_get script.lines k) refl }
   where
     by : (k : ℕ) (found : Option Line) → slice_get script.lines k ≡ found
-        → IfSome found (λ line. is_among (Lane lane) line ≡ true → next_event [] (k + 1) line.content ≡ None)
+        → IfSome found (λ line. is_of lane line ≡ true → next_event [] (k + 1) line.content ≡ None)
     by k None at = tt
     by k (Some line) at = λ own.
         let within = most_lane script.lines k line at in
@@ -89,13 +88,17 @@ all_first script cursors lane long each = elim (cases_lt lane (length cursors)) 
 
 -- ---- after an event
 
--- the lane has a cursor
-pub has_place : (cursors : List (Option Course)) (lane : ℕ) (course : Course) → cursor_of cursors lane ≡ Some course → lane < length cursors
-has_place cursors lane course is = by (slice_get cursors lane) refl is
+-- the lane's cursor stands in its place
+pub cursor_at : (cursors : List (Option Course)) (lane : ℕ) (course : Course) → cursor_of cursors lane ≡ Some course
+    → slice_get cursors lane ≡ Some (Some course)
+cursor_at cursors lane course is = by (slice_get cursors lane) is
   where
-    by : (found : Option (Option Course)) → slice_get cursors lane ≡ found → option_and_then (λ c. c) found ≡ Some course → lane < length cursors
-    by None at is = absurd (cc)
-    by (Some cursor) at is = slice_get_within cursors lane cursor at
+    by : (found : Option (Option Course)) → option_and_then (λ c. c) found ≡ Some course → found ≡ Some (Some course)
+    by None is = absurd (cc)
+    by (Some cursor) is = ap Some is
+
+pub has_place : (cursors : List (Option Course)) (lane : ℕ) (course : Course) → cursor_of cursors lane ≡ Some course → lane < length cursors
+has_place cursors lane course is = slice_get_within cursors lane (Some course) (cursor_at cursors lane course is)
 
 pub cursor_set : (cursors : List (Option Course)) (lane : ℕ) (to : Option Course) → lane < length cursors
     → cursor_of (set cursors lane to) lane ≡ to

@@ -1,0 +1,67 @@
+-- How far each lane has come, as numbers.
+use Rattle.std.specs.Prelude.{◌≡◌, ◌≢◌, ◌<◌, ◌==◌, ◌&&◌, ℕ, ◌+◌, List, [], ◌∷◌, Bool, false}
+use Rattle.std.specs.Prelude.{None, is_none, slice_index_or, if◌then◌else◌}
+use Rattle.std.specs.List.{sum_by}
+use Rattle.std.specs.Option.{option_map_or}
+use Rattle.cred_event.specs.declared.entry.Entry.{Entry}
+use Rattle.cred_model.specs.Script.{Script, Line}
+use Rattle.cred_model.specs.Journal.{due_in, lane_of, next_event}
+use Rattle.cred_book.specs.Book.{Recorded}
+use Rattle.cred_book.specs.declared.step.Step.{Step}
+use Rattle.cred_book.specs.declared.step.Step.TheVariants.{More, Ended}
+
+-- 1 for yes, 0 for no
+abbrev pub count_of : Bool → ℕ
+count_of test = if test then 1 else 0
+
+-- the entry is of a line of the lane
+abbrev pub is_of_lane : Script → ℕ → Entry → Bool
+is_of_lane script lane entry = option_map_or (λ own. own == lane) (lane_of script entry.line) false
+
+-- how many entries were made for the lane
+abbrev pub entered_of : Script → List Entry → ℕ → ℕ
+entered_of script journal lane = sum_by (λ entry. count_of (is_of_lane script lane entry)) journal
+
+-- how many of these lines, the first of which has this number, are the lane's and have ended
+abbrev pub ended_from : List Entry → ℕ → ℕ → List Line → ℕ
+ended_from journal lane number [] = 0
+ended_from journal lane number (line ∷ lines) =
+    count_of (line.lane == lane && is_none (next_event journal number line.content))
+    + ended_from journal lane (number + 1) lines
+
+-- how many lines of the lane have ended
+abbrev pub ended_of : Script → List Entry → ℕ → ℕ
+ended_of script journal lane = ended_from journal lane 1 script.lines
+
+-- of each lane it is counted how many of its lines have ended; of one past the last, none
+abbrev pub AreEnded : Script → List Entry → List ℕ → Type 0
+AreEnded script journal ended =
+    (lane : ℕ) → slice_index_or ended lane 0 ≡ ended_of script journal lane
+
+-- how many lines the lane has
+abbrev pub lines_in : Script → ℕ → ℕ
+lines_in script lane = sum_by (λ line. count_of (line.lane == lane)) script.lines
+
+-- all lines of the setup have ended, so that no lane waits
+abbrev pub IsSetUp : Recorded → Type 0
+IsSetUp book = due_in book.script book.journal 0 ≡ None
+
+-- The lane has one entry more, and of all other lanes the numbers are as they were. A setup that
+-- has ended stays so.
+pub record HasEntered (before after : Recorded) (lane : ℕ) : Type 0 where
+  pub own : entered_of after.script after.journal lane
+      ≡ entered_of before.script before.journal lane + 1
+  pub entered : (other : ℕ) → other ≢ lane
+      → entered_of after.script after.journal other ≡ entered_of before.script before.journal other
+  pub ended : (other : ℕ) → other ≢ lane
+      → ended_of after.script after.journal other ≡ ended_of before.script before.journal other
+  pub set_up : IsSetUp before → IsSetUp after
+
+-- What a step of a lane does to the numbers. Where no lane waits, it enters something exactly if a
+-- line of the lane is left.
+abbrev pub Counts : Recorded → Recorded → ℕ → Step → Type 0
+Counts before after lane More =
+    HasEntered before after lane
+    × (ended_of before.script before.journal lane < lines_in before.script lane)
+Counts before after lane Ended =
+    IsSetUp before → ended_of before.script before.journal lane ≡ lines_in before.script lane

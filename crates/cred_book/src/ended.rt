@@ -1,0 +1,36 @@
+//! How many lines have ended before anything has run.
+ghost use Rattle.std.specs.Prelude.{◌≡◌, ◌≤◌, ◌+◌, [], length, IfOk};
+ghost use Rattle.cred_model.specs.Script.{SetupFirst};
+ghost use Rattle.cred_script.specs.Lanes.{lanes};
+ghost use Rattle.cred_book.specs.Counts.{AreEnded};
+
+use cred_course::Course;
+use cred_event::LINE_LIMIT;
+use cred_ids::NoMemory;
+use cred_script::Script;
+use std::alloc::Global;
+
+/// For each lane of a script, from 0 to the last, how many of its lines make no event at all. Such
+/// a line has ended before the first event.
+///
+/// # Errors
+///
+/// `NoMemory` if the list could not be allocated.
+pub(crate) fn lines_without_events(alloc: Global, script: &Script) -> Result<Vec<u32>, NoMemory>
+    ensures ended { IfOk result (λ ended. AreEnded script.now [] ended.items) }
+    ensures places { IfOk result (λ ended. length ended.items ≡ lanes script.now.lines + 1) }
+    ensures few { length script.now.lines ≤ LINE_LIMIT }
+    ensures setup { SetupFirst script.now }
+{
+    // What counts a script's lines says of them too that the setup's come first.
+    let _ = script.lines();
+    let mut ended: Vec<u32> = vec![in alloc; 0; script.lanes() as usize + 1]?;
+    let mut number = 1;
+    'lines: while let Some((lane, content)) = script.line(number) {
+        if Course::start(number, content).ended() {
+            ended[lane as usize] += 1;
+        }
+        number += 1;
+    }
+    Ok(ended)
+}
