@@ -17,7 +17,7 @@ pub same_slot : (p q : ℕ → Bool) → ((k : ℕ) → k < SLOTS → p k ≡ q 
 unfolding slots
 same_slot p q same = same_found p q 0 256 (λ k l h. same k h)
 
-any-map : {X Y : Type 0} (p : Y → Bool) (f : X → Y) (xs : List X) → list_any p (map f xs) ≡ list_any (λ x. p (f x)) xs
+pub any-map : {X Y : Type 0} (p : Y → Bool) (f : X → Y) (xs : List X) → list_any p (map f xs) ≡ list_any (λ x. p (f x)) xs
 any-map p f [] = refl
 any-map p f (x ∷ xs) = ap (λ b. p (f x) || b) (any-map p f xs)
 

@@ -8,6 +8,10 @@ pub mod Sealed
 pub mod Places
 pub mod Rooms
 pub mod Events
+pub mod Lasting
+pub mod Keeping
+pub mod KeepingTasks
+pub mod Keeps
 pub mod Forgetting
 pub mod Commits
 pub mod Altered

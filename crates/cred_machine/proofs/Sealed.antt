@@ -1,11 +1,11 @@
 -- The sealed credentials, by those that are stored.
-use Rattle.std.proofs.Common.{◌≡◌, ◌≢◌, All, ℕ, zero, suc, ◌+◌, ◌<◌, ◌≤◌, ◌==◌, Bool, true, false, List, [], ◌∷◌, ◌++◌, length, find, slice_get, Option, Some, None, cond, refl, sym, ap, ◌∙◌, arith, ◌||◌, get_or}
+use Rattle.std.proofs.Common.{◌≡◌, ◌≢◌, All, ℕ, zero, suc, ◌+◌, ◌<◌, ◌≤◌, ◌==◌, Bool, true, false, List, [], ◌∷◌, ◌++◌, length, find, slice_get, Option, Some, None, cond, refl, sym, ap, ◌∙◌, subst, arith, ◌||◌, get_or}
 use Rattle.std.specs.List.{filter, list_any}
-use Rattle.std.specs.Option.{option_map, option_map_or}
+use Rattle.std.specs.Option.{IfSome, option_map, option_map_or}
 use Rattle.std.proofs.lemmas.Bool.Decides.{nat_tests}
 use Rattle.cred_record.specs.Credential.{Credential}
 use Rattle.cred_model.specs.State.{SealedCred, Numbered, numbered}
-use Rattle.cred_machine.specs.Creds.{IsStored, StoredCred, sealed_at, sealed_from, sealed_of, slots_of, under}
+use Rattle.cred_machine.specs.Creds.{IsStored, StoredCred, gone, sealed_at, sealed_from, sealed_of, slots_of, under}
 use Rattle.cred_machine.proofs.Rising.{tests_below, tests_same}
 
 -- the first that is found is kept where all that could be found are
@@ -122,6 +122,34 @@ module _ (forgotten : Credential) where
       get-sealed (filter (λ s. keep s.number) stored) 0 slots n n (omega arith)
       ∙ ap (λ (c : Credential). option_map (λ slot. record { cred = c; slot = slot }) (slice_get slots n)) (under-kept keep stored n kept)
       ∙ sym (get-sealed stored 0 slots n n (omega arith))
+
+  -- what is kept of those that are stored has none of this number
+  none-kept : (keep : ℕ → Bool) (stored : List StoredCred) (n : ℕ) → keep n ≡ false
+      → find (λ s. s.number == n) (filter (λ s. keep s.number) stored) ≡ None
+  none-kept keep [] n none = refl
+  none-kept keep (s ∷ ss) n none =
+      elim (keep s.number) as (λ b. keep s.number ≡ b → find (λ t. t.number == n) (cond b (s ∷ filter (λ t. keep t.number) ss) (filter (λ t. keep t.number) ss)) ≡ None) [
+        | true ↦ λ kept.
+            let other : (s.number == n) ≡ false = differs s.number n (keep_differs s.number n kept none) in
+            rw other (none-kept keep ss n none)
+        | false ↦ λ dropped. none-kept keep ss n none
+      ] refl
+    where
+      keep_differs : (m n : ℕ) → keep m ≡ true → keep n ≡ false → m ≢ n
+      keep_differs m n stays goes same = let never : true ≡ false = sym stays ∙ (ap keep same ∙ goes) in cc
+
+      differs : (m n : ℕ) → m ≢ n → (m == n) ≡ false
+      differs m n other = grind (arith, nat_tests)
+
+  pub gone-sealed : (keep : ℕ → Bool) (stored : List StoredCred) (slots : List ℕ) (n : ℕ) → keep n ≡ false → forgotten ≡ gone
+      → IfSome (slice_get (sealed_of forgotten (filter (λ s. keep s.number) stored) slots) n) (λ sealed. sealed.cred ≡ gone)
+  gone-sealed keep stored slots n dropped is =
+      subst (λ (o : Option SealedCred). IfSome o (λ sealed. sealed.cred ≡ gone)) (sym (get-sealed (filter (λ s. keep s.number) stored) 0 slots n n (omega arith)))
+      (by (slice_get slots n))
+    where
+      by : (o : Option ℕ) → IfSome (option_map (sealed_at forgotten (filter (λ s. keep s.number) stored) n) o) (λ sealed. sealed.cred ≡ gone)
+      by None = tt
+      by (Some slot) = ap (λ (f : Option StoredCred). option_map_or (λ s. s.cred) f forgotten) (none-kept keep stored n dropped) ∙ is
 
   -- a sealed credential with its number
   pub numbered-sealed : (stored : List StoredCred) (slots : List ℕ) (n slot : ℕ) → slice_get slots n ≡ Some slot

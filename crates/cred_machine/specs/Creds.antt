@@ -1,8 +1,8 @@
 -- The sealed credentials, as those that are stored under their numbers and the slot of each number.
-use Rattle.std.specs.Prelude.{ℕ, ◌+◌, ◌<◌, ◌==◌, All, Bool, List, [], ◌∷◌, find, map}
+use Rattle.std.specs.Prelude.{◌≡◌, ℕ, ◌+◌, ◌<◌, ◌==◌, All, Bool, List, [], ◌∷◌, find, map}
 use Rattle.std.specs.List.Sorted.{IsNonDecreasingBy}
 use Rattle.std.specs.Option.{option_map_or}
-use Rattle.cred_record.specs.Credential.{Credential}
+use Rattle.cred_record.specs.Credential.{Credential, first_credential}
 use Rattle.cred_model.specs.State.{SealedCred, Numbered}
 use Rattle.cred_machine.specs.declared.creds.Numbered as creds
 
@@ -11,15 +11,25 @@ pub record StoredCred : Type 0 where
   pub number : ℕ
   pub cred : Credential
 
+-- what stands under every number whose credential was forgotten
+abbrev pub gone : Credential
+gone = first_credential 0 0 0
+
 -- What is stored stands in the order of its numbers, all of which were sealed: so many were.
 pub record IsStored (stored : List StoredCred) (count : ℕ) : Type 0 where
   pub rising : IsNonDecreasingBy (λ s. s.number) stored
   pub sealed : All (λ s. s.number < count) stored
 
--- The sealed credentials; and whether there is room for one more, so that the next is sealed
--- without an allocation.
+-- What is stored is in order, and this is what stands for all that was forgotten.
+pub record IsHeld (forgotten : Credential) (stored : List StoredCred) (count : ℕ) : Type 0 where
+  pub in_order : IsStored stored count
+  pub stands : forgotten ≡ gone
+
+-- The sealed credentials; those that are stored; and whether there is room for one more, so that
+-- the next is sealed without an allocation.
 pub record Sealed : Type 0 where
   pub list : List SealedCred
+  pub stored : List StoredCred
   pub roomy : Bool
 
 -- the credential that is stored under a number, or else the one that stands for all that are gone

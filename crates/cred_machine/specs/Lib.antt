@@ -1,4 +1,6 @@
 pub mod Creds
+pub mod References
+pub mod Kept
 pub mod Tasks
 pub mod Casts
 pub mod Labels

@@ -1,11 +1,13 @@
 -- Slots that are marked.
 use Rattle.std.specs.Prelude.{◌≡◌, ℕ, ◌<◌, ◌==◌, ◌||◌, Bool, false, true}
-use Rattle.std.specs.Prelude.{List, length, slice_index_or}
+use Rattle.std.specs.Prelude.{List, length, slice_index_or, IfSome}
+use Rattle.std.specs.declared.option.Option.{Option}
 use Rattle.std.specs.List.{list_any}
 use Rattle.cred_event.specs.declared.answer.Answer.{Answer}
 use Rattle.cred_event.specs.declared.answer.Answer.TheVariants.{Acted}
 use Rattle.cred_model.specs.State.{State, SealedCred}
 use Rattle.cred_model.specs.Slots.{SLOTS, is_live, stands_in}
+use Rattle.cred_machine.specs.Kept.{KeepsReferred}
 
 -- a slot's mark; none past the last
 abbrev pub is_marked : List Bool → ℕ → Bool
@@ -25,6 +27,11 @@ is_live_by creds numbers kept slot =
 -- The marked slots are those that are live.
 abbrev pub AreLive : List Bool → State → Type 0
 AreLive marks s = (slot : ℕ) → slot < SLOTS → is_marked marks slot ≡ is_live s slot
+
+-- Where it is known which slots are live, those are; and what nothing refers to is forgotten.
+pub record IsTidy (live : Option (List Bool)) (s : State) : Type 0 where
+  pub known : IfSome live (λ marks. AreLive marks s)
+  pub kept : KeepsReferred s
 
 -- A step that answered so took its slot: the marks after it have that one too.
 pub record TakesSlot (before : List Bool) (answer : Answer) (after : List Bool) : Type 0 where

@@ -1,21 +1,23 @@
 //! The state between events, and one event.
-ghost use Rattle.std.specs.Prelude.{◌≡◌, false, length, IfOk, IfSome, OnErr};
+ghost use Rattle.std.specs.Prelude.{◌≡◌, false, length, IfOk, IfSome, None, OnErr};
 ghost use Rattle.cred_model.specs.Like.{Gives, GivesLike};
 ghost use Rattle.cred_model.specs.Named.{IsEventOf};
 ghost use Rattle.cred_model.specs.State.{opening};
 ghost use Rattle.cred_model.specs.Step.{by_act, done};
 ghost use Rattle.cred_sound.specs.Sound.{IsSound};
+ghost use Rattle.cred_machine.specs.Kept.{KeepsReferred, may_have_swept};
 ghost use Rattle.cred_machine.specs.Slots.{AreLive, TakesSlot};
 
 use crate::slots::Marks;
 use crate::state::State;
-use cred_event::{Answer, Event};
+use cred_event::{AbortCause, Answer, Event};
 use cred_ids::NoMemory;
 use cred_script::Script;
 use std::alloc::Global;
 use std::marker::Model;
 
-/// A state, and which of its slots are live where that is known. Contracts see the state.
+/// A state, and which of its slots are live where that is known. Contracts see the state. A
+/// credential is kept as long as something refers to it, and no longer.
 ///
 /// A thread's step in a broadcast takes a slot, and gives none back unless there is a sweep. So the
 /// next step of a thread needs no look through all that refers, and only after another event, or
@@ -27,15 +29,14 @@ pub struct CachedState {
 }
 
 impl Model for CachedState {
-    ghost use Rattle.std.specs.Prelude.{IfSome};
     ghost use Rattle.cred_model.specs.State.{State};
-    ghost use Rattle.cred_machine.specs.Slots.{AreLive};
+    ghost use Rattle.cred_machine.specs.Slots.{IsTidy};
 
     ghost Value = { State };
 
     ghost view = { λ c. c.state };
 
-    ghost invariant = { λ c. IfSome c.live (λ marks. AreLive marks c.state) };
+    ghost invariant = { λ c. IsTidy c.live c.state };
 }
 
 impl CachedState {
@@ -53,8 +54,8 @@ impl CachedState {
         })
     }
 
-    /// Makes one event of a line of the script, and answers it. After a sweep, what nothing refers
-    /// to any more is forgotten.
+    /// Makes one event of a line of the script, and answers it. What nothing refers to any more
+    /// after it is forgotten.
     ///
     /// # Errors
     ///
@@ -64,22 +65,35 @@ impl CachedState {
         requires sound { IsSound self.old }
         ensures ok { IfOk result (λ answer.
             GivesLike self.old (done script.now self.old line event.now) answer self.new) }
+        ensures kept { KeepsReferred self.new }
         ensures err { OnErr result (self.new ≡ self.old) }
     {
-        let answer = self.make(script, line, event)?;
-        self.state.forget();
+        let before = self.state.given_up();
+        let answer = self.state.make(&mut self.live, script, line, event)?;
+        let swept = may_have_swept(before, &answer, self.state.given_up());
+        self.state.forget_if(swept);
         Ok(answer)
     }
+}
 
-    /// Makes one event, and forgets nothing.
-    fn make(&mut self, script: &Script, line: u32, event: &Event) -> Result<Answer, NoMemory>
-        requires { IsSound self.old }
+impl State {
+    /// Makes one event, and forgets nothing. Which slots are live may be known.
+    fn make(
+        &mut self,
+        live: &mut Option<Marks>,
+        script: &Script,
+        line: u32,
+        event: &Event,
+    ) -> Result<Answer, NoMemory>
+        requires sound { IsSound self.old }
+        requires known { IfSome live.old (λ marks. AreLive marks self.old) }
         ensures ok { IfOk result (λ answer.
             Gives self.old (done script.now self.old line event.now) answer self.new) }
+        ensures live { IfSome live.new (λ marks. AreLive marks self.new) }
         ensures err { OnErr result (self.new ≡ self.old) }
     {
-        // Which slots are live after an event isn't known, unless `act` says so.
-        let live = self.live.take();
+        // Which slots are live after an event isn't known, unless `act_knowing` says so.
+        let known = live.take();
         match event {
             Event::Init {
                 task,
@@ -87,58 +101,66 @@ impl CachedState {
                 user,
                 group,
                 ns,
-            } => self.state.init(*task, *process, *user, *group, *ns),
-            Event::Take { label, task, side } => self.state.take(*label, *task, *side),
-            Event::TakeFile { label, fd } => self.state.take_file(*label, *fd),
-            Event::Release { label } => self.state.release(*label),
-            Event::Ask { label, query } => self.state.ask(script, *label, *query),
+            } => self.init(*task, *process, *user, *group, *ns),
+            Event::Take { label, task, side } => self.take(*label, *task, *side),
+            Event::TakeFile { label, fd } => self.take_file(*label, *fd),
+            Event::Release { label } => self.release(*label),
+            Event::Ask { label, query } => self.ask(script, *label, *query),
             Event::Signal {
                 from,
                 hold,
                 to,
                 target,
-            } => Ok(self.state.signal(*from, *hold, *to, *target)),
-            Event::Prepare { label, task, hold } => self.state.prepare(*label, *task, *hold),
-            Event::Alter { label, change } => self.state.alter(script, *label, *change),
-            Event::Commit { label } => self.state.commit(*label),
-            Event::Abort { label } => self.state.abort(*label),
-            Event::Override { task, label } => self.state.override_with(*task, *label),
-            Event::Revert { task } => self.state.revert(*task),
-            Event::Begin { task, call } => self.state.begin(line, *task, call),
-            Event::Act { cast } => self.act(*cast, live),
+            } => Ok(self.signal(*from, *hold, *to, *target)),
+            Event::Prepare { label, task, hold } => self.prepare(*label, *task, *hold),
+            Event::Alter { label, change } => self.alter(script, *label, *change),
+            Event::Commit { label } => self.commit(*label),
+            Event::Abort { label } => self.abort(*label),
+            Event::Override { task, label } => self.override_with(*task, *label),
+            Event::Revert { task } => self.revert(*task),
+            Event::Begin { task, call } => self.begin(line, *task, call),
+            Event::Act { cast } => self.act_knowing(known, live, *cast),
             Event::OpenFile {
                 hold,
                 file,
                 want,
                 fd,
-            } => self.state.open_file(script, *hold, *file, *want, *fd),
-            Event::CloseFile { fd } => self.state.close_file(*fd),
-            Event::Spawn { task, child } => self.state.spawn(*task, *child),
+            } => self.open_file(script, *hold, *file, *want, *fd),
+            Event::CloseFile { fd } => self.close_file(*fd),
+            Event::Spawn { task, child } => self.spawn(*task, *child),
             Event::Fork {
                 task,
                 child,
                 process,
-            } => self.state.fork(*task, *child, *process),
-            Event::Exit { task } => self.state.exit(*task),
+            } => self.fork(*task, *child, *process),
+            Event::Exit { task } => self.exit(*task),
             Event::Sweep => {
-                self.state.sweep();
+                self.sweep();
                 Ok(Answer::Done)
             }
         }
     }
 
-    /// A thread that waits in the broadcast makes its step. Which slots were live may be known.
-    fn act(&mut self, cast: u32, known: Option<Marks>) -> Result<Answer, NoMemory>
+    /// A thread that waits in the broadcast makes its step. Which slots were live may be known, and
+    /// which are after it.
+    fn act_knowing(
+        &mut self,
+        known: Option<Marks>,
+        live: &mut Option<Marks>,
+        cast: u32,
+    ) -> Result<Answer, NoMemory>
         requires sound { IsSound self.old }
         requires known { IfSome known (λ marks. AreLive marks self.old) }
+        requires none { live.old ≡ None }
         ensures ok { IfOk result (λ answer.
             Gives self.old (by_act self.old cast) answer self.new) }
+        ensures live { IfSome live.new (λ marks. AreLive marks self.new) }
         ensures err { OnErr result (self.new ≡ self.old) }
     {
-        let mut live = live_slots(&self.state, known)?;
-        let room = self.state.room_in(&mut live)?;
-        let answer = self.state.act(cast, room)?;
-        self.live = live_after(live, &answer, room.swept);
+        let mut marks = live_slots(self, known)?;
+        let room = self.room_in(&mut marks)?;
+        let answer = self.act(cast, room)?;
+        *live = live_after(marks, &answer, room.swept);
         Ok(answer)
     }
 }
@@ -164,5 +186,20 @@ fn live_after(mut live: Marks, answer: &Answer, swept: bool) -> Option<Marks>
             Some(live)
         }
         _ => None,
+    }
+}
+
+/// Whether a sweep may have let go of something, where so many references had been given up before
+/// an event that answered so, and so many are after it.
+fn may_have_swept(before: usize, answer: &Answer, after: usize) -> bool
+    ensures { result ≡ may_have_swept before answer.now after }
+{
+    match answer {
+        Answer::Began { .. } | Answer::Acted { .. } => after <= before,
+        Answer::Aborted {
+            cause: AbortCause::Full,
+            ..
+        } => true,
+        _ => after < before,
     }
 }

@@ -1,11 +1,13 @@
 //! The sealed credentials.
-ghost use Rattle.std.specs.Prelude.{◌≡◌, ◌==◌, ◌++◌, ◌∷◌, [], All, false, find, length, nat_lt};
-ghost use Rattle.std.specs.Prelude.{slice_get, true, IfOk, OnOk};
+ghost use Rattle.std.specs.Prelude.{◌≡◌, ℕ, ◌==◌, ◌++◌, ◌∷◌, [], false, filter, find, length};
+ghost use Rattle.std.specs.Prelude.{nat_lt, slice_get, true, IfOk, IfSome, OnOk};
 ghost use Rattle.std.specs.List.Sorted.{IsNonDecreasingBy, IsPartitionPoint};
 ghost use Rattle.std.specs.Option.{option_map};
 ghost use Rattle.cred_model.specs.State as model;
-ghost use Rattle.cred_machine.specs.Creds.{seen_numbered, slots_of, under};
+ghost use Rattle.cred_machine.specs.Creds.{gone, seen_numbered, slots_of, under};
+ghost use Rattle.cred_machine.specs.References.{refer_to};
 
+use crate::references::References;
 use cred_ids::{Id, NoMemory};
 use cred_record::{Cred, first};
 use std::alloc::Global;
@@ -35,8 +37,9 @@ pub struct Numbered<'a> {
 }
 
 /// The credentials that something refers to, in the order of their numbers, and the slot of each
-/// number that was ever sealed. Contracts see the list of the sealed credentials with their slots.
-/// Under a number that nothing refers to any more stands what is there for all of those.
+/// number that was ever sealed. Contracts see what is stored, and the list of the sealed credentials
+/// with their slots: there, under a number whose credential was forgotten, stands one that is the
+/// same for all of those.
 #[derive(Drop, Debug)]
 pub struct Creds {
     stored: Vec<Stored>,
@@ -46,17 +49,18 @@ pub struct Creds {
 
 impl Model for Creds {
     ghost use Rattle.std.specs.Prelude.{◌&&◌, length, nat_lt, vec_capacity, vec_len};
-    ghost use Rattle.cred_machine.specs.Creds.{IsStored, Sealed, sealed_of};
+    ghost use Rattle.cred_machine.specs.Creds.{IsHeld, Sealed, sealed_of};
 
     ghost Value = { Sealed };
 
     ghost view = { λ c. record {
       list = sealed_of c.forgotten c.stored.items c.slots.items;
+      stored = c.stored.items;
       roomy = nat_lt (vec_len c.stored) (vec_capacity c.stored)
           && nat_lt (vec_len c.slots) (vec_capacity c.slots);
     } };
 
-    ghost invariant = { λ c. IsStored c.stored.items (length c.slots.items) };
+    ghost invariant = { λ c. IsHeld c.forgotten c.stored.items (length c.slots.items) };
 }
 
 impl Creds {
@@ -102,6 +106,7 @@ impl Creds {
     /// Makes room for one more. If an allocation fails, nothing changes.
     pub fn reserve(&mut self) -> Result<(), NoMemory>
         ensures list { self.new.list ≡ self.old.list }
+        ensures stored { self.new.stored ≡ self.old.stored }
         ensures room { OnOk result (self.new.roomy ≡ true) }
     {
         self.stored.reserve(1)?;
@@ -115,6 +120,8 @@ impl Creds {
         ensures number { result ≡ length self.old.list }
         ensures sealed { self.new.list
             ≡ self.old.list ++ record { cred = cred; slot = slot } ∷ [] }
+        ensures stored { self.new.stored
+            ≡ self.old.stored ++ record { number = result; cred = cred } ∷ [] }
     {
         let number = self.next_number();
         // There is room.
@@ -123,14 +130,19 @@ impl Creds {
         number
     }
 
-    /// Forgets the credentials of all numbers but these.
-    pub fn forget(&mut self, referred: &[u64])
+    /// Forgets the credentials of all numbers but those that are referred to: of what was stored,
+    /// just those stay.
+    pub fn forget(&mut self, references: &References<'_>)
+        ensures stored { self.new.stored
+            ≡ filter (λ s. refer_to references.now s.number) self.old.stored }
         ensures slots { slots_of self.new.list ≡ slots_of self.old.list }
-        ensures kept { All (λ n. slice_get self.new.list n ≡ slice_get self.old.list n)
-            referred.now }
+        ensures kept { (n : ℕ) → refer_to references.now n ≡ true
+            → slice_get self.new.list n ≡ slice_get self.old.list n }
+        ensures gone { (n : ℕ) → refer_to references.now n ≡ false
+            → IfSome (slice_get self.new.list n) (λ sealed. sealed.cred ≡ gone) }
     {
         self.stored
-            .retain(|stored| referred.contains(&stored.number));
+            .retain(|stored| references.refer_to(stored.number));
     }
 }
 

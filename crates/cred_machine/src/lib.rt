@@ -14,6 +14,7 @@ mod on_files;
 mod on_labels;
 mod on_overrides;
 mod on_tasks;
+mod references;
 mod slots;
 mod state;
 mod tasks;

@@ -4,6 +4,7 @@ ghost use Rattle.cred_model.specs.State.{opening};
 ghost use Rattle.cred_model.specs.Step.{done};
 ghost use Rattle.cred_model.specs.Named.{IsEventOf};
 ghost use Rattle.cred_model.specs.Like.{GivesLike};
+ghost use Rattle.cred_machine.specs.Kept.{KeepsReferred};
 
 use crate::cached::CachedState;
 use cred_event::{Answer, Event};
@@ -57,6 +58,7 @@ impl<'a> Machine<'a> {
         ensures script { self.new.script ≡ self.old.script }
         ensures ok { IfOk result (λ answer. GivesLike self.old.state
             (done self.old.script self.old.state line event.now) answer self.new.state) }
+        ensures kept { KeepsReferred self.new.state }
         ensures err { OnErr result (self.new ≡ self.old) }
     {
         self.state.step(self.script, line, event)

@@ -153,7 +153,6 @@ impl State {
     {
         self.creds.reserve()?;
         defer(&mut self.deferred, swept, &[old])?;
-        self.swept |= swept;
         let number = self.creds.seal(cred, slot);
         self.tasks.set_current(task, number);
         Ok(number)
@@ -178,7 +177,6 @@ impl State {
         let mut numbers = Vec::new(self.alloc);
         self.tasks.append_left(ending, &mut numbers)?;
         defer(&mut self.deferred, swept, &numbers)?;
-        self.swept |= swept;
         self.tasks.end(ending);
         drop_cast(&mut self.casts, process);
         Ok(Answer::Aborted { task, cause })

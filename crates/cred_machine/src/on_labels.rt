@@ -154,7 +154,6 @@ impl State {
             slot,
             changed: None,
         })?;
-        self.swept |= swept;
         sweep_if(&mut self.deferred, swept);
         Ok(Answer::Kept { slot })
     }

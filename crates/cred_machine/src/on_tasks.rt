@@ -49,7 +49,6 @@ impl State {
         let next = self.creds.next_number();
         self.tasks
             .push(Task::first(self.alloc, number, process, next))?;
-        self.swept |= swept;
         sweep_if(&mut self.deferred, swept);
         self.creds.seal(cred, slot);
         Ok(Answer::Sealed { cred: next, slot })

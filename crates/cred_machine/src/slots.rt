@@ -208,7 +208,6 @@ impl State {
         ensures { self.new ≡ model.swept self.old }
     {
         self.deferred.clear();
-        self.swept = true;
     }
 
     /// What is answered where no slot is free even after a sweep, which stands.

@@ -1,5 +1,6 @@
 //! The state of the machine.
-ghost use Rattle.std.specs.Prelude.{◌≡◌, ◌||◌, is_some, IfOk, MatchOption, Ok, Err};
+ghost use Rattle.std.specs.Prelude.{◌≡◌, ◌||◌, false, is_some, length, IfOk, MatchOption, Ok};
+ghost use Rattle.std.specs.Prelude.{Err};
 ghost use Rattle.std.specs.Option.{option_map};
 ghost use Rattle.cred_event.specs.declared.answer.Answer.TheVariants.{Overridden};
 ghost use Rattle.cred_model.specs.State.{opening, credential_of, current_of, held_by, hold_of};
@@ -7,11 +8,13 @@ ghost use Rattle.cred_model.specs.State.{prepared_of};
 ghost use Rattle.cred_model.specs.Like.{IsLike};
 ghost use Rattle.cred_model.specs.Moves.{not_overridden};
 ghost use Rattle.cred_machine.specs.Creds.{seen_numbered};
+ghost use Rattle.cred_machine.specs.Kept.{KeepsReferred};
 
 use crate::casts::Cast;
 use crate::creds::{Creds, Numbered};
 use crate::files::OpenFile;
 use crate::labels::{Hold, Prepared, hold_of, prepared_of};
+use crate::references::References;
 use crate::tasks::{Task, Tasks};
 use cred_event::Side;
 use cred_ids::NoMemory;
@@ -29,8 +32,6 @@ pub struct State {
     pub(crate) prepared: Vec<Prepared>,
     pub(crate) deferred: Vec<u64>,
     pub(crate) creds: Creds,
-    /// There was a sweep, and what nothing refers to any more isn't forgotten yet.
-    pub(crate) swept: bool,
     pub(crate) alloc: Global,
 }
 
@@ -67,7 +68,6 @@ impl State {
             prepared: Vec::new(alloc),
             deferred: Vec::new(alloc),
             creds: Creds::new(alloc)?,
-            swept: false,
             alloc,
         })
     }
@@ -107,23 +107,37 @@ impl State {
         hold_of(&self.holds, label).is_some() || prepared_of(&self.prepared, label).is_some()
     }
 
-    /// Forgets the credentials that nothing refers to any more, if there was a sweep: no other
-    /// event leaves one to which nothing refers. Where there is no memory to list what is referred
-    /// to, they stay until the next event.
-    pub(crate) fn forget(&mut self)
-        ensures { IsLike self.new self.old }
+    /// How many references were given up since the last sweep.
+    pub(crate) fn given_up(&self) -> usize
+        ensures { result ≡ length self.now.deferred }
     {
-        if !self.swept {
-            return;
-        }
-        let Ok(mut numbers) = self.in_use() else {
-            return;
+        self.deferred.len()
+    }
+
+    /// Forgets the credentials that nothing refers to any more.
+    fn forget(&mut self)
+        ensures like { IsLike self.new self.old }
+        ensures kept { KeepsReferred self.new }
+    {
+        let references = References {
+            tasks: self.tasks.items(),
+            files: &self.files,
+            holds: &self.holds,
+            prepared: &self.prepared,
+            deferred: &self.deferred,
         };
-        if numbers.extend_from_slice(&self.deferred).is_err() {
-            return;
+        self.creds.forget(&references);
+    }
+
+    /// The same where a sweep may have left one to which nothing refers.
+    pub(crate) fn forget_if(&mut self, swept: bool)
+        requires { swept ≡ false → KeepsReferred self.old }
+        ensures like { IsLike self.new self.old }
+        ensures kept { KeepsReferred self.new }
+    {
+        if swept {
+            self.forget();
         }
-        self.creds.forget(&numbers);
-        self.swept = false;
     }
 }
 

@@ -1,9 +1,34 @@
-use Rattle.cred_machine.proofs.Forgetting.{gives_like}
+use Rattle.std.proofs.Common.{◌≡◌, false, length, sym, subst, ◌∙◌}
+use Rattle.cred_machine.specs.Kept.{KeepsReferred, may_have_swept}
+use Rattle.cred_machine.proofs.Forgetting.{gives_like, stays_kept}
+use Rattle.cred_machine.proofs.Keeping.{Keeps}
+use Rattle.cred_machine.proofs.Keeps.{keeps}
 use Rattle.cred_machine.proofs.Live.{known_like}
 use Rattle.cred_machine.proofs.cached.CachedState.step.Goals as goal
 
 pub invariant_of-self : goal.invariant_of-self
-invariant_of-self c = known_like c.self.inside.live _ _ c.forget.ensures c.self.invariant
+invariant_of-self c = record {
+  known = c.in_err-answer.ensures.live;
+  kept = subst KeepsReferred (sym c.in_err-answer.ensures.err) c.self.invariant.kept;
+}
+
+pub forget_if-requires : goal.forget_if-requires
+forget_if-requires c = λ unswept.
+    let s = c.self.inside.state in
+    let t = c.make.new.self in
+    let test : may_have_swept (length s.deferred) c.in_ok-answer.answer (length t.deferred) ≡ false
+    = rw (← c.given_up-before.ensures, ← c.given_up.ensures) (sym c.may_have_swept-swept.ensures ∙ unswept) in
+    stays_kept s t c.in_ok-answer.answer
+    (subst (Keeps s) c.in_ok-answer.ensures.ok (keeps c.args.script.now s c.args.line c.args.event.now (rw (← c.self.view_is) at c.requires.sound)))
+    test c.self.invariant.kept
+
+pub invariant_of-self-2 : goal.invariant_of-self-2
+invariant_of-self-2 c = record {
+  known = known_like c.make.new.live _ _ c.forget_if.ensures.like c.in_ok-answer.ensures.live;
+  kept = c.forget_if.ensures.kept;
+}
 
 pub returns-clause-ok : goal.returns-clause-ok
-returns-clause-ok c = gives_like _ c.in_ok-answer.answer c.self.inside.state c.forget.new.self (rw (← c.self.view_is) at c.in_ok-answer.ensures.ok) c.forget.ensures
+returns-clause-ok c =
+    rw (← c.self.view_is)
+    (gives_like _ c.in_ok-answer.answer c.make.new.self c.forget_if.new.self c.in_ok-answer.ensures.ok c.forget_if.ensures.like)

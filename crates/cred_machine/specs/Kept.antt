@@ -1,0 +1,25 @@
+-- What is kept of the sealed credentials: no more than what is referred to.
+use Rattle.std.specs.Prelude.{◌≡◌, ℕ, Bool, true, false, not, nat_lt, slice_get, IfSome}
+use Rattle.cred_event.specs.declared.answer.AbortCause.TheVariants.{Full}
+use Rattle.cred_event.specs.declared.answer.Answer.{Answer}
+use Rattle.cred_event.specs.declared.answer.Answer.TheVariants.{Aborted, Acted, Began}
+use Rattle.cred_model.specs.State.{State}
+use Rattle.cred_model.specs.Slots.{refs}
+use Rattle.cred_machine.specs.Creds.{gone}
+use Rattle.cred_machine.specs.References.{is_among}
+
+-- Each credential to which nothing refers is forgotten: under its number stands what stands for all
+-- of those. One that equals that looks the same, kept or not.
+abbrev pub KeepsReferred : State → Type 0
+KeepsReferred s =
+    (n : ℕ) → is_among (refs s) n ≡ false
+    → IfSome (slice_get s.creds n) (λ sealed. sealed.cred ≡ gone)
+
+-- Whether a sweep may have let go of something, with an event that answered so: then fewer numbers
+-- are given up after it than were before it and were by it. A call gives up one number, the thread
+-- that couldn't follow for want of a slot has swept, and no other answer needs any to be given up.
+abbrev pub may_have_swept : ℕ → Answer → ℕ → Bool
+may_have_swept before (Began cred slot left) after = not (nat_lt before after)
+may_have_swept before (Acted task cred slot left) after = not (nat_lt before after)
+may_have_swept before (Aborted task Full) after = true
+may_have_swept before answer after = nat_lt after before
