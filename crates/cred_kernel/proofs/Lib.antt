@@ -1,0 +1,4 @@
+pub mod Closing
+pub mod Ends
+pub mod Returned
+pub mod Taking

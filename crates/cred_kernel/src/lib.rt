@@ -1,0 +1,23 @@
+//! The kernel: one lock round the book and the roll, and a turn for each lane.
+//!
+//! Under the lock stand the journal, which is one that the script may have so far, and the roll,
+//! each of whose rows has its lane's numbers in that journal. Each row is lent to the lane's turn.
+//! A step takes the turn's pass back, enters the lane's next event and lends the row again, all
+//! under the lock. So whenever the lock is got, the turn has the numbers of its lane: nothing is
+//! compared, and there is no answer for a mismatch. Once all turns have ended, the journal is a
+//! legal one.
+//!
+//! `Kernel::advance` may wait for the lock. Nothing else here waits.
+#![tactic(auto)]
+
+pub mod kernel;
+mod locked;
+pub mod name;
+pub mod parts;
+mod passes;
+pub mod token;
+
+pub use kernel::Kernel;
+pub use name::Name;
+pub use parts::Parts;
+pub use token::{Turn, TurnList};

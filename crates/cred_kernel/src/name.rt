@@ -1,0 +1,21 @@
+//! Which kernel it is.
+ghost use Rattle.atomic_table.specs.Seated.{TableId};
+ghost use Rattle.cred_model.specs.Script.{Script};
+
+use std::marker::Brand;
+
+/// Which kernel it is: its script and its roll, which contracts alone see. A kernel and its turns
+/// have the same name in their types. Each call of a program picks one.
+pub trait Name {
+    ghost script: { Script };
+
+    ghost roll: { TableId };
+}
+
+impl Name for Brand {
+    ghost use Rattle.cred_kernel.specs.Turns.{no_script, no_table};
+
+    ghost script = { no_script };
+
+    ghost roll = { no_table };
+}

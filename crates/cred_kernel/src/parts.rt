@@ -1,0 +1,54 @@
+//! What a kernel is made of.
+ghost use Rattle.std.specs.Prelude.{◌≡◌, IfOk};
+ghost use Rattle.cred_kernel.specs.Locks.{IsReady};
+
+use cred_book::{Book, Step};
+use cred_ids::NoMemory;
+use cred_script::Script;
+use cred_turn::Roll;
+use std::alloc::Global;
+use std::marker::Model;
+
+/// A book whose setup has run, and a roll with a row for each of the script's other lanes. Nobody
+/// shares them yet.
+#[derive(Drop)]
+pub struct Parts {
+    pub(crate) book: Book,
+    pub(crate) roll: Roll,
+}
+
+impl Model for Parts {
+    ghost use Rattle.cred_kernel.specs.Locks.{IsMade, Made};
+
+    ghost Value = { Made };
+
+    ghost view = { λ p. record { script = p.book.script; roll = p.roll.id } };
+
+    ghost invariant = { λ p. IsMade p.book p.roll };
+}
+
+impl Parts {
+    /// The parts of a kernel of this script, whose setup runs now.
+    ///
+    /// # Errors
+    ///
+    /// `NoMemory` if an allocation of the book, of an event of the setup or of the roll fails.
+    pub fn new(alloc: Global, script: Script) -> Result<Parts, NoMemory>
+        ensures script { IfOk result (λ parts. parts.script ≡ script) }
+    {
+        let lanes = script.lanes();
+        let book = set_up(alloc, script)?;
+        let roll = Roll::make(alloc, lanes)?;
+        Ok(Parts { book, roll })
+    }
+}
+
+/// The book of the script after the setup, lane 0.
+fn set_up(alloc: Global, script: Script) -> Result<Book, NoMemory>
+    ensures script { IfOk result (λ book. book.script ≡ script) }
+    ensures ready { IfOk result (λ book. IsReady book) }
+{
+    let mut book = Book::new(alloc, script)?;
+    'setup: while let Step::More = book.next(0)? {}
+    Ok(book)
+}
