@@ -1,0 +1,4 @@
+use Rattle.cred_lanes.proofs.run.named.Goals as goal
+
+pub drive-requires-clause-home : goal.drive-requires-clause-home
+drive-requires-clause-home g c κs within = λ k less. (c.in_ok-kernel.ensures.1 k less).out

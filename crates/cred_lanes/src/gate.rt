@@ -1,0 +1,25 @@
+//! Where a worker may be stopped.
+
+/// Where a worker stands when it comes to the gate.
+#[derive(Clone, Copy, PartialEq, Eq, Debug)]
+pub enum Place {
+    /// Before a decision that it makes without the lock.
+    BeforeDecision,
+    /// After the decision, before its event is entered.
+    AfterDecision,
+}
+
+/// What a worker calls beside each decision that it makes without the lock, so that a caller can
+/// hold a lane back. As yet every decision is made under the lock, and no worker calls it.
+pub trait Gate {
+    /// Returns when the worker of the lane may go on with the line.
+    fn pause(&self, lane: u32, line: u32, place: Place);
+}
+
+/// A gate that holds nobody back.
+#[derive(Clone, Copy, PartialEq, Eq, Debug)]
+pub struct NoGate;
+
+impl Gate for NoGate {
+    fn pause(&self, _lane: u32, _line: u32, _place: Place) {}
+}

@@ -1,0 +1,21 @@
+//! The lanes of a script as threads: a worker for each lane, and the run from a script to its
+//! journal.
+//!
+//! A worker makes the next event of its lane, one after another, until the lane has ended. It holds
+//! the kernel's lock for each event and lets go of it in between. Which worker gets the lock next
+//! is up to the threads, and no clause says it: in whatever order the events come, the journal is
+//! legal for the script.
+//!
+//! `drive` and `lanes` may wait for the lock, and what they promise holds if they return.
+#![tactic(auto)]
+
+mod gate;
+mod run;
+mod workers;
+
+pub use gate::{Gate, NoGate, Place};
+pub use run::lanes;
+pub use workers::drive;
+
+#[cfg(test)]
+mod tests;
