@@ -3,7 +3,8 @@ use Rattle.std.proofs.Common.{◌≡◌, ℕ, List, Result, Ok, Err, OnOk, sym, 
 use Rattle.cred_io.specs.Causes.{CountsFaults}
 use Rattle.cred_io.specs.declared.sink.SinkRefusal.{SinkRefusal}
 use Rattle.cred_io.specs.declared.sink.SinkRefusal.TheVariants as sink
-use Rattle.cred_commands.specs.Ends.{finished, IsWhole, Suits}
+use Rattle.cred_model.specs.Script.{Script}
+use Rattle.cred_commands.specs.Ends.{finished, IsForText, IsScript, IsWhole, Suits}
 use Rattle.cred_commands.specs.declared.status.Status.{Status}
 use Rattle.cred_commands.specs.declared.status.Status.TheVariants as status
 
@@ -33,11 +34,25 @@ finished_apart (Ok done) answer result other apart fault memory is same = apart 
 finished_apart (Err sink.Failed) answer result other apart fault memory is same = fault (sym is ∙ same)
 finished_apart (Err sink.Memory) answer result other apart fault memory is same = memory (sym is ∙ same)
 
-pub finished_suits : (input : List ℕ) (r : Result (Unit {0}) SinkRefusal) (result : Status) → Suits input status.Done
-    → result ≡ finished r status.Done → Suits input result
-finished_suits input (Ok done) result suits is = subst (Suits input) (sym is) suits
-finished_suits input (Err sink.Failed) result suits is = subst (Suits input) (sym is) suits.0
-finished_suits input (Err sink.Memory) result suits is = subst (Suits input) (sym is) tt
+pub finished_for_text : (r : Result (Unit {0}) SinkRefusal) (result : Status) → result ≡ finished r status.Done → IsForText result
+finished_for_text (Ok done) result is = subst IsForText (sym is) tt
+finished_for_text (Err sink.Failed) result is = subst IsForText (sym is) tt
+finished_for_text (Err sink.Memory) result is = subst IsForText (sym is) tt
+
+-- a status of a text is none that no text has
+pub for_text_apart : (result other : Status) → IsForText result → (IsForText other → ⊥) → result ≡ other → ⊥
+for_text_apart result other text none same = none (subst IsForText same text)
+
+-- the status of the text of an input that is a script suits the input
+pub for_text_suits : (input : List ℕ) (script : Script) (result : Status) → IsScript input script → IsForText result → Suits input result
+for_text_suits input script status.Done is text = (is.within, rw is.read tt)
+for_text_suits input script status.WriteFault is text = is.within
+for_text_suits input script status.Memory is text = tt
+for_text_suits input script status.Usage is text = absurd text
+for_text_suits input script status.Bad is text = absurd text
+for_text_suits input script status.ReadFault is text = absurd text
+for_text_suits input script status.TooLarge is text = absurd text
+for_text_suits input script status.NotLegal is text = absurd text
 
 pub finished_whole : {P : Type 0} (r : Result (Unit {0}) SinkRefusal) (answer result : Status) → OnOk r P → result ≡ finished r answer → IsWhole result → P
 finished_whole (Ok done) answer result handed is whole = handed

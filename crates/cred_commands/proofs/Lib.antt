@@ -1,3 +1,4 @@
 pub mod Prefixes
 pub mod Finished
 pub mod ReportLine
+pub mod Cuts

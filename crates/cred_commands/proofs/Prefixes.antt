@@ -8,14 +8,12 @@ use Rattle.cred_io.specs.declared.sink.SinkRefusal.{SinkRefusal}
 use Rattle.cred_io.proofs.Known.{appends_more, appends_kept}
 use Rattle.cred_event.specs.declared.entry.Entry.{Entry}
 use Rattle.cred_io.specs.declared.sink.SinkRefusal.TheVariants as sink
-use Rattle.cred_model.specs.Script.{Script, SetupFirst}
+use Rattle.cred_model.specs.Script.{Script}
 use Rattle.cred_model.specs.Journal.{IsLegal, IsSequence}
-use Rattle.cred_laws.specs.Journals.{IsLawful}
-use Rattle.cred_laws.proofs.AnsweredLaws.{in_order_is_answered}
+use Rattle.cred_laws.proofs.AnsweredLaws.{in_order_is_answered, so_far_is_answered}
 use Rattle.cred_laws.proofs.Lawful.{lawful}
 use Rattle.cred_laws.proofs.OrderLaws.{sequence_is_legal}
-use Rattle.cred_script.specs.Grammar.{script_of}
-use Rattle.cred_commands.specs.Ends.{Reports, finished}
+use Rattle.cred_commands.specs.Ends.{IsScript, Reports, finished}
 use Rattle.cred_commands.specs.declared.status.Status.TheVariants as status
 use Rattle.cred_report.specs.Text.{text}
 use Rattle.cred_report.proofs.Journals.{text_at, take_past}
@@ -66,24 +64,6 @@ flushed_entries a b c script journal at r ended all kept =
     let same : take at journal ≡ journal = take_all at journal ended in
     flushed a b c (text script journal) r (rw same at all) kept
 
--- the laws of the journal in which all lines run whole and in order
-lawful_run : (script : Script) (journal : List Entry) → IsSequence script journal → IsLawful script journal
-lawful_run script journal run = lawful script journal (in_order_is_answered script journal run.in_order)
-
--- a whole report that was written, of such a journal
-written_whole : (before after : Option (List ℕ)) (input : List ℕ) (script : Script) (journal : List Entry)
-    → script_of input ≡ Ok script → IsSequence script journal → IsLegal script journal → IsLawful script journal
-    → Appends before after (text script journal) → Reports before after input
-written_whole before after input script journal read run legal lawful all = record {
-  script = script;
-  read = read;
-  journal = journal;
-  run = run;
-  legal = legal;
-  lawful = lawful;
-  written = all;
-}
-
 -- a text that was refused isn't done
 refused_apart : (refusal : SinkRefusal) → finished (Err refusal) status.Done ≡ status.Done → ⊥
 refused_apart sink.Failed is = cc
@@ -95,10 +75,28 @@ pub done_written : (a b : Option (List ℕ)) (bytes : List ℕ) (r : Result (Uni
 done_written a b bytes (Ok done) all is = all
 done_written a b bytes (Err refusal) all is = absurd (refused_apart refusal is)
 
--- a whole report that was written, and the laws of its journal
-pub reported : (before after : Option (List ℕ)) (input : List ℕ) (script : Script) (journal : List Entry) (r : Result (Unit {0}) SinkRefusal)
-    → script_of input ≡ Ok script → SetupFirst script → IsSequence script journal → OnOk r (Appends before after (text script journal))
-    → finished r status.Done ≡ status.Done → Reports before after input
-reported before after input script journal (Ok whole) read setup run all done =
-    written_whole before after input script journal read run (sequence_is_legal script journal setup run) (lawful_run script journal run) all
-reported before after input script journal (Err refusal) read setup run all done = absurd (refused_apart refusal done)
+-- a whole report that was written, of the journal in which all lines run whole and in order
+pub reported_run : (before after : Option (List ℕ)) (input : List ℕ) (script : Script) (journal : List Entry) → IsScript input script
+    → IsSequence script journal → Appends before after (text script journal) → Reports IsSequence before after input
+reported_run before after input script journal is run all = record {
+  script = script;
+  read = is.read;
+  journal = journal;
+  one = run;
+  legal = sequence_is_legal script journal is.setup run;
+  lawful = lawful script journal (in_order_is_answered script journal run.in_order);
+  written = all;
+}
+
+-- one of a journal that the script may have
+pub reported_legal : (before after : Option (List ℕ)) (input : List ℕ) (script : Script) (journal : List Entry) → IsScript input script
+    → IsLegal script journal → Appends before after (text script journal) → Reports IsLegal before after input
+reported_legal before after input script journal is legal all = record {
+  script = script;
+  read = is.read;
+  journal = journal;
+  one = legal;
+  legal = legal;
+  lawful = lawful script journal (so_far_is_answered script journal legal.so_far);
+  written = all;
+}

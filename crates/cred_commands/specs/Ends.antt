@@ -8,7 +8,7 @@ use Rattle.cred_io.specs.declared.sink.SinkRefusal.{SinkRefusal}
 use Rattle.cred_io.specs.declared.sink.SinkRefusal.TheVariants as sink
 use Rattle.cred_event.specs.declared.entry.Entry.{Entry}
 use Rattle.cred_event.specs.declared.entry.TheConstants.{LINE_LIMIT}
-use Rattle.cred_model.specs.Script.{Script}
+use Rattle.cred_model.specs.Script.{Script, SetupFirst}
 use Rattle.cred_model.specs.Journal.{IsSequence, IsLegal}
 use Rattle.cred_laws.specs.Journals.{IsLawful}
 use Rattle.cred_spelling.specs.declared.reason.Reason.{Reason}
@@ -54,16 +54,18 @@ abbrev pub ReadsTooMuch : Option (List ℕ) → Option (List ℕ) → Type 0
 ReadsTooMuch before after =
     ReadsMoreThan BYTE_LIMIT before after ⊎ ReadsMoreLines before after
 
--- The input is a script, and the text of the journal in which its lines run whole and in order
--- was written. It is one of the journals that the script may have. The laws hold of it: no slot in
--- use is rewritten, a hold and an open file keep their credentials, each execve is the manual's, no
--- permitted set grows but by what its entry says was gained, and a call that is completed is every
--- thread's.
-pub record Reports (before after : Option (List ℕ)) (input : List ℕ) : Type 0 where
+-- The input is a script, and the text of a journal of it was written that is one of these: the one
+-- in which its lines run whole and in order, or any that it may have. The laws hold of it: no slot
+-- in use is rewritten, a hold and an open file keep their credentials, each execve is the manual's,
+-- no permitted set grows but by what its entry says was gained, and a call that is completed is
+-- every thread's.
+pub record Reports
+    (These : Script → List Entry → Type 0) (before after : Option (List ℕ)) (input : List ℕ)
+    : Type 0 where
   pub script : Script
   pub read : script_of input ≡ Ok script
   pub journal : List Entry
-  pub run : IsSequence script journal
+  pub one : These script journal
   pub legal : IsLegal script journal
   pub lawful : IsLawful script journal
   pub written : Appends before after (text script journal)
@@ -73,6 +75,12 @@ pub record Refuses (before after : Option (List ℕ)) (input : List ℕ) : Type 
   pub bad : ℕ × Reason
   pub read : script_of input ≡ Err bad
   pub written : Appends before after (bad_text bad)
+
+-- The input is no script, and a prefix of the line that it gets was written, and nothing else.
+pub record RefusesPrefix (before after : Option (List ℕ)) (input : List ℕ) : Type 0 where
+  pub bad : ℕ × Reason
+  pub read : script_of input ≡ Err bad
+  pub written : AppendsPrefix before after (bad_text bad)
 
 -- A prefix of the text that the input has was written, and nothing else.
 abbrev pub Begins : Option (List ℕ) → Option (List ℕ) → List ℕ → Type 0
@@ -96,6 +104,19 @@ Suits input status.ReadFault = ⊤
 Suits input status.WriteFault = IsWithin input
 Suits input status.Memory = ⊤
 Suits input status.NotLegal = ⊥
+
+-- The input is within both limits and is this script. The setup's lines come first.
+pub record IsScript (input : List ℕ) (script : Script) : Type 0 where
+  pub within : IsWithin input
+  pub read : script_of input ≡ Ok script
+  pub setup : SetupFirst script
+
+-- The statuses of a text: nothing but a fault or lack of memory takes its place.
+abbrev pub IsForText : Status → Type 0
+IsForText status.Done = ⊤
+IsForText status.WriteFault = ⊤
+IsForText status.Memory = ⊤
+IsForText other = ⊥
 
 -- The statuses with which a whole text was written.
 abbrev pub IsWhole : Status → Type 0

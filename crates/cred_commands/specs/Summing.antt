@@ -1,5 +1,5 @@
 -- What is written of the script that is made from a number.
-use Rattle.std.specs.Prelude.{◌≡◌, ◌≤◌, ℕ, List, Ok, ⊤}
+use Rattle.std.specs.Prelude.{◌≡◌, ◌≤◌, ℕ, List, Ok}
 use Rattle.std.specs.declared.option.Option.{Option}
 use Rattle.std.specs.Io.KnownBytes.{Appends}
 use Rattle.cred_io.specs.Ends.{AppendsPrefix}
@@ -10,8 +10,6 @@ use Rattle.cred_script.specs.Grammar.{script_of}
 use Rattle.cred_generate.specs.Generated.{CALLS, generated, text_of}
 use Rattle.cred_generate.specs.Summary.{summary}
 use Rattle.cred_commands.specs.Texts.{summary_text}
-use Rattle.cred_commands.specs.declared.status.Status.{Status}
-use Rattle.cred_commands.specs.declared.status.Status.TheVariants as status
 
 -- a script may be made from the number
 pub record IsCount (n : ℕ) : Type 0 where
@@ -38,10 +36,3 @@ pub record SumsPrefix (n : ℕ) (before after : Option (List ℕ)) : Type 0 wher
   pub text : List ℕ
   pub is : IsSummary n text
   pub written : AppendsPrefix before after text
-
--- The statuses of such a run: nothing but a fault or lack of memory takes the place of its text.
-abbrev pub IsForCount : Status → Type 0
-IsForCount status.Done = ⊤
-IsForCount status.WriteFault = ⊤
-IsForCount status.Memory = ⊤
-IsForCount other = ⊥

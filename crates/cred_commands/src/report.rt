@@ -4,7 +4,9 @@ ghost use Rattle.std.specs.Io.KnownBytes.{Appends};
 ghost use Rattle.cred_io.specs.Causes.{CountsFaults};
 ghost use Rattle.cred_io.specs.Ends.{AppendsPrefix};
 ghost use Rattle.cred_report.specs.Text.{text};
+ghost use Rattle.cred_commands.specs.Ends.{IsForText, IsWhole};
 
+use crate::status::{Status, finish};
 use cred_event::Entry;
 use cred_io::{Sink, SinkRefusal, write_all};
 use cred_report::{Pen, prepend_all};
@@ -24,6 +26,25 @@ fn end_of(at: usize, count: usize, together: usize) -> usize
     }
 }
 
+/// Writes the report of a journal as the text of a command, and says how the command ends.
+pub(crate) fn report<K: Sink>(
+    alloc: Global,
+    sink: &mut K,
+    script: &Script,
+    journal: &[Entry],
+) -> Status
+    ensures done { result ≡ Status.Done
+        → Appends (K.written sink.old) (K.written sink.new) (text script.now journal.now) }
+    ensures prefix { AppendsPrefix (K.written sink.old) (K.written sink.new)
+        (text script.now journal.now) }
+    ensures only { IsForText result }
+    ensures handed_on { IsWhole result → K.handed_on sink.new ≡ true }
+    ensures cause { CountsFaults (result ≡ Status.WriteFault)
+        (K.faults sink.old) (K.faults sink.new) }
+{
+    finish(write_report(alloc, sink, script, journal), Status::Done)
+}
+
 /// Writes the text of a journal through one buffer, as many entries in one write as the sink takes.
 ///
 /// # Errors
@@ -31,7 +52,7 @@ fn end_of(at: usize, count: usize, together: usize) -> usize
 /// The sink's refusal, and `Memory` if an allocation of the buffer fails: a prefix of the text was
 /// written.
 #[tactic(auto, using(crate::proofs::Prefixes::flushed_entries))]
-pub fn write_report<K: Sink>(
+fn write_report<K: Sink>(
     alloc: Global,
     sink: &mut K,
     script: &Script,

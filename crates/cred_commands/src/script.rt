@@ -2,17 +2,18 @@
 ghost use Rattle.std.specs.Prelude.{◌≡◌, ◌≢◌, ◌≤◌, ◌<◌, ◌⊎◌, ◌+◌, ℕ, List, true, Some, length};
 ghost use Rattle.cred_io.specs.Causes.{CountsFaults};
 ghost use Rattle.cred_io.specs.Ends.{ReadsUpTo};
+ghost use Rattle.cred_model.specs.Journal.{IsSequence};
 ghost use Rattle.cred_script.specs.Lines.{lines_of};
 ghost use Rattle.cred_commands.specs.Ends.{Begins, IsWhole, IsWithin, Reads, ReadsTooMuch};
 ghost use Rattle.cred_commands.specs.Ends.{ReadsWithin, Refuses, Reports, Suits};
 
-use crate::report::write_report;
-use crate::status::{Status, finish};
-use crate::writing::write_bad;
+use crate::reading::script_from;
+use crate::report::report;
+use crate::status::Status;
 use cred_book::run;
 use cred_event::LINE_LIMIT;
+use cred_ids::NoMemory;
 use cred_io::{ReadRefusal, Sink, Source, read_all};
-use cred_script::{ScriptRefusal, line_count, read};
 use std::alloc::Global;
 
 /// How many bytes an input may have.
@@ -21,7 +22,7 @@ pub const BYTE_LIMIT: u32 = 1_048_576;
 /// Reads a script to its end, runs it, and writes its report, or its first bad line.
 pub fn read_and_run<S: Source, K: Sink>(alloc: Global, source: &mut S, sink: &mut K) -> Status
     ensures done { result ≡ Status.Done → Reads (S.left source.old) (S.left source.new)
-        (Reports (K.written sink.old) (K.written sink.new)) }
+        (Reports IsSequence (K.written sink.old) (K.written sink.new)) }
     ensures bad { result ≡ Status.Bad → Reads (S.left source.old) (S.left source.new)
         (Refuses (K.written sink.old) (K.written sink.new)) }
     ensures no_usage { result ≢ Status.Usage }
@@ -58,7 +59,7 @@ pub fn read_and_run<S: Source, K: Sink>(alloc: Global, source: &mut S, sink: &mu
 fn run_script<K: Sink>(alloc: Global, bytes: &[u8], sink: &mut K) -> Status
     requires { length bytes.now ≤ BYTE_LIMIT }
     ensures done { result ≡ Status.Done
-        → Reports (K.written sink.old) (K.written sink.new) bytes.now }
+        → Reports IsSequence (K.written sink.old) (K.written sink.new) bytes.now }
     ensures bad { result ≡ Status.Bad
         → Refuses (K.written sink.old) (K.written sink.new) bytes.now }
     ensures too_large { result ≡ Status.TooLarge
@@ -71,21 +72,11 @@ fn run_script<K: Sink>(alloc: Global, bytes: &[u8], sink: &mut K) -> Status
     ensures prefix { (sink.new ≡ sink.old)
         ⊎ (IsWithin bytes.now × Begins (K.written sink.old) (K.written sink.new) bytes.now) }
 {
-    if line_count(bytes) > LINE_LIMIT {
-        return Status::TooLarge;
-    }
-    let script = match read(alloc, bytes) {
-        Ok(script) => script,
-        Err(ScriptRefusal::Bad { line, reason }) => {
-            return finish(write_bad(alloc, sink, line, reason), Status::Bad);
-        }
-        Err(ScriptRefusal::Memory) => return Status::Memory,
-    };
-    match run(alloc, script) {
-        Ok(book) => finish(
-            write_report(alloc, sink, book.script(), book.journal()),
-            Status::Done,
-        ),
-        Err(_) => Status::Memory,
+    match script_from(alloc, bytes, sink) {
+        Ok(script) => match run(alloc, script) {
+            Ok(book) => report(alloc, sink, book.script(), book.journal()),
+            Err(NoMemory) => Status::Memory,
+        },
+        Err(status) => status,
     }
 }

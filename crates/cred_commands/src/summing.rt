@@ -1,8 +1,8 @@
 //! The summary of a script that is made from a number.
 ghost use Rattle.std.specs.Prelude.{◌≡◌, ◌⊎◌, ◌++◌, true, IfOk, OnOk, decimal};
 ghost use Rattle.cred_io.specs.Causes.{CountsFaults};
-ghost use Rattle.cred_commands.specs.Ends.{IsWhole};
-ghost use Rattle.cred_commands.specs.Summing.{IsCount, IsForCount, IsSummary, Sums, SumsPrefix};
+ghost use Rattle.cred_commands.specs.Ends.{IsForText, IsWhole};
+ghost use Rattle.cred_commands.specs.Summing.{IsCount, IsSummary, Sums, SumsPrefix};
 ghost use Rattle.cred_commands.specs.Texts as spec;
 
 use crate::status::{Status, finish};
@@ -18,7 +18,7 @@ use std::alloc::Global;
 pub fn sum<K: Sink>(alloc: Global, n: u32, sink: &mut K) -> Status
     requires { IsCount n }
     ensures done { result ≡ Status.Done → Sums n (K.written sink.old) (K.written sink.new) }
-    ensures suits { IsForCount result }
+    ensures suits { IsForText result }
     ensures handed_on { IsWhole result → K.handed_on sink.new ≡ true }
     ensures cause { CountsFaults (result ≡ Status.WriteFault)
         (K.faults sink.old) (K.faults sink.new) }

@@ -1,5 +1,5 @@
 -- What is known of a command, and what words that are none get.
-use Rattle.std.specs.Prelude.{ℕ, List, codes, Some, ⊤}
+use Rattle.std.specs.Prelude.{◌≡◌, ◌⊎◌, ℕ, List, codes, Some, ⊤}
 use Rattle.std.specs.declared.option.Option.{Option}
 use Rattle.cred_commands.specs.Auditing.{AUDIT_LIMIT}
 use Rattle.cred_commands.specs.Ends.{BYTE_LIMIT}
@@ -7,12 +7,16 @@ use Rattle.cred_commands.specs.Summing.{IsCount}
 use Rattle.cred_commands.specs.declared.status.Status.{Status}
 use Rattle.cred_commands.specs.declared.status.Status.TheVariants as status
 use Rattle.cred_program.specs.declared.words.Command.{Command}
-use Rattle.cred_program.specs.declared.words.Command.TheVariants.{Audit, Gen}
+use Rattle.cred_program.specs.declared.words.Command.TheVariants.{Run, Lanes, Audit, Gen}
 
 -- how many bytes the input of a command may have
 abbrev pub limit_of : Option Command → ℕ
 limit_of (Some Audit) = AUDIT_LIMIT
 limit_of other = BYTE_LIMIT
+
+-- the commands that read a script and run it
+abbrev pub RunsScript : Option Command → Type 0
+RunsScript command = (command ≡ Some Run) ⊎ (command ≡ Some Lanes)
 
 -- a script may be made from the number that a command names
 abbrev pub HasCount : Command → Type 0

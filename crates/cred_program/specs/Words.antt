@@ -9,7 +9,8 @@ use Rattle.cred_args.specs.Positionals.{Words, positionals}
 use Rattle.cred_generate.specs.Generated.{CALLS}
 use Rattle.cred_script.specs.Spellings.{bytes_of, number_within}
 use Rattle.cred_program.specs.declared.words.Command.{Command}
-use Rattle.cred_program.specs.declared.words.Command.TheVariants.{Run, Audit, Gen, Decode}
+use Rattle.cred_program.specs.declared.words.Command.TheVariants.{Run, Lanes, Audit, Gen}
+use Rattle.cred_program.specs.declared.words.Command.TheVariants.{Decode}
 
 -- what the words spell
 abbrev pub texts : List (String Global) → List (List ℕ)
@@ -19,6 +20,7 @@ texts words = map string_bytes words
 abbrev pub alone : List ℕ → Option Command
 alone word =
     if bytes_eq word (codes "run") then Some Run
+    else if bytes_eq word (codes "lanes") then Some Lanes
     else if bytes_eq word (codes "audit") then Some Audit
     else None
 

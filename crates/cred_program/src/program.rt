@@ -3,31 +3,38 @@ ghost use Rattle.std.specs.Prelude.{◌≡◌, ◌⊎◌, ◌+◌, ℕ, List, tr
 ghost use Rattle.std.specs.Io.KnownBytes.{Appends};
 ghost use Rattle.cred_io.specs.Causes.{CountsFaults};
 ghost use Rattle.cred_io.specs.Ends.{AppendsPrefix, ReadsUpTo};
-ghost use Rattle.cred_commands.specs.Summing.{IsForCount, Sums, SumsPrefix};
+ghost use Rattle.cred_model.specs.Journal.{IsLegal, IsSequence};
+ghost use Rattle.cred_commands.specs.Summing.{Sums, SumsPrefix};
 ghost use Rattle.cred_commands.specs.Decoding.{ShowsFault, Shows, ShowsPrefix, SuitsBytes};
 ghost use Rattle.cred_commands.specs.Auditing.{AuditReads, AuditReadsTooMuch, AuditReadsWithin};
 ghost use Rattle.cred_commands.specs.Auditing.{AuditSuits, Writes, WritesPrefix};
-ghost use Rattle.cred_commands.specs.Ends.{Begins, IsWhole, Reads, ReadsTooMuch, ReadsWithin};
-ghost use Rattle.cred_commands.specs.Ends.{Refuses, Reports, Suits};
-ghost use Rattle.cred_program.specs.Commands.{IsForNoCommand, limit_of, usage_text};
+ghost use Rattle.cred_commands.specs.Cuts.{Cuts};
+ghost use Rattle.cred_commands.specs.Ends.{Begins, IsForText, IsWhole, Reads, ReadsTooMuch};
+ghost use Rattle.cred_commands.specs.Ends.{ReadsWithin, Refuses, Reports, Suits};
+ghost use Rattle.cred_program.specs.Commands.{IsForNoCommand, RunsScript, limit_of, usage_text};
 ghost use Rattle.cred_program.specs.Words.{command_of, texts};
 
 use crate::words::{Command, command_of};
 use cred_commands::{
-    AUDIT_LIMIT, BYTE_LIMIT, Status, finish, read_and_audit, read_and_run, show, sum, write_text,
+    AUDIT_LIMIT, BYTE_LIMIT, Status, finish, read_and_audit, read_and_lanes, read_and_run, show,
+    sum, write_text,
 };
 use cred_ids::NoMemory;
 use cred_io::{Sink, Source};
+use cred_lanes::Gate;
 use std::alloc::Global;
+use std::sync::Wait;
+use std::thread::Threads;
 
 /// What is written to words that are no command.
 const USAGE: &str = "usage: credtrace run|lanes|audit|gen N|decode HEX\n";
 
 /// The program, over its words (those after its name), its input and its output: `run` reads a
-/// script and writes its report, `audit` reads a script, a line `report` and a report and writes
-/// whether that is the script's, `gen N` runs a script of N calls and writes the summary of its
-/// journal, `decode HEX` writes what an attribute says, and all other words get the usage line. It
-/// returns how that ended.
+/// script and writes its report, `lanes` does so too, but runs the script's lanes as threads, which
+/// stop at the gate, `audit` reads a script, a line `report` and a report and writes whether that is
+/// the script's, `gen N` runs a script of N calls and writes the summary of its journal,
+/// `decode HEX` writes what an attribute says, and all other words get the usage line. It returns
+/// how that ended. For `lanes` alone it starts threads, and waits for them.
 ///
 /// `Done`, `NotLegal`, `Bad` and `Usage` come with the whole text, handed on, and with no fault.
 /// The source's count of faults rises for `ReadFault` alone, and the sink's for `WriteFault` alone.
@@ -35,17 +42,19 @@ const USAGE: &str = "usage: credtrace run|lanes|audit|gen N|decode HEX\n";
 /// have been read in part.
 /// After `WriteFault` and `Memory` what was written is a prefix of the text; after `ReadFault` and
 /// `TooLarge` nothing was.
-pub fn credtrace<S: Source, K: Sink>(
+pub fn credtrace<R: Threads + Wait + Sync, S: Source, K: Sink, G: Gate + Sync>(
+    rt: &R,
     alloc: Global,
     words: &[String],
     source: &mut S,
     sink: &mut K,
+    gate: &G,
 ) -> Status
     // `run`. The input was read to its end and is within the limits. Where it is a script, the
     // whole text of its journal was written; where it is none, its first bad line.
     ensures run_done { command_of (texts words.now) ≡ Some Command.Run → result ≡ Status.Done
         → Reads (S.left source.old) (S.left source.new)
-        (Reports (K.written sink.old) (K.written sink.new)) }
+        (Reports IsSequence (K.written sink.old) (K.written sink.new)) }
     ensures run_bad { command_of (texts words.now) ≡ Some Command.Run → result ≡ Status.Bad
         → Reads (S.left source.old) (S.left source.new)
         (Refuses (K.written sink.old) (K.written sink.new)) }
@@ -53,7 +62,7 @@ pub fn credtrace<S: Source, K: Sink>(
     // More bytes were read than an input may have; or it was read to its end, and has more lines.
     // A text that could not be written is that of an input within the limits.
     ensures too_large { result ≡ Status.TooLarge
-        → ((command_of (texts words.now) ≡ Some Command.Run)
+        → (RunsScript (command_of (texts words.now))
         × ReadsTooMuch (S.left source.old) (S.left source.new))
         ⊎ ((command_of (texts words.now) ≡ Some Command.Audit)
         × AuditReadsTooMuch (S.left source.old) (S.left source.new)) }
@@ -69,6 +78,26 @@ pub fn credtrace<S: Source, K: Sink>(
         → (K.written sink.new ≡ K.written sink.old)
         ⊎ Reads (S.left source.old) (S.left source.new)
         (Begins (K.written sink.old) (K.written sink.new)) }
+
+    // `lanes`. As for `run`, but the journal is one that came about by threads. It is one of those
+    // that the script may have: each lane's lines whole and in order, and the setup before them.
+    ensures lanes_done { command_of (texts words.now) ≡ Some Command.Lanes
+        → result ≡ Status.Done → Reads (S.left source.old) (S.left source.new)
+        (Reports IsLegal (K.written sink.old) (K.written sink.new)) }
+    ensures lanes_bad { command_of (texts words.now) ≡ Some Command.Lanes → result ≡ Status.Bad
+        → Reads (S.left source.old) (S.left source.new)
+        (Refuses (K.written sink.old) (K.written sink.new)) }
+    ensures lanes_write_fault { command_of (texts words.now) ≡ Some Command.Lanes
+        → result ≡ Status.WriteFault → ReadsWithin (S.left source.old) (S.left source.new) }
+    ensures lanes_suits { command_of (texts words.now) ≡ Some Command.Lanes → (input : List ℕ)
+        → S.left source.old ≡ Some input → Suits input result }
+
+    // What was written of such a text is that of a journal that is one so far, and then at most the
+    // beginning of the next entry of one of the lanes.
+    ensures lanes_cut { command_of (texts words.now) ≡ Some Command.Lanes
+        → (K.written sink.new ≡ K.written sink.old)
+        ⊎ Reads (S.left source.old) (S.left source.new)
+        (Cuts (K.written sink.old) (K.written sink.new)) }
 
     // `audit`. The input was read to its end and is within the limits. Where its script part is a
     // script, it was written whether its report is the text of one of the journals that the script
@@ -99,7 +128,7 @@ pub fn credtrace<S: Source, K: Sink>(
     ensures gen_done { (n : ℕ) → command_of (texts words.now) ≡ Some (Command.Gen n)
         → result ≡ Status.Done → Sums n (K.written sink.old) (K.written sink.new) }
     ensures gen_suits { (n : ℕ) → command_of (texts words.now) ≡ Some (Command.Gen n)
-        → (source.new ≡ source.old) × IsForCount result }
+        → (source.new ≡ source.old) × IsForText result }
     ensures gen_prefix { (n : ℕ) → command_of (texts words.now) ≡ Some (Command.Gen n)
         → (K.written sink.new ≡ K.written sink.old)
         ⊎ SumsPrefix n (K.written sink.old) (K.written sink.new) }
@@ -138,7 +167,7 @@ pub fn credtrace<S: Source, K: Sink>(
     ensures write_cause { CountsFaults (result ≡ Status.WriteFault)
         (K.faults sink.old) (K.faults sink.new) }
     ensures read_fault { result ≡ Status.ReadFault
-        → ((command_of (texts words.now) ≡ Some Command.Run)
+        → (RunsScript (command_of (texts words.now))
         × ReadsUpTo BYTE_LIMIT (S.left source.old) (S.left source.new))
         ⊎ ((command_of (texts words.now) ≡ Some Command.Audit)
         × ReadsUpTo AUDIT_LIMIT (S.left source.old) (S.left source.new)) }
@@ -151,6 +180,7 @@ pub fn credtrace<S: Source, K: Sink>(
 {
     match command_of(alloc, words) {
         Ok(Some(Command::Run)) => read_and_run(alloc, source, sink),
+        Ok(Some(Command::Lanes)) => read_and_lanes(rt, alloc, source, sink, gate),
         Ok(Some(Command::Audit)) => read_and_audit(alloc, source, sink),
         Ok(Some(Command::Gen(n))) => sum(alloc, n, sink),
         Ok(Some(Command::Decode(bytes))) => show(alloc, bytes.items(), sink),

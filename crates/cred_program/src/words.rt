@@ -20,8 +20,10 @@ use std::alloc::Global;
 /// What the program is to do.
 #[derive(Drop, Debug)]
 pub enum Command {
-    /// Run a script.
+    /// Run a script, its lines whole and in order.
     Run,
+    /// Run a script, its lanes as threads.
+    Lanes,
     /// Say whether a report is its script's.
     Audit,
     /// Run the script that is made from a number, and sum it up.
@@ -64,6 +66,8 @@ fn alone(word: &str) -> Option<Command>
 {
     if word == "run" {
         Some(Command::Run)
+    } else if word == "lanes" {
+        Some(Command::Lanes)
     } else if word == "audit" {
         Some(Command::Audit)
     } else {

@@ -2,10 +2,13 @@
 #![tactic(auto)]
 
 use cred_io::{StdSink, StdSource};
+use cred_lanes::NoGate;
 use cred_program::{Status, credtrace};
 use std::io::ErrorKind;
 use std::process::ExitCode;
 use std::rt::Runtime;
+use std::sync::Wait;
+use std::thread::Threads;
 use std::{env, io};
 
 /// The words after the program's name. Words that are not all text are no command: they count as
@@ -18,13 +21,13 @@ fn words<R: Runtime + AllocGlobal>(rt: &R) -> io::Result<Vec<String>> {
     }
 }
 
-fn run<R: Runtime + AllocGlobal>(rt: &R) -> Status {
+fn run<R: Runtime + AllocGlobal + Threads + Wait + Sync>(rt: &R) -> Status {
     let Ok(words) = words(rt) else {
         return Status::Memory;
     };
     let mut source = StdSource::new(rt.reader());
     let mut sink = StdSink::new(io::writer(rt));
-    credtrace(rt.alloc(), &words, &mut source, &mut sink)
+    credtrace(rt, rt.alloc(), &words, &mut source, &mut sink, &NoGate)
 }
 
 fn main(rt: HostRuntime) -> ExitCode {

@@ -1,6 +1,7 @@
 //! What `audit` writes, and how it ends.
 use crate::tests::runs::{ran, repeated, words_of};
 use cred_io::{MemorySink, MemorySource};
+use cred_lanes::NoGate;
 use cred_program::{Status, credtrace};
 use std::alloc::Global;
 use std::test::Fail;
@@ -95,7 +96,7 @@ fn joined(alloc: Global, pieces: &[&str]) -> Result<Vec<u8>, Fail> {
 fn inputs_get_their_verdicts(rt: HostRuntime) -> Result<(), Fail> {
     for (pieces, status, text) in ROWS {
         let input = joined(rt.alloc(), pieces)?;
-        let (answer, sink) = ran(rt.alloc(), &["audit"], &input)?;
+        let (answer, sink) = ran(&rt, &["audit"], &input)?;
         let as_expected = answer == status && sink.bytes() == text.as_bytes();
         assert!(rt; as_expected, "{text}");
     }
@@ -120,7 +121,7 @@ fn scripts_above_the_limits_are_too_large(rt: HostRuntime) -> Result<(), Fail> {
     for (piece, count, rest, status, text) in SIZES {
         let mut input = repeated(rt.alloc(), piece, count)?;
         input.extend_from_slice(rest.as_bytes())?;
-        let (answer, sink) = ran(rt.alloc(), &["audit"], &input)?;
+        let (answer, sink) = ran(&rt, &["audit"], &input)?;
         let as_expected = answer == status && sink.bytes() == text.as_bytes();
         assert!(rt; as_expected, "{piece} {count}");
     }
@@ -131,7 +132,7 @@ fn scripts_above_the_limits_are_too_large(rt: HostRuntime) -> Result<(), Fail> {
 fn a_report_may_be_larger_than_a_script(rt: HostRuntime) -> Result<(), Fail> {
     let mut input = joined(rt.alloc(), &["report\n"])?;
     input.extend_from_slice(&repeated(rt.alloc(), "x\n", 1_048_576)?)?;
-    let (answer, sink) = ran(rt.alloc(), &["audit"], &input)?;
+    let (answer, sink) = ran(&rt, &["audit"], &input)?;
     assert!(rt; answer == Status::NotLegal && sink.bytes() == "not legal 1\n".as_bytes());
     Ok(())
 }
@@ -147,7 +148,7 @@ fn faults_are_told(rt: HostRuntime) -> Result<(), Fail> {
     ] {
         let mut source = MemorySource::of(rt.alloc(), b"report\nx\n", reads)?;
         let mut sink = MemorySink::of(rt.alloc(), writes)?;
-        let answer = credtrace(rt.alloc(), &words, &mut source, &mut sink);
+        let answer = credtrace(&rt, rt.alloc(), &words, &mut source, &mut sink, &NoGate);
         let is_written = sink.bytes() == "not legal 1\n".as_bytes();
         assert!(rt; answer == status && is_written == (status == Status::NotLegal));
     }

@@ -214,6 +214,6 @@ const ROWS: [Row; 8] = [
 
 #[test]
 fn changes_get_their_reports(rt: HostRuntime) -> Result<(), Fail> {
-    assert_eq!(rt; first_other(rt.alloc(), &ROWS)?, None);
+    assert_eq!(rt; first_other(&rt, "run", &ROWS)?, None);
     Ok(())
 }

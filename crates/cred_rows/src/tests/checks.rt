@@ -114,6 +114,6 @@ const ROWS: [Row; 5] = [
 
 #[test]
 fn checks_get_their_answers(rt: HostRuntime) -> Result<(), Fail> {
-    assert_eq!(rt; first_other(rt.alloc(), &ROWS)?, None);
+    assert_eq!(rt; first_other(&rt, "run", &ROWS)?, None);
     Ok(())
 }

@@ -41,7 +41,7 @@ const ATTRIBUTES: [(&str, Status, &str); 7] = [
 #[test]
 fn attributes_get_their_line(rt: HostRuntime) -> Result<(), Fail> {
     for (digits, status, text) in ATTRIBUTES {
-        let (answer, sink) = ran(rt.alloc(), &["decode", digits], b"input that is not read")?;
+        let (answer, sink) = ran(&rt, &["decode", digits], b"input that is not read")?;
         let as_expected = answer == status && sink.bytes() == text.as_bytes();
         assert!(rt; as_expected, "{digits}");
     }

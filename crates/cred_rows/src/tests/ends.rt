@@ -1,11 +1,13 @@
 //! What the program does where its words, its input or its ends are not as they should be.
 use crate::tests::runs::{ran, words_of};
 use cred_io::{MemorySink, MemorySource, StdSink, SureSource};
+use cred_lanes::NoGate;
 use cred_program::{Status, credtrace};
-use std::alloc::Global;
 use std::io;
 use std::io::Write;
+use std::sync::Wait;
 use std::test::Fail;
+use std::thread::Threads;
 
 pub(crate) const USAGE: &str = "usage: credtrace run|lanes|audit|gen N|decode HEX\n";
 
@@ -38,14 +40,14 @@ fn other_words_get_the_usage_line(rt: HostRuntime) -> Result<(), Fail> {
         &["--help"],
         &["--"],
         &["run", "--help"],
-        &["lanes"],
+        &["lanes", "2"],
         &["decode"],
         &["decode", "0"],
         &["decode", "0x"],
         &["decode", "0g"],
     ];
     for texts in table {
-        let (status, sink) = ran(rt.alloc(), texts, SCRIPT.as_bytes())?;
+        let (status, sink) = ran(&rt, texts, SCRIPT.as_bytes())?;
         assert!(rt; status == Status::Usage && sink.bytes() == USAGE.as_bytes());
     }
     Ok(())
@@ -53,18 +55,23 @@ fn other_words_get_the_usage_line(rt: HostRuntime) -> Result<(), Fail> {
 
 /// How the program ends where these reads and these writes fail, each once, and what it has
 /// written.
-fn failing(alloc: Global, reads: &[u64], writes: &[u64]) -> Result<(Status, MemorySink), Fail> {
+fn failing<R: AllocGlobal + Threads + Wait + Sync>(
+    rt: &R,
+    reads: &[u64],
+    writes: &[u64],
+) -> Result<(Status, MemorySink), Fail> {
+    let alloc = rt.alloc();
     let words = words_of(alloc, &["run"])?;
     let mut source = MemorySource::of(alloc, SCRIPT.as_bytes(), reads)?;
     let mut sink = MemorySink::of(alloc, writes)?;
-    let status = credtrace(alloc, &words, &mut source, &mut sink);
+    let status = credtrace(rt, alloc, &words, &mut source, &mut sink, &NoGate);
     Ok((status, sink))
 }
 
 #[test]
 fn a_failed_read_leaves_nothing_written(rt: HostRuntime) -> Result<(), Fail> {
     for read in [1, 2] {
-        let (status, sink) = failing(rt.alloc(), &[read], &[])?;
+        let (status, sink) = failing(&rt, &[read], &[])?;
         assert!(rt; status == Status::ReadFault && sink.bytes().is_empty());
     }
     Ok(())
@@ -74,7 +81,7 @@ fn a_failed_read_leaves_nothing_written(rt: HostRuntime) -> Result<(), Fail> {
 fn a_failed_write_leaves_the_entries_before(rt: HostRuntime) -> Result<(), Fail> {
     let mut written = String::new(rt.alloc());
     for (done, entry) in ENTRIES.iter().enumerate() {
-        let (status, sink) = failing(rt.alloc(), &[], &[done as u64 + 1])?;
+        let (status, sink) = failing(&rt, &[], &[done as u64 + 1])?;
         let is_kept = sink.bytes() == written.as_bytes();
         assert!(rt;
             status == Status::WriteFault && is_kept,
@@ -82,7 +89,7 @@ fn a_failed_write_leaves_the_entries_before(rt: HostRuntime) -> Result<(), Fail>
         );
         written.push_str(entry)?;
     }
-    let (status, sink) = failing(rt.alloc(), &[], &[9])?;
+    let (status, sink) = failing(&rt, &[], &[9])?;
     assert!(rt; status == Status::Done && sink.bytes() == written.as_bytes());
     Ok(())
 }
@@ -105,9 +112,10 @@ impl Write for FullDisk {
 fn a_text_that_is_not_handed_on_is_a_write_fault(rt: HostRuntime) -> Result<(), Fail> {
     // A report, an empty one, both verdicts, a summary, the line of an attribute, the reason why
     // bytes are none, and the usage line.
-    let table: [(&[&str], &str); 8] = [
+    let table: [(&[&str], &str); 9] = [
         (&["run"], SCRIPT),
         (&["run"], ""),
+        (&["lanes"], SCRIPT),
         (&["audit"], "report\n"),
         (&["audit"], "report\nx\n"),
         (&["gen", "1"], ""),
@@ -119,7 +127,7 @@ fn a_text_that_is_not_handed_on_is_a_write_fault(rt: HostRuntime) -> Result<(), 
         let words = words_of(rt.alloc(), texts)?;
         let mut source = SureSource::of(rt.alloc(), script.as_bytes())?;
         let mut sink = StdSink::new(FullDisk);
-        let status = credtrace(rt.alloc(), &words, &mut source, &mut sink);
+        let status = credtrace(&rt, rt.alloc(), &words, &mut source, &mut sink, &NoGate);
         assert!(rt; status == Status::WriteFault);
     }
     Ok(())

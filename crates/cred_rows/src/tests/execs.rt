@@ -166,7 +166,7 @@ const ROWS: [Among; 13] = [
 
 #[test]
 fn processes_get_their_answers(rt: HostRuntime) -> Result<(), Fail> {
-    assert_eq!(rt; first_missing(rt.alloc(), &ROWS)?, None);
+    assert_eq!(rt; first_missing(&rt, &ROWS)?, None);
     Ok(())
 }
 
@@ -178,7 +178,7 @@ fn tasks_are_limited(rt: HostRuntime) -> Result<(), Fail> {
         write!(script, "init t{number} p{number} 0 0 n0\n")?;
     }
     script.push_str("t1 fork t65 p65\n")?;
-    let (answer, sink) = ran(rt.alloc(), &["run"], script.as_bytes())?;
+    let (answer, sink) = ran(&rt, &["run"], script.as_bytes())?;
     let last = b"64 init t64 p64 0 0 n0 -> ok c63 s63\n65 fork t1 t65 p65 -> too many tasks\n";
     assert!(rt; answer == Status::Done && sink.bytes().ends_with(last));
     Ok(())

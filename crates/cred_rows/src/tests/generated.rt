@@ -34,7 +34,7 @@ const NO_NUMBERS: [&str; 10] = [
 #[test]
 fn generated_scripts_get_their_summary(rt: HostRuntime) -> Result<(), Fail> {
     for (number, text) in SUMMARIES {
-        let (answer, sink) = ran(rt.alloc(), &["gen", number], b"input that is not read")?;
+        let (answer, sink) = ran(&rt, &["gen", number], b"input that is not read")?;
         let as_expected = answer == Status::Done && sink.bytes() == text.as_bytes();
         assert!(rt; as_expected, "{number}");
     }
@@ -44,7 +44,7 @@ fn generated_scripts_get_their_summary(rt: HostRuntime) -> Result<(), Fail> {
 #[test]
 fn other_numbers_are_no_command(rt: HostRuntime) -> Result<(), Fail> {
     for number in NO_NUMBERS {
-        let (answer, sink) = ran(rt.alloc(), &["gen", number], b"input that is not read")?;
+        let (answer, sink) = ran(&rt, &["gen", number], b"input that is not read")?;
         let as_expected = answer == Status::Usage && sink.bytes() == USAGE.as_bytes();
         assert!(rt; as_expected, "{number}");
     }

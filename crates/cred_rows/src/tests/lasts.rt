@@ -86,7 +86,7 @@ fn ends_in(text: &[u8], lines: &str) -> bool {
 fn long_scripts_get_their_last_entries(rt: HostRuntime) -> Result<(), Fail> {
     for long in &LONGS {
         let script = script_of(rt.alloc(), long)?;
-        let (answer, sink) = ran(rt.alloc(), &["run"], script.as_bytes())?;
+        let (answer, sink) = ran(&rt, &["run"], script.as_bytes())?;
         let as_expected = answer == Status::Done && ends_in(sink.bytes(), long.last);
         assert!(rt; as_expected, "{}", long.end);
     }

@@ -9,6 +9,7 @@ mod ends;
 mod execs;
 mod generated;
 mod grammar;
+mod lanes;
 mod lasts;
 mod overrides;
 mod reading;

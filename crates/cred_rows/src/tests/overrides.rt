@@ -178,7 +178,7 @@ const ROWS: [Among; 12] = [
 
 #[test]
 fn files_signals_and_overrides_get_their_answers(rt: HostRuntime) -> Result<(), Fail> {
-    assert_eq!(rt; first_missing(rt.alloc(), &ROWS)?, None);
+    assert_eq!(rt; first_missing(&rt, &ROWS)?, None);
     Ok(())
 }
 
@@ -190,7 +190,7 @@ fn open_files_are_limited(rt: HostRuntime) -> Result<(), Fail> {
     for number in 1..=257 {
         write!(script, "t1 open s r f{number}\n")?;
     }
-    let (answer, sink) = ran(rt.alloc(), &["run"], script.as_bytes())?;
+    let (answer, sink) = ran(&rt, &["run"], script.as_bytes())?;
     let last = b"258 open h102580 s r f256 -> ok\n\
                  258 drop h102580 -> ok\n\
                  259 take h102590 t1 -> ok c0 s0\n\

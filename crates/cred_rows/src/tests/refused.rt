@@ -56,7 +56,7 @@ const REFUSED: [(&str, &str); 38] = [
 #[test]
 fn other_texts_get_their_first_bad_line(rt: HostRuntime) -> Result<(), Fail> {
     for (script, text) in REFUSED {
-        let (answer, sink) = ran(rt.alloc(), &["run"], script.as_bytes())?;
+        let (answer, sink) = ran(&rt, &["run"], script.as_bytes())?;
         let as_expected = answer == Status::Bad && sink.bytes() == text.as_bytes();
         assert!(rt; as_expected, "{script}");
     }

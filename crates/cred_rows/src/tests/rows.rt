@@ -1,13 +1,14 @@
 //! Scripts with the report that they must get.
 use crate::tests::runs::ran;
 use cred_program::Status;
-use std::alloc::Global;
+use std::sync::Wait;
 use std::test::Fail;
+use std::thread::Threads;
 
 /// A script, how the program must end on it, and what it must write.
 pub(crate) type Row = (&'static str, Status, &'static str);
 
-const ROWS: [Row; 15] = [
+const ROWS: [Row; 13] = [
     ("", Status::Done, ""),
     (
         // A root task that sets its three user ids to another's loses all that root has.
@@ -184,31 +185,16 @@ const ROWS: [Row; 15] = [
          16 sweep -> ok\n\
          17 drop h1 -> no hold h1\n",
     ),
-    (
-        // Lines of two lanes run whole, in the script's order.
-        "init t1 p1 0 0 n0\ninit t2 p2 1000 1000 n0\nlane 1\nt1 ids\nlane 2\nt2 ids\n",
-        Status::Done,
-        "1 init t1 p1 0 0 n0 -> ok c0 s0\n\
-         2 init t2 p2 1000 1000 n0 -> ok c1 s1\n\
-         4 take h100040 t1 -> ok c0 s0\n\
-         4 ask h100040 ids -> ok 0 0 0 0 0 0 0 0\n\
-         4 drop h100040 -> ok\n\
-         6 take h100060 t2 -> ok c1 s1\n\
-         6 ask h100060 ids -> ok 1000 1000 1000 1000 1000 1000 1000 1000\n\
-         6 drop h100060 -> ok\n",
-    ),
-    (
-        // A task acts in one lane alone.
-        "init t1 p1 0 0 n0\ninit t2 p2 1000 1000 n0\nlane 1\nt1 ids\nlane 2\nt2 ids\nt1 ids\n",
-        Status::Bad,
-        "bad 7 lane\n",
-    ),
 ];
 
-/// The first script of a table that does not end and write as it must.
-pub(crate) fn first_other(alloc: Global, rows: &[Row]) -> Result<Option<&'static str>, Fail> {
+/// The first script of a table on which this command does not end and write as it must.
+pub(crate) fn first_other<R: AllocGlobal + Threads + Wait + Sync>(
+    rt: &R,
+    word: &str,
+    rows: &[Row],
+) -> Result<Option<&'static str>, Fail> {
     for (script, status, text) in rows {
-        let (answer, sink) = ran(alloc, &["run"], script.as_bytes())?;
+        let (answer, sink) = ran(rt, &[word], script.as_bytes())?;
         if answer != *status || sink.bytes() != text.as_bytes() {
             return Ok(Some(script));
         }
@@ -218,6 +204,12 @@ pub(crate) fn first_other(alloc: Global, rows: &[Row]) -> Result<Option<&'static
 
 #[test]
 fn scripts_get_their_reports(rt: HostRuntime) -> Result<(), Fail> {
-    assert_eq!(rt; first_other(rt.alloc(), &ROWS)?, None);
+    assert_eq!(rt; first_other(&rt, "run", &ROWS)?, None);
+    Ok(())
+}
+
+#[test]
+fn scripts_without_lanes_get_the_same_reports(rt: HostRuntime) -> Result<(), Fail> {
+    assert_eq!(rt; first_other(&rt, "lanes", &ROWS)?, None);
     Ok(())
 }

@@ -18,7 +18,7 @@ const SIZES: [(&str, usize, Status); 5] = [
 fn inputs_above_the_limits_are_too_large(rt: HostRuntime) -> Result<(), Fail> {
     for (piece, count, status) in SIZES {
         let input = repeated(rt.alloc(), piece, count)?;
-        let (answer, sink) = ran(rt.alloc(), &["run"], &input)?;
+        let (answer, sink) = ran(&rt, &["run"], &input)?;
         let as_expected = answer == status && sink.bytes().is_empty();
         assert!(rt; as_expected, "{piece} {count}");
     }
@@ -76,7 +76,7 @@ fn script_of(alloc: Global, start: &str, piece: &str, count: usize) -> Result<Ve
 fn large_scripts_are_done(rt: HostRuntime) -> Result<(), Fail> {
     for (start, piece, count, len, end) in DONE {
         let input = script_of(rt.alloc(), start, piece, count)?;
-        let (answer, sink) = ran(rt.alloc(), &["run"], &input)?;
+        let (answer, sink) = ran(&rt, &["run"], &input)?;
         let is_done = answer == Status::Done && sink.bytes().ends_with(end.as_bytes());
         assert!(rt; input.len() == len && is_done, "{end}");
     }

@@ -159,7 +159,7 @@ const ROWS: [Among; 10] = [
 
 #[test]
 fn calls_are_every_threads(rt: HostRuntime) -> Result<(), Fail> {
-    assert_eq!(rt; first_missing(rt.alloc(), &ROWS)?, None);
+    assert_eq!(rt; first_missing(&rt, &ROWS)?, None);
     Ok(())
 }
 
@@ -171,7 +171,7 @@ fn threads_are_limited(rt: HostRuntime) -> Result<(), Fail> {
         write!(script, "init t{number} p1 0 0 n0\n")?;
     }
     script.push_str("t1 spawn t65\n")?;
-    let (answer, sink) = ran(rt.alloc(), &["run"], script.as_bytes())?;
+    let (answer, sink) = ran(&rt, &["run"], script.as_bytes())?;
     let last = b"64 init t64 p1 0 0 n0 -> ok c63 s63\n65 spawn t1 t65 -> too many tasks\n";
     assert!(rt; answer == Status::Done && sink.bytes().ends_with(last));
     Ok(())
@@ -187,7 +187,7 @@ fn a_thread_without_a_slot_ends_its_process(rt: HostRuntime) -> Result<(), Fail>
         write!(script, "take h{label} t1\nt1 setresuid 0 0 0\n")?;
     }
     script.push_str("t1 spawn t2\nt1 setresuid 0 0 0\nt2 exit\n")?;
-    let (answer, sink) = ran(rt.alloc(), &["run"], script.as_bytes())?;
+    let (answer, sink) = ran(&rt, &["run"], script.as_bytes())?;
     let last = b"510 spawn t1 t2 -> ok c254 s254\n\
                  511 begin t1 setresuid 0 0 0 -> ok c255 s255 left 1\n\
                  511 act 511 -> aborted t2 full\n\

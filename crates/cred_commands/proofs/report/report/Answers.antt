@@ -1,0 +1,25 @@
+use Rattle.std.proofs.Common.{sym, ◌∙◌}
+use Rattle.cred_report.specs.Text.{text}
+use Rattle.cred_commands.specs.declared.status.Status.TheVariants.{Done}
+use Rattle.cred_commands.proofs.Finished.{finished_counts, finished_for_text, finished_whole}
+use Rattle.cred_commands.proofs.Prefixes.{done_written, prefix_either}
+use Rattle.cred_commands.proofs.report.report.Goals as goal
+
+pub returns-clause-done : goal.returns-clause-done
+returns-clause-done g c = λ done.
+    done_written _ _ (text c.args.script.now c.args.journal.now) c.write_report.result c.write_report.ensures.ok (sym c.finish.ensures ∙ done)
+
+pub returns-clause-prefix : goal.returns-clause-prefix
+returns-clause-prefix g c =
+    prefix_either _ _ (text c.args.script.now c.args.journal.now) c.write_report.result c.write_report.ensures.ok c.write_report.ensures.err
+
+pub returns-clause-only : goal.returns-clause-only
+returns-clause-only g c = finished_for_text c.write_report.result c.finish.result c.finish.ensures
+
+pub returns-clause-handed_on : goal.returns-clause-handed_on
+returns-clause-handed_on g c =
+    finished_whole c.write_report.result Done c.finish.result c.write_report.ensures.handed_on c.finish.ensures
+
+pub returns-clause-cause : goal.returns-clause-cause
+returns-clause-cause g c =
+    finished_counts c.write_report.result Done c.finish.result _ _ (λ fault. cc) c.finish.ensures c.write_report.ensures.cause

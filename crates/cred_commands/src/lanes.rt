@@ -1,0 +1,97 @@
+//! Running the lanes of a script as threads, from its bytes.
+ghost use Rattle.std.specs.Prelude.{◌≡◌, ◌≢◌, ◌≤◌, ◌<◌, ◌⊎◌, ◌+◌, ℕ, List, true, Some, length};
+ghost use Rattle.cred_io.specs.Causes.{CountsFaults};
+ghost use Rattle.cred_io.specs.Ends.{ReadsUpTo};
+ghost use Rattle.cred_model.specs.Journal.{IsLegal};
+ghost use Rattle.cred_script.specs.Lines.{lines_of};
+ghost use Rattle.cred_commands.specs.Cuts.{Cuts};
+ghost use Rattle.cred_commands.specs.Ends.{IsWhole, IsWithin, Reads, ReadsTooMuch, ReadsWithin};
+ghost use Rattle.cred_commands.specs.Ends.{Refuses, Reports, Suits};
+
+use crate::reading::script_from;
+use crate::report::report;
+use crate::script::BYTE_LIMIT;
+use crate::status::Status;
+use cred_event::LINE_LIMIT;
+use cred_ids::NoMemory;
+use cred_io::{ReadRefusal, Sink, Source, read_all};
+use cred_lanes::{Gate, lanes};
+use std::alloc::Global;
+use std::sync::Wait;
+use std::thread::Threads;
+
+/// Reads a script to its end, runs its lanes as threads, and writes the report of the journal that
+/// came about, or the script's first bad line. The lanes stop at the gate. It waits for threads
+/// alone, and for none where the input is no script.
+pub fn read_and_lanes<R: Threads + Wait + Sync, S: Source, K: Sink, G: Gate + Sync>(
+    rt: &R,
+    alloc: Global,
+    source: &mut S,
+    sink: &mut K,
+    gate: &G,
+) -> Status
+    ensures done { result ≡ Status.Done → Reads (S.left source.old) (S.left source.new)
+        (Reports IsLegal (K.written sink.old) (K.written sink.new)) }
+    ensures bad { result ≡ Status.Bad → Reads (S.left source.old) (S.left source.new)
+        (Refuses (K.written sink.old) (K.written sink.new)) }
+    ensures no_usage { result ≢ Status.Usage }
+    ensures no_not_legal { result ≢ Status.NotLegal }
+    ensures too_large { result ≡ Status.TooLarge
+        → ReadsTooMuch (S.left source.old) (S.left source.new) }
+    ensures write_fault { result ≡ Status.WriteFault
+        → ReadsWithin (S.left source.old) (S.left source.new) }
+    ensures suits { (input : List ℕ) → S.left source.old ≡ Some input → Suits input result }
+    ensures cut { (K.written sink.new ≡ K.written sink.old)
+        ⊎ Reads (S.left source.old) (S.left source.new)
+        (Cuts (K.written sink.old) (K.written sink.new)) }
+    ensures handed_on { IsWhole result → K.handed_on sink.new ≡ true }
+    ensures read_cause { CountsFaults (result ≡ Status.ReadFault)
+        (S.faults source.old) (S.faults source.new) }
+    ensures write_cause { CountsFaults (result ≡ Status.WriteFault)
+        (K.faults sink.old) (K.faults sink.new) }
+    ensures read_fault { result ≡ Status.ReadFault
+        → ReadsUpTo BYTE_LIMIT (S.left source.old) (S.left source.new) }
+    ensures no_more { ReadsUpTo (BYTE_LIMIT + 1) (S.left source.old) (S.left source.new) }
+    ensures silent { (result ≡ Status.ReadFault) ⊎ (result ≡ Status.TooLarge)
+        → sink.new ≡ sink.old }
+{
+    match read_all(alloc, source, BYTE_LIMIT) {
+        Ok(bytes) => run_lanes(rt, alloc, bytes.items(), sink, gate),
+        Err(ReadRefusal::Fault) => Status::ReadFault,
+        Err(ReadRefusal::TooLarge) => Status::TooLarge,
+        Err(ReadRefusal::Memory) => Status::Memory,
+    }
+}
+
+/// Runs the lanes of the script that these bytes are, and writes the report, or the first bad line;
+/// nothing where there are too many lines.
+fn run_lanes<R: Threads + Wait + Sync, K: Sink, G: Gate + Sync>(
+    rt: &R,
+    alloc: Global,
+    bytes: &[u8],
+    sink: &mut K,
+    gate: &G,
+) -> Status
+    requires { length bytes.now ≤ BYTE_LIMIT }
+    ensures done { result ≡ Status.Done
+        → Reports IsLegal (K.written sink.old) (K.written sink.new) bytes.now }
+    ensures bad { result ≡ Status.Bad
+        → Refuses (K.written sink.old) (K.written sink.new) bytes.now }
+    ensures too_large { result ≡ Status.TooLarge
+        → (LINE_LIMIT < length (lines_of bytes.now)) × (sink.new ≡ sink.old) }
+    ensures no_read_fault { result ≢ Status.ReadFault }
+    ensures suits { Suits bytes.now result }
+    ensures handed_on { IsWhole result → K.handed_on sink.new ≡ true }
+    ensures cause { CountsFaults (result ≡ Status.WriteFault)
+        (K.faults sink.old) (K.faults sink.new) }
+    ensures cut { (sink.new ≡ sink.old)
+        ⊎ (IsWithin bytes.now × Cuts (K.written sink.old) (K.written sink.new) bytes.now) }
+{
+    match script_from(alloc, bytes, sink) {
+        Ok(script) => match lanes(rt, alloc, script, gate) {
+            Ok(journal) => report(alloc, sink, &journal.script, &journal.entries),
+            Err(NoMemory) => Status::Memory,
+        },
+        Err(status) => status,
+    }
+}

@@ -1,0 +1,5 @@
+//! The runs, a module for each kind.
+mod cuts;
+mod runs;
+mod scripts;
+mod threads;
