@@ -17,7 +17,7 @@ use Rattle.cred_model.specs.Moves.{in_slot, not_overridden, table_full}
 use Rattle.cred_model.specs.Step.{by_begin, outcome}
 use Rattle.cred_model.proofs.Numbers.{owner_number}
 use Rattle.cred_machine.specs.Room.{begun}
-use Rattle.cred_machine.specs.Tasks.{others_in}
+use Rattle.cred_plain.specs.Tasks.{others_in}
 use Rattle.cred_machine.proofs.Events.{CanBegin, begin_tests}
 
 -- ---- what the rule says, by the call's answer

@@ -17,10 +17,10 @@ use Rattle.cred_model.proofs.Referred.{refs_each}
 use Rattle.cred_sound.specs.Sound.{IsSound}
 use Rattle.cred_sound.proofs.Parts.{with_left}
 use Rattle.cred_sound.proofs.Sound.{like_sound, step_sound}
-use Rattle.cred_machine.specs.Creds.{gone, slots_of}
+use Rattle.cred_plain.specs.Creds.{gone, slots_of}
 use Rattle.cred_machine.specs.Kept.{KeepsReferred, may_have_swept}
-use Rattle.cred_machine.specs.References.{is_among, refer_to}
-use Rattle.cred_machine.specs.declared.references.References.{References}
+use Rattle.cred_plain.specs.References.{is_among, refer_to}
+use Rattle.cred_plain.specs.declared.references.References.{References}
 use Rattle.cred_machine.proofs.Free.{any-map}
 use Rattle.cred_machine.proofs.Keeping.{CredsKept, Keeps, NoneMore, OneMore}
 

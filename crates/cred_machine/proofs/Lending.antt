@@ -9,7 +9,7 @@ use Rattle.cred_model.specs.State.{State, Task, Prepared, Changed, Numbered, Sea
 use Rattle.cred_model.specs.Moves.{DEPTH, lent, overridden, with_overrides}
 use Rattle.cred_model.specs.Step.{by_override, by_revert, for_access, outcome}
 use Rattle.cred_model.proofs.Numbers.{owner_number}
-use Rattle.cred_machine.specs.Tasks.{OfOneTask}
+use Rattle.cred_plain.specs.Tasks.{OfOneTask}
 use Rattle.cred_machine.proofs.Events.{reverted}
 
 -- ---- the depth

@@ -1,11 +1,7 @@
-pub mod Joined
 pub mod Lending
 pub mod Begins
 pub mod Follows
-pub mod Overwritten
 pub mod Marks
-pub mod Sealed
-pub mod Places
 pub mod Rooms
 pub mod Events
 pub mod Lasting
@@ -17,11 +13,8 @@ pub mod Commits
 pub mod Altered
 pub mod Committing
 pub mod Acts
-pub mod Busy
 pub mod Free
 pub mod Threads
 pub mod Refusals
 pub mod Leads
-pub mod Others
-pub mod Rising
 pub mod Live

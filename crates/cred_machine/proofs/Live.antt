@@ -20,10 +20,10 @@ use Rattle.cred_model.specs.Slots.{free, is_kept, is_live, least_free, refs, sta
 use Rattle.cred_model.specs.Step.{aborted, by_act, follow, outcome}
 use Rattle.cred_model.proofs.Rising.{AllPairs-head, AllPairs-tail}
 use Rattle.cred_sound.specs.Sound.{IsSound}
-use Rattle.cred_machine.specs.Creds.{slots_of}
+use Rattle.cred_plain.specs.Creds.{slots_of}
 use Rattle.cred_machine.specs.Slots.{AreLive, TakesSlot}
 use Rattle.cred_machine.proofs.Free.{free_now}
-use Rattle.cred_machine.proofs.Places.{all_left}
+use Rattle.cred_plain.proofs.Places.{all_left}
 use Rattle.cred_machine.proofs.Rooms.{in_free}
 
 -- ---- one credential more

@@ -7,7 +7,7 @@ use Rattle.cred_model.proofs.Lists.{found}
 use Rattle.cred_sound.specs.Casts.{IsThread, IsUnderWay}
 use Rattle.cred_sound.specs.Sound.{IsSound}
 use Rattle.cred_sound.proofs.Threads.{one_process, waits_at}
-use Rattle.cred_machine.specs.Casts.{SharesNone}
+use Rattle.cred_plain.specs.Casts.{SharesNone}
 
 -- who waits in a broadcast is a thread of its process
 thread_of : (tasks : List Task) (cast : Broadcast) (task : ℕ) → IsUnderWay tasks cast → waits_in task cast ≡ true

@@ -5,8 +5,8 @@ use Rattle.cred_event.specs.declared.answer.Answer.{Answer}
 use Rattle.cred_event.specs.declared.answer.Answer.TheVariants.{Aborted, Acted, Began}
 use Rattle.cred_model.specs.State.{State}
 use Rattle.cred_model.specs.Slots.{refs}
-use Rattle.cred_machine.specs.Creds.{gone}
-use Rattle.cred_machine.specs.References.{is_among}
+use Rattle.cred_plain.specs.Creds.{gone}
+use Rattle.cred_plain.specs.References.{is_among}
 
 -- Each credential to which nothing refers is forgotten: under its number stands what stands for all
 -- of those. One that equals that looks the same, kept or not.

@@ -1,8 +1,4 @@
-pub mod Creds
-pub mod References
 pub mod Kept
-pub mod Tasks
-pub mod Casts
 pub mod Labels
 pub mod Slots
 pub mod Room

@@ -4,20 +4,14 @@
 #![tactic(auto)]
 
 mod cached;
-mod casts;
-mod creds;
-mod files;
-mod labels;
 mod machine;
 mod on_casts;
 mod on_files;
 mod on_labels;
 mod on_overrides;
 mod on_tasks;
-mod references;
 mod slots;
 mod state;
-mod tasks;
 
 pub use cached::CachedState;
 pub use machine::Machine;

@@ -9,12 +9,12 @@ ghost use Rattle.cred_model.specs.Step.{aborted, by_act, by_begin};
 ghost use Rattle.cred_sound.specs.Sound.{IsSound};
 ghost use Rattle.cred_machine.specs.Room.{at_abort, begun, swept_if};
 
-use crate::casts::{Cast, cast_of, drop_cast, leave, open_cast, open_in};
 use crate::slots::{Room, defer};
 use crate::state::{State, overridden};
-use crate::tasks::Ending;
 use cred_event::{AbortCause, Answer, Named};
 use cred_ids::NoMemory;
+use cred_plain::casts::{cast_of, drop_cast, leave, open_cast, open_in};
+use cred_plain::{Cast, Ending};
 use cred_record::{Cred, IdCall, Refusal};
 use cred_setid::apply;
 

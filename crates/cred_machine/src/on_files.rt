@@ -4,14 +4,14 @@ ghost use Rattle.std.specs.Option.{option_map};
 ghost use Rattle.cred_model.specs.State.{opener_of};
 ghost use Rattle.cred_model.specs.Like.{Gives};
 ghost use Rattle.cred_model.specs.Step.{by_close, by_open, by_take_file};
-ghost use Rattle.cred_machine.specs.Creds.{seen_numbered};
+ghost use Rattle.cred_plain.specs.Creds.{seen_numbered};
 
-use crate::creds::Numbered;
-use crate::files::{OpenFile, open_of, open_place};
 use crate::state::State;
 use cred_declared::may_open;
 use cred_event::{Answer, Counted, Named};
 use cred_ids::NoMemory;
+use cred_plain::files::{open_of, open_place};
+use cred_plain::{Numbered, OpenFile};
 use cred_record::Want;
 use cred_script::Script;
 

@@ -8,21 +8,18 @@ ghost use Rattle.cred_model.specs.Moves.{given_up};
 ghost use Rattle.cred_sound.specs.Sound.{IsSound};
 ghost use Rattle.cred_machine.specs.Labels.{numbered_in, casts_left, CanCommit, Commits};
 ghost use Rattle.cred_machine.specs.Labels.{IsOnCurrent};
-ghost use Rattle.cred_machine.specs.Tasks.{ending_of};
+ghost use Rattle.cred_plain.specs.Tasks.{ending_of};
 
-use crate::casts::{Cast, begun_by, drop_cast};
-use crate::creds::Numbered;
-use crate::labels::{
-    Changed, Hold, Prepared, change_at, hold_of, hold_place, prepared_of, prepared_place,
-};
 use crate::slots::{Room, defer, sweep_if};
 use crate::state::{State, overridden};
-use crate::tasks::Ending;
 use cred_access::may_signal;
 use cred_decide::{Made, change as change_of, reply};
 use cred_declared::{asked_file, chain_of, executed_file};
 use cred_event::{Answer, Change, Counted, Named, Query, Side};
 use cred_ids::NoMemory;
+use cred_plain::casts::{begun_by, drop_cast};
+use cred_plain::labels::{change_at, hold_of, hold_place, prepared_of, prepared_place};
+use cred_plain::{Cast, Changed, Ending, Hold, Numbered, Prepared};
 use cred_record::{Gains, copy};
 use cred_script::Script;
 

@@ -6,12 +6,12 @@ ghost use Rattle.cred_model.specs.Like.{Gives};
 ghost use Rattle.cred_model.specs.Step.{by_override, by_revert};
 ghost use Rattle.cred_sound.specs.Sound.{IsSound};
 
-use crate::creds::Numbered;
-use crate::labels::prepared_place;
 use crate::slots::defer;
 use crate::state::State;
 use cred_event::Answer;
 use cred_ids::NoMemory;
+use cred_plain::Numbered;
+use cred_plain::labels::prepared_place;
 use cred_record::copy;
 
 /// How many overrides a task may have.

@@ -4,13 +4,12 @@ ghost use Rattle.cred_model.specs.Like.{Gives};
 ghost use Rattle.cred_model.specs.Step.{by_exit, by_fork, by_init, by_spawn};
 ghost use Rattle.cred_sound.specs.Sound.{IsSound};
 
-use crate::casts::{begun_by, join, leave, open_in};
-use crate::creds::Numbered;
 use crate::slots::{Room, defer, sweep_if};
 use crate::state::{State, overridden};
-use crate::tasks::{Ending, Task};
 use cred_event::{Answer, Counted, Named};
 use cred_ids::{Id, NoMemory};
+use cred_plain::casts::{begun_by, join, leave, open_in};
+use cred_plain::{Ending, Numbered, Task};
 use cred_record::first;
 
 impl State {

@@ -8,13 +8,10 @@ ghost use Rattle.cred_model.specs.Slots as model;
 ghost use Rattle.cred_model.specs.Slots.{SLOTS, least_free, free, in_use, stands_in};
 ghost use Rattle.cred_machine.specs.Slots.{AreLive, is_live_by, is_marked};
 
-use crate::creds::Creds;
-use crate::files::OpenFile;
-use crate::labels::{Hold, Prepared};
 use crate::state::State;
-use crate::tasks::Task;
 use cred_event::Answer;
 use cred_ids::NoMemory;
+use cred_plain::{Creds, Hold, OpenFile, Prepared, Task};
 use std::alloc::Global;
 use std::marker::Model;
 

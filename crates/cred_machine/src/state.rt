@@ -7,17 +7,13 @@ ghost use Rattle.cred_model.specs.State.{opening, credential_of, current_of, hel
 ghost use Rattle.cred_model.specs.State.{prepared_of};
 ghost use Rattle.cred_model.specs.Like.{IsLike};
 ghost use Rattle.cred_model.specs.Moves.{not_overridden};
-ghost use Rattle.cred_machine.specs.Creds.{seen_numbered};
+ghost use Rattle.cred_plain.specs.Creds.{seen_numbered};
 ghost use Rattle.cred_machine.specs.Kept.{KeepsReferred};
 
-use crate::casts::Cast;
-use crate::creds::{Creds, Numbered};
-use crate::files::OpenFile;
-use crate::labels::{Hold, Prepared, hold_of, prepared_of};
-use crate::references::References;
-use crate::tasks::{Task, Tasks};
 use cred_event::Side;
 use cred_ids::NoMemory;
+use cred_plain::labels::{hold_of, prepared_of};
+use cred_plain::{Cast, Creds, Hold, Numbered, OpenFile, Prepared, References, Task, Tasks};
 use std::alloc::Global;
 use std::marker::Model;
 

@@ -2,11 +2,11 @@ use Rattle.std.proofs.Common.{◌≡◌, ◌==◌, List, find, Some, sym, ap, �
 use Rattle.cred_record.specs.declared.refusal.Denial.TheVariants as denial
 use Rattle.cred_event.specs.declared.answer.AbortCause.TheVariants.{Perm, Full}
 use Rattle.cred_model.specs.State.{State, Broadcast, Task, cast_of}
-use Rattle.cred_machine.specs.Creds.{seen_numbered}
+use Rattle.cred_plain.specs.Creds.{seen_numbered}
 use Rattle.cred_machine.proofs.Acts.{IsNext, act_full, act_refused}
 use Rattle.cred_machine.proofs.Begins.{rule_invalid, rule_made, rule_perm}
 use Rattle.cred_machine.proofs.Follows.{aborts, act_unsealed, steps}
-use Rattle.cred_machine.proofs.Places.{none_is}
+use Rattle.cred_plain.proofs.Places.{none_is}
 use Rattle.cred_machine.proofs.Threads.{waits_rising}
 use Rattle.cred_machine.proofs.state.State.act.Goals as goal
 

@@ -3,7 +3,7 @@ use Rattle.cred_record.specs.Credential.{Credential}
 use Rattle.cred_model.specs.Change.{Made}
 use Rattle.cred_model.specs.Script.{chain_of}
 use Rattle.cred_model.specs.State.{State, Prepared, prepared_of}
-use Rattle.cred_machine.specs.Creds.{seen_numbered}
+use Rattle.cred_plain.specs.Creds.{seen_numbered}
 use Rattle.cred_machine.proofs.Altered.{alter_leads, alter_refused}
 use Rattle.cred_machine.proofs.state.State.alter.Goals as goal
 

@@ -1,12 +1,12 @@
 use Rattle.std.proofs.Common.{◌≡◌, ◌==◌, List, find, None, sym, ap, ◌∙◌}
 use Rattle.cred_event.specs.declared.answer.Answer.TheVariants.{Busy}
 use Rattle.cred_model.specs.State.{State, Broadcast, Task, cast_of}
-use Rattle.cred_machine.specs.Creds.{seen_numbered}
+use Rattle.cred_plain.specs.Creds.{seen_numbered}
 use Rattle.cred_machine.proofs.Begins.{begin_busy, begin_einval, begin_eperm, begins, rule_invalid, rule_made, rule_perm, same_answer}
 use Rattle.cred_machine.proofs.Events.{CanBegin}
 use Rattle.cred_machine.proofs.Leads.{idle_in}
 use Rattle.cred_model.proofs.Places.{none_by_test}
-use Rattle.cred_machine.proofs.Places.{none_is}
+use Rattle.cred_plain.proofs.Places.{none_is}
 use Rattle.cred_machine.proofs.state.State.begin.Goals as goal
 
 pub returns-in-Some-open_in-clause-ok : goal.returns-in-Some-open_in-clause-ok

@@ -3,7 +3,7 @@ use Rattle.std.specs.Option.{option_and_then}
 use Rattle.cred_event.specs.declared.answer.Answer.TheVariants.{Busy, Overridden}
 use Rattle.cred_model.specs.State.{State, Prepared, task_of}
 use Rattle.cred_model.specs.Step.{for_task}
-use Rattle.cred_machine.proofs.Places.{at_place}
+use Rattle.cred_plain.proofs.Places.{at_place}
 use Rattle.cred_machine.proofs.Leads.{busy_at}
 use Rattle.cred_machine.proofs.Committing.{can_commit, commit_busy, commit_does, commit_overridden}
 use Rattle.cred_machine.proofs.state.State.commit.Goals as goal

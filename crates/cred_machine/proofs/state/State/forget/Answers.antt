@@ -1,4 +1,4 @@
-use Rattle.cred_machine.specs.declared.references.References.{References}
+use Rattle.cred_plain.specs.declared.references.References.{References}
 use Rattle.cred_machine.proofs.Forgetting.{forgets, keeps_referred}
 use Rattle.cred_machine.proofs.state.State.forget.Goals as goal
 

@@ -1,7 +1,7 @@
 use Rattle.std.proofs.Common.{◌++◌, ◌∷◌, [], sym, ap, ◌∙◌}
 use Rattle.cred_event.specs.declared.answer.Answer.TheVariants.{Busy, Overridden}
 use Rattle.cred_model.specs.State.{State, Task}
-use Rattle.cred_machine.specs.Creds.{seen_numbered}
+use Rattle.cred_plain.specs.Creds.{seen_numbered}
 use Rattle.cred_machine.proofs.Events.{CanCreate}
 use Rattle.cred_model.proofs.Places.{none_by_test}
 use Rattle.cred_machine.proofs.Refusals.{fork_busy, fork_used, fork_overridden}

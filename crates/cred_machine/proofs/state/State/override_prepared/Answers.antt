@@ -1,6 +1,6 @@
 use Rattle.std.proofs.Common.{◌≡◌, ◌==◌, Some, position, sym, ap, ◌∙◌}
 use Rattle.cred_model.specs.State.{State, Changed, Prepared}
-use Rattle.cred_machine.proofs.Places.{at_place, found_is}
+use Rattle.cred_plain.proofs.Places.{at_place, found_is}
 use Rattle.cred_machine.proofs.Refusals.{some_of}
 use Rattle.cred_machine.proofs.Lending.{access_deep, access_lends, is_deep, lend_other, not_deep, said_of}
 use Rattle.cred_machine.proofs.state.State.override_prepared.Goals as goal

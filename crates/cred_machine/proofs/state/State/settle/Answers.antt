@@ -1,7 +1,7 @@
 use Rattle.std.proofs.Common.{◌≡◌, Some, ◌∙◌}
 use Rattle.cred_model.specs.State.{State, Changed, Prepared, Task, task_of}
 use Rattle.cred_machine.specs.Labels.{CanCommit, IsChanged}
-use Rattle.cred_machine.proofs.Places.{found_is}
+use Rattle.cred_plain.proofs.Places.{found_is}
 use Rattle.cred_machine.proofs.Committing.{commits, gathered, own_is}
 use Rattle.cred_machine.proofs.state.State.settle.Goals as goal
 

@@ -1,7 +1,7 @@
 use Rattle.std.proofs.Common.{sym}
 use Rattle.cred_model.specs.State.{State, Task}
-use Rattle.cred_machine.specs.Creds.{seen_numbered}
-use Rattle.cred_machine.proofs.Places.{none_is}
+use Rattle.cred_plain.specs.Creds.{seen_numbered}
+use Rattle.cred_plain.proofs.Places.{none_is}
 use Rattle.cred_machine.proofs.Refusals.{signal_own, signal_other, signal_may, signal_may_not}
 use Rattle.cred_machine.proofs.state.State.signal.Goals as goal
 

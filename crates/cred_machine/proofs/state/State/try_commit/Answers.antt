@@ -3,7 +3,7 @@ use Rattle.cred_model.specs.State.{State, Prepared, Task, task_of}
 use Rattle.cred_model.specs.Moves.{given_up}
 use Rattle.cred_machine.specs.Labels.{CanCommit, IsChanged}
 use Rattle.cred_model.proofs.Places.{if_some}
-use Rattle.cred_machine.proofs.Places.{found_is}
+use Rattle.cred_plain.proofs.Places.{found_is}
 use Rattle.cred_machine.proofs.Committing.{commits_stale, on_current, own_is}
 use Rattle.cred_machine.proofs.state.State.try_commit.Goals as goal
 

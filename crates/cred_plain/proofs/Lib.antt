@@ -1,0 +1,9 @@
+pub mod Joined
+pub mod Overwritten
+pub mod Sealed
+pub mod Places
+pub mod Once
+pub mod Busy
+pub mod Others
+pub mod Rising
+pub mod Least

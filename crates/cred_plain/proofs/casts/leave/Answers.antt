@@ -1,0 +1,39 @@
+use Rattle.std.proofs.Common.{◌≡◌, ℕ, List, ◌++◌, drop, length, map, take, arith, sym, ap, ◌∙◌, append-nil, rules, tests}
+use Rattle.std.specs.List.{filter}
+use Rattle.std.proofs.lemmas.Fn.{filter_same}
+use Rattle.std.proofs.lemmas.List.{drop_all, take_all}
+use Rattle.std.proofs.lemmas.List.Edits.{map_over_more}
+use Rattle.cred_model.specs.Casts.{is_open, without}
+use Rattle.cred_plain.proofs.casts.leave.Goals as goal
+
+-- what was written over a whole list
+written : {X : Type 0} (now before : List X) (n : ℕ) → length now ≡ length before → n ≡ length now
+    → take n (now ++ drop (length now) before) ≡ now
+written now before n same is =
+    ap (λ xs. take n (now ++ xs)) (drop_all (length now) before (omega arith))
+    ∙ ap (take n) (append-nil now)
+    ∙ take_all n now (omega arith)
+
+pub loop-cast-preserved : goal.loop-cast-preserved
+loop-cast-preserved c =
+    rw (c.leave.ensures ∙ ap (without c.args.task) (sym c.cast-item.is))
+    (map_over_more (without c.args.task) c.deref_mut-cast-items.result.now c.loop-cast.cast-items c.loop-cast.cast-index c.cast-item.result
+    c.loop-cast-test.true c.loop-cast.invariant c.cast-item.is)
+
+pub returns : goal.returns
+returns c =
+    let f = without c.args.task in
+    let before = c.deref_mut-cast-items.result.now in
+    let i = c.loop-cast.cast-index in
+    let each : c.loop-cast.cast-items ≡ map f c.args.casts.now.items
+    = c.loop-cast.invariant
+    ∙ ap (λ bs. map f bs ++ drop i before) (take_all i before c.loop-cast-test.false)
+    ∙ ap (λ bs. map f before ++ bs) (drop_all i before c.loop-cast-test.false)
+    ∙ append-nil (map f before)
+    ∙ ap (map f) c.deref_mut-cast-items.ensures.value in
+    filter_same _ is_open _ (λ x b f' k. search (rules, tests)) _ _ c.retain.ensures.filtered
+    ∙ ap (filter is_open)
+    (written c.loop-cast.cast-items c.args.casts.now.items c.args.casts.now.len
+    (c.loop-cast.auto.cast-items ∙ ap length c.deref_mut-cast-items.ensures.value)
+    (sym c.deref_mut-cast-items.ensures.len ∙ sym c.loop-cast.auto.cast-items)
+    ∙ each)

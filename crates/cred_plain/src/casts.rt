@@ -1,0 +1,173 @@
+//! The open broadcasts (nptl(7)).
+ghost use Rattle.std.specs.Prelude.{◌≡◌, ◌<◌, ◌==◌, ◌+◌, ◌++◌, ◌∷◌, [], find, length, slice_get};
+ghost use Rattle.std.specs.Prelude.{Ok, Err, MatchOption, OnOk, OnErr};
+ghost use Rattle.std.specs.List.{AllPairs};
+ghost use Rattle.std.specs.Option.{option_map};
+ghost use Rattle.cred_event.specs.declared.answer.Answer.TheVariants.{Busy};
+ghost use Rattle.cred_ids.specs.Ordered.{in_order};
+ghost use Rattle.cred_model.specs.Casts.{not_busy, waits_in, waits_no_more, with_cast, without};
+ghost use Rattle.cred_model.specs.Casts.{joined, dropped};
+ghost use Rattle.cred_plain.specs.Casts.{SharesNone};
+
+use cred_ids::NoMemory;
+use cred_record::IdCall;
+use std::marker::Model;
+
+/// A call that every thread of a process makes, one after another: the line that began it, the
+/// process, the thread that made it first, and those that still have to make it, in rising order.
+#[derive(Drop, Debug)]
+pub struct Cast {
+    pub number: u32,
+    pub process: u32,
+    pub caller: u32,
+    pub call: IdCall,
+    pub waiting: Vec<u32>,
+}
+
+impl Model for Cast {
+    ghost use Rattle.cred_model.specs.State.{Broadcast};
+
+    ghost Value = { Broadcast };
+
+    ghost view = { λ c. record {
+      number = c.number;
+      process = c.process;
+      caller = c.caller;
+      call = c.call;
+      waiting = c.waiting.items;
+    } };
+}
+
+impl Cast {
+    /// Whether a task waits.
+    pub fn waits(&self, task: u32) -> bool
+        ensures { result ≡ waits_in task self.now }
+    {
+        self.waiting.contains(&task)
+    }
+
+    /// The least of those that wait.
+    pub fn least(&self) -> Option<u32>
+        ensures { result ≡ slice_get self.now.waiting 0 }
+    {
+        self.waiting.first().copied()
+    }
+
+    /// How many wait beside one of them, where somebody waits.
+    pub fn others(&self) -> u32
+        requires some { 0 < length self.now.waiting }
+        requires rising { AllPairs (λ m n. m < n) self.now.waiting }
+        ensures { result + 1 ≡ length self.now.waiting }
+    {
+        // No two of them are one, so that the greatest bounds how many they are.
+        let greatest = *self.waiting.last().unwrap();
+        prove!(self.waiting.len() - 1 <= greatest as usize);
+        (self.waiting.len() - 1) as u32
+    }
+
+    /// A task waits too. If an allocation fails, nothing changes.
+    fn join(&mut self, task: u32) -> Result<(), NoMemory>
+        ensures ok { OnOk result (self.new
+            ≡ record self.old { waiting = in_order (self.old.waiting ++ task ∷ []) }) }
+        ensures err { OnErr result (self.new ≡ self.old) }
+    {
+        self.waiting.push(task)?;
+        self.waiting.sort_unstable();
+        Ok(())
+    }
+
+    /// A task waits no more.
+    fn leave(&mut self, task: u32)
+        ensures { self.new ≡ without task self.old }
+    {
+        self.waiting.retain(|other| *other != task);
+    }
+}
+
+/// The broadcast of a number.
+pub fn cast_of(casts: &[Cast], number: u32) -> Option<&Cast>
+    ensures { option_map (λ b. b.now) result ≡ find (λ b. b.number == number) casts.now }
+{
+    casts.iter().find(|cast| cast.number == number)
+}
+
+/// The number of the broadcast that is open in a process.
+pub fn open_in(casts: &[Cast], process: u32) -> Option<u32>
+    ensures { MatchOption result
+        (not_busy (find (λ b. b.process == process) casts.now) ≡ Ok tt)
+        (λ number. not_busy (find (λ b. b.process == process) casts.now) ≡ Err (Busy number)) }
+{
+    number_in(casts, process)
+}
+
+fn number_in(casts: &[Cast], process: u32) -> Option<u32>
+    ensures { result ≡ option_map (λ b. b.number) (find (λ b. b.process == process) casts.now) }
+{
+    let found = casts.iter().find(|cast| cast.process == process);
+    Some(found?.number)
+}
+
+/// The number of the open broadcast that a task has begun.
+pub fn begun_by(casts: &[Cast], task: u32) -> Option<u32>
+    ensures { MatchOption result
+        (not_busy (find (λ b. b.caller == task) casts.now) ≡ Ok tt)
+        (λ number. not_busy (find (λ b. b.caller == task) casts.now) ≡ Err (Busy number)) }
+{
+    number_by(casts, task)
+}
+
+fn number_by(casts: &[Cast], task: u32) -> Option<u32>
+    ensures { result ≡ option_map (λ b. b.number) (find (λ b. b.caller == task) casts.now) }
+{
+    let found = casts.iter().find(|cast| cast.caller == task);
+    Some(found?.number)
+}
+
+/// A broadcast more, if anybody waits in it.
+///
+/// # Errors
+///
+/// `NoMemory` if an allocation fails: the broadcasts are as they were.
+pub fn open_cast(casts: &mut Vec<Cast>, cast: Cast) -> Result<(), NoMemory>
+    ensures ok { OnOk result (casts.new.items ≡ with_cast casts.old.items cast) }
+    ensures err { OnErr result (casts.new.items ≡ casts.old.items) }
+{
+    if !cast.waiting.is_empty() {
+        casts.push(cast)?;
+    }
+    Ok(())
+}
+
+/// A task has created a thread, which waits where its creator waits. No task waits in two
+/// broadcasts.
+///
+/// # Errors
+///
+/// `NoMemory` if an allocation fails: the broadcasts are as they were.
+pub fn join(casts: &mut Vec<Cast>, parent: u32, child: u32) -> Result<(), NoMemory>
+    requires { AllPairs SharesNone casts.old.items }
+    ensures ok { OnOk result (casts.new.items ≡ joined parent child casts.old.items) }
+    ensures err { OnErr result (casts.new.items ≡ casts.old.items) }
+{
+    let Some(place) = casts.iter().position(|cast| cast.waits(parent)) else {
+        return Ok(());
+    };
+    casts[place].join(child)
+}
+
+/// A task waits no more, and the broadcasts that nobody waits in any more are closed.
+pub fn leave(casts: &mut Vec<Cast>, task: u32)
+    ensures { casts.new.items ≡ waits_no_more task casts.old.items }
+{
+    for cast in casts.iter_mut() {
+        cast.leave(task);
+    }
+    casts.retain(|cast| !cast.waiting.is_empty());
+}
+
+/// The broadcast of a process is dropped.
+pub fn drop_cast(casts: &mut Vec<Cast>, process: u32)
+    ensures { casts.new.items ≡ dropped process casts.old.items }
+{
+    casts.retain(|cast| cast.process != process);
+}

@@ -1,0 +1,97 @@
+//! All that refers to credentials.
+ghost use Rattle.std.specs.Prelude.{◌≡◌, ◌≤◌, ◌==◌, ◌||◌, All};
+ghost use Rattle.std.specs.List.{list_any};
+ghost use Rattle.cred_model.specs.Ends.{numbers_of};
+ghost use Rattle.cred_plain.specs.References.{is_among, is_named, is_used, refer_to, UsesNoneBelow};
+
+use crate::files::OpenFile;
+use crate::labels::{Hold, Prepared};
+use crate::tasks::Task;
+
+/// What refers to credentials by their numbers: the live tasks, the open files, the holds and the
+/// prepared labels, and the numbers that were given up since the last sweep.
+#[derive(Clone, Copy)]
+pub struct References<'a> {
+    pub tasks: &'a [Task],
+    pub files: &'a [OpenFile],
+    pub holds: &'a [Hold],
+    pub prepared: &'a [Prepared],
+    pub deferred: &'a [u64],
+}
+
+impl References<'_> {
+    /// The least number that a task refers to, or `u64::MAX` where there is no task.
+    pub(crate) fn least_used(&self) -> u64
+        ensures { UsesNoneBelow self.now result }
+    {
+        least_in(self.tasks)
+    }
+
+    /// Whether something refers to this number, where no task refers to one below `least`.
+    pub(crate) fn refer_to(&self, number: u64, least: u64) -> bool
+        ensures { UsesNoneBelow self.now least → result ≡ refer_to self.now number }
+    {
+        self.used_from(number, least) || self.named(number) || self.deferred.contains(&number)
+    }
+
+    /// Whether a task does. This is asked of each stored credential after every sweep. Nearly all
+    /// that nothing refers to are older than the oldest that a task refers to: for those the tasks
+    /// are not gone through.
+    fn used_from(&self, number: u64, least: u64) -> bool
+        ensures { UsesNoneBelow self.now least → result ≡ is_used self.now number }
+    {
+        number >= least && self.used(number)
+    }
+
+    /// Whether a task does, by going through them once.
+    fn used(&self, number: u64) -> bool
+        ensures { result ≡ is_used self.now number }
+    {
+        is_with_task(self.tasks, number)
+    }
+
+    /// Whether an open file, a hold or a prepared label does.
+    fn named(&self, number: u64) -> bool
+        ensures { result ≡ is_named self.now number }
+    {
+        is_opener(self.files, number)
+            || is_held(self.holds, number)
+            || is_base(self.prepared, number)
+    }
+}
+
+fn is_with_task(tasks: &[Task], number: u64) -> bool
+    ensures { result
+        ≡ list_any (λ t. t.current == number || is_among t.overrides number) tasks.now }
+{
+    tasks.iter().any(|task| task.current == number || task.overrides.contains(&number))
+}
+
+/// The least number that these tasks refer to, or `u64::MAX` where there is none.
+fn least_in(tasks: &[Task]) -> u64
+    ensures { All (λ t. All (λ n. result ≤ n) (numbers_of t)) tasks.now }
+{
+    let mut least = u64::MAX;
+    for task in tasks {
+        least = least.min(task.least());
+    }
+    least
+}
+
+fn is_opener(files: &[OpenFile], number: u64) -> bool
+    ensures { result ≡ list_any (λ f. f.opener == number) files.now }
+{
+    files.iter().any(|file| file.opener == number)
+}
+
+fn is_held(holds: &[Hold], number: u64) -> bool
+    ensures { result ≡ list_any (λ h. h.number == number) holds.now }
+{
+    holds.iter().any(|hold| hold.number == number)
+}
+
+fn is_base(prepared: &[Prepared], number: u64) -> bool
+    ensures { result ≡ list_any (λ p. p.base == number) prepared.now }
+{
+    prepared.iter().any(|label| label.base == number)
+}

@@ -1,0 +1,379 @@
+//! The tasks.
+ghost use Rattle.std.specs.Prelude.{◌≡◌, ◌-◌, ◌<◌, ◌≤◌, ◌==◌, ◌++◌, ◌∷◌, [], drop, filter, find};
+ghost use Rattle.std.specs.Prelude.{is_some, length, map, not, position, slice_get, take, count_by};
+ghost use Rattle.std.specs.Prelude.{nat_lt, All, IfOk, IfSome, OnOk, OnErr};
+ghost use Rattle.std.specs.Option.{option_map};
+ghost use Rattle.cred_model.specs.State.{acting};
+ghost use Rattle.cred_model.specs.Ends.{is_thread_of, left_by, numbers_of, survivors};
+ghost use Rattle.cred_model.specs.Moves.{DEPTH, TASKS, first_task, updated, with_current};
+ghost use Rattle.cred_model.specs.Moves.{with_overrides};
+ghost use Rattle.cred_plain.specs.Tasks.{ends_by, others_in, OfOneTask};
+
+use cred_ids::NoMemory;
+use std::alloc::Global;
+use std::marker::Model;
+
+/// How many tasks may be alive.
+const TASKS: usize = 64;
+
+/// A task has the number of its current credential, and those of the credentials that it acts with
+/// in its place, the newest first.
+#[derive(Drop, Debug)]
+pub struct Task {
+    pub number: u32,
+    pub process: u32,
+    pub current: u64,
+    pub overrides: Vec<u64>,
+}
+
+impl Model for Task {
+    ghost use Rattle.std.specs.Prelude.{◌≤◌, length};
+    ghost use Rattle.cred_model.specs.Moves.{DEPTH};
+    ghost use Rattle.cred_model.specs.State.{Task};
+
+    ghost Value = { Task };
+
+    ghost view = { λ t. record {
+      number = t.number;
+      process = t.process;
+      current = t.current;
+      overrides = t.overrides.items;
+    } };
+
+    ghost invariant = { λ t. length t.overrides.items ≤ DEPTH };
+}
+
+/// Which tasks end with an event.
+#[derive(Clone, Copy, Debug)]
+pub enum Ending {
+    Nobody,
+    /// The task of this number.
+    Task(u32),
+    /// All threads of a process.
+    Process(u32),
+    /// All threads of a process but one.
+    Others { process: u32, task: u32 },
+}
+
+impl Ending {
+    /// Whether a task ends.
+    pub fn takes(self, task: &Task) -> bool
+        ensures { result ≡ ends_by self task.now }
+    {
+        match self {
+            Ending::Nobody => false,
+            Ending::Task(number) => task.number == number,
+            Ending::Process(process) => task.process == process,
+            Ending::Others {
+                process,
+                task: number,
+            } => task.process == process && task.number != number,
+        }
+    }
+}
+
+impl Task {
+    /// A task that overrides nothing.
+    pub fn first(alloc: Global, number: u32, process: u32, current: u64) -> Task
+        ensures { result ≡ first_task number process current }
+    {
+        Task {
+            number,
+            process,
+            current,
+            overrides: Vec::new(alloc),
+        }
+    }
+
+    /// How many overrides it has: 0 to 8.
+    pub fn depth(&self) -> u32
+        ensures { result ≡ length self.now.overrides }
+    {
+        self.overrides.len() as u32
+    }
+
+    /// The number of the credential of its newest override.
+    pub fn newest(&self) -> Option<u64>
+        ensures { result ≡ slice_get self.now.overrides 0 }
+    {
+        self.overrides.first().copied()
+    }
+
+    /// The number of the credential that it acts with.
+    pub fn acting(&self) -> u64
+        ensures { result ≡ acting self.now }
+    {
+        self.newest().unwrap_or(self.current)
+    }
+
+    /// The least number that it refers to.
+    pub(crate) fn least(&self) -> u64
+        ensures { All (λ n. result ≤ n) (numbers_of self.now) }
+    {
+        let mut least = self.current;
+        for number in &self.overrides {
+            least = least.min(*number);
+        }
+        least
+    }
+
+    /// Appends the numbers that it refers to.
+    fn refer(&self, numbers: &mut Vec<u64>) -> Result<(), NoMemory>
+        ensures { OnOk result (numbers.new.items ≡ numbers.old.items ++ numbers_of self.now) }
+    {
+        numbers.push(self.current)?;
+        numbers.extend_from_slice(&self.overrides)?;
+        Ok(())
+    }
+
+    /// It gets another current credential, if it is the task of this number.
+    fn update(&mut self, task: u32, number: u64)
+        ensures { self.new ≡ updated task number self.old }
+    {
+        if self.number == task {
+            self.current = number;
+        }
+    }
+
+    /// It acts with another credential from now on. If an allocation fails, nothing changes.
+    fn push(&mut self, number: u64) -> Result<(), NoMemory>
+        requires { length self.old.overrides < DEPTH }
+        ensures ok { OnOk result
+            (self.new ≡ record self.old { overrides = number ∷ self.old.overrides }) }
+        ensures err { OnErr result (self.new ≡ self.old) }
+    {
+        self.overrides.insert(0, number)?;
+        Ok(())
+    }
+
+    /// It acts again with the credential that it had before its newest override.
+    fn pop(&mut self)
+        ensures { self.new ≡ record self.old { overrides = drop 1 self.old.overrides } }
+    {
+        if !self.overrides.is_empty() {
+            self.overrides.remove(0);
+        }
+    }
+}
+
+/// The live tasks, at most 64, in the order in which they were created.
+#[derive(Drop, Debug)]
+pub struct Tasks {
+    list: Vec<Task>,
+    alloc: Global,
+}
+
+impl Model for Tasks {
+    ghost use Rattle.std.specs.Prelude.{◌≤◌, List, length};
+    ghost use Rattle.cred_model.specs.Moves.{TASKS};
+    ghost use Rattle.cred_model.specs.State.{Task};
+
+    ghost Value = { List Task };
+
+    ghost view = { λ t. t.list.items };
+
+    ghost invariant = { λ t. length t.list.items ≤ TASKS };
+}
+
+impl Tasks {
+    /// No task.
+    pub fn new(alloc: Global) -> Tasks
+        ensures { result ≡ [] }
+    {
+        Tasks {
+            list: Vec::new(alloc),
+            alloc,
+        }
+    }
+
+    /// All tasks.
+    pub fn items(&self) -> &[Task]
+        ensures { result.now ≡ self.now }
+    {
+        self.list.as_slice()
+    }
+
+    /// Whether as many tasks are alive as may be.
+    pub fn full(&self) -> bool
+        ensures { result ≡ not (nat_lt (length self.now) TASKS) }
+    {
+        self.list.len() >= TASKS
+    }
+
+    /// The task of a number.
+    pub fn get(&self, number: u32) -> Option<&Task>
+        ensures { option_map (λ t. t.now) result ≡ find (λ t. t.number == number) self.now }
+    {
+        self.list.iter().find(|task| task.number == number)
+    }
+
+    /// Where the task of a number stands.
+    fn place(&self, number: u32) -> Option<usize>
+        ensures { result ≡ position (λ t. t.number == number) self.now }
+    {
+        self.list.iter().position(|task| task.number == number)
+    }
+
+    /// Whether a task is alive.
+    pub fn alive(&self, number: u32) -> bool
+        ensures { result ≡ is_some (find (λ t. t.number == number) self.now) }
+    {
+        self.get(number).is_some()
+    }
+
+    /// Whether a process has a thread.
+    pub fn has_process(&self, process: u32) -> bool
+        ensures { result ≡ is_some (find (is_thread_of process) self.now) }
+    {
+        self.thread_of(process).is_some()
+    }
+
+    /// The oldest thread of a process.
+    fn thread_of(&self, process: u32) -> Option<&Task>
+        ensures { option_map (λ t. t.now) result ≡ find (λ t. t.process == process) self.now }
+    {
+        self.list.iter().find(|task| task.process == process)
+    }
+
+    /// A task more, where fewer than 64 are alive.
+    ///
+    /// # Errors
+    ///
+    /// `NoMemory` if an allocation fails: the tasks are as they were.
+    pub fn push(&mut self, task: Task) -> Result<(), NoMemory>
+        requires { length self.old < TASKS }
+        ensures ok { OnOk result (self.new ≡ self.old ++ task ∷ []) }
+        ensures err { OnErr result (self.new ≡ self.old) }
+    {
+        self.list.push(task)?;
+        Ok(())
+    }
+
+    /// Takes the newest task back.
+    pub fn pop(&mut self)
+        ensures { self.new ≡ take (length self.old - 1) self.old }
+    {
+        self.list.pop();
+    }
+
+    /// A task gets another current credential.
+    pub fn set_current(&mut self, task: u32, number: u64)
+        ensures { self.new ≡ with_current self.old task number }
+    {
+        for other in self.list.iter_mut() {
+            other.update(task, number);
+        }
+    }
+
+    /// The task of this number acts with another credential from now on, where it has fewer than 8
+    /// overrides. All else stays.
+    ///
+    /// # Errors
+    ///
+    /// `NoMemory` if an allocation fails: the tasks are as they were.
+    pub fn push_override(&mut self, task: u32, number: u64) -> Result<(), NoMemory>
+        requires { IfSome (find (λ t. t.number == task) self.old)
+            (λ owner. length owner.overrides < DEPTH) }
+        ensures ok { OnOk result (OfOneTask self.old task (λ owner. self.new
+            ≡ with_overrides self.old task (number ∷ owner.overrides))) }
+        ensures err { OnErr result (self.new ≡ self.old) }
+    {
+        let Some(place) = self.place(task) else {
+            return Ok(());
+        };
+        self.list[place].push(number)
+    }
+
+    /// The task acts again with the credential that it had before its newest override.
+    pub fn pop_override(&mut self, task: u32)
+        ensures { OfOneTask self.old task (λ owner. self.new
+            ≡ with_overrides self.old task (drop 1 owner.overrides)) }
+    {
+        let Some(place) = self.place(task) else {
+            return;
+        };
+        self.list[place].pop();
+    }
+
+    /// The other threads of a task's process, in rising order: at most 64.
+    ///
+    /// # Errors
+    ///
+    /// `NoMemory` if the allocation of the list fails.
+    pub fn others(&self, process: u32, task: u32) -> Result<Vec<u32>, NoMemory>
+        ensures others { IfOk result
+            (λ others. others.items ≡ others_in process task self.now) }
+        ensures few { IfOk result (λ others. length others.items ≤ TASKS) }
+    {
+        let mut others = Vec::new(self.alloc);
+        add_numbers(&self.list, Ending::Others { process, task }, &mut others)?;
+        others.sort_unstable();
+        Ok(others)
+    }
+
+    /// How many tasks end.
+    pub fn count(&self, ending: Ending) -> u32
+        ensures { result ≡ count_by (ends_by ending) self.now }
+    {
+        count(&self.list, ending)
+    }
+
+    /// Appends the numbers that those tasks refer to which end.
+    ///
+    /// # Errors
+    ///
+    /// `NoMemory` if an allocation fails: then some of them may have been appended.
+    pub fn append_left(&self, ending: Ending, numbers: &mut Vec<u64>) -> Result<(), NoMemory>
+        ensures { OnOk result (numbers.new.items
+            ≡ numbers.old.items ++ left_by (ends_by ending) self.now) }
+    {
+        add_left(&self.list, ending, numbers)
+    }
+
+    /// Tasks end.
+    pub fn end(&mut self, ending: Ending)
+        ensures { self.new ≡ survivors (ends_by ending) self.old }
+    {
+        self.list.retain(|task| !ending.takes(task));
+    }
+}
+
+/// How many of these tasks end.
+fn count(tasks: &[Task], ending: Ending) -> u32
+    requires { length tasks.now ≤ TASKS }
+    ensures { result ≡ count_by (ends_by ending) tasks.now }
+{
+    let mut count = 0;
+    for task in tasks {
+        if ending.takes(task) {
+            count += 1;
+        }
+    }
+    count
+}
+
+/// Appends the numbers of those tasks that end.
+fn add_numbers(tasks: &[Task], ending: Ending, numbers: &mut Vec<u32>) -> Result<(), NoMemory>
+    ensures { OnOk result (numbers.new.items
+        ≡ numbers.old.items ++ map (λ t. t.number) (filter (ends_by ending) tasks.now)) }
+{
+    for task in tasks {
+        if ending.takes(task) {
+            numbers.push(task.number)?;
+        }
+    }
+    Ok(())
+}
+
+/// Appends the numbers that those of these tasks refer to which end.
+fn add_left(tasks: &[Task], ending: Ending, numbers: &mut Vec<u64>) -> Result<(), NoMemory>
+    ensures { OnOk result (numbers.new.items
+        ≡ numbers.old.items ++ left_by (ends_by ending) tasks.now) }
+{
+    for task in tasks {
+        if ending.takes(task) {
+            task.refer(numbers)?;
+        }
+    }
+    Ok(())
+}
