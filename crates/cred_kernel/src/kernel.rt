@@ -13,7 +13,7 @@ use cred_book::{Journal, Step};
 use cred_ids::NoMemory;
 use std::alloc::Global;
 use std::marker::PhantomData;
-use std::sync::{Mutex, Wait};
+use std::sync::{Mutex, MutexGuard, Wait};
 
 /// A book and a roll behind one lock, which the threads of all lanes share. Whenever the lock is
 /// free, the book is of the name's script and the roll is the name's.
@@ -49,6 +49,13 @@ impl<K: Name> Kernel<K> {
         ))
     }
 
+    /// Gets the lock, for which it may wait.
+    pub fn lock<R: Wait>(&self, rt: &R) -> KernelGuard<'_, K> {
+        KernelGuard {
+            locked: self.lock.lock(rt),
+        }
+    }
+
     /// Makes the next event of the turn's lane under the lock, for which it may wait. The answer is
     /// Ended exactly if no line of the lane is left, and then the turn is as it was. No call
     /// changes the turn's lane.
@@ -62,7 +69,7 @@ impl<K: Name> Kernel<K> {
         ensures step { IfOk result (Advanced K.script turn.old turn.new) }
         ensures err { OnErr result (turn.new ≡ turn.old) }
     {
-        self.lock.lock(rt).step(turn)
+        self.lock(rt).advance(turn)
     }
 
     /// The journal, once each of its turns has ended. It is a legal one, and has as many entries of
@@ -82,5 +89,28 @@ impl<K: Name> Kernel<K> {
         } = lock.into_inner();
         take_all(&mut roll, turns);
         book.into_journal()
+    }
+}
+
+/// The lock, got by one thread: others wait until it is dropped.
+#[derive(Drop)]
+pub struct KernelGuard<'k, K: Name> {
+    locked: MutexGuard<'k, Locked<K>>,
+}
+
+impl<K: Name> KernelGuard<'_, K> {
+    /// Makes the next event of the turn's lane. The answer is Ended exactly if no line of the lane is
+    /// left, and then the turn is as it was. No call changes the turn's lane.
+    ///
+    /// # Errors
+    ///
+    /// `NoMemory` if an allocation of the event, the state or the entry fails: the turn is as it
+    /// was.
+    pub fn advance(&mut self, turn: &mut Turn<K>) -> Result<Step, NoMemory>
+        requires out { turn.old.numbers.out ≡ None }
+        ensures step { IfOk result (Advanced K.script turn.old turn.new) }
+        ensures err { OnErr result (turn.new ≡ turn.old) }
+    {
+        self.locked.step(turn)
     }
 }

@@ -7,7 +7,8 @@
 //! compared, and there is no answer for a mismatch. Once all turns have ended, the journal is a
 //! legal one.
 //!
-//! `Kernel::advance` may wait for the lock. Nothing else here waits.
+//! `Kernel::lock` and `Kernel::advance` may wait for the lock. Nothing else here waits: whoever has
+//! the lock may make several events, one step each.
 #![tactic(auto)]
 
 pub mod kernel;
@@ -17,7 +18,7 @@ pub mod parts;
 mod passes;
 pub mod token;
 
-pub use kernel::Kernel;
+pub use kernel::{Kernel, KernelGuard};
 pub use name::Name;
 pub use parts::Parts;
 pub use token::{Turn, TurnList};

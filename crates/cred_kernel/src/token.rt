@@ -33,6 +33,13 @@ impl<K: Name> Turn<K> {
         self.lane
     }
 
+    /// How many events of the lane have been entered.
+    pub fn entered(&self) -> u64
+        ensures { result ≡ self.now.numbers.entered }
+    {
+        self.numbers.entered
+    }
+
     /// How many lines of the lane have ended.
     pub fn ended(&self) -> u32
         ensures { result ≡ self.now.numbers.ended }

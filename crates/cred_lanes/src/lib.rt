@@ -1,10 +1,10 @@
 //! The lanes of a script as threads: a worker for each lane, and the run from a script to its
 //! journal.
 //!
-//! A worker makes the next event of its lane, one after another, until the lane has ended. It holds
-//! the kernel's lock for each event and lets go of it in between. Which worker gets the lock next
-//! is up to the threads, and no clause says it: in whatever order the events come, the journal is
-//! legal for the script.
+//! A worker makes the events of its lane, one after another, until the lane has ended. Each is made
+//! under the kernel's lock, of which the worker lets go after one event, and later, when its lane
+//! has had more, after some. Which worker gets the lock next is up to the threads, and no clause
+//! says it: in whatever order the events come, the journal is legal for the script.
 //!
 //! `drive` and `lanes` may wait for the lock, and what they promise holds if they return.
 #![tactic(auto)]

@@ -1,13 +1,14 @@
 //! The workers, one for each lane.
-ghost use Rattle.std.specs.Prelude.{◌≡◌, length, IfOk, None};
+ghost use Rattle.std.specs.Prelude.{◌≡◌, length, IfOk, OnOk, None};
 ghost use Rattle.cred_script.specs.Lanes.{lanes};
-ghost use Rattle.cred_kernel.specs.Turns.{AreAll, AreHome, HaveEnded};
+ghost use Rattle.cred_book.specs.declared.step.Step.TheVariants.{Ended};
+ghost use Rattle.cred_kernel.specs.Turns.{AreAll, AreHome, HasEnded, HaveEnded};
 ghost use Rattle.cred_lanes.specs.Works.{AllFinished, Finished};
 
 use crate::gate::Gate;
 use cred_book::Step;
 use cred_ids::NoMemory;
-use cred_kernel::{Kernel, Name, Turn, TurnList};
+use cred_kernel::{Kernel, KernelGuard, Name, Turn, TurnList};
 use std::alloc::Global;
 use std::sync::Wait;
 use std::thread;
@@ -46,6 +47,11 @@ pub fn drive<K: Name + Send + Sync, G: Gate + Sync, R: Threads + Wait + Sync>(
     all_ended(alloc, done)
 }
 
+/// A worker lets go of the lock once it has made this part of the events that its lane has had. A
+/// thread that is put to sleep and woken costs as much as a hundred events, so a long lane isn't to
+/// let go of the lock at each; in a short one the lanes still take turns often.
+const PART: u64 = 16;
+
 /// Makes the events of the turn's lane, one after another, until the lane has ended.
 fn work<K: Name, G: Gate, R: Wait>(
     rt: &R,
@@ -58,12 +64,36 @@ fn work<K: Name, G: Gate, R: Wait>(
 {
     let mut turn = turn;
     for _ in rt.forever() {
-        match kernel.advance(rt, &mut turn)? {
-            Step::More => {}
-            Step::Ended => return Ok(turn),
+        let most = 1 + turn.entered() / PART;
+        if let Step::Ended = advance_some(&mut kernel.lock(rt), &mut turn, most)? {
+            return Ok(turn);
         }
     }
     unreachable!()
+}
+
+/// Makes at most so many events of the turn's lane under the lock. Ended comes only where the lane
+/// has ended. No call changes the turn's lane.
+///
+/// # Errors
+///
+/// `NoMemory` if an allocation of an event, the state or an entry fails: the events before it stay.
+fn advance_some<K: Name>(
+    kernel: &mut KernelGuard<'_, K>,
+    turn: &mut Turn<K>,
+    most: u64,
+) -> Result<Step, NoMemory>
+    requires { turn.old.numbers.out ≡ None }
+    ensures lane { turn.new.lane ≡ turn.old.lane }
+    ensures out { OnOk result (turn.new.numbers.out ≡ None) }
+    ensures ended { IfOk result (λ step. step ≡ Ended → HasEnded K.script turn.new) }
+{
+    for _ in 0..most {
+        if let Step::Ended = kernel.advance(turn)? {
+            return Ok(Step::Ended);
+        }
+    }
+    Ok(Step::More)
 }
 
 /// The turns, where every worker has ended its lane.

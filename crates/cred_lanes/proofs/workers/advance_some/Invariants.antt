@@ -1,0 +1,5 @@
+use Rattle.std.proofs.Common.{◌≡◌, None}
+use Rattle.cred_lanes.proofs.workers.advance_some.Given as goal
+
+abbrev pub invariant-loop : goal.invariant-loop
+invariant-loop g l = (l.turn.lane ≡ l.fn.turn.lane) × (l.turn.numbers.out ≡ None)
