@@ -9,8 +9,8 @@ use Rattle.cred_model.specs.Course.{Course}
 use Rattle.cred_model.specs.Step.{step}
 use Rattle.cred_model.specs.Journal.{replay, entry_of}
 
--- A script, the journal of its run so far, and for each lane a cursor, the course of a line or none,
--- and the number of its lines that have ended.
+-- A script, the journal of its run so far, and for each lane a cursor, the course of a line or
+-- none, and the number of its lines that have ended.
 pub record Recorded : Type 0 where
   pub script : Script
   pub journal : List Entry
