@@ -5,7 +5,8 @@ use Rattle.std.specs.Option.{option_map, option_or}
 use Rattle.std.specs.Str.{bytes_eq}
 use Rattle.cred_ids.specs.declared.id.Kind.TheVariants.{User, Group}
 use Rattle.cred_spelling.specs.declared.names.Form.{Form}
-use Rattle.cred_spelling.specs.declared.names.Form.TheVariants.{Init, File, Namespace, Lane, Task, Event}
+use Rattle.cred_spelling.specs.declared.names.Form.TheVariants.{Init, File, Namespace, Lane}
+use Rattle.cred_spelling.specs.declared.names.Form.TheVariants.{Task, Event}
 use Rattle.cred_spelling.specs.declared.names.EventName.TheVariants as event
 use Rattle.cred_spelling.specs.declared.names.IdName.{IdName}
 use Rattle.cred_spelling.specs.declared.names.IdName.TheVariants as id
