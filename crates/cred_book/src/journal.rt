@@ -4,7 +4,7 @@ use cred_event::Entry;
 use cred_script::Script;
 
 /// The journal of a run, with its script.
-#[derive(Drop, Debug)]
+#[derive(Drop)]
 pub struct Journal {
     /// The script.
     pub script: Script,

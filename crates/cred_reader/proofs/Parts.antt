@@ -16,9 +16,9 @@ use Rattle.cred_model.specs.Script.{Script}
 use Rattle.cred_spelling.specs.Names as names
 use Rattle.cred_spelling.specs.Words as words
 use Rattle.cred_spelling.specs.Words.{◌>>=◌}
-use Rattle.cred_script.specs.Changes as changes
-use Rattle.cred_script.specs.IdCalls as calls
-use Rattle.cred_script.specs.Questions as questions
+use Rattle.cred_forms.specs.Changes as changes
+use Rattle.cred_forms.specs.IdCalls as calls
+use Rattle.cred_forms.specs.Questions as questions
 use Rattle.cred_report.specs.Numbers.{hexadecimal}
 use Rattle.cred_report.specs.Questions.{file_text, want_text, query_text}
 use Rattle.cred_report.specs.Calls.{call_text, change_text}

@@ -36,7 +36,7 @@ use Rattle.cred_event.specs.declared.entry.Entry.{Entry}
 use Rattle.cred_model.specs.Script.{Script}
 use Rattle.cred_model.specs.Named.{AreDeclared, event_files, event_namespaces}
 use Rattle.cred_spelling.specs.Spellings.{LAST_NAMESPACE, is_name}
-use Rattle.cred_script.specs.Files.{place_of}
+use Rattle.cred_forms.specs.Files.{place_of}
 use Rattle.cred_report.specs.Questions.{file_text}
 use Rattle.cred_reader.specs.Rows.{CanAnswer}
 

@@ -1,16 +1,17 @@
 //! The answer that words are the text of, for an event.
 ghost use Rattle.std.specs.Prelude.{◌≡◌};
 ghost use Rattle.cred_spelling.specs.Read.{Says, nows};
-ghost use Rattle.cred_script.specs.Read.{GivesLine};
+ghost use Rattle.cred_forms.specs.Read.{GivesLine};
 ghost use Rattle.cred_reader.specs.Answers as spec;
 
 use crate::kinds::{Bits, Cred, Flag, Slot, Task};
 use crate::refusals::refusal_of;
 use cred_caps::CapSet;
 use cred_event::{Answer, Event, Query, Told};
+use cred_forms::{LineRefusal, ids};
 use cred_ids::{Id, Ids4};
 use cred_record::{Gains, IdList};
-use cred_script::{LineRefusal, Script, ids};
+use cred_script::Script;
 use cred_spelling::{Number, Reason, five, is, one, three, two, word};
 use std::alloc::Global;
 

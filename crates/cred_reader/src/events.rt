@@ -1,14 +1,15 @@
 //! The event that words are the text of.
 ghost use Rattle.cred_spelling.specs.Read.{Says, nows};
-ghost use Rattle.cred_script.specs.Read.{GivesLine};
+ghost use Rattle.cred_forms.specs.Read.{GivesLine};
 ghost use Rattle.cred_reader.specs.Events as spec;
 
 use crate::kinds::{Fd, Label, Process, Task};
 use crate::names::{EventName, LabelEvent, TaskEvent, event_name};
 use cred_event::{Change, Event, Side};
+use cred_forms::{LineRefusal, id_call_of};
 use cred_ids::Id;
 use cred_record::{IdCall, Want};
-use cred_script::{LineRefusal, Script, id_call_of};
+use cred_script::Script;
 use cred_spelling::{
     Namespace, Number, Reason, altered_name, five, id_name, no_words, one, three, two, word,
 };

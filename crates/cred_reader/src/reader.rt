@@ -3,7 +3,7 @@ ghost use Rattle.std.specs.Prelude.{◌≡◌, ◌<◌, ◌+◌, IfOk, IfSome, S
 ghost use Rattle.std.specs.Prelude.{take};
 ghost use Rattle.cred_event.specs.declared.entry.Entry.{Entry as SeenEntry};
 ghost use Rattle.cred_spelling.specs.Read.{nows};
-ghost use Rattle.cred_script.specs.Read.{GivesLine};
+ghost use Rattle.cred_forms.specs.Read.{GivesLine};
 ghost use Rattle.cred_report.specs.Text.{entry_text};
 ghost use Rattle.cred_reader.specs.Entry as spec;
 ghost use Rattle.cred_reader.specs.Fits.{Fits, IsSound};
@@ -13,9 +13,10 @@ use crate::events::event_of;
 use crate::fits::is_of;
 use crate::rows::can_answer;
 use cred_event::Entry;
+use cred_forms::LineRefusal;
 use cred_ids::NoMemory;
 use cred_report::print;
-use cred_script::{LineRefusal, Script};
+use cred_script::Script;
 use cred_spelling::{Number, Reason, is, split_into, word};
 use std::alloc::Global;
 

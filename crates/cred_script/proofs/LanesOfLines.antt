@@ -7,11 +7,13 @@ use Rattle.std.proofs.lemmas.List.Quantifiers.{all_pairs_push}
 use Rattle.cred_event.specs.declared.content.Content.{Content}
 use Rattle.cred_model.specs.Script.{Line, Namespace, SetupBefore}
 use Rattle.cred_spelling.specs.Spellings.{LAST_LANE}
-use Rattle.cred_script.specs.Acting.{actor, labels}
-use Rattle.cred_script.specs.Lanes.{Lanes, Owners, KeepsLanes, KeepsOwners, HasAll, owner_of, are_free, may_name, naming, lanes}
+use Rattle.cred_forms.specs.Acting.{actor}
+use Rattle.cred_names.specs.Labels.{labels}
+use Rattle.cred_names.specs.Owners.{Lanes, Owners, KeepsLanes, KeepsOwners, HasAll, owner_of, are_free, may_name, naming}
+use Rattle.cred_script.specs.Lanes.{lanes}
 use Rattle.cred_script.specs.Reading.{Reading, next_line, used_by}
 use Rattle.cred_script.specs.Sound.{IsSound, IsNext, IsStart, IsHeld, IsOwned, AreApart, ShareNone, IsReading}
-use Rattle.cred_script.proofs.OwnedNumbers.{has_all}
+use Rattle.cred_names.proofs.OwnedNumbers.{has_all}
 
 -- a sound line more
 pub pushed : (reading : Reading) (lines : List Line) (content : Content) → lines ≡ reading.lines ++ next_line reading content ∷ [] → length reading.lines < 20000

@@ -5,7 +5,7 @@ use Rattle.std.proofs.lemmas.List.Elements.{All-weaker}
 use Rattle.std.proofs.lemmas.List.Folds.{find-append}
 use Rattle.cred_model.specs.Script.{Line, Namespace, INITIAL, chain_in}
 use Rattle.cred_model.specs.Named.{files, namespaces}
-use Rattle.cred_script.specs.Lanes.{Lanes}
+use Rattle.cred_names.specs.Owners.{Lanes}
 use Rattle.cred_script.specs.Sound.{IsSound, IsReading}
 
 there : (b : Bool) (found more : Option Namespace) → IsSome (cond b (Some INITIAL) (option_map (λ ns. ns.chain) found))

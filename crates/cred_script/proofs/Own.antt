@@ -27,17 +27,18 @@ use Rattle.cred_spelling.specs.Lines.{is_printable}
 use Rattle.cred_spelling.specs.Names.{id_name, altered_name, call_name, form_of}
 use Rattle.cred_spelling.specs.Spellings.{LAST_LANE, letter, number_of, within, id_of, cap_of, label_of, task_of, process_of, descriptor_of, line_number_of, lane_number_of, namespace_of, new_namespace_of, parent_of}
 use Rattle.cred_spelling.specs.Words.{◌>>=◌, words_of, is_comment, word_of, no_words, one_of, two_of, three_of, five_of}
-use Rattle.cred_script.specs.declared.forms.Parsed.{Parsed}
-use Rattle.cred_script.specs.declared.forms.Parsed.TheVariants.{Empty, File, Starts, Lane, Holds}
-use Rattle.cred_script.specs.declared.forms.Parsed.TheVariants as parsed
-use Rattle.cred_script.specs.Changes.{change_of}
-use Rattle.cred_script.specs.Files.{FILES, place_of, has_room, file_of}
-use Rattle.cred_script.specs.IdCalls.{id_call_of}
-use Rattle.cred_script.specs.Questions.{query_of, query_named, file_and_want}
-use Rattle.cred_script.specs.Calls.{open_of, other_of, call_of, content_of}
-use Rattle.cred_script.specs.Forms.{take_of, take_file_of, ask_of, alter_of, override_of, begin_of, event_of, parse_form}
+use Rattle.cred_forms.specs.declared.forms.Parsed.{Parsed}
+use Rattle.cred_forms.specs.declared.forms.Parsed.TheVariants.{Empty, File, Starts, Lane, Holds}
+use Rattle.cred_forms.specs.declared.forms.Parsed.TheVariants as parsed
+use Rattle.cred_forms.specs.Changes.{change_of}
+use Rattle.cred_forms.specs.Files.{FILES, place_of, has_room, file_of}
+use Rattle.cred_forms.specs.IdCalls.{id_call_of}
+use Rattle.cred_forms.specs.Questions.{query_of, query_named, file_and_want}
+use Rattle.cred_forms.specs.Calls.{open_of, other_of, call_of, content_of}
+use Rattle.cred_forms.specs.Forms.{take_of, take_file_of, ask_of, alter_of, override_of, begin_of, event_of, parse_form}
 use Rattle.cred_script.specs.Grammar.{parse_full, parse_words, parse_line}
-use Rattle.cred_script.specs.Acting.{event_actor, actor, event_labels, labels}
+use Rattle.cred_forms.specs.Acting.{event_actor, actor}
+use Rattle.cred_names.specs.Labels.{event_labels, labels}
 use Rattle.cred_script.specs.Reading.{Reading, has_namespaces, has_files, uses_declared, has_names, names_declared, is_apart, in_order, admits}
 use Rattle.cred_script.specs.Sound.{LAST_LABEL, IsParsed}
 

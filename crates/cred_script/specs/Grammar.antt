@@ -8,9 +8,9 @@ use Rattle.cred_spelling.specs.declared.reason.Reason.TheVariants.{Byte, Word}
 use Rattle.cred_spelling.specs.Lines.{lines_of, is_printable}
 use Rattle.cred_spelling.specs.Names.{form_of}
 use Rattle.cred_spelling.specs.Words.{◌>>=◌, words_of, is_comment}
-use Rattle.cred_script.specs.declared.forms.Parsed.{Parsed}
-use Rattle.cred_script.specs.declared.forms.Parsed.TheVariants.{Empty}
-use Rattle.cred_script.specs.Forms.{parse_form}
+use Rattle.cred_forms.specs.declared.forms.Parsed.{Parsed}
+use Rattle.cred_forms.specs.declared.forms.Parsed.TheVariants.{Empty}
+use Rattle.cred_forms.specs.Forms.{parse_form}
 use Rattle.cred_script.specs.Reading.{Reading, nothing, script, admits, keep}
 
 -- A line that isn't empty. The tests stand in their order: the first that fails gives the reason.

@@ -1,17 +1,8 @@
 pub use Rattle.cred_spelling.specs.Lines
 pub use Rattle.cred_spelling.specs.Spellings
-pub mod Files
-pub mod Namespaces
-pub mod IdCalls
-pub mod Changes
-pub mod Questions
-pub mod Calls
-pub mod Acting
 pub mod Lanes
-pub mod Forms
 pub mod Reading
 pub mod Grammar
 pub mod FirstBad
 pub mod Sound
 pub mod Read
-pub mod Kept

@@ -4,8 +4,6 @@ use Rattle.std.specs.Borrow.{Bor}
 use Rattle.cred_event.specs.declared.content.Content.{Content}
 use Rattle.cred_model.specs.Script.{Line}
 use Rattle.cred_spelling.specs.declared.reason.Reason.{Reason}
-use Rattle.cred_script.specs.declared.refusal.LineRefusal.{LineRefusal}
-use Rattle.cred_script.specs.declared.refusal.LineRefusal.TheVariants as line
 use Rattle.cred_script.specs.declared.refusal.ScriptRefusal.{ScriptRefusal}
 use Rattle.cred_script.specs.declared.refusal.ScriptRefusal.TheVariants.{Bad, Memory}
 
@@ -15,12 +13,6 @@ abbrev pub Gives : {V A : Type 0} → (V → A) → Result V ScriptRefusal → R
 Gives view (Ok v) given = given ≡ Ok (view v)
 Gives view (Err (Bad line reason)) given = given ≡ Err (line, reason)
 Gives view (Err Memory) given = ⊤
-
--- the same, of one line
-abbrev pub GivesLine : {V A : Type 0} → (V → A) → Result V LineRefusal → Result A Reason → Type 0
-GivesLine view (Ok v) given = given ≡ Ok (view v)
-GivesLine view (Err (line.Bad reason)) given = given ≡ Err reason
-GivesLine view (Err line.Memory) given = ⊤
 
 -- the line that a lane and a content make
 abbrev pub seen : ℕ × Bor Content → Line

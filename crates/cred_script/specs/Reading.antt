@@ -11,12 +11,12 @@ use Rattle.cred_spelling.specs.declared.reason.Reason.{Reason}
 use Rattle.cred_spelling.specs.declared.reason.Reason.TheVariants.{Order, Name}
 use Rattle.cred_spelling.specs.declared.reason.Reason.TheVariants as reason
 use Rattle.cred_spelling.specs.Words.{◌>>=◌}
-use Rattle.cred_script.specs.declared.forms.Parsed.{Parsed}
-use Rattle.cred_script.specs.declared.forms.Parsed.TheVariants.{Empty, File, Starts, Lane, Holds}
-use Rattle.cred_script.specs.declared.forms.Parsed.TheVariants as parsed
-use Rattle.cred_script.specs.Files.{place_of}
-use Rattle.cred_script.specs.Lanes.{Lanes, no_lanes, may_name, naming}
-use Rattle.cred_script.specs.Namespaces.{with_namespace}
+use Rattle.cred_forms.specs.declared.forms.Parsed.{Parsed}
+use Rattle.cred_forms.specs.declared.forms.Parsed.TheVariants.{Empty, File, Starts, Lane, Holds}
+use Rattle.cred_forms.specs.declared.forms.Parsed.TheVariants as parsed
+use Rattle.cred_forms.specs.Files.{place_of}
+use Rattle.cred_names.specs.Owners.{Lanes, no_lanes, may_name, naming}
+use Rattle.cred_names.specs.Namespaces.{with_namespace}
 
 -- The files and the namespaces that are declared, the lines, whether a call, an event or a lane
 -- line stands there, so that nothing more may be declared, and the lanes.

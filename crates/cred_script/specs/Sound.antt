@@ -8,12 +8,13 @@ use Rattle.cred_event.specs.declared.content.Content.{Content}
 use Rattle.cred_model.specs.Script.{Line, Namespace, SetupBefore, chain_in}
 use Rattle.cred_model.specs.Named.{IsContentOf}
 use Rattle.cred_spelling.specs.Spellings.{LAST_LANE, LAST_NUMBER}
-use Rattle.cred_script.specs.declared.forms.Parsed.{Parsed}
-use Rattle.cred_script.specs.declared.forms.Parsed.TheVariants.{Empty, File, Starts, Lane, Holds}
-use Rattle.cred_script.specs.declared.forms.Parsed.TheVariants as parsed
-use Rattle.cred_script.specs.Acting.{actor, labels}
-use Rattle.cred_script.specs.Files.{FILES, place_of}
-use Rattle.cred_script.specs.Lanes.{Lanes, HasAll, may_name}
+use Rattle.cred_forms.specs.declared.forms.Parsed.{Parsed}
+use Rattle.cred_forms.specs.declared.forms.Parsed.TheVariants.{Empty, File, Starts, Lane, Holds}
+use Rattle.cred_forms.specs.declared.forms.Parsed.TheVariants as parsed
+use Rattle.cred_forms.specs.Acting.{actor}
+use Rattle.cred_forms.specs.Files.{FILES, place_of}
+use Rattle.cred_names.specs.Labels.{labels}
+use Rattle.cred_names.specs.Owners.{Lanes, HasAll, may_name}
 use Rattle.cred_script.specs.Reading.{Reading, next_line}
 
 -- The greatest label that a script may name. Greater ones are those that a line takes for itself.

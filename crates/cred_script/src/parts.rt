@@ -1,14 +1,13 @@
 //! Parts of a line that the text of an entry has too: what their words are where they name files of
 //! the script.
 ghost use Rattle.cred_spelling.specs.Read.{Says, nows};
-ghost use Rattle.cred_script.specs.Changes as changes;
-ghost use Rattle.cred_script.specs.Files as files;
-ghost use Rattle.cred_script.specs.Questions as questions;
+ghost use Rattle.cred_forms.specs.Changes as changes;
+ghost use Rattle.cred_forms.specs.Files as files;
+ghost use Rattle.cred_forms.specs.Questions as questions;
 
-use crate::changes::change_of;
-use crate::questions::query_named;
 use crate::script::Script;
 use cred_event::{Change, Query};
+use cred_forms::{change_of, query_named};
 use cred_spelling::{ChangeName, Reason};
 
 impl Script {

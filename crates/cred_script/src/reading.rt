@@ -3,22 +3,21 @@ ghost use Rattle.std.specs.Prelude.{◌≡◌, ◌<◌, ◌≤◌, ◌+◌, IfEr
 ghost use Rattle.cred_model.specs.Script.{SetupFirst};
 ghost use Rattle.cred_spelling.specs.Lines.{is_printable};
 ghost use Rattle.cred_spelling.specs.Read.{Says, nows};
+ghost use Rattle.cred_forms.specs.Read.{GivesLine};
 ghost use Rattle.cred_script.specs.Grammar as grammar;
 ghost use Rattle.cred_script.specs.Grammar.{at_line};
-ghost use Rattle.cred_script.specs.Read.{Gives, GivesLine};
+ghost use Rattle.cred_script.specs.Read.{Gives};
 ghost use Rattle.cred_script.specs.Reading as spec;
 ghost use Rattle.cred_script.specs.Sound.{IsHeld, IsNext, IsParsed};
 ghost use Rattle.cred_spelling.specs.Spellings.{LAST_LANE};
 ghost use Rattle.cred_event.specs.declared.content.Content.TheVariants.{Nothing};
 
-use crate::files::Files;
-use crate::forms::{Parsed, parse_form};
-use crate::lanes::Lanes;
-use crate::namespaces::Namespaces;
-use crate::refusal::{LineRefusal, ScriptRefusal};
+use crate::refusal::ScriptRefusal;
 use crate::script::{Script, ScriptLine};
 use crate::uses::{has_files, has_namespaces};
 use cred_event::{Content, LINE_LIMIT};
+use cred_forms::{Files, LineRefusal, Parsed, parse_form};
+use cred_names::{Lanes, Namespaces};
 use cred_spelling::{Reason, form_of, is_comment, split_into};
 use std::alloc::Global;
 use std::marker::Model;

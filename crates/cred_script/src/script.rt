@@ -4,22 +4,22 @@ ghost use Rattle.std.specs.Prelude.{◌≡◌, ◌≤◌, ◌<◌, All, AllPairs
 ghost use Rattle.std.specs.Option.{option_map};
 ghost use Rattle.cred_model.specs.Named.{IsContentOf};
 ghost use Rattle.cred_model.specs.Script.{SetupFirst, chain_in};
-ghost use Rattle.cred_script.specs.Files as spec;
+ghost use Rattle.cred_forms.specs.Files as spec;
 ghost use Rattle.cred_script.specs.Grammar.{line_at};
 ghost use Rattle.cred_script.specs.Lanes.{lanes};
 ghost use Rattle.cred_script.specs.Read.{seen};
 ghost use Rattle.cred_script.specs.Sound.{AreApart, IsSound};
 ghost use Rattle.cred_spelling.specs.Spellings.{LAST_LANE};
 
-use crate::files::{FILES, Files};
-use crate::namespaces::Namespaces;
 use cred_event::{Content, LINE_LIMIT};
+use cred_forms::{FILES, Files};
 use cred_ids::Id;
+use cred_names::Namespaces;
 use cred_record::FileInfo;
 use std::marker::Model;
 
 /// One line of a script.
-#[derive(Drop, Debug)]
+#[derive(Drop)]
 pub(crate) struct ScriptLine {
     pub(crate) lane: u32,
     pub(crate) content: Content,
@@ -34,7 +34,7 @@ impl Model for ScriptLine {
 }
 
 /// A script. Its lines are numbered from 1; there are at most 20,000, and at most 256 files.
-#[derive(Drop, Debug)]
+#[derive(Drop)]
 pub struct Script {
     pub(crate) files: Files,
     pub(crate) namespaces: Namespaces,

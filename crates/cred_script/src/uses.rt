@@ -1,13 +1,12 @@
-//! The names that a line uses, the task that acts by it and its labels.
+//! The files and the namespaces that a line names.
 ghost use Rattle.std.specs.Prelude.{◌≡◌, []};
 ghost use Rattle.std.specs.List.{cons_option};
 ghost use Rattle.cred_model.specs.Named as named;
-ghost use Rattle.cred_script.specs.Acting as acting;
 ghost use Rattle.cred_script.specs.Reading as spec;
 
-use crate::files::Files;
-use crate::namespaces::Namespaces;
 use cred_event::{Change, Content, Event, Query};
+use cred_forms::Files;
+use cred_names::Namespaces;
 
 /// Each namespace that the line names is declared.
 pub(crate) fn has_namespaces(declared: &Namespaces, content: &Content) -> bool
@@ -56,51 +55,5 @@ fn named_file(content: &Content) -> Option<u32>
         }
         | Content::Access { file, .. } => Some(*file),
         _ => None,
-    }
-}
-
-/// The task that an event names as one that calls, prepares, overrides, reverts or begins.
-pub(crate) fn event_actor(event: &Event) -> Option<u32>
-    ensures { result ≡ acting.event_actor event.now }
-{
-    match event {
-        Event::Prepare { task, .. }
-        | Event::Override { task, .. }
-        | Event::Revert { task }
-        | Event::Begin { task, .. }
-        | Event::Spawn { task, .. }
-        | Event::Fork { task, .. }
-        | Event::Exit { task } => Some(*task),
-        _ => None,
-    }
-}
-
-/// The labels that a line names, which are two at most.
-pub(crate) fn labels_of(content: &Content) -> (Option<u32>, Option<u32>)
-    ensures { acting.labels content.now ≡ cons_option result.0 (cons_option result.1 []) }
-{
-    match content {
-        Content::One(event) => event_labels(event),
-        _ => (None, None),
-    }
-}
-
-/// The labels that an event names.
-fn event_labels(event: &Event) -> (Option<u32>, Option<u32>)
-    ensures { acting.event_labels event.now ≡ cons_option result.0 (cons_option result.1 []) }
-{
-    match event {
-        Event::Prepare { label, hold, .. } => (Some(*label), Some(*hold)),
-        Event::Signal { hold, target, .. } => (Some(*hold), Some(*target)),
-        Event::Take { label, .. }
-        | Event::TakeFile { label, .. }
-        | Event::Release { label }
-        | Event::Ask { label, .. }
-        | Event::Alter { label, .. }
-        | Event::Commit { label }
-        | Event::Abort { label }
-        | Event::Override { label, .. }
-        | Event::OpenFile { hold: label, .. } => (Some(*label), None),
-        _ => (None, None),
     }
 }

@@ -1,0 +1,20 @@
+-- The files, as a map from names keeps them.
+use Rattle.std.specs.Prelude.{◌≤◌, List, length, map, string_bytes, String}
+use Rattle.std.specs.List.{IsDistinct}
+use Rattle.std.specs.Map.{keys_of}
+use Rattle.std.specs.String.{string_eq}
+use Rattle.std.specs.declared.alloc.Global.{Global}
+use Rattle.cred_record.specs.File.{File}
+use Rattle.cred_model.specs.Script.{NamedFile}
+use Rattle.cred_forms.specs.Files.{FILES}
+
+abbrev pub file_of : String Global × File → NamedFile
+file_of entry = record { name = string_bytes entry.0; info = entry.1 }
+
+abbrev pub files_of : List (String Global × File) → List NamedFile
+files_of entries = map file_of entries
+
+-- There are no more files than a script may declare, and no two of them have one name.
+pub record AreFew (entries : List (String Global × File)) : Type 0 where
+  pub few : length entries ≤ FILES
+  pub apart : IsDistinct string_eq (keys_of entries)

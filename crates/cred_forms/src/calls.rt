@@ -1,0 +1,132 @@
+//! What a task does on a line of its own. Each function takes the words that stand after the one
+//! that names the call.
+ghost use Rattle.cred_spelling.specs.Read.{Says, nows};
+ghost use Rattle.cred_forms.specs.Calls as spec;
+ghost use Rattle.cred_forms.specs.Read.{GivesLine};
+
+use crate::changes::change_of;
+use crate::files::Files;
+use crate::id_calls::id_call_of;
+use crate::questions::{file_and_want, query_of};
+use crate::refusal::LineRefusal;
+use cred_event::{Content, Event};
+use cred_spelling::{
+    CallName, Cap, Descriptor, OtherName, Process, Reason, Task, call_name, no_words, one, two,
+    word,
+};
+use std::alloc::Global;
+
+/// A call or a question of the task: the line names it after the task.
+#[tactic(auto, unfolding(crate::specs::Calls::content_of))]
+pub(crate) fn content_of(
+    alloc: Global,
+    files: &Files,
+    task: u32,
+    words: &[&[u8]],
+) -> Result<Content, LineRefusal>
+    ensures { GivesLine (λ content. content) result
+        (spec.content_of files.now task (nows words.now)) }
+{
+    match words {
+        [] => Err(LineRefusal::Bad(Reason::Word)),
+        [name, words @ ..] => {
+            let Some(name) = call_name(name) else {
+                return Err(LineRefusal::Bad(Reason::Word));
+            };
+            call_of(alloc, files, task, name, words)
+        }
+    }
+}
+
+/// What the task does, by its name.
+#[tactic(auto, unfolding(crate::specs::Calls::call_of))]
+fn call_of(
+    alloc: Global,
+    files: &Files,
+    task: u32,
+    name: CallName,
+    words: &[&[u8]],
+) -> Result<Content, LineRefusal>
+    ensures { GivesLine (λ made. made) result
+        (spec.call_of files.now task name (nows words.now)) }
+{
+    match name {
+        CallName::Id(name) => Ok(Content::Id {
+            task,
+            call: id_call_of(alloc, name, words)?,
+        }),
+        CallName::Change(name) => Ok(Content::Change {
+            task,
+            change: change_of(files, name, words)?,
+        }),
+        CallName::Question(name) => Ok(Content::Question {
+            task,
+            query: query_of(files, name, words)?,
+        }),
+        CallName::Other(name) => Ok(other_of(files, task, name, words)?),
+    }
+}
+
+/// A call that is neither an id call, nor a change, nor a question, by its name. `signal` has the
+/// task that is signalled, `spawn` the new thread, `fork` the child and its process.
+#[tactic(auto, unfolding(crate::specs::Calls::other_of))]
+fn other_of(files: &Files, task: u32, name: OtherName, words: &[&[u8]]) -> Result<Content, Reason>
+    ensures { Says (λ made. made) result
+        (spec.other_of files.now task name (nows words.now)) }
+{
+    match name {
+        OtherName::Open => open_of(files, task, words),
+        OtherName::Close => {
+            let fd = one::<Descriptor>(words)?;
+            Ok(Content::One(Event::CloseFile { fd }))
+        }
+        OtherName::Fcap => {
+            let (fd, cap) = two::<Descriptor, Cap>(words)?;
+            Ok(Content::Fcap { task, fd, cap })
+        }
+        OtherName::Access => {
+            let (file, want) = file_and_want(files, words)?;
+            Ok(Content::Access { task, file, want })
+        }
+        OtherName::Signal => {
+            let to = one::<Task>(words)?;
+            Ok(Content::Signal { task, to })
+        }
+        OtherName::Spawn => {
+            let child = one::<Task>(words)?;
+            Ok(Content::One(Event::Spawn { task, child }))
+        }
+        OtherName::Fork => {
+            let (child, process) = two::<Task, Process>(words)?;
+            Ok(Content::One(Event::Fork {
+                task,
+                child,
+                process,
+            }))
+        }
+        OtherName::Exit => {
+            no_words(words)?;
+            Ok(Content::One(Event::Exit { task }))
+        }
+    }
+}
+
+/// `open NAME WANT F`
+#[tactic(auto, unfolding(crate::specs::Calls::open_of))]
+fn open_of(files: &Files, task: u32, words: &[&[u8]]) -> Result<Content, Reason>
+    ensures { Says (λ made. made) result (spec.open_of files.now task (nows words.now)) }
+{
+    match words {
+        [name, want, fd] => {
+            let (file, want) = file_and_want(files, &[*name, *want])?;
+            let fd = word::<Descriptor>(fd)?;
+            Ok(Content::Open {
+                task,
+                file,
+                want,
+                fd,
+            })
+        }
+        _ => Err(Reason::Count),
+    }
+}

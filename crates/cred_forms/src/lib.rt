@@ -1,0 +1,26 @@
+//! The forms of a line of a trace script: what its words are, and what the line then declares or
+//! holds.
+//!
+//! `specs/` says which words each form has. `IdCalls`, `Changes`, `Questions` and `Calls` have what
+//! a task does, `Files` the lines that declare files and how a word names one, `Forms` all forms,
+//! and `Acting` which task acts by a line. `Kept` says how the files are kept, by their names.
+//! Whether a line may stand where it does, after those that were read before it, is said in
+//! `cred_script`; what one word spells, in `cred_spelling`.
+#![tactic(auto)]
+
+mod actor;
+mod calls;
+mod changes;
+mod file_line;
+mod files;
+mod forms;
+mod id_calls;
+mod questions;
+mod refusal;
+
+pub use changes::change_of;
+pub use files::{FILES, Files, ScriptFile};
+pub use forms::{Parsed, parse_form};
+pub use id_calls::{id_call_of, ids};
+pub use questions::query_named;
+pub use refusal::LineRefusal;

@@ -1,0 +1,3 @@
+pub mod Namespaces
+pub mod Labels
+pub mod Owners

@@ -1,5 +1,0 @@
-use Rattle.std.proofs.Common.{rules}
-use Rattle.cred_script.proofs.lanes.Lanes.are_free.Goals as goal
-
-pub returns-then-is_free : goal.returns-then-is_free
-returns-then-is_free c = search rules
