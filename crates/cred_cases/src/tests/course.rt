@@ -14,10 +14,6 @@ const KEPT: Answer = Answer::Kept { slot: 1 };
 
 const STALE: Answer = Answer::Stale { base: 0, now: 1 };
 
-const DONE: Answer = Answer::Done;
-
-const YES: Answer = Answer::Told(Told::Flag(true));
-
 /// An event, as a report spells it: its word, and the numbers that it names in their order.
 type Name = (&'static str, [u32; 4]);
 
@@ -74,26 +70,82 @@ const PREPARE: Name = ("prepare", [100_031, 1, 100_030, 0]);
 
 const ABORT: Name = ("abort", [100_031, 0, 0, 0]);
 
+/// An answer to an event.
+#[derive(Clone, Copy)]
+enum Reply {
+    Sealed,
+    Kept,
+    Done,
+    Yes,
+    Refused,
+    Invalid,
+    Denied,
+    NotOpen,
+    NoTask(u32),
+    NoSlot,
+    NoHoldLeft,
+    TooDeep,
+}
+
+use Reply::{
+    Denied, Done, Invalid, Kept, NoHoldLeft, NoSlot, NoTask, NotOpen, Refused, Sealed, TooDeep, Yes,
+};
+
+fn answer_of(reply: Reply) -> Answer {
+    match reply {
+        Sealed => SEALED,
+        Kept => KEPT,
+        Done => Answer::Done,
+        Yes => Answer::Told(Told::Flag(true)),
+        Refused => Answer::Eperm,
+        Invalid => Answer::Einval,
+        Denied => Answer::Eacces,
+        NotOpen => Answer::Ebadf,
+        NoTask(task) => Answer::NoTask(task),
+        NoSlot => Answer::TableFull,
+        NoHoldLeft => Answer::TooMany(Counted::Holds),
+        TooDeep => Answer::TooDeep,
+    }
+}
+
 /// An event and its answer.
-type Step = (Name, Answer);
+type Step = (Name, Reply);
 
 /// Whether line 3 makes just these events, each before the answer that it gets, and then has ended.
 fn makes(content: &Content, steps: &[Step]) -> Result<bool, Fail> {
     let mut course = Course::start(3, content);
-    for (want, answer) in steps {
+    for (want, reply) in steps {
         match course.event(content)? {
-            Some(event) if name(&event) == *want => course.took(content, answer),
+            Some(event) if name(&event) == *want => course.took(content, &answer_of(*reply)),
             _ => return Ok(false),
         }
     }
     Ok(course.ended() && course.event(content)?.is_none())
 }
 
+/// Whether line 3 makes just the events of each of these courses.
+fn are_made(content: &Content, courses: &[&[Step]]) -> Result<bool, Fail> {
+    for steps in courses {
+        if !makes(content, steps)? {
+            return Ok(false);
+        }
+    }
+    Ok(true)
+}
+
 /// There is no such task.
-const UNKNOWN: [Step; 1] = [(TAKE, Answer::NoTask(1))];
+const UNKNOWN: [Step; 1] = [(TAKE, NoTask(1))];
 
 /// There is no slot for the new credential.
-const FULL: [Step; 3] = [(TAKE, SEALED), (PREPARE, Answer::TableFull), (DROP, DONE)];
+const FULL: [Step; 3] = [(TAKE, Sealed), (PREPARE, NoSlot), (DROP, Done)];
+
+const ASK: Name = ("ask", [100_030, 0, 0, 0]);
+
+const QUESTIONS: [&[Step]; 3] = [
+    &[(TAKE, Sealed), (ASK, Yes), (DROP, Done)],
+    &[(TAKE, Sealed), (ASK, Invalid), (DROP, Done)],
+    &UNKNOWN,
+];
 
 #[test]
 fn a_question_takes_asks_and_lets_go(rt: HostRuntime) -> Result<(), Fail> {
@@ -101,15 +153,7 @@ fn a_question_takes_asks_and_lets_go(rt: HostRuntime) -> Result<(), Fail> {
         task: 1,
         query: Query::Bset(21),
     };
-    const ASK: Name = ("ask", [100_030, 0, 0, 0]);
-    let told = [(TAKE, SEALED), (ASK, YES), (DROP, DONE)];
-    let refused = [(TAKE, SEALED), (ASK, Answer::Einval), (DROP, DONE)];
-    let are_made = [
-        makes(&question, &told)?,
-        makes(&question, &refused)?,
-        makes(&question, &UNKNOWN)?,
-    ];
-    assert!(rt; are_made == [true; 3]);
+    assert!(rt; are_made(&question, &QUESTIONS)?);
     Ok(())
 }
 
@@ -118,6 +162,14 @@ const READ: Want = Want {
     w: false,
     x: false,
 };
+
+const OPEN: Name = ("open", [100_030, 4, 7, 0]);
+
+const OPENS: [&[Step]; 3] = [
+    &[(TAKE, Sealed), (OPEN, Done), (DROP, Done)],
+    &[(TAKE, Sealed), (OPEN, Denied), (DROP, Done)],
+    &UNKNOWN,
+];
 
 /// Task 1 opens the file in the fifth place as descriptor 7.
 #[test]
@@ -128,17 +180,19 @@ fn an_opener_takes_opens_and_lets_go(rt: HostRuntime) -> Result<(), Fail> {
         want: READ,
         fd: 7,
     };
-    const OPEN: Name = ("open", [100_030, 4, 7, 0]);
-    let opened = [(TAKE, SEALED), (OPEN, DONE), (DROP, DONE)];
-    let refused = [(TAKE, SEALED), (OPEN, Answer::Eacces), (DROP, DONE)];
-    let are_made = [
-        makes(&open, &opened)?,
-        makes(&open, &refused)?,
-        makes(&open, &UNKNOWN)?,
-    ];
-    assert!(rt; are_made == [true; 3]);
+    assert!(rt; are_made(&open, &OPENS)?);
     Ok(())
 }
+
+const TAKE_FILE: Name = ("takefile", [100_030, 7, 0, 0]);
+
+const ASK_OPENER: Name = ("ask capable", [100_030, 21, 0, 0]);
+
+const OPENER_QUESTIONS: [&[Step]; 3] = [
+    &[(TAKE_FILE, Sealed), (ASK_OPENER, Yes), (DROP, Done)],
+    &[(TAKE_FILE, Sealed), (ASK_OPENER, Invalid), (DROP, Done)],
+    &[(TAKE_FILE, NotOpen)],
+];
 
 /// Task 1 asks whether the opener of descriptor 7 has CAP_SYS_ADMIN.
 #[test]
@@ -148,49 +202,40 @@ fn an_open_files_opener_is_asked(rt: HostRuntime) -> Result<(), Fail> {
         fd: 7,
         cap: 21,
     };
-    const TAKE_FILE: Name = ("takefile", [100_030, 7, 0, 0]);
-    const ASK: Name = ("ask capable", [100_030, 21, 0, 0]);
-    let told = [(TAKE_FILE, SEALED), (ASK, YES), (DROP, DONE)];
-    let refused = [(TAKE_FILE, SEALED), (ASK, Answer::Einval), (DROP, DONE)];
-    let closed = [(TAKE_FILE, Answer::Ebadf)];
-    let are_made = [
-        makes(&fcap, &told)?,
-        makes(&fcap, &refused)?,
-        makes(&fcap, &closed)?,
-    ];
-    assert!(rt; are_made == [true; 3]);
+    assert!(rt; are_made(&fcap, &OPENER_QUESTIONS)?);
     Ok(())
-}
-
-/// The whole course of a signal, where the signal is answered so.
-fn signalled(answer: Answer) -> [Step; 5] {
-    [
-        (TAKE, SEALED),
-        (TAKE_TARGET, SEALED),
-        (("signal", [1, 100_030, 2, 100_031]), answer),
-        (("drop", [100_031, 0, 0, 0]), DONE),
-        (DROP, DONE),
-    ]
 }
 
 /// The credential by which task 2 is acted on.
 const TAKE_TARGET: Name = ("takereal", [100_031, 2, 0, 0]);
 
+const SIGNAL: Name = ("signal", [1, 100_030, 2, 100_031]);
+
+const DROP_TARGET: Name = ("drop", [100_031, 0, 0, 0]);
+
+const SIGNALS: [&[Step]; 4] = [
+    &[
+        (TAKE, Sealed),
+        (TAKE_TARGET, Sealed),
+        (SIGNAL, Done),
+        (DROP_TARGET, Done),
+        (DROP, Done),
+    ],
+    &[
+        (TAKE, Sealed),
+        (TAKE_TARGET, Sealed),
+        (SIGNAL, Refused),
+        (DROP_TARGET, Done),
+        (DROP, Done),
+    ],
+    &[(TAKE, Sealed), (TAKE_TARGET, NoTask(2)), (DROP, Done)],
+    &UNKNOWN,
+];
+
 #[test]
 fn a_signal_takes_both_and_lets_go_of_both(rt: HostRuntime) -> Result<(), Fail> {
     let signal = Content::Signal { task: 1, to: 2 };
-    let no_target = [
-        (TAKE, SEALED),
-        (TAKE_TARGET, Answer::NoTask(2)),
-        (DROP, DONE),
-    ];
-    let are_made = [
-        makes(&signal, &signalled(DONE))?,
-        makes(&signal, &signalled(Answer::Eperm))?,
-        makes(&signal, &no_target)?,
-        makes(&signal, &UNKNOWN)?,
-    ];
-    assert!(rt; are_made == [true; 4]);
+    assert!(rt; are_made(&signal, &SIGNALS)?);
     Ok(())
 }
 
@@ -198,30 +243,32 @@ const CHANGE: Name = ("change", [100_031, 0, 0, 0]);
 
 const COMMIT: Name = ("commit", [100_031, 0, 0, 0]);
 
-const REFUSED: [Step; 5] = [
-    (TAKE, SEALED),
-    (PREPARE, KEPT),
-    (CHANGE, Answer::Eperm),
-    (ABORT, DONE),
-    (DROP, DONE),
-];
-
-/// The task has ended before the commit.
-const ENDED: [Step; 6] = [
-    (TAKE, SEALED),
-    (PREPARE, KEPT),
-    (CHANGE, DONE),
-    (COMMIT, Answer::NoTask(1)),
-    (ABORT, DONE),
-    (DROP, DONE),
-];
-
-const COMMITTED: [Step; 5] = [
-    (TAKE, SEALED),
-    (PREPARE, KEPT),
-    (CHANGE, DONE),
-    (COMMIT, SEALED),
-    (DROP, DONE),
+const CHANGES: [&[Step]; 5] = [
+    &UNKNOWN,
+    &FULL,
+    &[
+        (TAKE, Sealed),
+        (PREPARE, Kept),
+        (CHANGE, Refused),
+        (ABORT, Done),
+        (DROP, Done),
+    ],
+    // The task has ended before the commit.
+    &[
+        (TAKE, Sealed),
+        (PREPARE, Kept),
+        (CHANGE, Done),
+        (COMMIT, NoTask(1)),
+        (ABORT, Done),
+        (DROP, Done),
+    ],
+    &[
+        (TAKE, Sealed),
+        (PREPARE, Kept),
+        (CHANGE, Done),
+        (COMMIT, Sealed),
+        (DROP, Done),
+    ],
 ];
 
 #[test]
@@ -230,14 +277,7 @@ fn a_change_lets_go_of_what_it_took(rt: HostRuntime) -> Result<(), Fail> {
         task: 1,
         change: Change::SetFs(Kind::User, Arg::Keep),
     };
-    let are_made = [
-        makes(&change, &UNKNOWN)?,
-        makes(&change, &FULL)?,
-        makes(&change, &REFUSED)?,
-        makes(&change, &ENDED)?,
-        makes(&change, &COMMITTED)?,
-    ];
-    assert!(rt; are_made == [true; 5]);
+    assert!(rt; are_made(&change, &CHANGES)?);
     Ok(())
 }
 
@@ -253,40 +293,50 @@ const DROP_ACCESS: Name = ("drop", [100_032, 0, 0, 0]);
 
 const REVERT: Name = ("revert", [1, 0, 0, 0]);
 
-/// The whole course of access(2), where the check is answered so.
-fn checked(answer: Answer) -> [Step; 9] {
-    [
-        (TAKE, SEALED),
-        (PREPARE, KEPT),
-        (CHANGE_ACCESS, DONE),
-        (OVERRIDE, SEALED),
-        (TAKE_ACCESS, SEALED),
-        (CHECK, answer),
-        (DROP_ACCESS, DONE),
-        (REVERT, DONE),
-        (DROP, DONE),
-    ]
-}
-
-/// Task 1 has overridden its credential eight times already.
-const TOO_DEEP: [Step; 6] = [
-    (TAKE, SEALED),
-    (PREPARE, KEPT),
-    (CHANGE_ACCESS, DONE),
-    (OVERRIDE, Answer::TooDeep),
-    (ABORT, DONE),
-    (DROP, DONE),
-];
-
-/// All holds are taken by now.
-const NOT_HELD: [Step; 7] = [
-    (TAKE, SEALED),
-    (PREPARE, KEPT),
-    (CHANGE_ACCESS, DONE),
-    (OVERRIDE, SEALED),
-    (TAKE_ACCESS, Answer::TooMany(Counted::Holds)),
-    (REVERT, DONE),
-    (DROP, DONE),
+const ACCESSES: [&[Step]; 6] = [
+    &[
+        (TAKE, Sealed),
+        (PREPARE, Kept),
+        (CHANGE_ACCESS, Done),
+        (OVERRIDE, Sealed),
+        (TAKE_ACCESS, Sealed),
+        (CHECK, Done),
+        (DROP_ACCESS, Done),
+        (REVERT, Done),
+        (DROP, Done),
+    ],
+    &[
+        (TAKE, Sealed),
+        (PREPARE, Kept),
+        (CHANGE_ACCESS, Done),
+        (OVERRIDE, Sealed),
+        (TAKE_ACCESS, Sealed),
+        (CHECK, Denied),
+        (DROP_ACCESS, Done),
+        (REVERT, Done),
+        (DROP, Done),
+    ],
+    // All holds are taken by now.
+    &[
+        (TAKE, Sealed),
+        (PREPARE, Kept),
+        (CHANGE_ACCESS, Done),
+        (OVERRIDE, Sealed),
+        (TAKE_ACCESS, NoHoldLeft),
+        (REVERT, Done),
+        (DROP, Done),
+    ],
+    // Task 1 has overridden its credential eight times already.
+    &[
+        (TAKE, Sealed),
+        (PREPARE, Kept),
+        (CHANGE_ACCESS, Done),
+        (OVERRIDE, TooDeep),
+        (ABORT, Done),
+        (DROP, Done),
+    ],
+    &FULL,
+    &UNKNOWN,
 ];
 
 #[test]
@@ -296,15 +346,7 @@ fn access_overrides_checks_and_reverts(rt: HostRuntime) -> Result<(), Fail> {
         file: 4,
         want: READ,
     };
-    let are_made = [
-        makes(&access, &checked(DONE))?,
-        makes(&access, &checked(Answer::Eacces))?,
-        makes(&access, &NOT_HELD)?,
-        makes(&access, &TOO_DEEP)?,
-        makes(&access, &FULL)?,
-        makes(&access, &UNKNOWN)?,
-    ];
-    assert!(rt; are_made == [true; 6]);
+    assert!(rt; are_made(&access, &ACCESSES)?);
     Ok(())
 }
 
@@ -314,7 +356,7 @@ fn late(event: &Event) -> Answer {
         Event::Take { .. } => SEALED,
         Event::Prepare { .. } => KEPT,
         Event::Commit { .. } => STALE,
-        _ => DONE,
+        _ => Answer::Done,
     }
 }
 

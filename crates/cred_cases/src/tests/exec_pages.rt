@@ -20,7 +20,7 @@ pub const OWNER: u32 = 500;
 pub const GROUP: u32 = 50;
 
 /// In which of the process's sets the capability is.
-#[derive(Clone, Copy, PartialEq, Eq, Debug)]
+#[derive(Clone, Copy, Debug)]
 pub struct Held {
     pub permitted: bool,
     pub inheritable: bool,
@@ -72,7 +72,7 @@ pub struct Program {
 }
 
 /// Where the process gained the capability.
-#[derive(Clone, Copy, PartialEq, Eq, Debug)]
+#[derive(Clone, Copy, PartialEq, Eq)]
 pub enum Source {
     File,
     Inherit,
@@ -81,7 +81,7 @@ pub enum Source {
 
 /// The process after execve: its effective ids, in which sets it has the capability, and whether
 /// and how it gained it.
-#[derive(Clone, Copy, PartialEq, Eq, Debug)]
+#[derive(Clone, Copy)]
 pub struct After {
     pub user: u32,
     pub group: u32,

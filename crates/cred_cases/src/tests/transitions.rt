@@ -2,7 +2,7 @@
 //! pages say in prose: setuid(2), seteuid(2), setreuid(2), setresuid(2) and setfsuid(2). Each page
 //! is written down here sentence by sentence, apart from the definitions.
 use crate::tests::parts::{ids, task};
-use cred_ids::{Arg, Kind, NoMemory};
+use cred_ids::{Arg, Kind};
 use cred_record::{Cred, IdCall, Refusal};
 use cred_setid::{apply, setfs};
 use std::alloc::Global;
@@ -11,18 +11,17 @@ use std::test::Fail;
 /// `(uid_t) -1`, which is no user.
 const NONE: u32 = u32::MAX;
 
-const IDS: [u32; 3] = [0, 1, 2];
-
 const ARGS: [u32; 4] = [NONE, 0, 1, 2];
 
-/// A process, as the pages speak of it. It is privileged if it has CAP_SETUID.
+/// A process, as the pages speak of it. It is privileged if it has the capability that a call asks
+/// for, which is CAP_SETUID here.
 #[derive(Clone, Copy, PartialEq, Eq, Debug)]
-struct Process {
-    real: u32,
-    effective: u32,
-    saved: u32,
-    fs: u32,
-    privileged: bool,
+pub(crate) struct Process {
+    pub(crate) real: u32,
+    pub(crate) effective: u32,
+    pub(crate) saved: u32,
+    pub(crate) fs: u32,
+    pub(crate) privileged: bool,
 }
 
 /// "whenever the effective user ID is changed, the kernel also changes the filesystem user ID to
@@ -159,85 +158,101 @@ fn after(alloc: Global, p: Process, call: &IdCall) -> Result<Result<Process, Ref
     Ok(apply(alloc, &cred, call).map(|new| with_ids(p, &new)))
 }
 
-/// Each process with the ids 0, 1 and 2, privileged and not.
-fn processes(alloc: Global) -> Result<Vec<Process>, NoMemory> {
-    let mut all = Vec::new(alloc);
-    for privileged in [false, true] {
-        for real in IDS {
-            for effective in IDS {
-                for saved in IDS {
-                    for fs in IDS {
-                        all.push(Process {
-                            real,
-                            effective,
-                            saved,
-                            fs,
-                            privileged,
-                        })?;
-                    }
-                }
-            }
-        }
+/// How many processes there are with the ids 0, 1 and 2, privileged and not.
+pub(crate) const PROCESSES: u32 = 162;
+
+/// Each of them by a number below that, whose digits to the base 3 are its ids.
+pub(crate) fn process_of(number: u32) -> Process {
+    Process {
+        real: number / 27 % 3,
+        effective: number / 9 % 3,
+        saved: number / 3 % 3,
+        fs: number % 3,
+        privileged: number >= 81,
     }
-    Ok(all)
+}
+
+/// Whether the calls with one argument are as their pages say.
+fn one_is_as_said(alloc: Global, p: Process, a: u32) -> Result<bool, Fail> {
+    let uid = after(alloc, p, &IdCall::SetUid(Arg::of(a)))?;
+    let euid = after(alloc, p, &IdCall::SetEuid(Arg::of(a)))?;
+    Ok((uid, euid) == (setuid(p, a), seteuid(p, a)))
 }
 
 #[test]
 fn one_argument_is_as_the_pages_say(rt: HostRuntime) -> Result<(), Fail> {
-    let alloc = rt.alloc();
-    for p in &processes(alloc)? {
-        for a in ARGS {
-            let uid = after(alloc, *p, &IdCall::SetUid(Arg::of(a)))?;
-            let euid = after(alloc, *p, &IdCall::SetEuid(Arg::of(a)))?;
-            assert!(rt; (uid, euid) == (setuid(*p, a), seteuid(*p, a)), "{p:?} {a}");
+    for number in 0..PROCESSES {
+        let p = process_of(number);
+        for a in &ARGS {
+            let is_as_said = one_is_as_said(rt.alloc(), p, *a)?;
+            assert!(rt; is_as_said, "{p:?} {a}");
         }
     }
     Ok(())
+}
+
+/// Whether setfsuid is as its page says: "On both success and failure, this call returns the
+/// previous filesystem user ID."
+fn setfsuid_is_as_said(alloc: Global, p: Process, a: u32) -> Result<bool, Fail> {
+    let (new, previous) = setfs(&credential(alloc, p)?, Kind::User, Arg::of(a))?;
+    Ok((with_ids(p, &new), previous.number()) == (setfsuid(p, a), p.fs))
 }
 
 #[test]
 fn setfsuid_is_as_the_page_says(rt: HostRuntime) -> Result<(), Fail> {
-    let alloc = rt.alloc();
-    for p in &processes(alloc)? {
-        for a in ARGS {
-            let (new, previous) = setfs(&credential(alloc, *p)?, Kind::User, Arg::of(a))?;
-            let answer = (with_ids(*p, &new), previous.number());
-            // "On both success and failure, this call returns the previous filesystem user ID."
-            assert!(rt; answer == (setfsuid(*p, a), p.fs), "{p:?} {a}");
+    for number in 0..PROCESSES {
+        let p = process_of(number);
+        for a in &ARGS {
+            let is_as_said = setfsuid_is_as_said(rt.alloc(), p, *a)?;
+            assert!(rt; is_as_said, "{p:?} {a}");
         }
     }
     Ok(())
+}
+
+/// Arguments of setreuid that are answered otherwise than its page says.
+fn other_two(alloc: Global, p: Process) -> Result<Option<(u32, u32)>, Fail> {
+    for a in ARGS {
+        for b in ARGS {
+            let new = after(alloc, p, &IdCall::SetReuid(Arg::of(a), Arg::of(b)))?;
+            if new != setreuid(p, a, b) {
+                return Ok(Some((a, b)));
+            }
+        }
+    }
+    Ok(None)
 }
 
 #[test]
 fn two_arguments_are_as_the_page_says(rt: HostRuntime) -> Result<(), Fail> {
-    let alloc = rt.alloc();
-    for p in &processes(alloc)? {
-        for a in ARGS {
-            for b in ARGS {
-                let call = IdCall::SetReuid(Arg::of(a), Arg::of(b));
-                let new = after(alloc, *p, &call)?;
-                assert!(rt; new == setreuid(*p, a, b), "{p:?} {a} {b}");
-            }
-        }
+    for number in 0..PROCESSES {
+        let p = process_of(number);
+        let other = other_two(rt.alloc(), p)?;
+        assert!(rt; other.is_none(), "{p:?} {other:?}");
     }
     Ok(())
 }
 
+/// Arguments of setresuid, after this first one, that are answered otherwise than its page says.
+fn other_three(alloc: Global, p: Process, a: u32) -> Result<Option<(u32, u32)>, Fail> {
+    for b in ARGS {
+        for d in ARGS {
+            let call = IdCall::SetResuid(Arg::of(a), Arg::of(b), Arg::of(d));
+            if after(alloc, p, &call)? != setresuid(p, a, b, d) {
+                return Ok(Some((b, d)));
+            }
+        }
+    }
+    Ok(None)
+}
+
 #[test]
 fn three_arguments_are_as_the_page_says(rt: HostRuntime) -> Result<(), Fail> {
-    let alloc = rt.alloc();
-    let all = processes(alloc)?;
-    assert_eq!(rt; all.len(), 162);
-    for p in &all {
-        for a in ARGS {
-            for b in ARGS {
-                for d in ARGS {
-                    let call = IdCall::SetResuid(Arg::of(a), Arg::of(b), Arg::of(d));
-                    let new = after(alloc, *p, &call)?;
-                    assert!(rt; new == setresuid(*p, a, b, d), "{p:?} {a} {b} {d}");
-                }
-            }
+    for number in 0..PROCESSES {
+        let p = process_of(number);
+        for a in &ARGS {
+            let other = other_three(rt.alloc(), p, *a)?;
+            assert!(rt; other.is_none(), "{p:?} {a} {other:?}");
         }
     }
     Ok(())
