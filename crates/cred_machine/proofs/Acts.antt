@@ -1,5 +1,5 @@
 -- A thread that waits makes its step in a broadcast, or its process ends.
-use Rattle.std.proofs.Common.{◌≡◌, ℕ, ◌+◌, ◌-◌, not, Bool, true, false, length, is_some, slice_get, None, Some, Ok, Err, refl, ap, ◌∙◌, arith}
+use Rattle.std.proofs.Common.{◌≡◌, ℕ, ◌+◌, ◌-◌, ◌==◌, not, Bool, true, false, List, find, length, is_some, slice_get, None, Some, Ok, Err, refl, sym, ap, ◌∙◌, arith}
 use Rattle.cred_record.specs.Credential.{Credential}
 use Rattle.cred_record.specs.declared.refusal.Denial.{Denial}
 use Rattle.cred_rules.specs.SetId.{set_id}
@@ -13,6 +13,7 @@ use Rattle.cred_model.specs.Slots.{free, least_free, swept}
 use Rattle.cred_model.specs.Step.{aborted, by_act, outcome}
 use Rattle.cred_machine.specs.Room.{swept_if}
 use Rattle.cred_machine.proofs.Rooms.{in_free, in_none}
+use Rattle.cred_machine.proofs.Seen.{found_in}
 
 act_does : (task old : ℕ) (new : Credential) (cast : Broadcast) → State → ℕ → Answer × State
 act_does task old new cast s slot =
@@ -24,6 +25,17 @@ pub record IsNext (s : State) (number task : ℕ) (cast : Broadcast) (owner : Ta
   pub least : slice_get cast.waiting 0 ≡ Some task
   pub lives : task_of s task ≡ Some owner
   pub has : numbered s.creds owner.current ≡ Some old
+
+-- by what was read of them
+pub next_is : (s : State) (number task : ℕ) (looked : List Broadcast) (cast seen : Broadcast) (owner whose : Task) (old : Numbered)
+    → looked ≡ s.casts → Some seen ≡ find (λ b. b.number == number) looked → cast ≡ seen → Some task ≡ slice_get seen.waiting 0
+    → Some whose ≡ task_of s task → owner ≡ whose → Some old ≡ numbered s.creds owner.current → IsNext s number task cast owner old
+next_is s number task looked cast seen owner whose old same found read least lives own has = record {
+  found = found_in (λ (b : Broadcast). b.number == number) s.casts looked cast seen same found read;
+  least = ap (λ (b : Broadcast). slice_get b.waiting 0) read ∙ sym least;
+  lives = sym lives ∙ ap Some (sym own);
+  has = sym has;
+}
 
 module _ (s : State) (number task : ℕ) (cast : Broadcast) (owner : Task) (old : Numbered) (next : IsNext s number task cast owner old) where
   pub act_refused : (denial : Denial) → set_id old.cred cast.call ≡ Err denial → outcome s (by_act s number) ≡ (Aborted task Perm, aborted cast s)

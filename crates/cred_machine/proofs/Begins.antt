@@ -1,5 +1,6 @@
 -- An id call that a task makes, and what refuses it.
-use Rattle.std.proofs.Common.{◌≡◌, ℕ, true, List, is_some, Some, None, Result, Ok, Err, refl, sym, ap, ◌∙◌, inl, inr}
+use Rattle.std.proofs.Common.{◌≡◌, ℕ, ◌==◌, Bool, false, List, find, is_some, Option, Some, Result, Ok, Err, refl, sym, ap, ◌∙◌, inl, inr}
+use Rattle.std.specs.Option.{option_map}
 use Rattle.std.specs.Result.{IfOk}
 use Rattle.cred_record.specs.Answer.{AnswersBy}
 use Rattle.cred_record.specs.Credential.{Credential}
@@ -9,16 +10,18 @@ use Rattle.cred_record.specs.declared.refusal.Denial.TheVariants as denial
 use Rattle.cred_record.specs.declared.refusal.Refusal.TheVariants as refusal
 use Rattle.cred_rules.specs.SetId.{set_id}
 use Rattle.cred_event.specs.declared.answer.Answer.{Answer}
-use Rattle.cred_event.specs.declared.answer.Answer.TheVariants.{Eperm, Einval, Exists}
-use Rattle.cred_event.specs.declared.answer.Named.TheVariants as named
-use Rattle.cred_model.specs.State.{State, Task, Broadcast, Numbered, numbered, task_of, cast_in, cast_of}
+use Rattle.cred_event.specs.declared.answer.Answer.TheVariants.{Eperm, Einval}
+use Rattle.cred_model.specs.State.{State, Task, Broadcast, Numbered, numbered, task_of, cast_in}
 use Rattle.cred_model.specs.Casts.{not_busy, others_of}
 use Rattle.cred_model.specs.Moves.{in_slot, not_overridden, table_full}
 use Rattle.cred_model.specs.Step.{by_begin, outcome}
 use Rattle.cred_model.proofs.Numbers.{owner_number}
+use Rattle.cred_model.proofs.Places.{none_by_test}
 use Rattle.cred_machine.specs.Room.{begun}
 use Rattle.cred_plain.specs.Tasks.{others_in}
+use Rattle.cred_plain.proofs.Places.{none_is}
 use Rattle.cred_machine.proofs.Events.{CanBegin, begin_tests}
+use Rattle.cred_machine.proofs.Leads.{idle_in}
 
 -- ---- what the rule says, by the call's answer
 
@@ -41,18 +44,24 @@ rule_invalid (Err denial.Invalid) is = refl
 
 -- ---- what refuses the call
 
-module _ (s : State) (line task : ℕ) (call : IdCall) (owner : Task) (old : Numbered) (lives : task_of s task ≡ Some owner)
-    (has : numbered s.creds owner.current ≡ Some old) where
-  pub begin_busy : (answer : Answer) → not_busy (cast_in s owner.process) ≡ Err answer → outcome s (by_begin s line task call) ≡ (answer, s)
-  begin_busy answer busy = rw (lives, has, busy) refl
+pub begin_busy : (s : State) (line task : ℕ) (call : IdCall) (owner : Task) (old : Numbered) → task_of s task ≡ Some owner → numbered s.creds owner.current ≡ Some old
+    → (answer : Answer) → not_busy (cast_in s owner.process) ≡ Err answer → outcome s (by_begin s line task call) ≡ (answer, s)
+begin_busy s line task call owner old lives has answer busy = rw (lives, has, busy) refl
 
-  module _ (idle : not_busy (cast_in s owner.process) ≡ Ok tt) where
-    pub begin_exists : is_some (cast_of s line) ≡ true → outcome s (by_begin s line task call) ≡ (Exists named.Broadcast line, s)
-    begin_exists there = rw (lives, has, idle, there) refl
-
-    pub begin_overridden : (answer : Answer) → cast_of s line ≡ None → not_overridden owner ≡ Err answer
-        → outcome s (by_begin s line task call) ≡ (answer, s)
-    begin_overridden answer new own = rw (lives, has, idle, new, own) refl
+-- by what was read
+pub can_begin : {X : Type 0} (f : X → Broadcast) (s : State) (line task : ℕ) (owner whose : Task) (old : Numbered) (looked again : List Broadcast)
+    (other : Option X) (exists : Bool)
+    → Some whose ≡ task_of s task → owner ≡ whose → Some old ≡ numbered s.creds owner.current
+    → looked ≡ s.casts → not_busy (find (λ b. b.process == owner.process) looked) ≡ Ok tt
+    → again ≡ s.casts → option_map f other ≡ find (λ b. b.number == line) again → exists ≡ is_some other → exists ≡ false
+    → not_overridden whose ≡ Ok tt → CanBegin s line task owner old
+can_begin f s line task owner whose old looked again other exists lives own has same idle still found is new unlent = record {
+  lives = sym lives ∙ ap Some (sym own);
+  has = sym has;
+  idle = idle_in s looked owner.process (Ok tt) same idle;
+  new = ap (find (λ (b : Broadcast). b.number == line)) (sym still) ∙ none_is f other _ found (none_by_test other exists is new);
+  own = ap not_overridden own ∙ unlent;
+}
 
 module _ (s : State) (line task : ℕ) (call : IdCall) (owner : Task) (old : Numbered) (can : CanBegin s line task owner old) where
   pub begin_eperm : set_id old.cred call ≡ Err denial.Perm → outcome s (by_begin s line task call) ≡ (Eperm, s)

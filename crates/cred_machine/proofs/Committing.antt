@@ -1,12 +1,12 @@
 -- What a commit leads to, by the parts of the state after it, or how it is refused.
-use Rattle.std.proofs.Common.{◌≡◌, ◌≢◌, ℕ, ◌<◌, ◌==◌, List, [], ◌∷◌, ◌++◌, count_by, get_or, length, position, remove, slice_get, Some, None, Result, Ok, Err, append_assoc, refl, sym, ap, ◌∙◌, subst}
+use Rattle.std.proofs.Common.{◌≡◌, ◌≢◌, ℕ, ◌<◌, ◌==◌, List, [], ◌∷◌, ◌++◌, count_by, get_or, length, position, remove, slice_get, Some, Result, Ok, Err, append_assoc, refl, sym, ap, ◌∙◌, subst}
 use Rattle.std.specs.Option.{option_and_then}
 use Rattle.std.specs.Result.{IfOk}
 use Rattle.std.proofs.lemmas.Result.{IfOk-weaker}
 use Rattle.std.proofs.lemmas.Option.{slice_get-get_or, slice_get_within}
 use Rattle.cred_record.specs.Credential.{Credential}
 use Rattle.cred_event.specs.declared.answer.Answer.{Answer}
-use Rattle.cred_event.specs.declared.answer.Answer.TheVariants.{NoPrepared, NoTask, Stale}
+use Rattle.cred_event.specs.declared.answer.Answer.TheVariants.{Stale}
 use Rattle.cred_model.specs.State.{State, Broadcast, Changed, Prepared, SealedCred, Task, begun_by, task_of}
 use Rattle.cred_model.specs.Casts.{not_busy}
 use Rattle.cred_model.specs.Ends.{left_by, survivors}
@@ -19,6 +19,7 @@ use Rattle.cred_plain.specs.declared.tasks.Ending.{Ending}
 use Rattle.cred_sound.proofs.Events.{changed_for_task}
 use Rattle.cred_machine.proofs.Commits.{settled, stale}
 use Rattle.cred_machine.proofs.Events.{commit_tests}
+use Rattle.cred_machine.proofs.Seen.{placed}
 
 some_same : {X : Type 0} (x y : X) → Some x ≡ Some y → x ≡ y
 some_same x y is = cc
@@ -34,6 +35,13 @@ pub own_is : (s : State) (place : ℕ) (can : CanCommit s place) (own : Prepared
 own_is s place can own is =
     let there : slice_get s.prepared place ≡ Some own = slice_get-get_or s.prepared place own (is_within s place can) ∙ ap Some (sym is) in
     subst (λ (p : Prepared). IsChanged s place p can.owner can.last) (some_same can.p own (sym can.is.there ∙ there)) can.is
+
+-- by what was read there, and of its task
+pub read_is : (s : State) (place : ℕ) (can : CanCommit s place) (p seen : Prepared) (owner whose : Task) → p ≡ seen → seen ≡ get_or s.prepared place seen
+    → owner ≡ whose → task_of s p.task ≡ Some whose → IsChanged s place p owner can.last
+read_is s place can p seen owner whose read is own lives =
+    let at = own_is s place can p (subst (λ (q : Prepared). q ≡ get_or s.prepared place q) (sym read) is) in
+    record { there = at.there; changed = at.changed; lives = lives ∙ ap Some (sym own) }
 
 module _ (s : State) (place : ℕ) (p : Prepared) (owner : Task) (last : Changed) (is : IsChanged s place p owner last) where
   -- There is one such label, task and change alone.
@@ -122,31 +130,42 @@ gathered none left first more all x y empty one two three =
 
 -- ---- the tests of a commit
 
-module _ (s : State) (label place : ℕ) (p : Prepared) (at : position (λ p. p.label == label) s.prepared ≡ Some place)
-    (there : slice_get s.prepared place ≡ Some p) where
-  pub commit_unchanged : option_and_then for_task p.changed ≡ None → outcome s (by_commit s label) ≡ (NoPrepared label, s)
-  commit_unchanged none = rw (at, there, none) refl
+-- What they find: the label, its last change, and its task.
+pub record Finds (s : State) (label place : ℕ) (p : Prepared) (last : Changed) (owner : Task) : Type 0 where
+  pub at : position (λ p. p.label == label) s.prepared ≡ Some place
+  pub there : slice_get s.prepared place ≡ Some p
+  pub changed : option_and_then for_task p.changed ≡ Some last
+  pub lives : task_of s p.task ≡ Some owner
 
-  module _ (last : Changed) (changed : option_and_then for_task p.changed ≡ Some last) where
-    pub commit_no_task : task_of s p.task ≡ None → outcome s (by_commit s label) ≡ (NoTask p.task, s)
-    commit_no_task none = rw (at, there, changed, none) refl
+-- by what was read of them
+pub finds : (s : State) (label place : ℕ) (looked : List Prepared) (p seen : Prepared) (last : Changed) (owner : Task)
+    → looked ≡ s.prepared → Some place ≡ position (λ p. p.label == label) looked → p ≡ seen → seen ≡ get_or s.prepared place seen
+    → Some last ≡ option_and_then for_task seen.changed → Some owner ≡ task_of s p.task → Finds s label place p last owner
+finds s label place looked p seen last owner same found read is changed lives =
+    let at = placed (λ (q : Prepared). q.label == label) s.prepared looked place seen same found is in
+    record {
+      at = at.0;
+      there = at.1 ∙ ap Some (sym read);
+      changed = ap (λ (q : Prepared). option_and_then for_task q.changed) read ∙ sym changed;
+      lives = sym lives;
+    }
 
-    module _ (owner : Task) (lives : task_of s p.task ≡ Some owner) where
-      pub commit_busy : (answer : Answer) → not_busy (begun_by s p.task) ≡ Err answer → outcome s (by_commit s label) ≡ (answer, s)
-      commit_busy answer busy = rw (at, there, changed, lives, busy) refl
+module _ (s : State) (label place : ℕ) (p : Prepared) (last : Changed) (owner : Task) (found : Finds s label place p last owner) where
+  pub commit_busy : (answer : Answer) → not_busy (begun_by s p.task) ≡ Err answer → outcome s (by_commit s label) ≡ (answer, s)
+  commit_busy answer busy = rw (found.at, found.there, found.changed, found.lives, busy) refl
 
-      pub commit_overridden : (answer : Answer) → not_busy (begun_by s p.task) ≡ Ok tt → not_overridden owner ≡ Err answer
-          → outcome s (by_commit s label) ≡ (answer, s)
-      commit_overridden answer idle own = rw (at, there, changed, lives, idle, own) refl
+  pub commit_overridden : (answer : Answer) → not_busy (begun_by s p.task) ≡ Ok tt → not_overridden owner ≡ Err answer
+      → outcome s (by_commit s label) ≡ (answer, s)
+  commit_overridden answer idle own = rw (found.at, found.there, found.changed, found.lives, idle, own) refl
 
-      is_changed : IsChanged s place p owner last
-      is_changed = record { there = there; changed = changed_for_task p.changed last changed; lives = lives }
+  is_changed : IsChanged s place p owner last
+  is_changed = record { there = found.there; changed = changed_for_task p.changed last found.changed; lives = found.lives }
 
-      pub can_commit : CanCommit s place
-      can_commit = record { p = p; owner = owner; last = last; is = is_changed }
+  pub can_commit : CanCommit s place
+  can_commit = record { p = p; owner = owner; last = last; is = is_changed }
 
-      pub commit_does : {E : Type 0} (result : Result Answer E) (after : State) → not_busy (begun_by s p.task) ≡ Ok tt → not_overridden owner ≡ Ok tt
-          → IfOk result (λ answer. Commits s place answer after) → IfOk result (λ answer. outcome s (by_commit s label) ≡ (answer, after))
-      commit_does result after idle own =
-          IfOk-weaker result (λ answer. Commits s place answer after) (λ answer. outcome s (by_commit s label) ≡ (answer, after))
-          (λ answer does. commit_tests s label place p owner last at there changed lives idle own ∙ does p owner last is_changed)
+  pub commit_does : {E : Type 0} (result : Result Answer E) (after : State) → not_busy (begun_by s p.task) ≡ Ok tt → not_overridden owner ≡ Ok tt
+      → IfOk result (λ answer. Commits s place answer after) → IfOk result (λ answer. outcome s (by_commit s label) ≡ (answer, after))
+  commit_does result after idle own =
+      IfOk-weaker result (λ answer. Commits s place answer after) (λ answer. outcome s (by_commit s label) ≡ (answer, after))
+      (λ answer does. commit_tests s label place p owner last found.at found.there found.changed found.lives idle own ∙ does p owner last is_changed)

@@ -1,33 +1,16 @@
 -- What the events do where none of their tests refuses.
-use Rattle.std.proofs.Common.{◌≡◌, ℕ, ◌==◌, nat_lt, [], ◌∷◌, ◌++◌, drop, find, length, position, remove, slice_get, true, Some, None, Ok, refl}
+use Rattle.std.proofs.Common.{◌≡◌, ℕ, ◌==◌, nat_lt, [], ◌∷◌, ◌++◌, find, length, position, slice_get, true, Some, None, Ok, refl}
 use Rattle.cred_record.specs.Credential.{Credential, first_credential}
 use Rattle.cred_record.specs.declared.id_call.IdCall.{IdCall}
 use Rattle.cred_rules.specs.SetId.{set_id}
 use Rattle.cred_event.specs.declared.answer.Answer.TheVariants.{Done, Kept, Sealed}
-use Rattle.cred_model.specs.State.{State, Broadcast, Changed, Hold, OpenFile, Prepared, Task, Numbered, begun_by, cast_in, cast_of, hold_of, numbered, prepared_of, task_of}
+use Rattle.cred_model.specs.State.{State, Broadcast, Changed, Hold, Prepared, Task, Numbered, begun_by, cast_in, cast_of, hold_of, numbered, prepared_of, task_of}
 use Rattle.cred_model.specs.Casts.{joined, not_busy, waits_no_more, others_of}
 use Rattle.cred_model.specs.Ends.{is_task, is_thread_of, left_by, survivors}
-use Rattle.cred_model.specs.Moves.{PREPARED, TASKS, created, first_task, given_up, in_slot, not_overridden, preparing, table_full, with_overrides}
-use Rattle.cred_model.specs.Step.{by_abort, by_begin, by_close, by_commit, by_exit, by_fork, by_init, by_prepare, by_release, by_revert, by_spawn, outcome, try_commit, for_task}
+use Rattle.cred_model.specs.Moves.{PREPARED, TASKS, created, first_task, in_slot, not_overridden, preparing, table_full}
+use Rattle.cred_model.specs.Step.{by_begin, by_commit, by_exit, by_fork, by_init, by_prepare, by_spawn, outcome, try_commit, for_task}
 use Rattle.std.specs.Option.{option_and_then}
 use Rattle.cred_machine.specs.Room.{begun}
-
-pub released : (s : State) (label place : ℕ) (hold : Hold) → position (λ h. h.label == label) s.holds ≡ Some place → slice_get s.holds place ≡ Some hold
-    → outcome s (by_release s label) ≡ (Done, record s { holds = remove s.holds place; deferred = s.deferred ++ hold.number ∷ [] })
-released s label place hold at there = rw (at, there) refl
-
-pub closed : (s : State) (fd place : ℕ) (file : OpenFile) → position (λ f. f.fd == fd) s.files ≡ Some place → slice_get s.files place ≡ Some file
-    → outcome s (by_close s fd) ≡ (Done, record s { files = remove s.files place; deferred = s.deferred ++ file.opener ∷ [] })
-closed s fd place file at there = rw (at, there) refl
-
-pub aborted_at : (s : State) (label place : ℕ) (p : Prepared) → position (λ p. p.label == label) s.prepared ≡ Some place → slice_get s.prepared place ≡ Some p
-    → outcome s (by_abort s label) ≡ (Done, given_up s place p)
-aborted_at s label place p at there = rw (at, there) refl
-
-pub reverted : (s : State) (task newest : ℕ) (owner : Task) → task_of s task ≡ Some owner → slice_get owner.overrides 0 ≡ Some newest
-    → outcome s (by_revert s task)
-    ≡ (Done, record s { tasks = with_overrides s.tasks task (drop 1 owner.overrides); deferred = s.deferred ++ newest ∷ [] })
-reverted s task newest owner lives first = rw (lives, first) refl
 
 pub exited : (s : State) (task : ℕ) (owner : Task) → task_of s task ≡ Some owner → not_busy (begun_by s task) ≡ Ok tt → not_overridden owner ≡ Ok tt
     → outcome s (by_exit s task)

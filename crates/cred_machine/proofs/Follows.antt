@@ -23,36 +23,27 @@ aborts s after number task cause cast (Ok answer) gives is leads =
     gives ∙ ap (λ (r : State). (Aborted task cause, r)) (sym (leads cast refl)) ∙ ap (λ (a : Answer). (a, after)) (sym is)
 aborts s after number task cause cast (Err e) gives is leads = tt
 
-module _ (s : State) (number : ℕ) (cast : Broadcast) (found : cast_of s number ≡ Some cast) where
-  pub act_nobody : slice_get cast.waiting 0 ≡ None → outcome s (by_act s number) ≡ (NoBroadcast number, s)
-  act_nobody none = rw (found, none) refl
+pub act_unsealed : (s : State) (number : ℕ) (cast : Broadcast) → cast_of s number ≡ Some cast → (task : ℕ) → slice_get cast.waiting 0 ≡ Some task
+    → (owner : Task) → task_of s task ≡ Some owner → numbered s.creds owner.current ≡ None → outcome s (by_act s number) ≡ (NoBroadcast number, s)
+act_unsealed s number cast found task least owner lives none = rw (found, least, lives, none) refl
 
-  module _ (task : ℕ) (least : slice_get cast.waiting 0 ≡ Some task) where
-    pub act_dead : task_of s task ≡ None → outcome s (by_act s number) ≡ (NoBroadcast number, s)
-    act_dead none = rw (found, least, none) refl
-
-    pub act_unsealed : (owner : Task) → task_of s task ≡ Some owner → numbered s.creds owner.current ≡ None
-        → outcome s (by_act s number) ≡ (NoBroadcast number, s)
-    act_unsealed owner lives none = rw (found, least, lives, none) refl
-
-    module _ (owner : Task) (old : Numbered) (lives : task_of s task ≡ Some owner) (has : numbered s.creds owner.current ≡ Some old)
-        (made : Credential) (rule : set_id old.cred cast.call ≡ Ok made) where
-      pub steps : (after : State) (casts : List Broadcast) (sweep : Bool) (slot left given : ℕ) → free s ≡ Some slot
-          → sweep ≡ not (is_some (least_free s)) → left + 1 ≡ length cast.waiting → given ≡ length s.creds
-          → after ≡ replaced (swept_if sweep s) task old.number made slot → casts ≡ waits_no_more task after.casts
-          → outcome s (by_act s number) ≡ (Acted task given slot left, record after { casts = casts })
-      steps after casts sweep slot left given is for many counted leads cs =
-          let next : IsNext s number task cast owner old = record { found = found; least = least; lives = lives; has = has } in
-          acts s number task cast owner old next made rule sweep slot left is for many
-          ∙ rw (cs, leads, counted) (same sweep)
-        where
-          same : (b : Bool)
-              → ◌≡◌ {A = Answer × State} (
-                Acted task (length s.creds) slot left,
-                record (replaced (swept_if b s) task old.number made slot) { casts = waits_no_more task s.casts },
-              ) (
-                Acted task (length s.creds) slot left,
-                record (replaced (swept_if b s) task old.number made slot) { casts = waits_no_more task (replaced (swept_if b s) task old.number made slot).casts },
-              )
-          same true = refl
-          same false = refl
+module _ (s : State) (number task : ℕ) (cast : Broadcast) (owner : Task) (old : Numbered) (next : IsNext s number task cast owner old)
+    (made : Credential) (rule : set_id old.cred cast.call ≡ Ok made) where
+  pub steps : (after : State) (casts : List Broadcast) (sweep : Bool) (slot left given : ℕ) → free s ≡ Some slot
+      → sweep ≡ not (is_some (least_free s)) → left + 1 ≡ length cast.waiting → given ≡ length s.creds
+      → after ≡ replaced (swept_if sweep s) task old.number made slot → casts ≡ waits_no_more task after.casts
+      → outcome s (by_act s number) ≡ (Acted task given slot left, record after { casts = casts })
+  steps after casts sweep slot left given is for many counted leads cs =
+      acts s number task cast owner old next made rule sweep slot left is for many
+      ∙ rw (cs, leads, counted) (same sweep)
+    where
+      same : (b : Bool)
+          → ◌≡◌ {A = Answer × State} (
+            Acted task (length s.creds) slot left,
+            record (replaced (swept_if b s) task old.number made slot) { casts = waits_no_more task s.casts },
+          ) (
+            Acted task (length s.creds) slot left,
+            record (replaced (swept_if b s) task old.number made slot) { casts = waits_no_more task (replaced (swept_if b s) task old.number made slot).casts },
+          )
+      same true = refl
+      same false = refl

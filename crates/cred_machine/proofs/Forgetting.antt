@@ -9,7 +9,7 @@ use Rattle.std.proofs.lemmas.List.Folds.{list_any-append, list_any_at}
 use Rattle.cred_event.specs.declared.answer.Answer.{Answer}
 use Rattle.cred_event.specs.declared.event.Event.{Event}
 use Rattle.cred_model.specs.Script.{Script}
-use Rattle.cred_model.specs.State.{State, SealedCred, Task, OpenFile, Hold, Prepared, opening}
+use Rattle.cred_model.specs.State.{State, SealedCred, Task, OpenFile, Hold, Prepared}
 use Rattle.cred_model.specs.Slots.{refs}
 use Rattle.cred_model.specs.Step.{done}
 use Rattle.cred_model.specs.Like.{GivesLike, IsLike, IsOutcomeLike}
@@ -143,9 +143,6 @@ stays_kept s t answer keeps unswept before = by keeps.swept
         still_kept s t keeps.creds
         (subst (λ (left : List ℕ). All (Contains (refs t)) (refs (with_left s left))) same (refs_each (Contains (refs t)) (with_left s keeps.left) keeps.each)) before
     by (inr swept) = let never : true ≡ false = sym swept ∙ unswept in cc
-
-pub opening_kept : KeepsReferred opening
-opening_kept n none = tt
 
 -- what an event gave, where something was forgotten after it
 pub gives_like : (gives : Answer × State) (answer : Answer) (mid after : State) → gives ≡ (answer, mid) → IsLike after mid → IsOutcomeLike gives answer after

@@ -3,7 +3,7 @@ use Rattle.std.proofs.Common.{◌≡◌, ℕ, zero, suc, ◌+◌, ◌<◌, ◌�
 use Rattle.std.specs.List.{list_any, range_with_len}
 use Rattle.std.proofs.lemmas.List.Folds.{list_any-append}
 use Rattle.cred_model.specs.State.{State, SealedCred, Prepared}
-use Rattle.cred_model.specs.Slots.{SLOTS, slots, stands_in, in_use, least_free, free, swept}
+use Rattle.cred_model.specs.Slots.{SLOTS, slots, stands_in, least_free, free, swept}
 use Rattle.cred_machine.specs.Slots.{is_live_by}
 
 same_found : (p q : ℕ → Bool) (a n : ℕ) → ((k : ℕ) → a ≤ k → k < a + n → p k ≡ q k) → find p (range_with_len a n) ≡ find q (range_with_len a n)
@@ -33,16 +33,6 @@ marked creds used late prepared k m0 m1 m2 m3 none one two three =
     ∙ ap (λ b. b || list_any (stands_in creds k) late) (one ∙ ap (λ b. b || list_any (stands_in creds k) used) none)
     ∙ sym (list_any-append (stands_in creds k) used late))
     ∙ ap (λ b. list_any (stands_in creds k) (used ++ late) || b) (sym (any-map (λ s. s == k) (λ p. p.slot) prepared))
-
--- what is found by parts that are the state's
-pub least_is : (s : State) (slot : Option ℕ) (used late : List ℕ) (prepared : List Prepared)
-    → slot ≡ find (λ k. not (is_live_by s.creds (used ++ late) (map (λ (p : Prepared). p.slot) prepared) k)) slots
-    → used ≡ in_use s → late ≡ s.deferred → prepared ≡ s.prepared → slot ≡ least_free s
-least_is s slot used late prepared is us ls ps =
-    is
-    ∙ ap (λ (u : List ℕ). find (λ k. not (is_live_by s.creds (u ++ late) (map (λ (p : Prepared). p.slot) prepared) k)) slots) us
-    ∙ ap (λ (l : List ℕ). find (λ k. not (is_live_by s.creds (in_use s ++ l) (map (λ (p : Prepared). p.slot) prepared) k)) slots) ls
-    ∙ ap (λ (q : List Prepared). find (λ k. not (is_live_by s.creds (in_use s ++ s.deferred) (map (λ (p : Prepared). p.slot) q) k)) slots) ps
 
 module _ (s : State) (slot : Option ℕ) (is : slot ≡ least_free s) where
   tests : (b : Bool) → is_some slot ≡ b → is_some (least_free s) ≡ b

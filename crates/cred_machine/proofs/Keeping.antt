@@ -1,6 +1,6 @@
 -- What is kept by an event, and what the events of lists let go of: nothing, unless there was a sweep.
 use Rattle.std.proofs.Common.{◌≡◌, ◌<◌, ◌⊎◌, inl, inr, not, ℕ, nat_lt, List, [], ◌∷◌, ◌++◌, length, slice_get, remove, Option, Some, None, true, false, cond, is_some, refl, ap, ◌∙◌, arith}
-use Rattle.std.specs.List.{Contains}
+use Rattle.std.specs.List.{All, Contains}
 use Rattle.std.specs.Option.{option_map_or}
 use Rattle.std.proofs.lemmas.Bool.Decides.{nat_tests}
 use Rattle.cred_event.specs.declared.answer.Answer.{Answer}
@@ -10,7 +10,7 @@ use Rattle.cred_model.specs.Slots.{least_free, refs, swept}
 use Rattle.cred_model.specs.State.{State, SealedCred, Broadcast, OpenFile as Open, Hold, Prepared, Changed, Numbered, hold_of, prepared_of}
 use Rattle.cred_model.specs.Step.{take_hold}
 use Rattle.cred_model.proofs.Lists.{All-left}
-use Rattle.cred_model.proofs.Referred.{EachRef}
+use Rattle.cred_model.proofs.Referred.{EachRef, each_deferred, each_files, each_holds, each_prepared}
 use Rattle.cred_sound.proofs.Parts.{with_left}
 use Rattle.cred_sound.proofs.References.{own_refs}
 use Rattle.cred_sound.proofs.Tests.{IfAllowed, if_none, if_fewer}
@@ -73,6 +73,26 @@ if_left_one s left n (inr none) =
 
 -- ---- what events do
 
+-- the sealed credentials refer to nothing
+pub each_creds : {P : ℕ → Type 0} {s : State} → EachRef P s → (creds : List SealedCred) → EachRef P (record s { creds = creds })
+each_creds each creds =
+    record {
+      currents = each.currents;
+      overrides = each.overrides;
+      openers = each.openers;
+      holds = each.holds;
+      bases = each.bases;
+      deferred = each.deferred;
+    }
+
+-- what was given up before
+pub each_before : {P : ℕ → Type 0} {s : State} → EachRef P s → (before more : List ℕ) → All P (before ++ more) → EachRef P (record s { deferred = before })
+each_before {P} each before more late = each_deferred each before (All-left P before more late)
+
+-- Nothing was swept, no credential is new, and all that was referred to is.
+pub all_stand : (s t : State) (answer : Answer) → EachRef (Contains (refs t)) s → t.creds ≡ s.creds → Keeps s (answer, t)
+all_stand s t answer each same = record { left = s.deferred; each = each; swept = inl refl; creds = NoneMore same }
+
 -- the event is refused, only reads, or only sweeps
 pub still : (s : State) (answer : Answer) (left : List ℕ)
     → (left ≡ s.deferred) ⊎ (may_have_swept (length s.deferred) answer (length left) ≡ true) → Keeps s (answer, with_left s left)
@@ -101,19 +121,7 @@ takes_hold s label taken =
     if_none Q (hold_of s label) _ _
     (λ new. if_none Q (prepared_of s label) _ _
     (λ unprepared. if_fewer Q (length s.holds) HOLDS _ _
-    (record {
-      left = s.deferred;
-      each = record {
-        currents = own.currents;
-        overrides = own.overrides;
-        openers = own.openers;
-        holds = All-left (λ (h : Hold). Contains (refs t) h.number) s.holds (hold ∷ []) own.holds;
-        bases = own.bases;
-        deferred = own.deferred;
-      };
-      swept = inl refl;
-      creds = NoneMore refl;
-    })))
+    (all_stand s t _ (each_holds own s.holds (All-left (λ (h : Hold). Contains (refs t) h.number) s.holds (hold ∷ []) own.holds)) refl)))
 
 pub releases : (s : State) (place : ℕ) (hold : Hold) → slice_get s.holds place ≡ Some hold
     → Keeps s (Done, record s { holds = remove s.holds place; deferred = s.deferred ++ hold.number ∷ [] })
@@ -121,37 +129,15 @@ releases s place hold is =
     let t = record s { holds = remove s.holds place; deferred = s.deferred ++ hold.number ∷ [] } in
     let H = Contains (refs t) in
     let own = own_refs t in
-    record {
-      left = s.deferred;
-      each = record {
-        currents = own.currents;
-        overrides = own.overrides;
-        openers = own.openers;
-        holds = unremoved (λ (h : Hold). H h.number) s.holds place hold is (last_of H s.deferred hold.number own.deferred) own.holds;
-        bases = own.bases;
-        deferred = All-left H s.deferred (hold.number ∷ []) own.deferred;
-      };
-      swept = inl refl;
-      creds = NoneMore refl;
-    }
+    all_stand s t Done
+    (each_holds (each_before own s.deferred (hold.number ∷ []) own.deferred) s.holds
+    (unremoved (λ (h : Hold). H h.number) s.holds place hold is (last_of H s.deferred hold.number own.deferred) own.holds)) refl
 
 pub opens : (s : State) (file : Open) → Keeps s (Done, record s { files = s.files ++ file ∷ [] })
 opens s file =
     let t = record s { files = s.files ++ file ∷ [] } in
     let own = own_refs t in
-    record {
-      left = s.deferred;
-      each = record {
-        currents = own.currents;
-        overrides = own.overrides;
-        openers = All-left (λ (f : Open). Contains (refs t) f.opener) s.files (file ∷ []) own.openers;
-        holds = own.holds;
-        bases = own.bases;
-        deferred = own.deferred;
-      };
-      swept = inl refl;
-      creds = NoneMore refl;
-    }
+    all_stand s t Done (each_files own s.files (All-left (λ (f : Open). Contains (refs t) f.opener) s.files (file ∷ []) own.openers)) refl
 
 pub closes : (s : State) (place : ℕ) (file : Open) → slice_get s.files place ≡ Some file
     → Keeps s (Done, record s { files = remove s.files place; deferred = s.deferred ++ file.opener ∷ [] })
@@ -159,19 +145,9 @@ closes s place file is =
     let t = record s { files = remove s.files place; deferred = s.deferred ++ file.opener ∷ [] } in
     let H = Contains (refs t) in
     let own = own_refs t in
-    record {
-      left = s.deferred;
-      each = record {
-        currents = own.currents;
-        overrides = own.overrides;
-        openers = unremoved (λ (f : Open). H f.opener) s.files place file is (last_of H s.deferred file.opener own.deferred) own.openers;
-        holds = own.holds;
-        bases = own.bases;
-        deferred = All-left H s.deferred (file.opener ∷ []) own.deferred;
-      };
-      swept = inl refl;
-      creds = NoneMore refl;
-    }
+    all_stand s t Done
+    (each_files (each_before own s.deferred (file.opener ∷ []) own.deferred) s.files
+    (unremoved (λ (f : Open). H f.opener) s.files place file is (last_of H s.deferred file.opener own.deferred) own.openers)) refl
 
 pub prepares : (s : State) (left : List ℕ) (slot : ℕ) (p : Prepared) → IsLeft s left → Keeps s (Kept slot, preparing (with_left s left) p)
 prepares s left slot p is =
@@ -179,14 +155,7 @@ prepares s left slot p is =
     let own = own_refs t in
     record {
       left = left;
-      each = record {
-        currents = own.currents;
-        overrides = own.overrides;
-        openers = own.openers;
-        holds = own.holds;
-        bases = All-left (λ (q : Prepared). Contains (refs t) q.base) s.prepared (p ∷ []) own.bases;
-        deferred = own.deferred;
-      };
+      each = each_prepared own s.prepared (All-left (λ (q : Prepared). Contains (refs t) q.base) s.prepared (p ∷ []) own.bases);
       swept = if_left s left is;
       creds = NoneMore refl;
     }
@@ -197,34 +166,12 @@ gives_up_prepared s answer place p is =
     let t = given_up s place p in
     let H = Contains (refs t) in
     let own = own_refs t in
-    record {
-      left = s.deferred;
-      each = record {
-        currents = own.currents;
-        overrides = own.overrides;
-        openers = own.openers;
-        holds = own.holds;
-        bases = unremoved (λ (q : Prepared). H q.base) s.prepared place p is (last_of H s.deferred p.base own.deferred) own.bases;
-        deferred = All-left H s.deferred (p.base ∷ []) own.deferred;
-      };
-      swept = inl refl;
-      creds = NoneMore refl;
-    }
+    all_stand s t answer
+    (each_prepared (each_before own s.deferred (p.base ∷ []) own.deferred) s.prepared
+    (unremoved (λ (q : Prepared). H q.base) s.prepared place p is (last_of H s.deferred p.base own.deferred) own.bases)) refl
 
 pub alters : (s : State) (answer : Answer) (label : ℕ) (to : Changed) → Keeps s (answer, altered s label to)
 alters s answer label to =
     let t = altered s label to in
     let own = own_refs t in
-    record {
-      left = s.deferred;
-      each = record {
-        currents = own.currents;
-        overrides = own.overrides;
-        openers = own.openers;
-        holds = own.holds;
-        bases = bases_before (Contains (refs t)) label to s.prepared own.bases;
-        deferred = own.deferred;
-      };
-      swept = inl refl;
-      creds = NoneMore refl;
-    }
+    all_stand s t answer (each_prepared own s.prepared (bases_before (Contains (refs t)) label to s.prepared own.bases)) refl

@@ -16,6 +16,7 @@ use Rattle.cred_model.specs.Slots.{refs}
 use Rattle.cred_model.specs.State.{State, Task, Broadcast, Prepared, Changed, Numbered, numbered, task_of}
 use Rattle.cred_model.specs.Step.{casts_after, commit_answer, ends_with, try_commit}
 use Rattle.cred_model.proofs.Lists.{All-left, All-right}
+use Rattle.cred_model.proofs.Referred.{EachRef, each_casts, each_prepared, each_tasks}
 use Rattle.cred_model.proofs.Numbers.{numbered_is, overriding_task, owner_number, updated_task}
 use Rattle.cred_sound.specs.Sound.{IsSound}
 use Rattle.cred_sound.proofs.Parts.{with_left}
@@ -23,7 +24,13 @@ use Rattle.cred_sound.proofs.References.{overrides_stand, own_refs, owner_stands
 use Rattle.cred_sound.proofs.Survivors.{find_goes_on}
 use Rattle.cred_machine.specs.Kept.{may_have_swept}
 use Rattle.cred_machine.proofs.Lasting.{IsOwn, currents_before, currents_ended, currents_stay, last_of, overridden_before, overrides_ended, overrides_stay, owned, unremoved}
-use Rattle.cred_machine.proofs.Keeping.{IsLeft, Keeps, NoneMore, OneMore, gives_up_prepared, if_left, with_casts}
+use Rattle.cred_machine.proofs.Keeping.{IsLeft, Keeps, OneMore, NoneMore, all_stand, each_before, each_creds, gives_up_prepared, if_left, with_casts}
+
+-- the tasks before there was one more
+tasks_before : {P : ℕ → Type 0} {s : State} → EachRef P s → (tasks : List Task) (new : Task) → All (λ t. P t.current) (tasks ++ new ∷ [])
+    → All (λ t. All P t.overrides) (tasks ++ new ∷ []) → EachRef P (record s { tasks = tasks })
+tasks_before {P} each tasks new currents overrides =
+    each_tasks each tasks (All-left (λ (t : Task). P t.current) tasks (new ∷ []) currents) (All-left (λ (t : Task). All P t.overrides) tasks (new ∷ []) overrides)
 
 -- a first task is created
 pub creates : (s : State) (left : List ℕ) (slot task process : ℕ) (c : Credential) → IsLeft s left
@@ -35,14 +42,7 @@ creates s left slot task process c is =
     let own = own_refs t in
     record {
       left = left;
-      each = record {
-        currents = All-left (λ (t : Task). H t.current) s.tasks (first ∷ []) own.currents;
-        overrides = All-left (λ (t : Task). All H t.overrides) s.tasks (first ∷ []) own.overrides;
-        openers = own.openers;
-        holds = own.holds;
-        bases = own.bases;
-        deferred = own.deferred;
-      };
+      each = each_creds (tasks_before own s.tasks first own.currents own.overrides) s.creds;
       swept = if_left s left is;
       creds = OneMore (record { cred = c; slot = slot }) refl (last_of (λ (t : Task). H t.current) s.tasks first own.currents);
     }
@@ -51,21 +51,8 @@ creates s left slot task process c is =
 pub shares : (s : State) (answer : Answer) (new : Task) (casts : List Broadcast) → Keeps s (answer, record s { tasks = s.tasks ++ new ∷ []; casts = casts })
 shares s answer new casts =
     let t = record s { tasks = s.tasks ++ new ∷ []; casts = casts } in
-    let H = Contains (refs t) in
     let own = own_refs t in
-    record {
-      left = s.deferred;
-      each = record {
-        currents = All-left (λ (t : Task). H t.current) s.tasks (new ∷ []) own.currents;
-        overrides = All-left (λ (t : Task). All H t.overrides) s.tasks (new ∷ []) own.overrides;
-        openers = own.openers;
-        holds = own.holds;
-        bases = own.bases;
-        deferred = own.deferred;
-      };
-      swept = inl refl;
-      creds = NoneMore refl;
-    }
+    all_stand s t answer (each_casts (tasks_before own s.tasks new own.currents own.overrides) s.casts) refl
 
 -- tasks end
 pub ends_some : (s : State) (answer : Answer) (left : List ℕ) (ends : Task → Bool) (casts : List Broadcast)
@@ -78,14 +65,8 @@ ends_some s answer left ends casts is =
     let late = All-right H left (left_by ends s.tasks) own.deferred in
     record {
       left = left;
-      each = record {
-        currents = currents_ended H ends s.tasks own.currents late;
-        overrides = overrides_ended H ends s.tasks own.overrides late;
-        openers = own.openers;
-        holds = own.holds;
-        bases = own.bases;
-        deferred = All-left H left (left_by ends s.tasks) own.deferred;
-      };
+      each = each_casts (each_tasks (each_before own left (left_by ends s.tasks) own.deferred) s.tasks
+          (currents_ended H ends s.tasks own.currents late) (overrides_ended H ends s.tasks own.overrides late)) s.casts;
       swept = at is;
       creds = NoneMore refl;
     }
@@ -122,14 +103,9 @@ replaces s answer left task slot owner old c casts sound found at is =
     let gone = subst H (numbered_is s.creds owner.current old at).0 (last_of H left old.number own.deferred) in
     record {
       left = left;
-      each = record {
-        currents = currents_before H task owner number new s.tasks (owned s.tasks task owner sound.tasks found) gone own.currents;
-        overrides = overrides_stay H task owner number new s.tasks own.overrides;
-        openers = own.openers;
-        holds = own.holds;
-        bases = own.bases;
-        deferred = All-left H left (old.number ∷ []) own.deferred;
-      };
+      each = each_casts (each_creds (each_tasks (each_before own left (old.number ∷ []) own.deferred) s.tasks
+          (currents_before H task owner number new s.tasks (owned s.tasks task owner sound.tasks found) gone own.currents)
+          (overrides_stay H task owner number new s.tasks own.overrides)) s.creds) s.casts;
       swept = is;
       creds = OneMore (record { cred = c; slot = slot }) refl (renewed t s.tasks task new owner refl found number);
     }
@@ -170,14 +146,10 @@ commits s answer place p ends owner c sound is found on =
     let left = All-right H s.deferred gone late in
     record {
       left = s.deferred;
-      each = record {
-        currents = currents_ended H ends s.tasks (currents_before H p.task owner number new rest apart old own.currents) left;
-        overrides = overrides_ended H ends s.tasks (overrides_stay H p.task owner number new rest own.overrides) left;
-        openers = own.openers;
-        holds = own.holds;
-        bases = unremoved (λ (q : Prepared). H q.base) s.prepared place p is base own.bases;
-        deferred = All-left H s.deferred gone late;
-      };
+      each = each_creds (each_prepared (each_tasks (each_before own s.deferred gone late) s.tasks
+          (currents_ended H ends s.tasks (currents_before H p.task owner number new rest apart old own.currents) left)
+          (overrides_ended H ends s.tasks (overrides_stay H p.task owner number new rest own.overrides) left)) s.prepared
+          (unremoved (λ (q : Prepared). H q.base) s.prepared place p is base own.bases)) s.creds;
       swept = inl refl;
       creds = OneMore (record { cred = c; slot = p.slot }) refl (renewed t rest p.task new owner refl goes_on.0 number);
     }
@@ -207,20 +179,10 @@ lends s answer task n owner sound found =
     let H = Contains (refs t) in
     let own = own_refs t in
     let numbers = n ∷ owner.overrides in
-    record {
-      left = s.deferred;
-      each = record {
-        currents = currents_stay H owner.number owner refl numbers s.tasks own.currents;
-        overrides = overridden_before H owner.number owner refl numbers s.tasks (owned s.tasks task owner sound.tasks found)
-            (All-tail H n owner.overrides) own.overrides;
-        openers = own.openers;
-        holds = own.holds;
-        bases = own.bases;
-        deferred = own.deferred;
-      };
-      swept = inl refl;
-      creds = NoneMore refl;
-    }
+    all_stand s t answer
+    (each_tasks own s.tasks (currents_stay H owner.number owner refl numbers s.tasks own.currents)
+    (overridden_before H owner.number owner refl numbers s.tasks (owned s.tasks task owner sound.tasks found) (All-tail H n owner.overrides) own.overrides))
+    refl
 
 pub lends_prepared : (s : State) (answer : Answer) (place task : ℕ) (p : Prepared) (owner : Task) (c : Credential) → IsSound s
     → slice_get s.prepared place ≡ Some p → task_of s task ≡ Some owner → Keeps s (answer, overridden s place p owner c)
@@ -236,15 +198,11 @@ lends_prepared s answer place task p owner c sound is found =
     let acts : now.overrides ≡ numbers = acts_with owner.number numbers owner refl in
     record {
       left = s.deferred;
-      each = record {
-        currents = currents_stay H owner.number owner refl numbers s.tasks own.currents;
-        overrides = overridden_before H owner.number owner refl numbers s.tasks (owned s.tasks task owner sound.tasks found)
-            (All-tail H (length s.creds) owner.overrides) own.overrides;
-        openers = own.openers;
-        holds = own.holds;
-        bases = unremoved (λ (q : Prepared). H q.base) s.prepared place p is (last_of H s.deferred p.base own.deferred) own.bases;
-        deferred = All-left H s.deferred (p.base ∷ []) own.deferred;
-      };
+      each = each_creds (each_prepared (each_tasks (each_before own s.deferred (p.base ∷ []) own.deferred) s.tasks
+          (currents_stay H owner.number owner refl numbers s.tasks own.currents)
+          (overridden_before H owner.number owner refl numbers s.tasks (owned s.tasks task owner sound.tasks found)
+          (All-tail H (length s.creds) owner.overrides) own.overrides)) s.prepared
+          (unremoved (λ (q : Prepared). H q.base) s.prepared place p is (last_of H s.deferred p.base own.deferred) own.bases)) s.creds;
       swept = inl refl;
       creds = OneMore (record { cred = c; slot = p.slot }) refl
           (All-head H (length s.creds) owner.overrides (subst (All H) acts (overrides_stand t owner.number now there)));
@@ -261,20 +219,11 @@ reverts s task newest owner sound found is =
     let H = Contains (refs t) in
     let own = own_refs t in
     let number = owner_number s task owner found in
-    record {
-      left = s.deferred;
-      each = record {
-        currents = currents_stay H task owner number numbers s.tasks own.currents;
-        overrides = overridden_before H task owner number numbers s.tasks (owned s.tasks task owner sound.tasks found)
-            (with_newest H owner.overrides newest is (last_of H s.deferred newest own.deferred)) own.overrides;
-        openers = own.openers;
-        holds = own.holds;
-        bases = own.bases;
-        deferred = All-left H s.deferred (newest ∷ []) own.deferred;
-      };
-      swept = inl refl;
-      creds = NoneMore refl;
-    }
+    all_stand s t Done
+    (each_tasks (each_before own s.deferred (newest ∷ []) own.deferred) s.tasks (currents_stay H task owner number numbers s.tasks own.currents)
+    (overridden_before H task owner number numbers s.tasks (owned s.tasks task owner sound.tasks found)
+    (with_newest H owner.overrides newest is (last_of H s.deferred newest own.deferred)) own.overrides))
+    refl
   where
     with_newest : (H : ℕ → Type 0) (numbers : List ℕ) (n : ℕ) → slice_get numbers 0 ≡ Some n → H n → All H (drop 1 numbers) → All H numbers
     with_newest H [] n is here rest = cc

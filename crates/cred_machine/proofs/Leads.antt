@@ -1,18 +1,21 @@
 -- What the events that create and end tasks lead to, by the parts of the state after them.
-use Rattle.std.proofs.Common.{◌≡◌, ℕ, ◌==◌, nat_lt, not, is_some, Result, Bool, true, false, List, [], ◌∷◌, ◌++◌, length, find, Some, None, Ok, if◌then◌else◌, refl, sym, ap, ◌∙◌, subst}
+use Rattle.std.proofs.Common.{◌≡◌, ℕ, ◌==◌, ◌||◌, nat_lt, not, is_some, Result, Bool, true, false, List, [], ◌∷◌, ◌++◌, length, find, Some, None, Ok, if◌then◌else◌, refl, sym, ap, ◌∙◌, subst}
 use Rattle.cred_event.specs.declared.answer.AbortCause.{AbortCause}
 use Rattle.cred_event.specs.declared.answer.Answer.{Answer}
 use Rattle.cred_event.specs.declared.answer.Answer.TheVariants.{Done, Kept, Sealed, TableFull}
 use Rattle.cred_record.specs.Credential.{Credential, first_credential}
-use Rattle.cred_model.specs.State.{State, Broadcast, Hold, Prepared, SealedCred, Task, Numbered, begun_by, cast_in, task_of}
+use Rattle.cred_model.specs.State.{State, Broadcast, Hold, Prepared, SealedCred, Task, Numbered, begun_by, cast_in, hold_of, numbered, prepared_of, task_of}
 use Rattle.cred_model.specs.Slots.{free, least_free, swept}
 use Rattle.cred_model.specs.Casts.{dropped, joined, not_busy, waits_no_more}
 use Rattle.cred_model.specs.Ends.{is_task, is_thread_of, left_by, survivors}
-use Rattle.cred_model.specs.Moves.{TASKS, created, preparing, first_task, not_overridden, table_full}
+use Rattle.cred_model.specs.Moves.{PREPARED, TASKS, created, preparing, first_task, not_overridden, table_full}
 use Rattle.cred_model.specs.Step.{aborted, by_exit, by_fork, by_init, by_prepare, by_spawn, outcome}
+use Rattle.cred_model.proofs.Places.{none_by_test}
 use Rattle.cred_machine.specs.Room.{at_abort, swept_if}
 use Rattle.cred_machine.proofs.Events.{CanCreate, CanPrepare, exited, forked, init_tests, prepare_tests, spawned}
+use Rattle.cred_machine.proofs.Refusals.{neither, some_of}
 use Rattle.cred_machine.proofs.Rooms.{in_free, in_none, preparing_if}
+use Rattle.cred_machine.proofs.Seen.{found_in}
 
 -- the state with these tasks, broadcasts and numbers that were given up
 with_parts : State → List Task → List Broadcast → List ℕ → State
@@ -74,6 +77,39 @@ busy_at s casts task r same busy = subst (λ (cs : List Broadcast). not_busy (fi
 pub idle_in : (s : State) (casts : List Broadcast) (process : ℕ) (r : Result (Unit {0}) Answer) → casts ≡ s.casts
     → not_busy (find (λ b. b.process == process) casts) ≡ r → not_busy (cast_in s process) ≡ r
 idle_in s casts process r same busy = subst (λ (cs : List Broadcast). not_busy (find (λ b. b.process == process) cs) ≡ r) same busy
+
+-- a task that may create another, by what was read
+pub can_create : (s : State) (task child : ℕ) (owner whose : Task) (parent : Numbered) (looked : List Broadcast) (alive full : Bool)
+    → Some whose ≡ task_of s task → owner ≡ whose → Some parent ≡ numbered s.creds owner.current
+    → looked ≡ s.casts → not_busy (find (λ b. b.caller == task) looked) ≡ Ok tt → alive ≡ is_some (task_of s child) → alive ≡ false
+    → not_overridden whose ≡ Ok tt → full ≡ not (nat_lt (length s.tasks) TASKS) → full ≡ false → CanCreate s task child owner parent
+can_create s task child owner whose parent looked alive full lives own has same idle is new unlent many room = record {
+  lives = sym lives ∙ ap Some (sym own);
+  has = sym has;
+  idle = busy_at s looked task (Ok tt) same idle;
+  new = none_by_test (task_of s child) alive is new;
+  own = ap not_overridden own ∙ unlent;
+  few = not_full (nat_lt (length s.tasks) TASKS) full many room;
+}
+
+-- a label that may prepare
+pub can_prepare : (s : State) (label task hold : ℕ) (held whose : Hold) (looked : List Broadcast) (among : List Hold) (alive used : Bool)
+    → alive ≡ is_some (task_of s task) → alive ≡ true → looked ≡ s.casts → not_busy (find (λ b. b.caller == task) looked) ≡ Ok tt
+    → among ≡ s.holds → Some whose ≡ find (λ h. h.label == hold) among → held ≡ whose
+    → used ≡ (is_some (hold_of s label) || is_some (prepared_of s label)) → used ≡ false → nat_lt (length s.prepared) PREPARED ≡ true
+    → CanPrepare s label task hold held
+can_prepare s label task hold held whose looked among alive used is lives same idle these found read either unused few =
+    let owner = some_of (task_of s task) (sym is ∙ lives) in
+    let none = neither (hold_of s label) (prepared_of s label) used either unused in
+    record {
+      owner = owner.0;
+      lives = owner.1;
+      idle = busy_at s looked task (Ok tt) same idle;
+      has = found_in (λ (h : Hold). h.label == hold) s.holds among held whose these found read;
+      new = none.0;
+      unprepared = none.1;
+      few = few;
+    }
 
 pub init_leads : (s : State) (task process user group ns number slot : ℕ) (sweep : Bool) (c : Credential) (tasks : List Task) (late : List ℕ) (old creds : List SealedCred)
     → not_busy (cast_in s process) ≡ Ok tt → task_of s task ≡ None → nat_lt (length s.tasks) TASKS ≡ true

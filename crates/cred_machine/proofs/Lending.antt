@@ -1,16 +1,15 @@
 -- A task acts with another credential than its current one, and goes back.
-use Rattle.std.proofs.Common.{◌≡◌, ◌≢◌, ◌<◌, ◌≤◌, ◌==◌, ℕ, nat_lt, true, false, List, [], ◌∷◌, ◌++◌, drop, find, length, position, remove, slice_get, Option, Some, None, refl, sym, ap, ◌∙◌, subst, arith}
+use Rattle.std.proofs.Common.{◌≡◌, ◌≢◌, ◌<◌, ◌≤◌, ◌==◌, ℕ, nat_lt, true, false, List, [], ◌∷◌, ◌++◌, find, length, position, remove, slice_get, Option, Some, None, refl, sym, ap, ◌∙◌, subst, arith}
 use Rattle.std.specs.List.{AllPairs}
 use Rattle.std.specs.Option.{IfSome}
 use Rattle.std.proofs.lemmas.Bool.Decides.{nat_tests}
 use Rattle.cred_record.specs.Credential.{Credential}
-use Rattle.cred_event.specs.declared.answer.Answer.TheVariants.{Done, NoHold, Sealed, TooDeep}
+use Rattle.cred_event.specs.declared.answer.Answer.TheVariants.{NoHold, Sealed, TooDeep}
 use Rattle.cred_model.specs.State.{State, Task, Prepared, Changed, Numbered, SealedCred, held_by, task_of}
 use Rattle.cred_model.specs.Moves.{DEPTH, lent, overridden, with_overrides}
-use Rattle.cred_model.specs.Step.{by_override, by_revert, for_access, outcome}
+use Rattle.cred_model.specs.Step.{by_override, for_access, outcome}
 use Rattle.cred_model.proofs.Numbers.{owner_number}
 use Rattle.cred_plain.specs.Tasks.{OfOneTask}
-use Rattle.cred_machine.proofs.Events.{reverted}
 
 -- ---- the depth
 
@@ -26,10 +25,6 @@ pub said_of : (tasks : List Task) (task : ℕ) (P : Task → Type 0) (owner : Ta
     → find (λ t. t.number == task) tasks ≡ Some owner → OfOneTask tasks task P → P owner
 said_of tasks task P owner apart lives holds = subst (λ (o : Option Task). IfSome o P) lives (holds apart)
 
-pub say_of : (tasks : List Task) (task : ℕ) (P : Task → Type 0) (owner : Task)
-    → find (λ t. t.number == task) tasks ≡ Some owner → P owner → IfSome (find (λ t. t.number == task) tasks) P
-say_of tasks task P owner lives holds = subst (λ (o : Option Task). IfSome o P) (sym lives) holds
-
 -- ---- it acts with another
 
 module _ (s : State) (task label : ℕ) (owner : Task) (lives : task_of s task ≡ Some owner) where
@@ -38,9 +33,6 @@ module _ (s : State) (task label : ℕ) (owner : Task) (lives : task_of s task �
 
   -- with a credential that the label holds
   module _ (held : Numbered) (has : held_by s label ≡ Some held) where
-    pub lend_deep : nat_lt (length owner.overrides) DEPTH ≡ false → outcome s (by_override s task label) ≡ (TooDeep, s)
-    lend_deep deep = rw (lives, has, deep) refl
-
     lend_tests : nat_lt (length owner.overrides) DEPTH ≡ true
         → outcome s (by_override s task label) ≡ (Sealed held.number held.slot, lent s owner held.number)
     lend_tests few = rw (lives, has, few) refl
@@ -53,46 +45,33 @@ module _ (s : State) (task label : ℕ) (owner : Task) (lives : task_of s task �
         (ap (λ (n : ℕ). with_overrides s.tasks n (held.number ∷ owner.overrides)) own ∙ sym ts)
 
   -- with what it prepared for access(2)
-  module _ (unheld : held_by s label ≡ None) where
-    pub lend_none : position (λ p. p.label == label) s.prepared ≡ None → outcome s (by_override s task label) ≡ (NoHold label, s)
-    lend_none none = rw (lives, unheld, none) refl
+  module _ (unheld : held_by s label ≡ None) (place : ℕ) (p : Prepared) (at : position (λ p. p.label == label) s.prepared ≡ Some place)
+      (there : slice_get s.prepared place ≡ Some p) where
+    asked : (asks : Option Changed) → for_access task p ≡ asks → for_access owner.number p ≡ asks
+    asked asks is = ap (λ (n : ℕ). for_access n p) own ∙ is
 
-    module _ (place : ℕ) (p : Prepared) (at : position (λ p. p.label == label) s.prepared ≡ Some place) (there : slice_get s.prepared place ≡ Some p) where
-      asked : (asks : Option Changed) → for_access task p ≡ asks → for_access owner.number p ≡ asks
-      asked asks is = ap (λ (n : ℕ). for_access n p) own ∙ is
+    pub lend_other : for_access task p ≡ None → outcome s (by_override s task label) ≡ (NoHold label, s)
+    lend_other none = rw (lives, unheld, at, there, asked None none) refl
 
-      pub lend_other : for_access task p ≡ None → outcome s (by_override s task label) ≡ (NoHold label, s)
-      lend_other none = rw (lives, unheld, at, there, asked None none) refl
+    module _ (last : Changed) (asks : for_access task p ≡ Some last) where
+      pub access_deep : nat_lt (length owner.overrides) DEPTH ≡ false → outcome s (by_override s task label) ≡ (TooDeep, s)
+      access_deep deep = rw (lives, unheld, at, there, asked (Some last) asks, deep) refl
 
-      module _ (last : Changed) (asks : for_access task p ≡ Some last) where
-        pub access_deep : nat_lt (length owner.overrides) DEPTH ≡ false → outcome s (by_override s task label) ≡ (TooDeep, s)
-        access_deep deep = rw (lives, unheld, at, there, asked (Some last) asks, deep) refl
+      access_tests : nat_lt (length owner.overrides) DEPTH ≡ true
+          → outcome s (by_override s task label) ≡ (Sealed (length s.creds) p.slot, overridden s place p owner last.cred)
+      access_tests few = rw (lives, unheld, at, there, asked (Some last) asks, few) refl
 
-        access_tests : nat_lt (length owner.overrides) DEPTH ≡ true
-            → outcome s (by_override s task label) ≡ (Sealed (length s.creds) p.slot, overridden s place p owner last.cred)
-        access_tests few = rw (lives, unheld, at, there, asked (Some last) asks, few) refl
-
-        pub access_lends : (number slot base : ℕ) (c : Credential) (tasks : List Task) (old creds : List SealedCred) (before late : List ℕ) (prepared : List Prepared)
-            → nat_lt (length owner.overrides) DEPTH ≡ true → old ≡ s.creds → number ≡ length old → slot ≡ p.slot → base ≡ p.base → c ≡ last.cred
-            → tasks ≡ with_overrides s.tasks task (number ∷ owner.overrides) → creds ≡ old ++ record { cred = c; slot = slot } ∷ []
-            → before ≡ s.deferred → late ≡ before ++ base ∷ [] → prepared ≡ remove s.prepared place
-            → outcome s (by_override s task label)
-            ≡ (Sealed number slot, record s { tasks = tasks; creds = creds; deferred = late; prepared = prepared })
-        access_lends number slot base c tasks old creds before late prepared few same counted stands based made ts cs was ls ps =
-            access_tests few
-            ∙ ap (λ (n : ℕ). (Sealed (length s.creds) p.slot, with_lent (with_overrides s.tasks n (length s.creds ∷ owner.overrides)))) own
-            ∙ rw (ts, cs, ls, ps, was, counted, same, made, based, stands) refl
-          where
-            with_lent : List Task → State
-            with_lent ts =
-                record s { tasks = ts; creds = s.creds ++ record { cred = last.cred; slot = p.slot } ∷ []; deferred = s.deferred ++ p.base ∷ []; prepared = remove s.prepared place }
-
--- ---- it goes back
-
-pub goes_back : (s : State) (task newest : ℕ) (owner : Task) (tasks : List Task) (late : List ℕ) → task_of s task ≡ Some owner
-    → slice_get owner.overrides 0 ≡ Some newest → tasks ≡ with_overrides s.tasks task (drop 1 owner.overrides) → late ≡ s.deferred ++ newest ∷ []
-    → outcome s (by_revert s task) ≡ (Done, record s { tasks = tasks; deferred = late })
-goes_back s task newest owner tasks late lives first ts ls =
-    reverted s task newest owner lives first
-    ∙ ap (λ (us : List Task). (Done, record s { tasks = us; deferred = s.deferred ++ newest ∷ [] })) (sym ts)
-    ∙ ap (λ (ns : List ℕ). (Done, record s { tasks = tasks; deferred = ns })) (sym ls)
+      pub access_lends : (number slot base : ℕ) (c : Credential) (tasks : List Task) (old creds : List SealedCred) (before late : List ℕ) (prepared : List Prepared)
+          → nat_lt (length owner.overrides) DEPTH ≡ true → old ≡ s.creds → number ≡ length old → slot ≡ p.slot → base ≡ p.base → c ≡ last.cred
+          → tasks ≡ with_overrides s.tasks task (number ∷ owner.overrides) → creds ≡ old ++ record { cred = c; slot = slot } ∷ []
+          → before ≡ s.deferred → late ≡ before ++ base ∷ [] → prepared ≡ remove s.prepared place
+          → outcome s (by_override s task label)
+          ≡ (Sealed number slot, record s { tasks = tasks; creds = creds; deferred = late; prepared = prepared })
+      access_lends number slot base c tasks old creds before late prepared few same counted stands based made ts cs was ls ps =
+          access_tests few
+          ∙ ap (λ (n : ℕ). (Sealed (length s.creds) p.slot, with_lent (with_overrides s.tasks n (length s.creds ∷ owner.overrides)))) own
+          ∙ rw (ts, cs, ls, ps, was, counted, same, made, based, stands) refl
+        where
+          with_lent : List Task → State
+          with_lent ts =
+              record s { tasks = ts; creds = s.creds ++ record { cred = last.cred; slot = p.slot } ∷ []; deferred = s.deferred ++ p.base ∷ []; prepared = remove s.prepared place }

@@ -1,3 +1,4 @@
+pub mod Seen
 pub mod Lending
 pub mod Begins
 pub mod Follows

@@ -1,12 +1,8 @@
 -- Slots that are marked.
-use Rattle.std.proofs.Common.{◌≡◌, ℕ, zero, suc, ◌+◌, ◌<◌, ◌≤◌, ◌==◌, ◌||◌, Bool, true, false, not, List, get_or, take, length, find, slice_get, Option, Some, None, refl, sym, ap, ◌∙◌, arith, inl, inr, replicate}
-use Rattle.std.specs.List.{list_any, range_with_len}
-use Rattle.std.specs.Option.{option_map, option_map_or}
-use Rattle.std.proofs.lemmas.List.Folds.{list_any_more}
+use Rattle.std.proofs.Common.{◌≡◌, ℕ, zero, suc, ◌+◌, ◌<◌, ◌≤◌, Bool, true, false, not, List, get_or, find, Some, None, refl, ap, arith, inl, inr, replicate}
+use Rattle.std.specs.List.{range_with_len}
 use Rattle.std.proofs.lemmas.Bool.{cases_lt}
-use Rattle.std.proofs.Math.Bool.{or_assoc}
-use Rattle.cred_model.specs.State.{SealedCred}
-use Rattle.cred_model.specs.Slots.{SLOTS, slots, stands_in}
+use Rattle.cred_model.specs.Slots.{SLOTS, slots}
 
 find_first : (test : ℕ → Bool) (a n s : ℕ) → a ≤ s → s < a + n → test s ≡ true → ((k : ℕ) → a ≤ k → k < s → test k ≡ false)
     → find test (range_with_len a n) ≡ Some s
@@ -30,24 +26,6 @@ first_clear-is marks s within here before =
 pub first_clear-none : (marks : List Bool) → ((k : ℕ) → k < SLOTS → get_or marks k false ≡ true) → find (λ slot. not (get_or marks slot false)) slots ≡ None
 unfolding slots
 first_clear-none marks each = find_none (λ slot. not (get_or marks slot false)) 0 256 (λ k l h. ap not (each k h))
-
--- a number whose credential stands in this slot, or in none
-pub stands_of : (creds : List SealedCred) (number slot : ℕ) (of : Option ℕ) → of ≡ option_map (λ sealed. sealed.slot) (slice_get creds number)
-    → stands_in creds slot number ≡ option_map_or (λ s. s == slot) of false
-stands_of creds number slot of is =
-    elim (slice_get creds number) as (λ o. of ≡ option_map (λ sealed. sealed.slot) o
-    → option_map_or (λ sealed. sealed.slot == slot) o false ≡ option_map_or (λ s. s == slot) of false) [
-      | None ↦ λ none. rw none refl
-      | Some sealed ↦ λ some. rw some refl
-    ] is
-
--- one more mark
-pub marks_more : {X : Type 0} (p : X → Bool) (xs : List X) (i : ℕ) (d : X) (first before now here : Bool) → i < length xs
-    → before ≡ (first || list_any p (take i xs)) → here ≡ p (get_or xs i d) → now ≡ (before || here)
-    → now ≡ (first || list_any p (take (i + 1) xs))
-marks_more p xs i d first before now here within was is one =
-    one ∙ ap (λ b. b || here) was ∙ or_assoc first (list_any p (take i xs)) here
-    ∙ ap (λ b. first || (list_any p (take i xs) || b)) is ∙ ap (λ b. first || b) (sym (list_any_more p xs i d within))
 
 -- no slot is marked at first
 pub unmarked : (count slot : ℕ) → get_or (replicate count false) slot false ≡ false

@@ -1,10 +1,9 @@
 -- Slots that are free, maybe after a sweep.
-use Rattle.std.proofs.Common.{◌≡◌, ℕ, not, Bool, true, false, cond, [], ◌∷◌, ◌++◌, length, is_some, Option, Some, None, if◌then◌else◌, refl, sym, ap, ◌∙◌}
-use Rattle.cred_record.specs.Credential.{Credential}
+use Rattle.std.proofs.Common.{◌≡◌, ℕ, not, Bool, true, false, cond, [], ◌∷◌, ◌++◌, is_some, Option, Some, None, if◌then◌else◌, refl, sym, ap, ◌∙◌}
 use Rattle.cred_event.specs.declared.answer.Answer.{Answer}
-use Rattle.cred_model.specs.State.{State, Task, Prepared}
+use Rattle.cred_model.specs.State.{State, Prepared}
 use Rattle.cred_model.specs.Slots.{free, least_free, room, swept}
-use Rattle.cred_model.specs.Moves.{created, in_slot, preparing, replaced, with_current}
+use Rattle.cred_model.specs.Moves.{in_slot, preparing}
 use Rattle.cred_machine.specs.Room.{swept_if}
 
 -- the sweep that was made for a slot
@@ -34,23 +33,7 @@ in_free s full does sweep slot found is =
     let at : in_slot s full does ≡ does (room s) slot = rw found refl in
     at ∙ ap (λ (r : State). does r slot) (room_is s sweep is)
 
-pub created_if : (sweep : Bool) (s : State) (t : Task) (c : Credential) (slot : ℕ)
-    → created (swept_if sweep s) t c slot
-    ≡ record s { tasks = s.tasks ++ t ∷ []; creds = s.creds ++ record { cred = c; slot = slot } ∷ []; deferred = if sweep then [] else s.deferred }
-created_if true s t c slot = refl
-created_if false s t c slot = refl
-
 pub preparing_if : (sweep : Bool) (s : State) (p : Prepared)
     → preparing (swept_if sweep s) p ≡ record s { prepared = s.prepared ++ p ∷ []; deferred = if sweep then [] else s.deferred }
 preparing_if true s p = refl
 preparing_if false s p = refl
-
-pub replaced_if : (sweep : Bool) (s : State) (task old : ℕ) (c : Credential) (slot : ℕ)
-    → replaced (swept_if sweep s) task old c slot
-    ≡ record s {
-      tasks = with_current s.tasks task (length s.creds);
-      creds = s.creds ++ record { cred = c; slot = slot } ∷ [];
-      deferred = (if sweep then [] else s.deferred) ++ old ∷ [];
-    }
-replaced_if true s task old c slot = refl
-replaced_if false s task old c slot = refl

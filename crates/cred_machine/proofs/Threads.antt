@@ -1,5 +1,5 @@
 -- What every sound state keeps of its broadcasts gives the conditions of their calls.
-use Rattle.std.proofs.Common.{◌≡◌, ◌==◌, not, ℕ, ◌<◌, List, [], ◌∷◌, length, get_or, Some, true, false, refl, arith}
+use Rattle.std.proofs.Common.{◌≡◌, ◌==◌, ℕ, ◌<◌, List, get_or, Some, true, false, refl, arith}
 use Rattle.std.specs.List.{AllPairs}
 use Rattle.cred_model.specs.State.{State, Task, Broadcast, cast_of}
 use Rattle.cred_model.specs.Casts.{waits_in}
@@ -31,16 +31,6 @@ shares_none s sound = λ i j d lt within task waits.
     sound.processes i j d lt within
     (one_process s.tasks a.process b.process task (thread_of s.tasks a task (sound.under_way i d (omega arith)) waits) there))
 
-some_waits : (waiting : List ℕ) → not (length waiting == 0) ≡ true → 0 < length waiting
-some_waits [] is = cc
-some_waits (n ∷ ns) is = omega arith
-
-module _ (s : State) (number : ℕ) (cast : Broadcast) (sound : IsSound s) (is : cast_of s number ≡ Some cast) where
-  under_way : IsUnderWay s.tasks cast
-  under_way = (found (IsUnderWay s.tasks) (λ (b : Broadcast). b.number == number) s.casts cast is sound.under_way).0
-
-  pub is_some_waiting : 0 < length cast.waiting
-  is_some_waiting = some_waits cast.waiting under_way.some
-
-  pub waits_rising : AllPairs (λ m n. m < n) cast.waiting
-  waits_rising = under_way.rising
+pub waits_rising : (s : State) (number : ℕ) (cast : Broadcast) → IsSound s → cast_of s number ≡ Some cast → AllPairs (λ m n. m < n) cast.waiting
+waits_rising s number cast sound is =
+    (found (IsUnderWay s.tasks) (λ (b : Broadcast). b.number == number) s.casts cast is sound.under_way).0.rising

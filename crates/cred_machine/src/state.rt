@@ -3,7 +3,7 @@ ghost use Rattle.std.specs.Prelude.{◌≡◌, ◌||◌, false, is_some, length,
 ghost use Rattle.std.specs.Prelude.{Err};
 ghost use Rattle.std.specs.Option.{option_map};
 ghost use Rattle.cred_event.specs.declared.answer.Answer.TheVariants.{Overridden};
-ghost use Rattle.cred_model.specs.State.{opening, credential_of, current_of, held_by, hold_of};
+ghost use Rattle.cred_model.specs.State.{opening, credential_of, held_by, hold_of};
 ghost use Rattle.cred_model.specs.State.{prepared_of};
 ghost use Rattle.cred_model.specs.Like.{IsLike};
 ghost use Rattle.cred_model.specs.Moves.{not_overridden};
@@ -66,13 +66,6 @@ impl State {
             creds: Creds::new(alloc)?,
             alloc,
         })
-    }
-
-    /// The current credential of a task.
-    pub(crate) fn current(&self, task: u32) -> Option<Numbered<'_>>
-        ensures { option_map seen_numbered result ≡ current_of self.now task }
-    {
-        self.creds.get(self.tasks.get(task)?.current)
     }
 
     /// The credential that a task acts with, or the one that it is acted on by.

@@ -1,5 +1,5 @@
 -- What is found in a list, and what is changed there.
-use Rattle.std.proofs.Common.{◌≡◌, ◌≢◌, ℕ, zero, suc, ◌-◌, ◌++◌, ◌<◌, ◌≤◌, ◌==◌, nat_lt, List, [], ◌∷◌, find, position, map, take, get_or, set, length, length-append, slice_get, Bool, true, false, cond, Option, Some, None, refl, sym, ap, ◌∙◌, subst, arith}
+use Rattle.std.proofs.Common.{◌≡◌, ◌≢◌, ℕ, zero, suc, ◌-◌, ◌<◌, ◌≤◌, ◌==◌, nat_lt, List, [], ◌∷◌, find, position, map, get_or, set, length, slice_get, Bool, true, false, cond, Option, Some, None, refl, sym, ap, ◌∙◌, subst, arith}
 use Rattle.std.specs.List.{All, AllPairs, position_or_len}
 use Rattle.std.specs.Option.{IfSome, option_map}
 use Rattle.std.proofs.lemmas.Bool.Decides.{nat_tests}
@@ -122,14 +122,3 @@ module _ (label : ℕ) (to : Changed) where
       let test : ((get_or ps k e).label == label) ≡ false = fails k e lt in
       let differs : (get_or ps k e).label ≢ label = grind (arith, nat_tests) in
       differs))
-
--- ---- the last one is taken back
-
-take_length : {X : Type 0} (xs ys : List X) → take (length xs) (xs ++ ys) ≡ xs
-take_length [] ys = refl
-take_length (x ∷ xs) ys = ap (λ zs. x ∷ zs) (take_length xs ys)
-
-pub without_last : {X : Type 0} (xs : List X) (x : X) → take (length (xs ++ x ∷ []) - 1) (xs ++ x ∷ []) ≡ xs
-without_last xs x =
-    let many : length (xs ++ x ∷ []) - 1 ≡ length xs = omega (arith, length-append xs (x ∷ [])) in
-    ap (λ n. take n (xs ++ x ∷ [])) many ∙ take_length xs (x ∷ [])

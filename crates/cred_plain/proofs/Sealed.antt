@@ -1,10 +1,10 @@
 -- The sealed credentials, by those that are stored.
-use Rattle.std.proofs.Common.{◌≡◌, ◌≢◌, All, ℕ, zero, suc, ◌+◌, ◌<◌, ◌≤◌, ◌==◌, Bool, true, false, List, [], ◌∷◌, ◌++◌, length, find, slice_get, Option, Some, None, cond, refl, sym, ap, ◌∙◌, subst, arith, ◌||◌, get_or}
-use Rattle.std.specs.List.{filter, list_any}
+use Rattle.std.proofs.Common.{◌≡◌, ◌≢◌, All, ℕ, zero, suc, ◌+◌, ◌<◌, ◌≤◌, ◌==◌, Bool, true, false, List, [], ◌∷◌, ◌++◌, length, find, slice_get, Option, Some, None, cond, refl, sym, ap, ◌∙◌, subst, arith, get_or}
+use Rattle.std.specs.List.{filter}
 use Rattle.std.specs.Option.{IfSome, option_map, option_map_or}
 use Rattle.std.proofs.lemmas.Bool.Decides.{nat_tests}
 use Rattle.cred_record.specs.Credential.{Credential}
-use Rattle.cred_model.specs.State.{SealedCred, Numbered, numbered}
+use Rattle.cred_model.specs.State.{SealedCred, numbered}
 use Rattle.cred_plain.specs.Creds.{IsStored, StoredCred, gone, sealed_at, sealed_from, sealed_of, slots_of, under}
 use Rattle.cred_plain.proofs.Rising.{tests_below, tests_same}
 
@@ -164,26 +164,3 @@ module _ (forgotten : Credential) where
   slot-sealed stored slots n =
       ap (option_map (λ (sealed : SealedCred). sealed.slot)) (get-sealed stored 0 slots n n (omega arith))
       ∙ same_slots stored n (slice_get slots n)
-
-or_yes : (a b : Bool) → b ≡ true → (a || b) ≡ true
-or_yes true b is = refl
-or_yes false b is = is
-
--- a number of the list is found in it
-pub any_at : (ns : List ℕ) (k d : ℕ) → k < length ns → list_any (λ n. n == get_or ns k d) ns ≡ true
-any_at [] k d within = absurd (omega arith)
-any_at (n ∷ ns) zero d within = let test : (n == n) ≡ true = grind (arith, nat_tests) in rw test refl
-any_at (n ∷ ns) (suc k) d within =
-    or_yes (n == get_or ns k d) (list_any (λ m. m == get_or ns k d) ns) (any_at ns k d (omega arith))
-
--- a sealed credential under this number
-abbrev under_number : ℕ → SealedCred → Numbered
-under_number n sealed = record { number = n; cred = sealed.cred; slot = sealed.slot }
-
-none_numbered : (n : ℕ) (o : Option SealedCred) → option_map (λ sealed. sealed.slot) o ≡ None → option_map (under_number n) o ≡ None
-none_numbered n None is = refl
-none_numbered n (Some sealed) is = cc
-
--- a number that wasn't sealed
-pub numbered-none : (creds : List SealedCred) (n : ℕ) → option_map (λ sealed. sealed.slot) (slice_get creds n) ≡ None → numbered creds n ≡ None
-numbered-none creds n none = none_numbered n (slice_get creds n) none

@@ -1,35 +1,18 @@
-use Rattle.std.proofs.Common.{◌≡◌, ◌==◌, List, find, Some, refl, sym, ap, ◌∙◌}
+use Rattle.std.proofs.Common.{◌==◌, refl, sym, ap, ◌∙◌}
 use Rattle.cred_record.specs.Credential.{Credential}
 use Rattle.cred_model.specs.Change.{Made}
 use Rattle.cred_model.specs.Script.{chain_of}
-use Rattle.cred_model.specs.State.{State, Prepared, prepared_of}
+use Rattle.cred_model.specs.State.{Prepared}
 use Rattle.cred_plain.specs.Creds.{seen_numbered}
 use Rattle.cred_machine.proofs.Altered.{alter_leads, alter_refused}
+use Rattle.cred_machine.proofs.Seen.{found_in, seen_prepared, seen_state}
 use Rattle.cred_machine.proofs.state.State.alter.Goals as goal
 
 pub returns-in-Err-clause-ok : goal.returns-in-Err-clause-ok
 returns-in-Err-clause-ok c =
-    let t = c.self.inside in
-    let s : State
-    = record {
-      tasks = t.tasks;
-      casts = t.casts.items;
-      files = t.files.items;
-      holds = t.holds.items;
-      prepared = t.prepared.items;
-      deferred = t.deferred.items;
-      creds = t.creds.list;
-    } in
-    let p : Prepared
-    = record {
-      label = c.label_of.inside.label;
-      task = c.label_of.inside.task;
-      base = c.label_of.inside.base;
-      slot = c.label_of.inside.slot;
-      changed = c.label_of.inside.changed;
-    } in
-    let there : prepared_of s c.args.label ≡ Some p
-    = ap (λ (ps : List Prepared). find (λ p. p.label == c.args.label) ps) (sym c.deref.ensures.value) ∙ (rw (← c.label_of.view_is) at (sym c.in-Some.ensures)) in
+    let s = seen_state c.self.inside in
+    let p = seen_prepared c.label_of.inside in
+    let there = found_in (λ (q : Prepared). q.label == c.args.label) s.prepared _ p _ c.deref.ensures.value c.in-Some.ensures c.label_of.view_is in
     let ids = c.chain_of-chain.ensures ∙ ap (λ (of : Credential). chain_of c.args.script.now of.ns) c.base.view_is in
     rw (← c.self.view_is)
     (alter_refused c.args.script.now s c.args.label c.args.change p (seen_numbered c.in-Some-get.field-0) there (sym c.in-Some-get.ensures) _ _
@@ -37,27 +20,9 @@ returns-in-Err-clause-ok c =
 
 pub returns-clause-ok : goal.returns-clause-ok
 returns-clause-ok c =
-    let t = c.self.inside in
-    let s : State
-    = record {
-      tasks = t.tasks;
-      casts = t.casts.items;
-      files = t.files.items;
-      holds = t.holds.items;
-      prepared = t.prepared.items;
-      deferred = t.deferred.items;
-      creds = t.creds.list;
-    } in
-    let p : Prepared
-    = record {
-      label = c.label_of.inside.label;
-      task = c.label_of.inside.task;
-      base = c.label_of.inside.base;
-      slot = c.label_of.inside.slot;
-      changed = c.label_of.inside.changed;
-    } in
-    let there : prepared_of s c.args.label ≡ Some p
-    = ap (λ (ps : List Prepared). find (λ p. p.label == c.args.label) ps) (sym c.deref.ensures.value) ∙ (rw (← c.label_of.view_is) at (sym c.in-Some.ensures)) in
+    let s = seen_state c.self.inside in
+    let p = seen_prepared c.label_of.inside in
+    let there = found_in (λ (q : Prepared). q.label == c.args.label) s.prepared _ p _ c.deref.ensures.value c.in-Some.ensures c.label_of.view_is in
     let ids = c.chain_of-chain.ensures ∙ ap (λ (of : Credential). chain_of c.args.script.now of.ns) c.base.view_is in
     let m : Made = record { answer = c.answer.inside.answer; cred = c.answer.inside.cred; gains = c.answer.inside.gains } in
     let sound = rw (← c.self.view_is) at c.requires in

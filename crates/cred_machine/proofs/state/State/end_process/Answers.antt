@@ -1,23 +1,13 @@
 use Rattle.std.proofs.Common.{◌≡◌, [], if◌then◌else◌, refl, ◌∙◌}
-use Rattle.cred_model.specs.State.{State}
 use Rattle.cred_machine.specs.Room.{at_abort}
 use Rattle.cred_machine.proofs.Leads.{process_ended}
+use Rattle.cred_machine.proofs.Seen.{seen_state}
 use Rattle.cred_machine.proofs.state.State.end_process.Goals as goal
 use Rattle.cred_machine.proofs.state.State.end_process.Goals.{in-Full, in_default}
 
 pub returns-clause-state : goal.returns-clause-state
 returns-clause-state c =
-    let t = c.self.inside in
-    let s : State
-    = record {
-      tasks = t.tasks;
-      casts = t.casts.items;
-      files = t.files.items;
-      holds = t.holds.items;
-      prepared = t.prepared.items;
-      deferred = t.deferred.items;
-      creds = t.creds.list;
-    } in
+    let s = seen_state c.self.inside in
     let swept : at_abort c.args.cause s ≡ (if c.match-matches.matches then record s { deferred = [] } else s)
     = elim c.match-matches.branch [
       | in-Full w ↦ rw (w.in-Full.is, w.matches-is) refl

@@ -1,40 +1,20 @@
 use Rattle.std.proofs.Common.{ℕ, List, ◌++◌, sym, ap, ◌∙◌}
 use Rattle.cred_event.specs.declared.answer.Answer.TheVariants.{Busy}
-use Rattle.cred_model.specs.State.{State}
 use Rattle.cred_model.specs.Ends.{is_task, left_by}
 use Rattle.cred_machine.proofs.Refusals.{exit_busy}
 use Rattle.cred_machine.proofs.Leads.{busy_at, exit_leads}
+use Rattle.cred_machine.proofs.Seen.{seen_state}
 use Rattle.cred_machine.proofs.state.State.exit.Goals as goal
 
 pub returns-in-Some-begun_by-clause-ok : goal.returns-in-Some-begun_by-clause-ok
 returns-in-Some-begun_by-clause-ok c =
-    let t = c.self.inside in
-    let s : State
-    = record {
-      tasks = t.tasks;
-      casts = t.casts.items;
-      files = t.files.items;
-      holds = t.holds.items;
-      prepared = t.prepared.items;
-      deferred = t.deferred.items;
-      creds = t.creds.list;
-    } in
+    let s = seen_state c.self.inside in
     rw (← c.self.view_is)
     (exit_busy s c.args.task c.in-Some.owner.now (Busy c.in-Some-begun_by.cast) (sym c.in-Some.ensures) (busy_at s _ c.args.task _ c.deref.ensures.value c.in-Some-begun_by.ensures))
 
 pub returns-clause-ok : goal.returns-clause-ok
 returns-clause-ok c =
-    let t = c.self.inside in
-    let s : State
-    = record {
-      tasks = t.tasks;
-      casts = t.casts.items;
-      files = t.files.items;
-      holds = t.holds.items;
-      prepared = t.prepared.items;
-      deferred = t.deferred.items;
-      creds = t.creds.list;
-    } in
+    let s = seen_state c.self.inside in
     rw (← c.self.view_is)
     (exit_leads s c.args.task c.in-Some.owner.now _ _ _ _ (sym c.in-Some.ensures) (busy_at s _ c.args.task _ c.deref.ensures.value c.in_default-begun_by.ensures) c.in_default-overridden.ensures
     c.end.ensures c.leave.ensures c.in_ok-defer.ensures.ok (c.deref-2.ensures.value ∙ c.in_ok-append_left.ensures ∙ ap (λ (ms : List ℕ). ms ++ left_by (is_task c.args.task) s.tasks) c.new-numbers.ensures.items))

@@ -1,5 +1,6 @@
 use Rattle.cred_plain.specs.declared.references.References.{References}
 use Rattle.cred_machine.proofs.Forgetting.{forgets, keeps_referred}
+use Rattle.cred_machine.proofs.Seen.{seen_state}
 use Rattle.cred_machine.proofs.state.State.forget.Goals as goal
 
 pub returns-clause-like : goal.returns-clause-like
@@ -31,15 +32,7 @@ returns-clause-kept c =
       prepared = c.deref-3.result;
       deferred = c.deref-4.result;
     } in
-    keeps_referred (record {
-      tasks = c.self.inside.tasks;
-      casts = c.self.inside.casts.items;
-      files = c.self.inside.files.items;
-      holds = c.self.inside.holds.items;
-      prepared = c.self.inside.prepared.items;
-      deferred = c.self.inside.deferred.items;
-      creds = c.self.inside.creds.list;
-    }) c.forget.new.self.list r
+    keeps_referred (seen_state c.self.inside) c.forget.new.self.list r
     (record {
       tasks = c.items.ensures;
       files = c.deref.ensures.value;

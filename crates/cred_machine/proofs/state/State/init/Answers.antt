@@ -1,22 +1,13 @@
 use Rattle.std.proofs.Common.{◌++◌, ◌∷◌, [], sym, ap, ◌∙◌}
-use Rattle.cred_model.specs.State.{State, Task}
+use Rattle.cred_model.specs.State.{Task}
 use Rattle.cred_model.proofs.Places.{none_by_test}
 use Rattle.cred_machine.proofs.Leads.{idle_in, init_leads, not_full}
+use Rattle.cred_machine.proofs.Seen.{seen_state}
 use Rattle.cred_machine.proofs.state.State.init.Goals as goal
 
 pub returns-clause-ok : goal.returns-clause-ok
 returns-clause-ok c =
-    let t = c.self.inside in
-    let s : State
-    = record {
-      tasks = t.tasks;
-      casts = t.casts.items;
-      files = t.files.items;
-      holds = t.holds.items;
-      prepared = t.prepared.items;
-      deferred = t.deferred.items;
-      creds = t.creds.list;
-    } in
+    let s = seen_state c.self.inside in
     rw (← c.self.view_is)
     (init_leads s c.args.number c.args.process _ _ c.args.ns c.next_number-next.result c.in-Some-slot.slot c.in_ok-slot.field-0.swept _ _ _ _ _
     (idle_in s _ c.args.process _ c.deref.ensures.value c.in_default.ensures) (none_by_test _ c.alive.result c.alive.ensures c.if-alive.false)

@@ -1,77 +1,42 @@
-use Rattle.std.proofs.Common.{◌≡◌, ◌==◌, Some, position, sym, ap, ◌∙◌}
-use Rattle.cred_model.specs.State.{State, Changed, Prepared}
-use Rattle.cred_plain.proofs.Places.{at_place, found_is}
+use Rattle.std.proofs.Common.{◌==◌, sym, ap, ◌∙◌}
+use Rattle.cred_model.specs.State.{Changed, Prepared}
+use Rattle.cred_plain.proofs.Places.{found_is}
 use Rattle.cred_machine.proofs.Refusals.{some_of}
 use Rattle.cred_machine.proofs.Lending.{access_deep, access_lends, is_deep, lend_other, not_deep, said_of}
+use Rattle.cred_machine.proofs.Seen.{placed, seen_state}
 use Rattle.cred_machine.proofs.state.State.override_prepared.Goals as goal
 
 pub returns-in_default-for_access-clause-ok : goal.returns-in_default-for_access-clause-ok
 returns-in_default-for_access-clause-ok c =
-    let t = c.self.inside in
-    let s : State
-    = record {
-      tasks = t.tasks;
-      casts = t.casts.items;
-      files = t.files.items;
-      holds = t.holds.items;
-      prepared = t.prepared.items;
-      deferred = t.deferred.items;
-      creds = t.creds.list;
-    } in
+    let s = seen_state c.self.inside in
     let owner = some_of _ (rw (← c.self.view_is) at c.requires.alive) in
     let p = c.index-own.result.now in
-    let at : position (λ (q : Prepared). q.label == c.args.label) s.prepared ≡ Some c.in-Some.place
-    = ap (position (λ (q : Prepared). q.label == c.args.label)) (sym c.deref.ensures.value) ∙ sym c.in-Some.ensures in
+    let at = placed (λ (q : Prepared). q.label == c.args.label) s.prepared _ c.in-Some.place p c.deref.ensures.value c.in-Some.ensures c.index-own.ensures in
     rw (← c.self.view_is)
-    (lend_other s c.args.task c.args.label owner.0 owner.1 (rw (← c.self.view_is) at c.requires.unheld) c.in-Some.place p at
-    (at_place (λ (q : Prepared). q.label == c.args.label) s.prepared c.in-Some.place p at c.index-own.ensures)
+    (lend_other s c.args.task c.args.label owner.0 owner.1 (rw (← c.self.view_is) at c.requires.unheld) c.in-Some.place p at.0 at.1
     (sym c.in_default-for_access.ensures))
 
 pub returns-then-depth-ge-DEPTH-clause-ok : goal.returns-then-depth-ge-DEPTH-clause-ok
 returns-then-depth-ge-DEPTH-clause-ok c =
-    let t = c.self.inside in
-    let s : State
-    = record {
-      tasks = t.tasks;
-      casts = t.casts.items;
-      files = t.files.items;
-      holds = t.holds.items;
-      prepared = t.prepared.items;
-      deferred = t.deferred.items;
-      creds = t.creds.list;
-    } in
+    let s = seen_state c.self.inside in
     let p = c.index-own.result.now in
-    let at : position (λ (q : Prepared). q.label == c.args.label) s.prepared ≡ Some c.in-Some.place
-    = ap (position (λ (q : Prepared). q.label == c.args.label)) (sym c.deref.ensures.value) ∙ sym c.in-Some.ensures in
+    let at = placed (λ (q : Prepared). q.label == c.args.label) s.prepared _ c.in-Some.place p c.deref.ensures.value c.in-Some.ensures c.index-own.ensures in
     rw (← c.self.view_is)
     (access_deep s c.args.task c.args.label c.unwrap.result.now (found_is (λ t. t.now) c.get.result _ c.unwrap.result c.get.ensures c.unwrap.ensures)
-    (rw (← c.self.view_is) at c.requires.unheld) c.in-Some.place p at
-    (at_place (λ (q : Prepared). q.label == c.args.label) s.prepared c.in-Some.place p at c.index-own.ensures)
+    (rw (← c.self.view_is) at c.requires.unheld) c.in-Some.place p at.0 at.1
     c.in-Some-for_access.last.now (sym c.in-Some-for_access.ensures)
     (is_deep _ c.depth.result c.depth.ensures c.if-depth-ge-DEPTH.true))
 
 pub returns-clause-ok : goal.returns-clause-ok
 returns-clause-ok c =
-    let t = c.self.inside in
-    let s : State
-    = record {
-      tasks = t.tasks;
-      casts = t.casts.items;
-      files = t.files.items;
-      holds = t.holds.items;
-      prepared = t.prepared.items;
-      deferred = t.deferred.items;
-      creds = t.creds.list;
-    } in
+    let s = seen_state c.self.inside in
     let p = c.index-own.result.now in
-    let at : position (λ (q : Prepared). q.label == c.args.label) s.prepared ≡ Some c.in-Some.place
-    = ap (position (λ (q : Prepared). q.label == c.args.label)) (sym c.deref.ensures.value) ∙ sym c.in-Some.ensures in
+    let at = placed (λ (q : Prepared). q.label == c.args.label) s.prepared _ c.in-Some.place p c.deref.ensures.value c.in-Some.ensures c.index-own.ensures in
     let lives = found_is (λ t. t.now) c.get.result _ c.unwrap.result c.get.ensures c.unwrap.ensures in
     let sound = rw (← c.self.view_is) at c.requires.sound in
     rw (← c.self.view_is)
     (access_lends s c.args.task c.args.label c.unwrap.result.now lives
-    (rw (← c.self.view_is) at c.requires.unheld) c.in-Some.place p at
-    (at_place (λ (q : Prepared). q.label == c.args.label) s.prepared c.in-Some.place p at c.index-own.ensures)
+    (rw (← c.self.view_is) at c.requires.unheld) c.in-Some.place p at.0 at.1
     c.in-Some-for_access.last.now (sym c.in-Some-for_access.ensures)
     c.next_number-number.result c.own.inside.slot c.own.inside.base _ _ _ _ _ _ _
     (not_deep _ c.depth.result c.depth.ensures c.if-depth-ge-DEPTH.false)

@@ -1,22 +1,12 @@
 use Rattle.std.proofs.Common.{sym}
-use Rattle.cred_model.specs.State.{State}
 use Rattle.cred_plain.specs.Creds.{seen_numbered}
 use Rattle.cred_machine.proofs.Lending.{lends, not_deep, said_of}
+use Rattle.cred_machine.proofs.Seen.{seen_state}
 use Rattle.cred_machine.proofs.state.State.override_with.Goals as goal
 
 pub returns-clause-ok : goal.returns-clause-ok
 returns-clause-ok c =
-    let t = c.self.inside in
-    let s : State
-    = record {
-      tasks = t.tasks;
-      casts = t.casts.items;
-      files = t.files.items;
-      holds = t.holds.items;
-      prepared = t.prepared.items;
-      deferred = t.deferred.items;
-      creds = t.creds.list;
-    } in
+    let s = seen_state c.self.inside in
     let lives = sym c.in-Some.ensures in
     let sound = rw (← c.self.view_is) at c.requires in
     rw (← c.self.view_is)

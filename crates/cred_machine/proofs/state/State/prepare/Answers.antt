@@ -1,82 +1,34 @@
-use Rattle.std.proofs.Common.{rules, List, find, ◌==◌, sym, ap, ◌∙◌}
+use Rattle.std.proofs.Common.{rules, sym, ◌∙◌}
 use Rattle.cred_event.specs.declared.answer.Answer.TheVariants.{Busy}
-use Rattle.cred_model.specs.State.{State, Hold}
-use Rattle.cred_machine.proofs.Events.{CanPrepare}
-use Rattle.cred_machine.proofs.Refusals.{neither, prepare_busy, some_of}
-use Rattle.cred_machine.proofs.Leads.{busy_at, prepare_full, prepare_leads}
+use Rattle.cred_model.specs.State.{Hold}
+use Rattle.cred_machine.proofs.Refusals.{prepare_busy}
+use Rattle.cred_machine.proofs.Leads.{busy_at, can_prepare, prepare_full, prepare_leads}
+use Rattle.cred_machine.proofs.Seen.{seen_state}
 use Rattle.cred_machine.proofs.state.State.prepare.Goals as goal
 
 pub returns-in-Some-clause-ok : goal.returns-in-Some-clause-ok
 returns-in-Some-clause-ok c =
-    let t = c.self.inside in
-    let s : State
-    = record {
-      tasks = t.tasks;
-      casts = t.casts.items;
-      files = t.files.items;
-      holds = t.holds.items;
-      prepared = t.prepared.items;
-      deferred = t.deferred.items;
-      creds = t.creds.list;
-    } in
+    let s = seen_state c.self.inside in
     rw (← c.self.view_is)
     (prepare_busy s c.args.label c.args.task c.args.hold (Busy c.in-Some.cast) (sym c.alive.ensures ∙ c.if-not-alive.false) (busy_at s _ c.args.task _ c.deref.ensures.value c.in-Some.ensures))
 
 pub returns-in_default-slot-clause-ok : goal.returns-in_default-slot-clause-ok
 returns-in_default-slot-clause-ok c =
-    let t = c.self.inside in
-    let s : State
-    = record {
-      tasks = t.tasks;
-      casts = t.casts.items;
-      files = t.files.items;
-      holds = t.holds.items;
-      prepared = t.prepared.items;
-      deferred = t.deferred.items;
-      creds = t.creds.list;
-    } in
+    let s = seen_state c.self.inside in
     let held : Hold = record { label = c.held.inside.label; number = c.held.inside.number } in
-    let lives = some_of _ (sym c.alive.ensures ∙ c.if-not-alive.false) in
-    let unused = neither _ _ c.has_label.result (rw (← c.self.view_is) at c.has_label.ensures) c.if-has_label.false in
-    let can : CanPrepare s c.args.label c.args.task c.args.hold held
-    = record {
-      owner = lives.0;
-      lives = lives.1;
-      idle = busy_at s _ c.args.task _ c.deref.ensures.value c.in_default.ensures;
-      has = ap (λ (hs : List Hold). find (λ h. h.label == c.args.hold) hs) (sym c.deref-2.ensures.value) ∙ (rw (← c.held.view_is) at (sym c.in-Some-hold_of.ensures));
-      new = unused.0;
-      unprepared = unused.1;
-      few = search rules;
-    } in
+    let can = can_prepare s c.args.label c.args.task c.args.hold held _ _ _ c.alive.result c.has_label.result c.alive.ensures c.if-not-alive.false
+    c.deref.ensures.value c.in_default.ensures c.deref-2.ensures.value c.in-Some-hold_of.ensures c.held.view_is
+    (rw (← c.self.view_is) at c.has_label.ensures) c.if-has_label.false (search rules) in
     rw (c.table_full.ensures.answer, c.table_full.ensures.state, ← c.self.view_is)
     (prepare_full s c.args.label c.args.task c.args.hold held can (rw (← c.self.view_is) at (sym c.in_ok-slot.ensures.slot ∙ c.in_default-slot.is)))
 
 pub returns-clause-ok : goal.returns-clause-ok
 returns-clause-ok c =
-    let t = c.self.inside in
-    let s : State
-    = record {
-      tasks = t.tasks;
-      casts = t.casts.items;
-      files = t.files.items;
-      holds = t.holds.items;
-      prepared = t.prepared.items;
-      deferred = t.deferred.items;
-      creds = t.creds.list;
-    } in
+    let s = seen_state c.self.inside in
     let held : Hold = record { label = c.held.inside.label; number = c.held.inside.number } in
-    let lives = some_of _ (sym c.alive.ensures ∙ c.if-not-alive.false) in
-    let unused = neither _ _ c.has_label.result (rw (← c.self.view_is) at c.has_label.ensures) c.if-has_label.false in
-    let can : CanPrepare s c.args.label c.args.task c.args.hold held
-    = record {
-      owner = lives.0;
-      lives = lives.1;
-      idle = busy_at s _ c.args.task _ c.deref.ensures.value c.in_default.ensures;
-      has = ap (λ (hs : List Hold). find (λ h. h.label == c.args.hold) hs) (sym c.deref-2.ensures.value) ∙ (rw (← c.held.view_is) at (sym c.in-Some-hold_of.ensures));
-      new = unused.0;
-      unprepared = unused.1;
-      few = search rules;
-    } in
+    let can = can_prepare s c.args.label c.args.task c.args.hold held _ _ _ c.alive.result c.has_label.result c.alive.ensures c.if-not-alive.false
+    c.deref.ensures.value c.in_default.ensures c.deref-2.ensures.value c.in-Some-hold_of.ensures c.held.view_is
+    (rw (← c.self.view_is) at c.has_label.ensures) c.if-has_label.false (search rules) in
     rw (← c.self.view_is)
     (prepare_leads s c.args.label c.args.task c.args.hold held can c.in_ok-slot.field-0.swept c.in-Some-slot.slot _ _
     (rw (← c.self.view_is) at (sym c.in_ok-slot.ensures.slot ∙ c.in-Some-slot.is)) (rw (← c.self.view_is) at c.in_ok-slot.ensures.swept)

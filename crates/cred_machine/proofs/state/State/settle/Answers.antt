@@ -1,45 +1,23 @@
 use Rattle.std.proofs.Common.{◌≡◌, Some, ◌∙◌}
-use Rattle.cred_model.specs.State.{State, Changed, Prepared, Task, task_of}
+use Rattle.cred_model.specs.State.{Changed}
 use Rattle.cred_machine.specs.Labels.{CanCommit, IsChanged}
 use Rattle.cred_plain.proofs.Places.{found_is}
-use Rattle.cred_machine.proofs.Committing.{commits, gathered, own_is}
+use Rattle.cred_machine.proofs.Committing.{commits, gathered, read_is}
+use Rattle.cred_machine.proofs.Seen.{seen_prepared, seen_state, seen_task}
 use Rattle.cred_machine.proofs.state.State.settle.Goals as goal
 
 pub returns-clause-ok : goal.returns-clause-ok
 returns-clause-ok c =
-    let t = c.self.inside in
-    let s : State
-    = record {
-      tasks = t.tasks;
-      casts = t.casts.items;
-      files = t.files.items;
-      holds = t.holds.items;
-      prepared = t.prepared.items;
-      deferred = t.deferred.items;
-      creds = t.creds.list;
-    } in
-    let own : Prepared
-    = record {
-      label = c.own.inside.label;
-      task = c.own.inside.task;
-      base = c.own.inside.base;
-      slot = c.own.inside.slot;
-      changed = c.own.inside.changed;
-    } in
-    let owner : Task
-    = record {
-      number = c.owner.inside.number;
-      process = c.owner.inside.process;
-      current = c.owner.inside.current;
-      overrides = c.owner.inside.overrides.items;
-    } in
+    let s = seen_state c.self.inside in
+    let own = seen_prepared c.own.inside in
+    let owner = seen_task c.owner.inside in
     let can : CanCommit s c.args.place = rw (← c.self.view_is) at c.requires.can in
-    let at = own_is s c.args.place can own (rw (← c.own.view_is) at c.index-own.ensures) in
-    let lives : task_of s own.task ≡ Some owner = rw (← c.owner.view_is) at (found_is _ c.get.result _ c.unwrap-owner.result c.get.ensures c.unwrap-owner.ensures) in
+    let read = read_is s c.args.place can own _ owner _ c.own.view_is c.index-own.ensures c.owner.view_is
+    (found_is _ c.get.result _ c.unwrap-owner.result c.get.ensures c.unwrap-owner.ensures) in
     let last : Changed = record { change = c.last.inside.change; cred = c.last.inside.cred; gains = c.last.inside.gains } in
     let changed : own.changed ≡ Some last
     = rw (← c.last.view_is) at (found_is _ c.as_ref.result _ c.unwrap-last.result c.as_ref.ensures.value c.unwrap-last.ensures) in
-    let is : IsChanged s c.args.place own owner last = record { there = at.there; changed = changed; lives = lives } in
+    let is : IsChanged s c.args.place own owner last = record { there = read.there; changed = changed; lives = read.lives } in
     rw (← c.self.view_is)
     (commits s c.args.place own owner last is c.ends_with-ending.result c.committed_by-answer.result c.seal-number.result c.count-ended.result _ _ _ _ _ _ _ _ _
     (rw (← c.self.view_is) at c.requires.current) c.ends_with-ending.ensures c.seal-number.ensures.number c.in_ok-reserve.ensures.list c.count-ended.ensures
