@@ -9,10 +9,9 @@ use Rattle.cred_io.proofs.Known.{appends_more, appends_kept}
 use Rattle.cred_event.specs.declared.entry.Entry.{Entry}
 use Rattle.cred_io.specs.declared.sink.SinkRefusal.TheVariants as sink
 use Rattle.cred_model.specs.Script.{Script}
-use Rattle.cred_model.specs.Journal.{IsLegal, IsSequence}
-use Rattle.cred_laws.proofs.AnsweredLaws.{in_order_is_answered, so_far_is_answered}
+use Rattle.cred_model.specs.Journal.{IsLegal}
+use Rattle.cred_laws.proofs.AnsweredLaws.{so_far_is_answered}
 use Rattle.cred_laws.proofs.Lawful.{lawful}
-use Rattle.cred_laws.proofs.OrderLaws.{sequence_is_legal}
 use Rattle.cred_commands.specs.Ends.{IsScript, Reports, finished}
 use Rattle.cred_commands.specs.declared.status.Status.TheVariants as status
 use Rattle.cred_report.specs.Text.{text}
@@ -75,27 +74,15 @@ pub done_written : (a b : Option (List ℕ)) (bytes : List ℕ) (r : Result (Uni
 done_written a b bytes (Ok done) all is = all
 done_written a b bytes (Err refusal) all is = absurd (refused_apart refusal is)
 
--- a whole report that was written, of the journal in which all lines run whole and in order
-pub reported_run : (before after : Option (List ℕ)) (input : List ℕ) (script : Script) (journal : List Entry) → IsScript input script
-    → IsSequence script journal → Appends before after (text script journal) → Reports IsSequence before after input
-reported_run before after input script journal is run all = record {
+-- a whole report that was written, of one of these journals, which the script may have
+pub reported : (These : Script → List Entry → Type 0) (before after : Option (List ℕ)) (input : List ℕ) (script : Script) (journal : List Entry)
+    → IsScript input script → These script journal → IsLegal script journal → Appends before after (text script journal)
+    → Reports These before after input
+reported These before after input script journal is one legal all = record {
   script = script;
   read = is.read;
   journal = journal;
-  one = run;
-  legal = sequence_is_legal script journal is.setup run;
-  lawful = lawful script journal (in_order_is_answered script journal run.in_order);
-  written = all;
-}
-
--- one of a journal that the script may have
-pub reported_legal : (before after : Option (List ℕ)) (input : List ℕ) (script : Script) (journal : List Entry) → IsScript input script
-    → IsLegal script journal → Appends before after (text script journal) → Reports IsLegal before after input
-reported_legal before after input script journal is legal all = record {
-  script = script;
-  read = is.read;
-  journal = journal;
-  one = legal;
+  one = one;
   legal = legal;
   lawful = lawful script journal (so_far_is_answered script journal legal.so_far);
   written = all;

@@ -3,7 +3,7 @@ use Rattle.std.specs.Prelude.{◌≡◌, ◌≤◌, ◌<◌, ◌⊎◌, ◌+◌,
 use Rattle.std.specs.Prelude.{Ok, Err, MatchOption, ⊤}
 use Rattle.std.specs.declared.option.Option.{Option}
 use Rattle.std.specs.Io.KnownBytes.{Appends}
-use Rattle.cred_io.specs.Ends.{ReadsAll, ReadsMoreThan, AppendsPrefix}
+use Rattle.cred_io.specs.Ends.{ReadsMoreThan, AppendsPrefix}
 use Rattle.cred_model.specs.Script.{Script}
 use Rattle.cred_spelling.specs.declared.reason.Reason.{Reason}
 use Rattle.cred_script.specs.Lines.{lines_of}
@@ -11,7 +11,7 @@ use Rattle.cred_script.specs.Grammar.{script_of}
 use Rattle.cred_audit.specs.Report.{IsReport, IsFault}
 use Rattle.cred_commands.specs.declared.status.Status.{Status}
 use Rattle.cred_commands.specs.declared.status.Status.TheVariants as status
-use Rattle.cred_commands.specs.Ends.{IsWithin, IsTooLarge}
+use Rattle.cred_commands.specs.Ends.{IsWithin, IsTooLarge, ReadsInput, ReadsAbove}
 use Rattle.cred_commands.specs.Parts.{parts_of, script_part}
 use Rattle.cred_commands.specs.Texts.{bad_text}
 
@@ -26,26 +26,18 @@ pub record IsAuditWithin (input : List ℕ) : Type 0 where
   pub script : IsWithin (script_part input)
 
 -- All that was left was read. It is within the limits, and P holds of it.
-pub record AuditReads (before after : Option (List ℕ)) (P : List ℕ → Type 0) : Type 0 where
-  pub input : List ℕ
-  pub read : ReadsAll before after input
-  pub within : IsAuditWithin input
-  pub so : P input
+abbrev pub AuditReads : Option (List ℕ) → Option (List ℕ) → (List ℕ → Type 0) → Type 0
+AuditReads before after P = ReadsInput IsAuditWithin before after P
 
 -- All that was left was read, and it is within the limits.
 abbrev pub AuditReadsWithin : Option (List ℕ) → Option (List ℕ) → Type 0
 AuditReadsWithin before after = AuditReads before after (λ input. ⊤)
 
--- All that was left was read, and what is to be a script is larger than a script may be.
-pub record AuditReadsLargeScript (before after : Option (List ℕ)) : Type 0 where
-  pub input : List ℕ
-  pub read : ReadsAll before after input
-  pub above : IsTooLarge (script_part input)
-
 -- More bytes were read than an input may have, or all was read and its script part is too large.
 abbrev pub AuditReadsTooMuch : Option (List ℕ) → Option (List ℕ) → Type 0
 AuditReadsTooMuch before after =
-    ReadsMoreThan AUDIT_LIMIT before after ⊎ AuditReadsLargeScript before after
+    ReadsMoreThan AUDIT_LIMIT before after
+    ⊎ ReadsAbove (λ input. IsTooLarge (script_part input)) before after
 
 -- of a report that is the script's
 abbrev pub legal_text : List ℕ

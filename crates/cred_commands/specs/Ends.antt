@@ -32,27 +32,34 @@ pub record IsWithin (input : List ℕ) : Type 0 where
 abbrev pub IsTooLarge : List ℕ → Type 0
 IsTooLarge input = (BYTE_LIMIT < length input) ⊎ (LINE_LIMIT < length (lines_of input))
 
--- All that was left was read. It is within both limits, and P holds of it.
-pub record Reads (before after : Option (List ℕ)) (P : List ℕ → Type 0) : Type 0 where
+-- All that was left was read. It is within the limits of a command, and P holds of it.
+pub record ReadsInput
+    (Within : List ℕ → Type 0) (before after : Option (List ℕ)) (P : List ℕ → Type 0)
+    : Type 0 where
   pub input : List ℕ
   pub read : ReadsAll before after input
-  pub within : IsWithin input
+  pub within : Within input
   pub so : P input
+
+-- All that was left was read, and it is above a limit of a command that is not one of bytes.
+pub record ReadsAbove (Above : List ℕ → Type 0) (before after : Option (List ℕ)) : Type 0 where
+  pub input : List ℕ
+  pub read : ReadsAll before after input
+  pub above : Above input
+
+-- All that was left was read. It is within both limits, and P holds of it.
+abbrev pub Reads : Option (List ℕ) → Option (List ℕ) → (List ℕ → Type 0) → Type 0
+Reads before after P = ReadsInput IsWithin before after P
 
 -- All that was left was read, and it is within both limits.
 abbrev pub ReadsWithin : Option (List ℕ) → Option (List ℕ) → Type 0
 ReadsWithin before after = Reads before after (λ input. ⊤)
 
--- All that was left was read, and it has more lines than an input may have.
-pub record ReadsMoreLines (before after : Option (List ℕ)) : Type 0 where
-  pub input : List ℕ
-  pub read : ReadsAll before after input
-  pub above : LINE_LIMIT < length (lines_of input)
-
 -- More bytes were read than an input may have, or all was read and it has more lines.
 abbrev pub ReadsTooMuch : Option (List ℕ) → Option (List ℕ) → Type 0
 ReadsTooMuch before after =
-    ReadsMoreThan BYTE_LIMIT before after ⊎ ReadsMoreLines before after
+    ReadsMoreThan BYTE_LIMIT before after
+    ⊎ ReadsAbove (λ input. LINE_LIMIT < length (lines_of input)) before after
 
 -- The input is a script, and the text of a journal of it was written that is one of these: the one
 -- in which its lines run whole and in order, or any that it may have. The laws hold of it: no slot
@@ -82,13 +89,19 @@ pub record RefusesPrefix (before after : Option (List ℕ)) (input : List ℕ) :
   pub read : script_of input ≡ Err bad
   pub written : AppendsPrefix before after (bad_text bad)
 
--- A prefix of the text that the input has was written, and nothing else.
-abbrev pub Begins : Option (List ℕ) → Option (List ℕ) → List ℕ → Type 0
-Begins before after input =
+-- A prefix of a text that the input has was written, and nothing else. That of a script is the
+-- text of one of these journals of it.
+abbrev pub BeginsOne :
+    (Script → List Entry → Type 0) → Option (List ℕ) → Option (List ℕ) → List ℕ → Type 0
+BeginsOne These before after input =
     MatchResult (script_of input)
-    (λ script. (journal : List Entry) × IsSequence script journal
+    (λ script. (journal : List Entry) × These script journal
     × AppendsPrefix before after (text script journal))
     (λ bad. AppendsPrefix before after (bad_text bad))
+
+-- A prefix of the text that the input has was written, and nothing else.
+abbrev pub Begins : Option (List ℕ) → Option (List ℕ) → List ℕ → Type 0
+Begins before after input = BeginsOne IsSequence before after input
 
 -- The statuses that an input may have: which of Done, Bad and TooLarge it is, the input alone
 -- decides, and nothing but a fault or lack of memory takes their place. Only what is within the

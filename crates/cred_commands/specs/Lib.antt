@@ -3,6 +3,7 @@ pub mod Decoding
 pub mod Summing
 pub mod Ends
 pub mod Cuts
+pub mod Leaves
 pub mod Parts
 pub mod Auditing
 pub mod Statuses

@@ -1,14 +1,14 @@
 //! Saying whether a report is the report of a script.
-ghost use Rattle.std.specs.Prelude.{◌≡◌, ◌≢◌, ◌≤◌, ◌⊎◌, ◌+◌, ℕ, List, true, Some, IfOk, MatchBool};
+ghost use Rattle.std.specs.Prelude.{◌≡◌, ◌≢◌, ◌≤◌, ◌⊎◌, ℕ, List, true, Some, IfOk, MatchBool};
 ghost use Rattle.std.specs.Prelude.{length, string_bytes};
 ghost use Rattle.std.specs.Option.{option_map};
 ghost use Rattle.cred_io.specs.Causes.{CountsFaults};
-ghost use Rattle.cred_io.specs.Ends.{ReadsUpTo};
 ghost use Rattle.cred_script.specs.Lines.{lines_of};
 ghost use Rattle.cred_commands.specs.Auditing.{AuditReads, AuditReadsTooMuch, AuditReadsWithin};
 ghost use Rattle.cred_commands.specs.Auditing.{AuditSuits, IsAuditWithin, Judges, Says, Writes};
 ghost use Rattle.cred_commands.specs.Auditing.{WritesPrefix, no_report_text};
 ghost use Rattle.cred_commands.specs.Ends.{IsTooLarge, IsWhole, IsWithin};
+ghost use Rattle.cred_commands.specs.Leaves.{IsReading, IsWriting};
 ghost use Rattle.cred_commands.specs.Parts as spec;
 ghost use Rattle.cred_commands.specs.Parts.{script_part};
 
@@ -46,14 +46,10 @@ pub fn read_and_audit<S: Source, K: Sink>(alloc: Global, source: &mut S, sink: &
     ensures prefix { (K.written sink.new ≡ K.written sink.old)
         ⊎ AuditReads (S.left source.old) (S.left source.new)
         (WritesPrefix (K.written sink.old) (K.written sink.new)) }
-    ensures handed_on { IsWhole result → K.handed_on sink.new ≡ true }
-    ensures read_cause { CountsFaults (result ≡ Status.ReadFault)
+    ensures reading { IsReading AUDIT_LIMIT result (S.left source.old) (S.left source.new)
         (S.faults source.old) (S.faults source.new) }
-    ensures write_cause { CountsFaults (result ≡ Status.WriteFault)
+    ensures writing { IsWriting result (K.handed_on sink.new)
         (K.faults sink.old) (K.faults sink.new) }
-    ensures read_fault { result ≡ Status.ReadFault
-        → ReadsUpTo AUDIT_LIMIT (S.left source.old) (S.left source.new) }
-    ensures no_more { ReadsUpTo (AUDIT_LIMIT + 1) (S.left source.old) (S.left source.new) }
     ensures silent { (result ≡ Status.ReadFault) ⊎ (result ≡ Status.TooLarge)
         → sink.new ≡ sink.old }
 {

@@ -3,10 +3,11 @@
 
 mod auditing;
 mod decoding;
-mod lanes;
+mod journals;
 mod parts;
 mod reading;
 mod report;
+mod runs;
 mod script;
 mod status;
 mod summing;
@@ -14,8 +15,8 @@ mod writing;
 
 pub use auditing::{AUDIT_LIMIT, read_and_audit};
 pub use decoding::show;
-pub use lanes::read_and_lanes;
-pub use script::{BYTE_LIMIT, read_and_run};
+pub use runs::{read_and_lanes, read_and_run};
+pub use script::BYTE_LIMIT;
 pub use status::{Status, finish};
 pub use summing::sum;
 pub use writing::write_text;

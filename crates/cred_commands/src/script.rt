@@ -1,65 +1,69 @@
-//! Running a script from its bytes.
-ghost use Rattle.std.specs.Prelude.{◌≡◌, ◌≢◌, ◌≤◌, ◌<◌, ◌⊎◌, ◌+◌, ℕ, List, true, Some, length};
+//! Running a script from its bytes, in one of the ways to run it.
+ghost use Rattle.std.specs.Prelude.{◌≡◌, ◌≢◌, ◌≤◌, ◌<◌, ◌⊎◌, true, IfOk, length};
 ghost use Rattle.cred_io.specs.Causes.{CountsFaults};
-ghost use Rattle.cred_io.specs.Ends.{ReadsUpTo};
-ghost use Rattle.cred_model.specs.Journal.{IsSequence};
 ghost use Rattle.cred_script.specs.Lines.{lines_of};
-ghost use Rattle.cred_commands.specs.Ends.{Begins, IsWhole, IsWithin, Reads, ReadsTooMuch};
-ghost use Rattle.cred_commands.specs.Ends.{ReadsWithin, Refuses, Reports, Suits};
+ghost use Rattle.cred_commands.specs.Cuts.{Cuts};
+ghost use Rattle.cred_commands.specs.Ends.{BeginsOne, IsWhole, IsWithin, Refuses, Reports, Suits};
+ghost use Rattle.cred_commands.specs.Leaves.{IsReading, IsWriting, LeavesReport};
 
+use crate::journals::Journals;
 use crate::reading::script_from;
 use crate::report::report;
 use crate::status::Status;
-use cred_book::run;
+use cred_book::Journal;
 use cred_event::LINE_LIMIT;
 use cred_ids::NoMemory;
 use cred_io::{ReadRefusal, Sink, Source, read_all};
+use cred_script::Script;
 use std::alloc::Global;
 
 /// How many bytes an input may have.
 pub const BYTE_LIMIT: u32 = 1_048_576;
 
-/// Reads a script to its end, runs it, and writes its report, or its first bad line.
-pub fn read_and_run<S: Source, K: Sink>(alloc: Global, source: &mut S, sink: &mut K) -> Status
-    ensures done { result ≡ Status.Done → Reads (S.left source.old) (S.left source.new)
-        (Reports IsSequence (K.written sink.old) (K.written sink.new)) }
-    ensures bad { result ≡ Status.Bad → Reads (S.left source.old) (S.left source.new)
-        (Refuses (K.written sink.old) (K.written sink.new)) }
-    ensures no_usage { result ≢ Status.Usage }
-    ensures no_not_legal { result ≢ Status.NotLegal }
-    ensures too_large { result ≡ Status.TooLarge
-        → ReadsTooMuch (S.left source.old) (S.left source.new) }
-    ensures write_fault { result ≡ Status.WriteFault
-        → ReadsWithin (S.left source.old) (S.left source.new) }
-    ensures suits { (input : List ℕ) → S.left source.old ≡ Some input → Suits input result }
-    ensures prefix { (K.written sink.new ≡ K.written sink.old)
-        ⊎ Reads (S.left source.old) (S.left source.new)
-        (Begins (K.written sink.old) (K.written sink.new)) }
-    ensures handed_on { IsWhole result → K.handed_on sink.new ≡ true }
-    ensures read_cause { CountsFaults (result ≡ Status.ReadFault)
+/// Reads a script to its end, runs it in this way, and writes the report of the journal that came
+/// about, or the script's first bad line. It is run only where the input is a script.
+pub(crate) fn read_and_report<J: Journals, S: Source, K: Sink, F>(
+    alloc: Global,
+    source: &mut S,
+    sink: &mut K,
+    run: F,
+) -> Status
+where
+    F: FnOnce(Script) -> Result<Journal, NoMemory>,
+    requires callable { F.IsAlwaysCallable run }
+    requires gives { (script : _) (made : _) → F.post run script made → IfOk made (λ journal.
+        (journal.script ≡ script) × J.gives script journal.entries.items) }
+    ensures report { LeavesReport J.gives result (S.left source.old) (S.left source.new)
+        (K.written sink.old) (K.written sink.new) }
+    ensures reading { IsReading BYTE_LIMIT result (S.left source.old) (S.left source.new)
         (S.faults source.old) (S.faults source.new) }
-    ensures write_cause { CountsFaults (result ≡ Status.WriteFault)
+    ensures writing { IsWriting result (K.handed_on sink.new)
         (K.faults sink.old) (K.faults sink.new) }
-    ensures read_fault { result ≡ Status.ReadFault
-        → ReadsUpTo BYTE_LIMIT (S.left source.old) (S.left source.new) }
-    ensures no_more { ReadsUpTo (BYTE_LIMIT + 1) (S.left source.old) (S.left source.new) }
     ensures silent { (result ≡ Status.ReadFault) ⊎ (result ≡ Status.TooLarge)
         → sink.new ≡ sink.old }
 {
     match read_all(alloc, source, BYTE_LIMIT) {
-        Ok(bytes) => run_script(alloc, bytes.items(), sink),
+        Ok(bytes) => run_script::<J, K, F>(alloc, bytes.items(), sink, run),
         Err(ReadRefusal::Fault) => Status::ReadFault,
         Err(ReadRefusal::TooLarge) => Status::TooLarge,
         Err(ReadRefusal::Memory) => Status::Memory,
     }
 }
 
-/// Runs the script that these bytes are, and writes its report, or its first bad line; nothing
+/// Runs the script that these bytes are, and writes the report, or its first bad line; nothing
 /// where there are too many lines.
-fn run_script<K: Sink>(alloc: Global, bytes: &[u8], sink: &mut K) -> Status
-    requires { length bytes.now ≤ BYTE_LIMIT }
+fn run_script<J: Journals, K: Sink, F: FnOnce(Script) -> Result<Journal, NoMemory>>(
+    alloc: Global,
+    bytes: &[u8],
+    sink: &mut K,
+    run: F,
+) -> Status
+    requires within { length bytes.now ≤ BYTE_LIMIT }
+    requires callable { F.IsAlwaysCallable run }
+    requires gives { (script : _) (made : _) → F.post run script made → IfOk made (λ journal.
+        (journal.script ≡ script) × J.gives script journal.entries.items) }
     ensures done { result ≡ Status.Done
-        → Reports IsSequence (K.written sink.old) (K.written sink.new) bytes.now }
+        → Reports J.gives (K.written sink.old) (K.written sink.new) bytes.now }
     ensures bad { result ≡ Status.Bad
         → Refuses (K.written sink.old) (K.written sink.new) bytes.now }
     ensures too_large { result ≡ Status.TooLarge
@@ -69,12 +73,14 @@ fn run_script<K: Sink>(alloc: Global, bytes: &[u8], sink: &mut K) -> Status
     ensures handed_on { IsWhole result → K.handed_on sink.new ≡ true }
     ensures cause { CountsFaults (result ≡ Status.WriteFault)
         (K.faults sink.old) (K.faults sink.new) }
-    ensures prefix { (sink.new ≡ sink.old)
-        ⊎ (IsWithin bytes.now × Begins (K.written sink.old) (K.written sink.new) bytes.now) }
+    ensures prefix { (sink.new ≡ sink.old) ⊎ (IsWithin bytes.now
+        × BeginsOne J.gives (K.written sink.old) (K.written sink.new) bytes.now) }
+    ensures cut { (sink.new ≡ sink.old)
+        ⊎ (IsWithin bytes.now × Cuts (K.written sink.old) (K.written sink.new) bytes.now) }
 {
     match script_from(alloc, bytes, sink) {
-        Ok(script) => match run(alloc, script) {
-            Ok(book) => report(alloc, sink, book.script(), book.journal()),
+        Ok(script) => match run(script) {
+            Ok(journal) => report(alloc, sink, &journal.script, &journal.entries),
             Err(NoMemory) => Status::Memory,
         },
         Err(status) => status,
