@@ -31,7 +31,7 @@ use std::marker::Model;
 /// many of its lines have ended.
 ///
 /// Every entry has the answer that its event gets in the state after the entries before it.
-#[derive(Drop, Debug)]
+#[derive(Drop)]
 pub struct Book {
     script: Script,
     state: State,
