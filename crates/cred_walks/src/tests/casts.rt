@@ -4,12 +4,12 @@ ghost use Rattle.std.specs.Prelude.{ℕ, List, IfOk};
 ghost use Rattle.cred_model.specs.Named.{IsEventOf};
 ghost use Rattle.cred_model.specs.Script.{Namespace};
 
-use cred_book::{Book, run};
+use crate::tests::books::{Walk, run_whole, walk_in_book};
+use cred_book::Book;
 use cred_event::Event;
 use cred_ids::{Arg, Id};
 use cred_record::IdCall;
 use cred_report::print;
-use cred_script::read;
 use std::alloc::Global;
 use std::test::Fail;
 
@@ -146,16 +146,25 @@ fn first_other(alloc: Global, book: &mut Book) -> Result<Option<&'static str>, F
     Ok(None)
 }
 
-/// The same in the book of the script.
-fn walked(alloc: Global) -> Result<Option<&'static str>, Fail> {
-    let script = read(alloc, SCRIPT.as_bytes())?;
-    let mut book = run(alloc, script)?;
-    first_other(alloc, &mut book)
+/// The walk along the rows, and the text of the first one that goes otherwise.
+#[derive(Drop)]
+struct Rows {
+    other: Option<&'static str>,
+}
+
+impl Walk for Rows {
+    fn walk(&mut self, alloc: Global, book: &mut Book) -> Result<(), Fail> {
+        run_whole(book)?;
+        self.other = first_other(alloc, book)?;
+        Ok(())
+    }
 }
 
 #[test]
 fn refusals_of_an_open_broadcast_leave_the_state(rt: HostRuntime) -> Result<(), Fail> {
-    let other = walked(rt.alloc())?;
+    let mut rows = Rows { other: None };
+    walk_in_book(rt.alloc(), SCRIPT, &mut rows)?;
+    let other = rows.other;
     assert!(rt; other.is_none(), "{other:?}");
     Ok(())
 }

@@ -8,12 +8,12 @@ mod scripts;
 mod tasks;
 mod walk;
 
+use crate::tests::books::{Walk, run_whole, walk_in_book};
 use crate::tests::counted::lists::{Lists, SLOTS};
 use crate::tests::counted::scripts::script_of;
-use cred_book::{Book, run};
+use cred_book::Book;
 use cred_event::{AbortCause, Answer, Entry, Event};
 use cred_ids::NoMemory;
-use cred_script::{line_count, read};
 use std::alloc::Global;
 use std::test::Fail;
 
@@ -126,15 +126,6 @@ fn count_of(used: &[u32], slot: u32) -> u64 {
     used.iter().filter(|own| **own == slot).count() as u64
 }
 
-/// The book of the run of a script.
-fn ran(alloc: Global, text: &str) -> Result<Book, Fail> {
-    if line_count(text.as_bytes()) > 20000 {
-        return Err(Fail::from("too many lines"));
-    }
-    let script = read(alloc, text.as_bytes())?;
-    Ok(run(alloc, script)?)
-}
-
 /// The first entry, by its place, that the lists don't give so.
 fn first_entry(
     journal: &[Entry],
@@ -172,16 +163,38 @@ fn first_other(
     }
 }
 
+/// The walk along a run's entries, with what is otherwise first in the last script, and what all
+/// scripts so far have reached.
+#[derive(Drop)]
+struct Comparison {
+    other: Option<Other>,
+    reached: Vec<Reached>,
+}
+
+impl Walk for Comparison {
+    fn walk(&mut self, alloc: Global, book: &mut Book) -> Result<(), Fail> {
+        run_whole(book)?;
+        self.other = first_other(alloc, book, &mut self.reached)?;
+        Ok(())
+    }
+}
+
 #[test]
 fn references_are_counted(rt: HostRuntime) -> Result<(), Fail> {
-    let mut reached = Vec::new(rt.alloc());
+    let mut walk = Comparison {
+        other: None,
+        reached: Vec::new(rt.alloc()),
+    };
     for number in 0..SCRIPTS {
         let text = script_of(rt.alloc(), number)?;
-        let book = ran(rt.alloc(), text.as_str())?;
-        let other = first_other(rt.alloc(), &book, &mut reached)?;
+        walk_in_book(rt.alloc(), text.as_str(), &mut walk)?;
+        let other = walk.other;
         assert!(rt; other.is_none(), "{number}: {other:?} in\n{text}");
     }
-    let missing = ALL.iter().find(|mark| !reached.contains(mark)).copied();
+    let missing = ALL
+        .iter()
+        .find(|mark| !walk.reached.contains(mark))
+        .copied();
     assert_eq!(rt; missing, None);
     Ok(())
 }

@@ -2,9 +2,9 @@
 //! lane have ended then, and whose line is the least; and the journal that is left at the end.
 ghost use Rattle.cred_book.specs.Cursor.{Stands};
 
-use cred_book::{Book, Journal, Step};
+use crate::tests::books::{Walk, walk_in_book};
+use cred_book::{Book, Step};
 use cred_report::print;
-use cred_script::read;
 use std::alloc::Global;
 use std::test::Fail;
 
@@ -50,25 +50,54 @@ fn goes_so(book: &mut Book, row: Row) -> Result<bool, Fail>
     Ok(came == step && book.ended(lane) == ended && book.least() == least)
 }
 
+/// The first row that goes otherwise.
+fn first_other(book: &mut Book) -> Result<Option<Row>, Fail>
+    requires { Stands book.old }
+{
+    'rows: for row in ROWS {
+        if !goes_so(book, row)? {
+            return Ok(Some(row));
+        }
+    }
+    Ok(None)
+}
+
 /// Whether these are the journal's entries.
-fn are_entered(alloc: Global, journal: &Journal) -> Result<bool, Fail> {
-    for (entry, text) in journal.entries.iter().zip(TEXTS) {
-        let printed = print(alloc, &journal.script, entry)?;
+fn are_entered(alloc: Global, book: &Book) -> Result<bool, Fail> {
+    for (entry, text) in book.journal().iter().zip(TEXTS) {
+        let printed = print(alloc, book.script(), entry)?;
         if printed.items() != text.as_bytes() {
             return Ok(false);
         }
     }
-    Ok(journal.entries.len() == TEXTS.len())
+    Ok(book.journal().len() == TEXTS.len())
+}
+
+/// The walk along the rows, the first one that goes otherwise, and whether the journal that is left
+/// has the texts.
+#[derive(Drop)]
+struct Turns {
+    other: Option<Row>,
+    are_entered: bool,
+}
+
+impl Walk for Turns {
+    fn walk(&mut self, alloc: Global, book: &mut Book) -> Result<(), Fail> {
+        self.other = first_other(book)?;
+        self.are_entered = are_entered(alloc, book)?;
+        Ok(())
+    }
 }
 
 #[test]
 fn lanes_take_turns(rt: HostRuntime) -> Result<(), Fail> {
-    let mut book = Book::new(rt.alloc(), read(rt.alloc(), SCRIPT.as_bytes())?)?;
-    'rows: for row in ROWS {
-        let goes_so = goes_so(&mut book, row)?;
-        assert!(rt; goes_so, "{row:?}");
-    }
-    let journal = book.into_journal();
-    assert!(rt; are_entered(rt.alloc(), &journal)?);
+    let mut turns = Turns {
+        other: None,
+        are_entered: false,
+    };
+    walk_in_book(rt.alloc(), SCRIPT, &mut turns)?;
+    let other = turns.other;
+    assert!(rt; other.is_none(), "{other:?}");
+    assert!(rt; turns.are_entered);
     Ok(())
 }

@@ -4,11 +4,10 @@ ghost use Rattle.std.specs.Prelude.{ℕ, ◌<◌, List};
 ghost use Rattle.cred_model.specs.Named.{IsEventOf};
 ghost use Rattle.cred_model.specs.Script.{Namespace};
 
-use cred_book::{Book, run};
+use crate::tests::books::{Walk, run_whole, walk_in_book};
+use cred_book::Book;
 use cred_event::{Answer, Counted, Event, Side};
-use cred_ids::NoMemory;
 use cred_record::Want;
-use cred_script::read;
 use std::alloc::Global;
 use std::test::Fail;
 
@@ -106,15 +105,12 @@ fn clear(book: &mut Book, kind: Kind, limit: u32) -> Result<(), Fail> {
     Ok(())
 }
 
-/// The book of the script.
-fn opened(alloc: Global) -> Result<Book, Fail> {
-    let script = read(alloc, SCRIPT.as_bytes())?;
-    Ok(run(alloc, script)?)
-}
-
 /// How many references there are to the task's credential: at the start, with as many of these as
 /// there may be, with one too many, and once all are gone. Then whether that one was refused.
-fn counts(book: &mut Book, kind: Kind, limit: u32) -> Result<([u64; 4], bool), Fail> {
+type Counts = ([u64; 4], bool);
+
+/// The counts in the book.
+fn counts(book: &mut Book, kind: Kind, limit: u32) -> Result<Counts, Fail> {
     let start = book.uses(0);
     fill(book, kind, limit)?;
     let full = book.uses(0);
@@ -124,11 +120,32 @@ fn counts(book: &mut Book, kind: Kind, limit: u32) -> Result<([u64; 4], bool), F
     Ok(([start, full, still, book.uses(0)], refused))
 }
 
+/// The walk to the limit of this kind and back, and what it has counted.
+#[derive(Drop)]
+struct Limit {
+    kind: Kind,
+    limit: u32,
+    counts: Counts,
+}
+
+impl Walk for Limit {
+    fn walk(&mut self, _alloc: Global, book: &mut Book) -> Result<(), Fail> {
+        run_whole(book)?;
+        self.counts = counts(book, self.kind, self.limit)?;
+        Ok(())
+    }
+}
+
 #[test]
 fn one_more_than_there_may_be_is_refused(rt: HostRuntime) -> Result<(), Fail> {
     for (kind, limit) in LIMITS {
-        let mut book = opened(rt.alloc())?;
-        let (counts, refused) = counts(&mut book, kind, limit)?;
+        let mut walk = Limit {
+            kind,
+            limit,
+            counts: ([0; 4], false),
+        };
+        walk_in_book(rt.alloc(), SCRIPT, &mut walk)?;
+        let (counts, refused) = walk.counts;
         // The task and the script's hold refer to it all the time.
         let full = 2 + u64::from(limit);
         assert!(rt;

@@ -1,4 +1,5 @@
-//! The tests, a module for each kind.
+//! The tests, a module for each kind, and the owner of the books that they walk in.
+mod books;
 mod casts;
 mod counted;
 mod lanes;
