@@ -1,5 +1,6 @@
 //! Making a script of bytes, for the commands that run one.
-ghost use Rattle.std.specs.Prelude.{◌≡◌, ◌≢◌, ◌≤◌, ◌<◌, ◌⊎◌, true, IfOk, IfErr, OnOk, OnErr, length};
+ghost use Rattle.std.specs.Prelude.{◌≡◌, ◌≢◌, ◌≤◌, ◌<◌, ◌⊎◌, true};
+ghost use Rattle.std.specs.Prelude.{IfOk, IfErr, OnOk, OnErr, length};
 ghost use Rattle.cred_io.specs.Causes.{CountsFaults};
 ghost use Rattle.cred_script.specs.Lines.{lines_of};
 ghost use Rattle.cred_commands.specs.Ends.{IsScript, IsWithin, Refuses, RefusesPrefix, Suits};

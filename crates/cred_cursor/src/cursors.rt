@@ -1,5 +1,6 @@
 //! The cursors of a script's lanes.
-ghost use Rattle.std.specs.Prelude.{◌≡◌, ◌+◌, ◌<◌, ◌≤◌, [], length, set, IfOk, MatchOption, is_none};
+ghost use Rattle.std.specs.Prelude.{◌≡◌, ◌+◌, ◌<◌, ◌≤◌, [], length, set};
+ghost use Rattle.std.specs.Prelude.{IfOk, MatchOption, is_none};
 ghost use Rattle.std.specs.List.{list_all};
 ghost use Rattle.cred_cursor.specs.Cursors.{AreCursors, AreOver, IsEarlier, IsLeast, cursor_of};
 ghost use Rattle.cred_cursor.specs.Cursors.{due_of};

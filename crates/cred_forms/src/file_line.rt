@@ -1,5 +1,4 @@
 //! The lines that declare files.
-ghost use Rattle.std.specs.Prelude.{◌≡◌};
 ghost use Rattle.cred_spelling.specs.Read.{nows};
 ghost use Rattle.cred_forms.specs.Files as spec;
 ghost use Rattle.cred_forms.specs.Read.{GivesLine};
@@ -82,25 +81,9 @@ fn info_of(alloc: Global, words: &[&[u8]]) -> Result<FileInfo, LineRefusal>
 fn options_of(alloc: Global, words: &[&[u8]]) -> Result<(bool, Option<Attr>), LineRefusal>
     ensures { GivesLine (λ options. options) result (spec.options_of (nows words.now)) }
 {
-    let (nosuid, rest) = nosuid_of(words);
-    let attr = attr_of(alloc, rest)?;
-    Ok((nosuid, attr))
-}
-
-/// Whether `nosuid` stands first, and the words that stand after it.
-fn nosuid_of<'w, 'b>(words: &'w [&'b [u8]]) -> (bool, &'w [&'b [u8]])
-    ensures first { result.0 ≡ spec.has_nosuid (nows words.now) }
-    ensures rest { nows result.1.now ≡ spec.after_nosuid (nows words.now) }
-{
     match words {
-        [] => (false, words),
-        [first, rest @ ..] => {
-            if is(first, "nosuid") {
-                (true, rest)
-            } else {
-                (false, words)
-            }
-        }
+        [first, rest @ ..] if is(first, "nosuid") => Ok((true, attr_of(alloc, rest)?)),
+        _ => Ok((false, attr_of(alloc, words)?)),
     }
 }
 

@@ -38,6 +38,8 @@ pub fn query_named(files: &Files, name: &[u8], words: &[&[u8]]) -> Result<Query,
 
 /// A question, by its name.
 #[tactic(auto, unfolding(crate::specs::Questions::query_of))]
+// So that the question isn't put into memory on its way into the line.
+#[inline(always)]
 pub(crate) fn query_of(files: &Files, name: QueryName, words: &[&[u8]]) -> Result<Query, Reason>
     ensures { Says (λ query. query) result (spec.query_of files.now name (nows words.now)) }
 {

@@ -99,8 +99,8 @@ pub struct KernelGuard<'k, K: Name> {
 }
 
 impl<K: Name> KernelGuard<'_, K> {
-    /// Makes the next event of the turn's lane. The answer is Ended exactly if no line of the lane is
-    /// left, and then the turn is as it was. No call changes the turn's lane.
+    /// Makes the next event of the turn's lane. The answer is Ended exactly if no line of the lane
+    /// is left, and then the turn is as it was. No call changes the turn's lane.
     ///
     /// # Errors
     ///

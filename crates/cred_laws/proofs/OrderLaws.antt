@@ -218,7 +218,7 @@ none_due : (script : Script) (journal : List Entry) (found : Option Due) → opt
 none_due script journal None is = refl
 none_due script journal (Some due) is = cc
 
-none_next : (script : Script) (journal : List Entry) (lane : ℕ) → next_in_order script journal ≡ None
+pub none_next : (script : Script) (journal : List Entry) (lane : ℕ) → next_in_order script journal ≡ None
     → next script journal lane ≡ None
 none_next script journal lane over =
     let none = none_due script journal (first_due (λ l. true) journal 1 script.lines) over in

@@ -1,5 +1,6 @@
 //! What the order of a script's lines decides.
-ghost use Rattle.cred_laws.specs.Order.{OneSequence, SequenceIsLegal, SequenceHasLines};
+ghost use Rattle.cred_laws.specs.Order.{OneSequence, SequenceIsLegal, LegalIsSequence};
+ghost use Rattle.cred_laws.specs.Order.{SequenceHasLines};
 
 /// For every script there is at most one journal in which its lines run whole and in the script's
 /// order, with the answers that the kernel gives. So what a run in order enters is decided by the
@@ -17,6 +18,15 @@ pub fn one_sequence()
 /// It does not say that it is the only one: most scripts of several lanes have others.
 pub fn sequence_is_legal()
     ensures { SequenceIsLegal }
+{}
+
+/// Where the setup's lines come before all others and one lane is opened at most, the lines run
+/// whole and in order in every legal journal: with `one_sequence`, such a script has one at most. So
+/// whatever runs it legally enters the same.
+///
+/// It says nothing of a script that opens two lanes: most of those have more.
+pub fn legal_is_sequence()
+    ensures { LegalIsSequence }
 {}
 
 /// Each entry of the journal in which all lines run whole and in order is of a line of the script.

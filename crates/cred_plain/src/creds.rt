@@ -37,9 +37,9 @@ pub struct Numbered<'a> {
 }
 
 /// The credentials that something refers to, in the order of their numbers, and the slot of each
-/// number that was ever sealed. Contracts see what is stored, and the list of the sealed credentials
-/// with their slots: there, under a number whose credential was forgotten, stands one that is the
-/// same for all of those.
+/// number that was ever sealed. Contracts see what is stored, and the list of the sealed
+/// credentials with their slots: there, under a number whose credential was forgotten, stands one
+/// that is the same for all of those.
 #[derive(Drop, Debug)]
 pub struct Creds {
     stored: Vec<Stored>,

@@ -89,6 +89,8 @@ pub fn one<A: Spelling>(words: &[&[u8]]) -> Result<A::Value, Reason>
 ///
 /// `Reason::Count` where there aren't two, then `Reason::Word`.
 #[tactic(auto, unfolding(crate::specs::Words::two_of))]
+// Most lines come by here: a call would put what the words spell into memory and read it again.
+#[inline(always)]
 pub fn two<A: Spelling, B: Spelling>(words: &[&[u8]]) -> Result<(A::Value, B::Value), Reason>
     ensures { Says (λ x. x) result (spec.two_of A.spelled B.spelled (nows words.now)) }
 {
@@ -107,6 +109,8 @@ pub fn two<A: Spelling, B: Spelling>(words: &[&[u8]]) -> Result<(A::Value, B::Va
 ///
 /// `Reason::Count` where there aren't three, then `Reason::Word`.
 #[tactic(auto, unfolding(crate::specs::Words::three_of))]
+// As `two`.
+#[inline(always)]
 pub fn three<A: Spelling, B: Spelling, C: Spelling>(
     words: &[&[u8]],
 ) -> Result<(A::Value, B::Value, C::Value), Reason>

@@ -5,7 +5,8 @@ use std::test::Fail;
 /// A root task that becomes another user.
 const USER: &str = "init t1 p1 0 0 n0\nt1 setresuid 1000 1000 1000\nt1 caps\nt1 ids\n";
 
-/// A call that every thread makes, and a thread that is created while two still wait for their step.
+/// A call that every thread makes, and a thread that is created while two still wait for their
+/// step.
 const SPAWNED: &str = "init t1 p1 0 0 n0\nt1 spawn t2\nt1 spawn t3\nbegin t1 setresuid 5 5 5\n\
     t2 spawn t4\nact 4\nact 4\nact 4\nt4 ids\n";
 

@@ -1,4 +1,5 @@
-//! Scripts of sixteen lanes, of sixty lines each, and short ones whose lanes are in each other's way.
+//! Scripts of sixteen lanes, of sixty lines each, and short ones whose lanes are in each other's
+//! way.
 use std::alloc::Global;
 use std::test::Fail;
 

@@ -103,8 +103,8 @@ fn inputs_get_their_verdicts(rt: HostRuntime) -> Result<(), Fail> {
     Ok(())
 }
 
-/// A piece, how often it is repeated, what follows it, how the program must end on that, and what it
-/// must write.
+/// A piece, how often it is repeated, what follows it, how the program must end on that, and what
+/// it must write.
 const SIZES: [(&str, usize, &str, Status, &str); 7] = [
     ("#\n", 20_000, "report\n", Status::Done, "legal\n"),
     ("#\n", 20_001, "report\n", Status::TooLarge, ""),

@@ -4,9 +4,9 @@ use crate::tests::runs::ran;
 use cred_program::Status;
 use std::test::Fail;
 
-/// The word after `gen`, and the line that must be written. Five calls in turn make 1, 5, 3, 5 and 5
-/// entries; three of them seal a credential, and the last is refused. The first line makes one entry
-/// and seals one.
+/// The word after `gen`, and the line that must be written. Five calls in turn make 1, 5, 3, 5 and
+/// 5 entries; three of them seal a credential, and the last is refused. The first line makes one
+/// entry and seals one.
 const SUMMARIES: [(&str, &str); 4] = [
     ("1", "lines 2 entries 2 credentials 2 refusals 0\n"),
     ("5", "lines 6 entries 20 credentials 4 refusals 1\n"),

@@ -11,8 +11,8 @@ use std::thread::Threads;
 /// Two tasks, each of which asks for its ids on a lane of its own.
 const TWO: &str = "init t1 p1 0 0 n0\ninit t2 p2 1000 1000 n0\nlane 1\nt1 ids\nlane 2\nt2 ids\n";
 
-/// Two threads of a process. One executes a program, in which it remains alone, while the other sets
-/// the ids of both.
+/// Two threads of a process. One executes a program, in which it remains alone, while the other
+/// sets the ids of both.
 const EXECVE: &str = "file prog reg 0 0 0755\ninit t1 p1 0 0 n0\nt1 spawn t2\n\
     lane 1\nt1 open prog r f1\nt1 exec prog\nlane 2\nt2 setresuid 5 5 5\nt2 ids\n";
 
