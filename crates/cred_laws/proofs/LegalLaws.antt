@@ -45,8 +45,8 @@ by_due script journal m a b None is other of_lane of_setup =
 by_due script journal m a b (Some due) is other of_lane of_setup =
     let rest = option_map (entry_of script journal) (due_in script journal m) in
     let none : None ≡ Some a =
-        sym (ap (λ t. cond (not t && is_some (due_in script journal 0)) None rest) other ∙ ap (λ o. cond (is_some o) None rest) is)
-        ∙ of_lane in
+    sym (ap (λ t. cond (not t && is_some (due_in script journal 0)) None rest) other ∙ ap (λ o. cond (is_some o) None rest) is)
+    ∙ of_lane in
     cc
 
 by_test : (script : Script) (journal : List Entry) (m : ℕ) (a b : Entry) (t : Bool) → (m == 0) ≡ t
@@ -80,8 +80,8 @@ next_by script journal lane entry None is setup each of =
 next_by script journal lane entry (Some other) is setup each of =
     let its = in_order_next script journal other is in
     let same =
-        same_lane script journal lane of.0 its.0 entry other (among script entry.line of.0 lane each of.1)
-        (among script other.line its.0 lane each its.1.lane_is) of.2 (its.1.next_is setup) in
+    same_lane script journal lane of.0 its.0 entry other (among script entry.line of.0 lane each of.1)
+    (among script other.line its.0 lane each its.1.lane_is) of.2 (its.1.next_is setup) in
     is ∙ sym (its.1.next_is setup) ∙ ap (next script journal) (sym same) ∙ of.2
 
 next_at : (script : Script) (journal : List Entry) (lane : ℕ) (o : Option Entry) → ((entry : Entry) × (o ≡ Some entry))
