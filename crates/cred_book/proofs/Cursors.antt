@@ -1,5 +1,5 @@
 -- A step of a lane, and what it makes.
-use Rattle.std.proofs.Common.{◌≡◌, ℕ, ◌+◌, ◌<◌, ◌≤◌, List, [], ◌∷◌, ◌++◌, get_or, length, set, Option, Some, None, is_some, true, MatchOption, refl, sym, ap, ◌∙◌, subst, arith}
+use Rattle.std.proofs.Common.{◌≡◌, ℕ, ◌+◌, ◌<◌, ◌≤◌, List, [], ◌∷◌, ◌++◌, get_or, length, set, Option, Some, None, is_some, Bool, true, false, MatchOption, refl, sym, ap, ◌∙◌, subst, inl, inr, arith}
 use Rattle.std.specs.List.{sum_by}
 use Rattle.std.specs.Option.{IfSome, option_map, option_and_then}
 use Rattle.std.proofs.lemmas.List.{length-set}
@@ -16,7 +16,7 @@ use Rattle.cred_model.specs.Journal.{SoFar, entry_of, next, replay, IsInOrder, I
 use Rattle.cred_model.proofs.Journals.{IsInOrder-push}
 use Rattle.cred_script.specs.Grammar.{line_at}
 use Rattle.cred_script.specs.Lanes.{lanes}
-use Rattle.cred_cursor.specs.Cursor.{IsOfLine, PassesTo, left_at}
+use Rattle.cred_cursor.specs.Cursor.{IsLaneCursor, IsOfLine, PassesTo, left_at}
 use Rattle.cred_cursor.specs.Cursors.{AreCursors, AreOver, IsLeast, cursor_of, due_of}
 use Rattle.cred_cursor.proofs.AllLanes.{cursor_at}
 use Rattle.cred_cursor.proofs.Courses.{line_is, of_line}
@@ -24,13 +24,13 @@ use Rattle.cred_cursor.proofs.Lanes.{SoFar-push, due_here, lane_goes_on, lane_ma
 use Rattle.cred_cursor.proofs.Least.{least_due, least_is_due, none_due}
 use Rattle.cred_cursor.proofs.Turns.{due_is, lanes_go_on, next_none, next_some, stands_at}
 use Rattle.cred_book.specs.Book.{Recorded, with_event, answer_of}
-use Rattle.cred_book.specs.Counts.{AreEnded, Counts, count_of}
+use Rattle.cred_book.specs.Counts.{AreEnded, Counts, IsSameOrNext, count_of}
 use Rattle.cred_book.specs.Cursor.{HasEnded, IsLeastLane, left, waiting, Stands, Makes, has_left, passed}
 use Rattle.cred_book.specs.declared.step.Step.{Step}
 use Rattle.cred_book.specs.declared.step.Step.TheVariants as step
 use Rattle.cred_book.specs.declared.step.Step.TheVariants.{More}
 use Rattle.cred_book.proofs.Counts.{entered_other, entered_own, lines_few}
-use Rattle.cred_book.proofs.Left.{all_grow, all_have_ended, lane_in, one_left, others_stay, set_up_stays}
+use Rattle.cred_book.proofs.Left.{all_grow, all_have_ended, lane_in, one_left, others_stay, own_grows, set_up_stays}
 use Rattle.cred_book.proofs.Measure.{step_falls}
 
 -- ---- a step
@@ -87,17 +87,25 @@ entry_falls script journal cursors lane course event to at due has passes =
     let moved = sum_moved (left_at script) cursors lane course to (due_is cursors lane course due).1 in
     omega (arith, most, fell, moved)
 
+same_or_next : (was is : ℕ) (b : Bool) → is ≡ was + count_of b → IsSameOrNext was is
+same_or_next was is true more = inr more
+same_or_next was is false same = inl (omega (arith, same))
+
 -- the numbers after it
 entry_counts : (book : Recorded) (lane : ℕ) (course : Course) (event : Event) (to : Option Course)
     → Stands book → due_of book.cursors lane ≡ Some course
-    → AreCursors book.script (with_event book course.line event).journal (set book.cursors lane to)
-    → Counts book (passed (with_event book course.line event) lane course.line to) lane More
-entry_counts book lane course event to stands due now =
+    → let after : Recorded = with_event book course.line event in
+    IsLaneCursor book.script after.journal lane to
+    → AreCursors book.script after.journal (set book.cursors lane to)
+    → Counts book (passed after lane course.line to) lane More
+entry_counts book lane course event to stands due own now =
     let entry : Entry = entry_of book.script book.journal (record { line = course.line; event = event }) in
     let at = stands_at book.script book.journal book.cursors lane course stands.cursors due in
     let of = lane_of_course book.script book.journal lane course at in (
       record {
         own = entered_own book.script book.journal entry lane of;
+        own_ended = same_or_next _ _ (has_left to course.line)
+            (own_grows book.script book.journal lane course entry to at refl own);
         entered = λ other differ. entered_other book.script book.journal entry lane other of differ;
         ended = λ other differ. others_stay book.script book.journal lane other course entry at refl differ;
         set_up = set_up_stays book.script book.journal (book.journal ++ entry ∷ []) book.cursors lane course to stands.cursors due now;
@@ -116,14 +124,14 @@ moves book lane course event to stands due has passes =
     let at = stands_at script book.journal book.cursors lane course stands.cursors due in
     let comes = next_some script book.journal book.cursors lane course event stands.cursors due has in
     let now = lanes_go_on script book.journal book.cursors lane course entry to stands.cursors due refl passes in
+    let own = lane_goes_on script book.journal lane course entry to at refl passes in
     let within = lane_in script book.journal lane course at in
     record {
       script = refl;
       stands = record {
         so_far = SoFar-push script book.journal lane entry stands.so_far (lane_of_course script book.journal lane course at) comes;
         cursors = now;
-        ended = all_grow script book.journal book.ended lane course entry to at refl
-            (lane_goes_on script book.journal lane course entry to at refl passes) stands.ended (omega (arith, within, stands.places));
+        ended = all_grow script book.journal book.ended lane course entry to at refl own stands.ended (omega (arith, within, stands.places));
         places = length-set book.ended lane (get_or book.ended lane 0 + count_of (has_left to course.line)) ∙ stands.places;
         few = stands.few;
         setup = stands.setup;
@@ -132,7 +140,7 @@ moves book lane course event to stands due has passes =
       next = comes;
       entered = refl;
       falls = entry_falls script book.journal book.cursors lane course event to stands.cursors due has passes;
-      counts = entry_counts book lane course event to stands due now;
+      counts = entry_counts book lane course event to stands due own now;
     }
 
 pub nothing_run : (book : Recorded) → book.journal ≡ [] → AreCursors book.script [] book.cursors → AreEnded book.script [] book.ended

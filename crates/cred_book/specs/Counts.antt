@@ -1,5 +1,5 @@
 -- How far each lane has come, as numbers.
-use Rattle.std.specs.Prelude.{◌≡◌, ◌≢◌, ◌<◌, ◌==◌, ◌&&◌, ℕ, ◌+◌, List, [], ◌∷◌, Bool, false}
+use Rattle.std.specs.Prelude.{◌≡◌, ◌≢◌, ◌<◌, ◌==◌, ◌&&◌, ◌⊎◌, ℕ, ◌+◌, List, [], ◌∷◌, Bool, false}
 use Rattle.std.specs.Prelude.{None, is_none, slice_index_or, if◌then◌else◌}
 use Rattle.std.specs.List.{sum_by}
 use Rattle.std.specs.Option.{option_map_or}
@@ -46,11 +46,17 @@ lines_in script lane = sum_by (λ line. count_of (line.lane == lane)) script.lin
 abbrev pub IsSetUp : Recorded → Type 0
 IsSetUp book = due_in book.script book.journal 0 ≡ None
 
--- The lane has one entry more, and of all other lanes the numbers are as they were. A setup that
--- has ended stays so.
+-- the number is as it was, or one more
+abbrev pub IsSameOrNext : ℕ → ℕ → Type 0
+IsSameOrNext was is = (is ≡ was) ⊎ (is ≡ was + 1)
+
+-- The lane has one entry more, and one ended line more at most. Of all other lanes the numbers are
+-- as they were. A setup that has ended stays so.
 pub record HasEntered (before after : Recorded) (lane : ℕ) : Type 0 where
   pub own : entered_of after.script after.journal lane
       ≡ entered_of before.script before.journal lane + 1
+  pub own_ended : IsSameOrNext (ended_of before.script before.journal lane)
+      (ended_of after.script after.journal lane)
   pub entered : (other : ℕ) → other ≢ lane
       → entered_of after.script after.journal other ≡ entered_of before.script before.journal other
   pub ended : (other : ℕ) → other ≢ lane

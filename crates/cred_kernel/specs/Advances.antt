@@ -1,20 +1,20 @@
 -- What a call did to a turn.
-use Rattle.std.specs.Prelude.{◌≡◌, ◌+◌, ◌<◌, ◌≤◌, None}
+use Rattle.std.specs.Prelude.{◌≡◌, ◌+◌, ◌<◌, None}
 use Rattle.cred_model.specs.Script.{Script}
-use Rattle.cred_book.specs.Counts.{lines_in}
+use Rattle.cred_book.specs.Counts.{IsSameOrNext, lines_in}
 use Rattle.cred_book.specs.declared.step.Step.{Step}
 use Rattle.cred_book.specs.declared.step.Step.TheVariants.{More, Ended}
 use Rattle.cred_kernel.specs.Turns.{Seen, HasEnded}
 
--- The turn had a line left, and has entered one event more. It has no more ended lines than its
--- lane has lines.
+-- The turn had a line left, and has entered one event more. By that one line of it has ended at
+-- most.
 pub record HasEntered (script : Script) (old new : Seen) : Type 0 where
   pub lane : new.lane ≡ old.lane
   pub entered : new.numbers.entered ≡ old.numbers.entered + 1
   pub decided : new.numbers.decided ≡ old.numbers.decided
   pub out : new.numbers.out ≡ None
   pub left : old.numbers.ended < lines_in script old.lane
-  pub within : new.numbers.ended ≤ lines_in script new.lane
+  pub ended : IsSameOrNext old.numbers.ended new.numbers.ended
 
 -- What a step made of the turn. It was Ended exactly if no line of the lane was left.
 abbrev pub Advanced : Script → Seen → Seen → Step → Type 0

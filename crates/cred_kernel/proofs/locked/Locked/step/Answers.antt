@@ -1,7 +1,6 @@
 use Rattle.std.proofs.Common.{◌≡◌, ◌<◌, ◌^◌, rules, length, ap, ◌∙◌, arith}
 use Rattle.cred_turn.specs.Seen.{pass}
 use Rattle.cred_book.specs.Book.{Recorded}
-use Rattle.cred_book.proofs.Ends.{ended_within}
 use Rattle.cred_kernel.specs.Locks.{numbers_in}
 use Rattle.cred_kernel.proofs.Returned.{its_numbers, is_back, entered_few}
 use Rattle.cred_kernel.proofs.locked.Locked.step.Goals as goal
@@ -20,7 +19,4 @@ overflow_add-turn g c =
     omega (arith, few, all, room)
 
 pub returns-clause-step : goal.returns-clause-step
-returns-clause-step g c =
-    let after : Recorded = c.next-step.new.self in
-    let within = ended_within after.script after.journal c.turn.inside.lane in
-    search rules
+returns-clause-step g c = search rules
