@@ -1,5 +1,5 @@
 -- Answers that were printed, read back.
-use Rattle.std.proofs.Common.{◌≡◌, ℕ, ◌<◌, ◌^◌, Bool, true, false, List, [], ◌∷◌, ◌++◌, map, codes, refl, ap, append_assoc, decimal, arith}
+use Rattle.std.proofs.Common.{◌≡◌, ℕ, ◌<◌, ◌^◌, Bool, true, false, List, [], ◌∷◌, ◌++◌, map, codes, refl, sym, ap, subst, append_assoc, decimal, arith}
 use Rattle.std.proofs.lemmas.List.{append-nil}
 use Rattle.cred_ids.specs.declared.id.Ids4.{Ids4}
 use Rattle.cred_record.specs.declared.gains.Gains.{Gains}
@@ -11,23 +11,17 @@ use Rattle.cred_event.specs.declared.answer.Answer.{Answer}
 use Rattle.cred_event.specs.declared.answer.Answer.TheVariants as answer
 use Rattle.cred_spelling.specs.Words as words
 use Rattle.cred_report.specs.Numbers.{hexadecimal}
-use Rattle.cred_report.specs.Answers.{answer_text}
 use Rattle.cred_reader.specs.declared.answers.Tells.{Tells}
 use Rattle.cred_reader.specs.declared.answers.Tells.TheVariants.{Nothing, Ids, Caps, Groups, Bits, Flag}
 use Rattle.cred_reader.specs.Answers as spec
 use Rattle.cred_reader.specs.Kinds as kinds
 use Rattle.cred_reader.specs.Fits.{IsLong, FitsAnswer}
 use Rattle.cred_reader.proofs.Agrees.{same, agrees}
-use Rattle.cred_reader.proofs.Back.{IsBack}
 use Rattle.cred_reader.proofs.Numbers.{long_number, number_back, long_back, id_number, id_back, decimal_inner, decimal_plain}
 use Rattle.cred_reader.proofs.Sets.{set_back, set_plain}
 use Rattle.cred_reader.proofs.Ids.{ids_spaced, ids_plain, ids_back}
 use Rattle.cred_reader.proofs.WordsBack.{bits_back}
-
--- the answer's text is read as the answer, where this is told
-abbrev pub AnswerBack : Tells → Answer → Type 0
-AnswerBack k answer =
-    IsBack (answer_text answer) (λ first rest. spec.answer_of k (first ∷ rest)) answer
+use Rattle.cred_reader.proofs.RefusalsBack.{AnswerBack, eperm_back, einval_back, eacces_back, ebadf_back, no_task_back, no_hold_back, no_prepared_back, no_broadcast_back, busy_back, exists_task_back, exists_process_back, exists_label_back, exists_file_back, exists_broadcast_back, overridden_back, not_overridden_back, too_deep_back, stale_back, too_many_tasks_back, too_many_files_back, too_many_holds_back, too_many_prepared_back, table_full_back, aborted_perm_back, aborted_full_back}
 
 bits_long : (bits : ℕ) → bits < 2 ^ 8 → IsLong bits
 bits_long bits h = omega arith
@@ -62,7 +56,7 @@ sealed_back : (cred : ℕ) (slot : ℕ) → FitsAnswer (answer.Sealed cred slot)
 unfolding spec.answer_of spec.ok_words spec.plain spec.longer spec.longest spec.acted words.two_of
 sealed_back cred slot fits = record {
   first = codes "ok";
-  rest = (99 ∷ decimal cred) ∷ (115 ∷ decimal slot) ∷ [];
+  rest = (codes "c" ++ decimal cred) ∷ (codes "s" ++ decimal slot) ∷ [];
   spaced = simp (append_assoc, append-nil);
   plain = rw (decimal_inner cred fits.0, decimal_inner slot (long_number slot fits.1)) refl;
   read = rw (long_back cred fits.0, number_back slot fits.1) refl;
@@ -72,8 +66,8 @@ kept_back : (slot : ℕ) → FitsAnswer (answer.Kept slot) → AnswerBack Nothin
 unfolding spec.answer_of spec.ok_words spec.plain spec.longer spec.longest spec.acted
 kept_back slot fits = record {
   first = codes "ok";
-  rest = (115 ∷ decimal slot) ∷ [];
-  spaced = simp (append_assoc, append-nil);
+  rest = (codes "s" ++ decimal slot) ∷ [];
+  spaced = simp append-nil;
   plain = rw (decimal_inner slot (long_number slot fits)) refl;
   read = rw (number_back slot fits) refl;
 }
@@ -82,8 +76,8 @@ was_back : (previous : ℕ) → FitsAnswer (answer.Was previous) → AnswerBack 
 unfolding spec.answer_of spec.ok_words spec.plain spec.longer spec.longest spec.acted
 was_back previous fits = record {
   first = codes "ok";
-  rest = codes "was" ∷ (decimal previous) ∷ [];
-  spaced = simp (append_assoc, append-nil);
+  rest = codes "was" ∷ decimal previous ∷ [];
+  spaced = simp append-nil;
   plain = rw (decimal_plain previous (long_number previous (id_number previous fits))) refl;
   read = rw (id_back previous fits) refl;
 }
@@ -92,7 +86,7 @@ executed_back : (cred : ℕ) (slot : ℕ) (ended : ℕ) (gains : Gains) → Fits
 unfolding spec.answer_of spec.ok_words spec.plain spec.longer spec.longest spec.acted words.three_of
 executed_back cred slot ended gains fits = record {
   first = codes "ok";
-  rest = (99 ∷ decimal cred) ∷ (115 ∷ decimal slot) ∷ codes "ended" ∷ (decimal ended) ∷ codes "gain" ∷ (hexadecimal gains.file) ∷ (hexadecimal gains.inherit) ∷ (hexadecimal gains.root) ∷ [];
+  rest = (codes "c" ++ decimal cred) ∷ (codes "s" ++ decimal slot) ∷ codes "ended" ∷ decimal ended ∷ codes "gain" ∷ (hexadecimal gains.file) ∷ (hexadecimal gains.inherit) ∷ (hexadecimal gains.root) ∷ [];
   spaced = rw append-nil (ap (λ (text : List ℕ). 32 ∷ text) (executed_parts (codes "ok") (codes " c") (decimal cred) (codes " s") (decimal slot) (codes " ended ") (decimal ended) (codes " gain") (codes " ") (hexadecimal gains.file) (hexadecimal gains.inherit) (hexadecimal gains.root)));
   plain = rw (decimal_inner cred fits.0, decimal_inner slot (long_number slot fits.1), decimal_plain ended (long_number ended fits.2), set_plain gains.file fits.3.0, set_plain gains.inherit fits.3.1, set_plain gains.root fits.3.2) refl;
   read = rw (long_back cred fits.0, number_back slot fits.1, number_back ended fits.2, set_back gains.file fits.3.0, set_back gains.inherit fits.3.1, set_back gains.root fits.3.2) refl;
@@ -102,7 +96,7 @@ began_back : (cred : ℕ) (slot : ℕ) (left : ℕ) → FitsAnswer (answer.Began
 unfolding spec.answer_of spec.ok_words spec.plain spec.longer spec.longest spec.acted words.three_of
 began_back cred slot left fits = record {
   first = codes "ok";
-  rest = (99 ∷ decimal cred) ∷ (115 ∷ decimal slot) ∷ codes "left" ∷ (decimal left) ∷ [];
+  rest = (codes "c" ++ decimal cred) ∷ (codes "s" ++ decimal slot) ∷ codes "left" ∷ decimal left ∷ [];
   spaced = simp (append_assoc, append-nil);
   plain = rw (decimal_inner cred fits.0, decimal_inner slot (long_number slot fits.1), decimal_plain left (long_number left fits.2)) refl;
   read = rw (long_back cred fits.0, number_back slot fits.1, number_back left fits.2) refl;
@@ -112,7 +106,7 @@ acted_back : (task : ℕ) (cred : ℕ) (slot : ℕ) (left : ℕ) → FitsAnswer 
 unfolding spec.answer_of spec.ok_words spec.plain spec.longer spec.longest spec.acted words.two_of
 acted_back task cred slot left fits = record {
   first = codes "ok";
-  rest = (116 ∷ decimal task) ∷ (99 ∷ decimal cred) ∷ (115 ∷ decimal slot) ∷ codes "left" ∷ (decimal left) ∷ [];
+  rest = (codes "t" ++ decimal task) ∷ (codes "c" ++ decimal cred) ∷ (codes "s" ++ decimal slot) ∷ codes "left" ∷ decimal left ∷ [];
   spaced = rw append-nil (ap (λ (text : List ℕ). 32 ∷ text) (acted_parts (codes "ok t") (decimal task) (codes " c") (decimal cred) (codes " s") (decimal slot) (codes " left ") (decimal left)));
   plain = rw (decimal_inner task (long_number task fits.0), decimal_inner cred fits.1, decimal_inner slot (long_number slot fits.2), decimal_plain left (long_number left fits.3)) refl;
   read = rw (number_back task fits.0, long_back cred fits.1, number_back slot fits.2, number_back left fits.3) refl;
@@ -122,7 +116,7 @@ ids_told : (uid : Ids4) (gid : Ids4) → FitsAnswer (answer.Told (told.Ids uid g
 unfolding spec.answer_of spec.ok_words spec.ids_told words.two_of words.three_of words.five_of
 ids_told uid gid fits = record {
   first = codes "ok";
-  rest = (decimal uid.real) ∷ (decimal uid.effective) ∷ (decimal uid.saved) ∷ (decimal uid.fs) ∷ (decimal gid.real) ∷ (decimal gid.effective) ∷ (decimal gid.saved) ∷ (decimal gid.fs) ∷ [];
+  rest = decimal uid.real ∷ decimal uid.effective ∷ decimal uid.saved ∷ decimal uid.fs ∷ decimal gid.real ∷ decimal gid.effective ∷ decimal gid.saved ∷ decimal gid.fs ∷ [];
   spaced = rw append-nil (ap (λ (text : List ℕ). 32 ∷ text) (ids_parts (codes "ok") (codes " ") (decimal uid.real) (decimal uid.effective) (decimal uid.saved) (decimal uid.fs) (decimal gid.real) (decimal gid.effective) (decimal gid.saved) (decimal gid.fs)));
   plain = rw (decimal_plain uid.real (long_number uid.real (id_number uid.real fits.0.0)), decimal_plain uid.effective (long_number uid.effective (id_number uid.effective fits.0.1)), decimal_plain uid.saved (long_number uid.saved (id_number uid.saved fits.0.2)), decimal_plain uid.fs (long_number uid.fs (id_number uid.fs fits.0.3)), decimal_plain gid.real (long_number gid.real (id_number gid.real fits.1.0)), decimal_plain gid.effective (long_number gid.effective (id_number gid.effective fits.1.1)), decimal_plain gid.saved (long_number gid.saved (id_number gid.saved fits.1.2)), decimal_plain gid.fs (long_number gid.fs (id_number gid.fs fits.1.3))) refl;
   read = rw (id_back uid.real fits.0.0, id_back uid.effective fits.0.1, id_back uid.saved fits.0.2, id_back uid.fs fits.0.3, id_back gid.real fits.1.0, id_back gid.effective fits.1.1, id_back gid.saved fits.1.2, id_back gid.fs fits.1.3) refl;
@@ -152,14 +146,14 @@ bits_told : (bits : ℕ) (nnp : Bool) → FitsAnswer (answer.Told (told.Bits bit
 unfolding spec.answer_of spec.ok_words words.two_of kinds.flags
 bits_told bits false fits = record {
   first = codes "ok";
-  rest = (decimal bits) ∷ codes "0" ∷ [];
+  rest = decimal bits ∷ codes "0" ∷ [];
   spaced = refl;
   plain = rw (decimal_plain bits (bits_long bits fits)) refl;
   read = rw (bits_back bits fits) refl;
 }
 bits_told bits true fits = record {
   first = codes "ok";
-  rest = (decimal bits) ∷ codes "1" ∷ [];
+  rest = decimal bits ∷ codes "1" ∷ [];
   spaced = refl;
   plain = rw (decimal_plain bits (bits_long bits fits)) refl;
   read = rw (bits_back bits fits) refl;
@@ -170,317 +164,32 @@ unfolding spec.answer_of spec.ok_words kinds.flags
 flag_told false fits = record { first = codes "ok"; rest = codes "0" ∷ []; spaced = refl; plain = refl; read = refl }
 flag_told true fits = record { first = codes "ok"; rest = codes "1" ∷ []; spaced = refl; plain = refl; read = refl }
 
-eperm_back : (k : Tells) → FitsAnswer (answer.Eperm) → AnswerBack k (answer.Eperm)
-unfolding spec.answer_of spec.refusal_of
-eperm_back k fits = record {
-  first = codes "eperm";
-  rest = [];
-  spaced = refl;
-  plain = refl;
-  read = refl;
-}
+is_same : (k other : Tells) → same k other ≡ true → k ≡ other
+is_same Nothing Nothing h = refl
+is_same Ids Ids h = refl
+is_same Caps Caps h = refl
+is_same Groups Groups h = refl
+is_same Bits Bits h = refl
+is_same Flag Flag h = refl
+is_same k other h = absurd (cc)
 
-einval_back : (k : Tells) → FitsAnswer (answer.Einval) → AnswerBack k (answer.Einval)
-unfolding spec.answer_of spec.refusal_of
-einval_back k fits = record {
-  first = codes "einval";
-  rest = [];
-  spaced = refl;
-  plain = refl;
-  read = refl;
-}
-
-eacces_back : (k : Tells) → FitsAnswer (answer.Eacces) → AnswerBack k (answer.Eacces)
-unfolding spec.answer_of spec.refusal_of
-eacces_back k fits = record {
-  first = codes "eacces";
-  rest = [];
-  spaced = refl;
-  plain = refl;
-  read = refl;
-}
-
-ebadf_back : (k : Tells) → FitsAnswer (answer.Ebadf) → AnswerBack k (answer.Ebadf)
-unfolding spec.answer_of spec.refusal_of
-ebadf_back k fits = record {
-  first = codes "ebadf";
-  rest = [];
-  spaced = refl;
-  plain = refl;
-  read = refl;
-}
-
-no_task_back : (k : Tells) (task : ℕ) → FitsAnswer (answer.NoTask task) → AnswerBack k (answer.NoTask task)
-unfolding spec.answer_of spec.refusal_of spec.three_words spec.no_of
-no_task_back k task fits = record {
-  first = codes "no";
-  rest = codes "task" ∷ (116 ∷ decimal task) ∷ [];
-  spaced = simp (append_assoc, append-nil);
-  plain = rw (decimal_inner task (long_number task fits)) refl;
-  read = rw (number_back task fits) refl;
-}
-
-no_hold_back : (k : Tells) (label : ℕ) → FitsAnswer (answer.NoHold label) → AnswerBack k (answer.NoHold label)
-unfolding spec.answer_of spec.refusal_of spec.three_words spec.no_of
-no_hold_back k label fits = record {
-  first = codes "no";
-  rest = codes "hold" ∷ (104 ∷ decimal label) ∷ [];
-  spaced = simp (append_assoc, append-nil);
-  plain = rw (decimal_inner label (long_number label fits)) refl;
-  read = rw (number_back label fits) refl;
-}
-
-no_prepared_back : (k : Tells) (label : ℕ) → FitsAnswer (answer.NoPrepared label) → AnswerBack k (answer.NoPrepared label)
-unfolding spec.answer_of spec.refusal_of spec.three_words spec.no_of
-no_prepared_back k label fits = record {
-  first = codes "no";
-  rest = codes "prepared" ∷ (104 ∷ decimal label) ∷ [];
-  spaced = simp (append_assoc, append-nil);
-  plain = rw (decimal_inner label (long_number label fits)) refl;
-  read = rw (number_back label fits) refl;
-}
-
-no_broadcast_back : (k : Tells) (cast : ℕ) → FitsAnswer (answer.NoBroadcast cast) → AnswerBack k (answer.NoBroadcast cast)
-unfolding spec.answer_of spec.refusal_of spec.three_words spec.no_of
-no_broadcast_back k cast fits = record {
-  first = codes "no";
-  rest = codes "broadcast" ∷ (decimal cast) ∷ [];
-  spaced = simp (append_assoc, append-nil);
-  plain = rw (decimal_plain cast (long_number cast fits)) refl;
-  read = rw (number_back cast fits) refl;
-}
-
-busy_back : (k : Tells) (cast : ℕ) → FitsAnswer (answer.Busy cast) → AnswerBack k (answer.Busy cast)
-unfolding spec.answer_of spec.refusal_of spec.two_words
-busy_back k cast fits = record {
-  first = codes "busy";
-  rest = (decimal cast) ∷ [];
-  spaced = simp (append_assoc, append-nil);
-  plain = rw (decimal_plain cast (long_number cast fits)) refl;
-  read = rw (number_back cast fits) refl;
-}
-
-exists_task_back : (k : Tells) (number : ℕ) → FitsAnswer (answer.Exists named.Task number) → AnswerBack k (answer.Exists named.Task number)
-unfolding spec.answer_of spec.refusal_of spec.two_words spec.exists_of
-exists_task_back k number fits = record {
-  first = codes "exists";
-  rest = (116 ∷ decimal number) ∷ [];
-  spaced = simp (append_assoc, append-nil);
-  plain = rw (decimal_inner number (long_number number fits)) refl;
-  read = rw (number_back number fits) refl;
-}
-
-exists_process_back : (k : Tells) (number : ℕ) → FitsAnswer (answer.Exists named.Process number) → AnswerBack k (answer.Exists named.Process number)
-unfolding spec.answer_of spec.refusal_of spec.two_words spec.exists_of
-exists_process_back k number fits = record {
-  first = codes "exists";
-  rest = (112 ∷ decimal number) ∷ [];
-  spaced = simp (append_assoc, append-nil);
-  plain = rw (decimal_inner number (long_number number fits)) refl;
-  read = rw (number_back number fits) refl;
-}
-
-exists_label_back : (k : Tells) (number : ℕ) → FitsAnswer (answer.Exists named.Label number) → AnswerBack k (answer.Exists named.Label number)
-unfolding spec.answer_of spec.refusal_of spec.two_words spec.exists_of
-exists_label_back k number fits = record {
-  first = codes "exists";
-  rest = (104 ∷ decimal number) ∷ [];
-  spaced = simp (append_assoc, append-nil);
-  plain = rw (decimal_inner number (long_number number fits)) refl;
-  read = rw (number_back number fits) refl;
-}
-
-exists_file_back : (k : Tells) (number : ℕ) → FitsAnswer (answer.Exists named.File number) → AnswerBack k (answer.Exists named.File number)
-unfolding spec.answer_of spec.refusal_of spec.two_words spec.exists_of
-exists_file_back k number fits = record {
-  first = codes "exists";
-  rest = (102 ∷ decimal number) ∷ [];
-  spaced = simp (append_assoc, append-nil);
-  plain = rw (decimal_inner number (long_number number fits)) refl;
-  read = rw (number_back number fits) refl;
-}
-
-exists_broadcast_back : (k : Tells) (number : ℕ) → FitsAnswer (answer.Exists named.Broadcast number) → AnswerBack k (answer.Exists named.Broadcast number)
-unfolding spec.answer_of spec.refusal_of spec.two_words spec.exists_of
-exists_broadcast_back k number fits = record {
-  first = codes "exists";
-  rest = (107 ∷ decimal number) ∷ [];
-  spaced = simp (append_assoc, append-nil);
-  plain = rw (decimal_inner number (long_number number fits)) refl;
-  read = rw (number_back number fits) refl;
-}
-
-overridden_back : (k : Tells) (depth : ℕ) → FitsAnswer (answer.Overridden depth) → AnswerBack k (answer.Overridden depth)
-unfolding spec.answer_of spec.refusal_of spec.two_words
-overridden_back k depth fits = record {
-  first = codes "overridden";
-  rest = (decimal depth) ∷ [];
-  spaced = simp (append_assoc, append-nil);
-  plain = rw (decimal_plain depth (long_number depth fits)) refl;
-  read = rw (number_back depth fits) refl;
-}
-
-not_overridden_back : (k : Tells) → FitsAnswer (answer.NotOverridden) → AnswerBack k (answer.NotOverridden)
-unfolding spec.answer_of spec.refusal_of spec.two_words
-not_overridden_back k fits = record {
-  first = codes "not";
-  rest = codes "overridden" ∷ [];
-  spaced = refl;
-  plain = refl;
-  read = refl;
-}
-
-too_deep_back : (k : Tells) → FitsAnswer (answer.TooDeep) → AnswerBack k (answer.TooDeep)
-unfolding spec.answer_of spec.refusal_of spec.two_words
-too_deep_back k fits = record {
-  first = codes "too";
-  rest = codes "deep" ∷ [];
-  spaced = refl;
-  plain = refl;
-  read = refl;
-}
-
-stale_back : (k : Tells) (base : ℕ) (now : ℕ) → FitsAnswer (answer.Stale base now) → AnswerBack k (answer.Stale base now)
-unfolding spec.answer_of spec.refusal_of spec.three_words words.two_of
-stale_back k base now fits = record {
-  first = codes "stale";
-  rest = (99 ∷ decimal base) ∷ (99 ∷ decimal now) ∷ [];
-  spaced = simp (append_assoc, append-nil);
-  plain = rw (decimal_inner base fits.0, decimal_inner now fits.1) refl;
-  read = rw (long_back base fits.0, long_back now fits.1) refl;
-}
-
-too_many_tasks_back : (k : Tells) → FitsAnswer (answer.TooMany counted.Tasks) → AnswerBack k (answer.TooMany counted.Tasks)
-unfolding spec.answer_of spec.refusal_of spec.three_words spec.counted_names
-too_many_tasks_back k fits = record {
-  first = codes "too";
-  rest = codes "many" ∷ codes "tasks" ∷ [];
-  spaced = refl;
-  plain = refl;
-  read = refl;
-}
-
-too_many_files_back : (k : Tells) → FitsAnswer (answer.TooMany counted.Files) → AnswerBack k (answer.TooMany counted.Files)
-unfolding spec.answer_of spec.refusal_of spec.three_words spec.counted_names
-too_many_files_back k fits = record {
-  first = codes "too";
-  rest = codes "many" ∷ codes "files" ∷ [];
-  spaced = refl;
-  plain = refl;
-  read = refl;
-}
-
-too_many_holds_back : (k : Tells) → FitsAnswer (answer.TooMany counted.Holds) → AnswerBack k (answer.TooMany counted.Holds)
-unfolding spec.answer_of spec.refusal_of spec.three_words spec.counted_names
-too_many_holds_back k fits = record {
-  first = codes "too";
-  rest = codes "many" ∷ codes "holds" ∷ [];
-  spaced = refl;
-  plain = refl;
-  read = refl;
-}
-
-too_many_prepared_back : (k : Tells) → FitsAnswer (answer.TooMany counted.Prepared) → AnswerBack k (answer.TooMany counted.Prepared)
-unfolding spec.answer_of spec.refusal_of spec.three_words spec.counted_names
-too_many_prepared_back k fits = record {
-  first = codes "too";
-  rest = codes "many" ∷ codes "prepared" ∷ [];
-  spaced = refl;
-  plain = refl;
-  read = refl;
-}
-
-table_full_back : (k : Tells) → FitsAnswer (answer.TableFull) → AnswerBack k (answer.TableFull)
-unfolding spec.answer_of spec.refusal_of spec.two_words
-table_full_back k fits = record {
-  first = codes "table";
-  rest = codes "full" ∷ [];
-  spaced = refl;
-  plain = refl;
-  read = refl;
-}
-
-aborted_perm_back : (k : Tells) (task : ℕ) → FitsAnswer (answer.Aborted task cause.Perm) → AnswerBack k (answer.Aborted task cause.Perm)
-unfolding spec.answer_of spec.refusal_of spec.three_words spec.cause_names
-aborted_perm_back k task fits = record {
-  first = codes "aborted";
-  rest = (116 ∷ decimal task) ∷ codes "eperm" ∷ [];
-  spaced = simp (append_assoc, append-nil);
-  plain = rw (decimal_inner task (long_number task fits)) refl;
-  read = rw (number_back task fits) refl;
-}
-
-aborted_full_back : (k : Tells) (task : ℕ) → FitsAnswer (answer.Aborted task cause.Full) → AnswerBack k (answer.Aborted task cause.Full)
-unfolding spec.answer_of spec.refusal_of spec.three_words spec.cause_names
-aborted_full_back k task fits = record {
-  first = codes "aborted";
-  rest = (116 ∷ decimal task) ∷ codes "full" ∷ [];
-  spaced = simp (append_assoc, append-nil);
-  plain = rw (decimal_inner task (long_number task fits)) refl;
-  read = rw (number_back task fits) refl;
-}
-
-told_nothing : (k : Tells) (answer : Answer) → same k Nothing ≡ true → AnswerBack Nothing answer → AnswerBack k answer
-told_nothing Nothing answer h back = back
-told_nothing Ids answer h back = absurd (cc)
-told_nothing Caps answer h back = absurd (cc)
-told_nothing Groups answer h back = absurd (cc)
-told_nothing Bits answer h back = absurd (cc)
-told_nothing Flag answer h back = absurd (cc)
-
-told_ids : (k : Tells) (answer : Answer) → same k Ids ≡ true → AnswerBack Ids answer → AnswerBack k answer
-told_ids Nothing answer h back = absurd (cc)
-told_ids Ids answer h back = back
-told_ids Caps answer h back = absurd (cc)
-told_ids Groups answer h back = absurd (cc)
-told_ids Bits answer h back = absurd (cc)
-told_ids Flag answer h back = absurd (cc)
-
-told_caps : (k : Tells) (answer : Answer) → same k Caps ≡ true → AnswerBack Caps answer → AnswerBack k answer
-told_caps Nothing answer h back = absurd (cc)
-told_caps Ids answer h back = absurd (cc)
-told_caps Caps answer h back = back
-told_caps Groups answer h back = absurd (cc)
-told_caps Bits answer h back = absurd (cc)
-told_caps Flag answer h back = absurd (cc)
-
-told_groups : (k : Tells) (answer : Answer) → same k Groups ≡ true → AnswerBack Groups answer → AnswerBack k answer
-told_groups Nothing answer h back = absurd (cc)
-told_groups Ids answer h back = absurd (cc)
-told_groups Caps answer h back = absurd (cc)
-told_groups Groups answer h back = back
-told_groups Bits answer h back = absurd (cc)
-told_groups Flag answer h back = absurd (cc)
-
-told_bits : (k : Tells) (answer : Answer) → same k Bits ≡ true → AnswerBack Bits answer → AnswerBack k answer
-told_bits Nothing answer h back = absurd (cc)
-told_bits Ids answer h back = absurd (cc)
-told_bits Caps answer h back = absurd (cc)
-told_bits Groups answer h back = absurd (cc)
-told_bits Bits answer h back = back
-told_bits Flag answer h back = absurd (cc)
-
-told_flag : (k : Tells) (answer : Answer) → same k Flag ≡ true → AnswerBack Flag answer → AnswerBack k answer
-told_flag Nothing answer h back = absurd (cc)
-told_flag Ids answer h back = absurd (cc)
-told_flag Caps answer h back = absurd (cc)
-told_flag Groups answer h back = absurd (cc)
-told_flag Bits answer h back = absurd (cc)
-told_flag Flag answer h back = back
+-- a value is read where it is told
+where_told : (k other : Tells) (answer : Answer) → same k other ≡ true → AnswerBack other answer → AnswerBack k answer
+where_told k other answer h back = subst (λ (t : Tells). AnswerBack t answer) (sym (is_same k other h)) back
 
 pub answer_back : (k : Tells) (answer : Answer) → FitsAnswer answer → agrees k answer ≡ true → AnswerBack k answer
-answer_back k answer.Done fits h = told_nothing k _ h (done_back fits)
-answer_back k (answer.Sealed cred slot) fits h = told_nothing k _ h (sealed_back cred slot fits)
-answer_back k (answer.Kept slot) fits h = told_nothing k _ h (kept_back slot fits)
-answer_back k (answer.Was previous) fits h = told_nothing k _ h (was_back previous fits)
-answer_back k (answer.Executed cred slot ended gains) fits h = told_nothing k _ h (executed_back cred slot ended gains fits)
-answer_back k (answer.Began cred slot left) fits h = told_nothing k _ h (began_back cred slot left fits)
-answer_back k (answer.Acted task cred slot left) fits h = told_nothing k _ h (acted_back task cred slot left fits)
-answer_back k (answer.Told (told.Ids uid gid)) fits h = told_ids k _ h (ids_told uid gid fits)
-answer_back k (answer.Told (told.Caps perm inh eff bound amb)) fits h = told_caps k _ h (caps_told perm inh eff bound amb fits)
-answer_back k (answer.Told (told.Groups groups)) fits h = told_groups k _ h (groups_told groups fits)
-answer_back k (answer.Told (told.Bits bits nnp)) fits h = told_bits k _ h (bits_told bits nnp fits)
-answer_back k (answer.Told (told.Flag flag)) fits h = told_flag k _ h (flag_told flag fits)
+answer_back k answer.Done fits h = where_told k Nothing _ h (done_back fits)
+answer_back k (answer.Sealed cred slot) fits h = where_told k Nothing _ h (sealed_back cred slot fits)
+answer_back k (answer.Kept slot) fits h = where_told k Nothing _ h (kept_back slot fits)
+answer_back k (answer.Was previous) fits h = where_told k Nothing _ h (was_back previous fits)
+answer_back k (answer.Executed cred slot ended gains) fits h = where_told k Nothing _ h (executed_back cred slot ended gains fits)
+answer_back k (answer.Began cred slot left) fits h = where_told k Nothing _ h (began_back cred slot left fits)
+answer_back k (answer.Acted task cred slot left) fits h = where_told k Nothing _ h (acted_back task cred slot left fits)
+answer_back k (answer.Told (told.Ids uid gid)) fits h = where_told k Ids _ h (ids_told uid gid fits)
+answer_back k (answer.Told (told.Caps perm inh eff bound amb)) fits h = where_told k Caps _ h (caps_told perm inh eff bound amb fits)
+answer_back k (answer.Told (told.Groups groups)) fits h = where_told k Groups _ h (groups_told groups fits)
+answer_back k (answer.Told (told.Bits bits nnp)) fits h = where_told k Bits _ h (bits_told bits nnp fits)
+answer_back k (answer.Told (told.Flag flag)) fits h = where_told k Flag _ h (flag_told flag fits)
 answer_back k answer.Eperm fits h = eperm_back k fits
 answer_back k answer.Einval fits h = einval_back k fits
 answer_back k answer.Eacces fits h = eacces_back k fits

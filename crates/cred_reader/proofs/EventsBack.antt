@@ -19,7 +19,9 @@ use Rattle.cred_reader.proofs.Back.{IsBack, alone}
 use Rattle.cred_reader.proofs.Words.{spaced}
 use Rattle.cred_reader.proofs.Numbers.{long_number, number_back, id_number, id_back, decimal_inner, decimal_plain}
 use Rattle.cred_reader.proofs.WordsBack.{want_back, want_plain, file_back, file_plain, ns_number, namespace_back}
-use Rattle.cred_reader.proofs.Parts.{query_back, change_back, call_back}
+use Rattle.cred_reader.proofs.QueriesBack.{query_back}
+use Rattle.cred_reader.proofs.ChangesBack.{change_back}
+use Rattle.cred_reader.proofs.CallsBack.{call_back}
 
 -- the event's text is read as the event
 abbrev pub EventBack : Script → Event → Type 0
@@ -31,7 +33,7 @@ init_back : (script : Script) (task : ℕ) (process : ℕ) (user : ℕ) (group :
 unfolding spec.event_of spec.event_names spec.event_named spec.task_event spec.init_of words.two_of words.three_of words.five_of
 init_back script task process user group ns fits = record {
   first = codes "init";
-  rest = (116 ∷ decimal task) ∷ (112 ∷ decimal process) ∷ (decimal user) ∷ (decimal group) ∷ (110 ∷ decimal ns) ∷ [];
+  rest = (codes "t" ++ decimal task) ∷ (codes "p" ++ decimal process) ∷ decimal user ∷ decimal group ∷ (codes "n" ++ decimal ns) ∷ [];
   spaced = simp (append_assoc, append-nil);
   plain = rw (decimal_inner task (long_number task fits.0), decimal_inner process (long_number process fits.1), decimal_plain user (long_number user (id_number user fits.2)), decimal_plain group (long_number group (id_number group fits.3)), decimal_inner ns (long_number ns (ns_number ns fits.4))) refl;
   read = rw (number_back task fits.0, number_back process fits.1, id_back user fits.2, id_back group fits.3, namespace_back ns fits.4) refl;
@@ -42,7 +44,7 @@ take_back : (script : Script) (label : ℕ) (task : ℕ) → FitsEvent (event.Ta
 unfolding spec.event_of spec.event_names spec.event_named spec.label_event spec.take_of words.two_of
 take_back script label task fits = record {
   first = codes "take";
-  rest = (104 ∷ decimal label) ∷ (116 ∷ decimal task) ∷ [];
+  rest = (codes "h" ++ decimal label) ∷ (codes "t" ++ decimal task) ∷ [];
   spaced = simp (append_assoc, append-nil);
   plain = rw (decimal_inner label (long_number label fits.0), decimal_inner task (long_number task fits.1)) refl;
   read = rw (number_back label fits.0, number_back task fits.1) refl;
@@ -53,7 +55,7 @@ takereal_back : (script : Script) (label : ℕ) (task : ℕ) → FitsEvent (even
 unfolding spec.event_of spec.event_names spec.event_named spec.label_event spec.take_of words.two_of
 takereal_back script label task fits = record {
   first = codes "takereal";
-  rest = (104 ∷ decimal label) ∷ (116 ∷ decimal task) ∷ [];
+  rest = (codes "h" ++ decimal label) ∷ (codes "t" ++ decimal task) ∷ [];
   spaced = simp (append_assoc, append-nil);
   plain = rw (decimal_inner label (long_number label fits.0), decimal_inner task (long_number task fits.1)) refl;
   read = rw (number_back label fits.0, number_back task fits.1) refl;
@@ -64,7 +66,7 @@ takefile_back : (script : Script) (label : ℕ) (fd : ℕ) → FitsEvent (event.
 unfolding spec.event_of spec.event_names spec.event_named spec.label_event words.two_of
 takefile_back script label fd fits = record {
   first = codes "takefile";
-  rest = (104 ∷ decimal label) ∷ (102 ∷ decimal fd) ∷ [];
+  rest = (codes "h" ++ decimal label) ∷ (codes "f" ++ decimal fd) ∷ [];
   spaced = simp (append_assoc, append-nil);
   plain = rw (decimal_inner label (long_number label fits.0), decimal_inner fd (long_number fd fits.1)) refl;
   read = rw (number_back label fits.0, number_back fd fits.1) refl;
@@ -75,8 +77,8 @@ release_back : (script : Script) (label : ℕ) → FitsEvent (event.Release labe
 unfolding spec.event_of spec.event_names spec.event_named spec.label_event
 release_back script label fits = record {
   first = codes "drop";
-  rest = (104 ∷ decimal label) ∷ [];
-  spaced = simp (append_assoc, append-nil);
+  rest = (codes "h" ++ decimal label) ∷ [];
+  spaced = simp append-nil;
   plain = rw (decimal_inner label (long_number label fits)) refl;
   read = rw (number_back label fits) refl;
 }
@@ -88,7 +90,7 @@ ask_back script label query fits own =
     let back = query_back script query fits.1 own in
     record {
       first = codes "ask";
-      rest = (104 ∷ decimal label) ∷ back.first ∷ back.rest;
+      rest = (codes "h" ++ decimal label) ∷ back.first ∷ back.rest;
       spaced = let e = back.spaced in simp append_assoc (cc);
       plain = rw (decimal_inner label (long_number label fits.0)) back.plain;
       read = rw (number_back label fits.0, back.read) refl;
@@ -99,7 +101,7 @@ signal_back : (script : Script) (from : ℕ) (hold : ℕ) (to : ℕ) (target : �
 unfolding spec.event_of spec.event_names spec.event_named spec.task_event spec.signal_of words.two_of
 signal_back script from hold to target fits = record {
   first = codes "signal";
-  rest = (116 ∷ decimal from) ∷ (104 ∷ decimal hold) ∷ (116 ∷ decimal to) ∷ (104 ∷ decimal target) ∷ [];
+  rest = (codes "t" ++ decimal from) ∷ (codes "h" ++ decimal hold) ∷ (codes "t" ++ decimal to) ∷ (codes "h" ++ decimal target) ∷ [];
   spaced = simp (append_assoc, append-nil);
   plain = rw (decimal_inner from (long_number from fits.0), decimal_inner hold (long_number hold fits.1), decimal_inner to (long_number to fits.2), decimal_inner target (long_number target fits.3)) refl;
   read = rw (number_back from fits.0, number_back hold fits.1, number_back to fits.2, number_back target fits.3) refl;
@@ -110,7 +112,7 @@ prepare_back : (script : Script) (label : ℕ) (task : ℕ) (hold : ℕ) → Fit
 unfolding spec.event_of spec.event_names spec.event_named spec.label_event words.three_of
 prepare_back script label task hold fits = record {
   first = codes "prepare";
-  rest = (104 ∷ decimal label) ∷ (116 ∷ decimal task) ∷ (104 ∷ decimal hold) ∷ [];
+  rest = (codes "h" ++ decimal label) ∷ (codes "t" ++ decimal task) ∷ (codes "h" ++ decimal hold) ∷ [];
   spaced = simp (append_assoc, append-nil);
   plain = rw (decimal_inner label (long_number label fits.0), decimal_inner task (long_number task fits.1), decimal_inner hold (long_number hold fits.2)) refl;
   read = rw (number_back label fits.0, number_back task fits.1, number_back hold fits.2) refl;
@@ -123,7 +125,7 @@ alter_back script label change fits own =
     let back = change_back script change fits.1 own in
     record {
       first = codes "change";
-      rest = (104 ∷ decimal label) ∷ back.first ∷ back.rest;
+      rest = (codes "h" ++ decimal label) ∷ back.first ∷ back.rest;
       spaced = let e = back.spaced in simp append_assoc (cc);
       plain = rw (decimal_inner label (long_number label fits.0)) back.plain;
       read = rw (number_back label fits.0, back.read) refl;
@@ -134,8 +136,8 @@ commit_back : (script : Script) (label : ℕ) → FitsEvent (event.Commit label)
 unfolding spec.event_of spec.event_names spec.event_named spec.label_event
 commit_back script label fits = record {
   first = codes "commit";
-  rest = (104 ∷ decimal label) ∷ [];
-  spaced = simp (append_assoc, append-nil);
+  rest = (codes "h" ++ decimal label) ∷ [];
+  spaced = simp append-nil;
   plain = rw (decimal_inner label (long_number label fits)) refl;
   read = rw (number_back label fits) refl;
 }
@@ -145,8 +147,8 @@ abort_back : (script : Script) (label : ℕ) → FitsEvent (event.Abort label)
 unfolding spec.event_of spec.event_names spec.event_named spec.label_event
 abort_back script label fits = record {
   first = codes "abort";
-  rest = (104 ∷ decimal label) ∷ [];
-  spaced = simp (append_assoc, append-nil);
+  rest = (codes "h" ++ decimal label) ∷ [];
+  spaced = simp append-nil;
   plain = rw (decimal_inner label (long_number label fits)) refl;
   read = rw (number_back label fits) refl;
 }
@@ -156,7 +158,7 @@ override_back : (script : Script) (task : ℕ) (label : ℕ) → FitsEvent (even
 unfolding spec.event_of spec.event_names spec.event_named spec.task_event words.two_of
 override_back script task label fits = record {
   first = codes "override";
-  rest = (116 ∷ decimal task) ∷ (104 ∷ decimal label) ∷ [];
+  rest = (codes "t" ++ decimal task) ∷ (codes "h" ++ decimal label) ∷ [];
   spaced = simp (append_assoc, append-nil);
   plain = rw (decimal_inner task (long_number task fits.0), decimal_inner label (long_number label fits.1)) refl;
   read = rw (number_back task fits.0, number_back label fits.1) refl;
@@ -167,8 +169,8 @@ revert_back : (script : Script) (task : ℕ) → FitsEvent (event.Revert task)
 unfolding spec.event_of spec.event_names spec.event_named spec.task_event
 revert_back script task fits = record {
   first = codes "revert";
-  rest = (116 ∷ decimal task) ∷ [];
-  spaced = simp (append_assoc, append-nil);
+  rest = (codes "t" ++ decimal task) ∷ [];
+  spaced = simp append-nil;
   plain = rw (decimal_inner task (long_number task fits)) refl;
   read = rw (number_back task fits) refl;
 }
@@ -180,7 +182,7 @@ begin_back script task call fits =
     let back = call_back script call fits.1 in
     record {
       first = codes "begin";
-      rest = (116 ∷ decimal task) ∷ back.first ∷ back.rest;
+      rest = (codes "t" ++ decimal task) ∷ back.first ∷ back.rest;
       spaced = let e = back.spaced in simp append_assoc (cc);
       plain = rw (decimal_inner task (long_number task fits.0)) back.plain;
       read = rw (number_back task fits.0, back.read) refl;
@@ -191,13 +193,13 @@ act_back : (script : Script) (cast : ℕ) → FitsEvent (event.Act cast)
 unfolding spec.event_of spec.event_names spec.event_named
 act_back script cast fits = record {
   first = codes "act";
-  rest = (decimal cast) ∷ [];
-  spaced = simp (append_assoc, append-nil);
+  rest = decimal cast ∷ [];
+  spaced = simp append-nil;
   plain = rw (decimal_plain cast (long_number cast fits)) refl;
   read = rw (number_back cast fits) refl;
 }
 
-open_words : (hold file want fd : List ℕ) → 32 ∷ (codes "open h" ++ hold ++ codes " " ++ file ++ codes " " ++ want ++ codes " f" ++ fd) ≡ spaced (codes "open" ∷ (104 ∷ hold) ∷ file ∷ want ∷ (102 ∷ fd) ∷ [])
+open_words : (hold file want fd : List ℕ) → 32 ∷ (codes "open h" ++ hold ++ codes " " ++ file ++ codes " " ++ want ++ codes " f" ++ fd) ≡ spaced (codes "open" ∷ (codes "h" ++ hold) ∷ file ∷ want ∷ (codes "f" ++ fd) ∷ [])
 open_words hold file want fd = simp (append_assoc, append-nil)
 
 open_back : (script : Script) (hold : ℕ) (file : ℕ) (want : Want) (fd : ℕ) → FitsEvent (event.OpenFile hold file want fd) → IsFile script file
@@ -205,7 +207,7 @@ open_back : (script : Script) (hold : ℕ) (file : ℕ) (want : Want) (fd : ℕ)
 unfolding spec.event_of spec.event_names spec.event_named spec.label_event spec.open_of words.two_of
 open_back script hold file want fd fits own = record {
   first = codes "open";
-  rest = (104 ∷ decimal hold) ∷ (file_text script file) ∷ (want_text want) ∷ (102 ∷ decimal fd) ∷ [];
+  rest = (codes "h" ++ decimal hold) ∷ (file_text script file) ∷ (want_text want) ∷ (codes "f" ++ decimal fd) ∷ [];
   spaced = open_words (decimal hold) (file_text script file) (want_text want) (decimal fd);
   plain = rw (decimal_inner hold (long_number hold fits.0), file_plain script file own, want_plain want fits.1, decimal_inner fd (long_number fd fits.2)) refl;
   read = rw (number_back hold fits.0, file_back script file own, want_back want fits.1, number_back fd fits.2) refl;
@@ -216,8 +218,8 @@ close_back : (script : Script) (fd : ℕ) → FitsEvent (event.CloseFile fd)
 unfolding spec.event_of spec.event_names spec.event_named
 close_back script fd fits = record {
   first = codes "close";
-  rest = (102 ∷ decimal fd) ∷ [];
-  spaced = simp (append_assoc, append-nil);
+  rest = (codes "f" ++ decimal fd) ∷ [];
+  spaced = simp append-nil;
   plain = rw (decimal_inner fd (long_number fd fits)) refl;
   read = rw (number_back fd fits) refl;
 }
@@ -227,7 +229,7 @@ spawn_back : (script : Script) (task : ℕ) (child : ℕ) → FitsEvent (event.S
 unfolding spec.event_of spec.event_names spec.event_named spec.task_event words.two_of
 spawn_back script task child fits = record {
   first = codes "spawn";
-  rest = (116 ∷ decimal task) ∷ (116 ∷ decimal child) ∷ [];
+  rest = (codes "t" ++ decimal task) ∷ (codes "t" ++ decimal child) ∷ [];
   spaced = simp (append_assoc, append-nil);
   plain = rw (decimal_inner task (long_number task fits.0), decimal_inner child (long_number child fits.1)) refl;
   read = rw (number_back task fits.0, number_back child fits.1) refl;
@@ -238,7 +240,7 @@ fork_back : (script : Script) (task : ℕ) (child : ℕ) (process : ℕ) → Fit
 unfolding spec.event_of spec.event_names spec.event_named spec.task_event words.three_of
 fork_back script task child process fits = record {
   first = codes "fork";
-  rest = (116 ∷ decimal task) ∷ (116 ∷ decimal child) ∷ (112 ∷ decimal process) ∷ [];
+  rest = (codes "t" ++ decimal task) ∷ (codes "t" ++ decimal child) ∷ (codes "p" ++ decimal process) ∷ [];
   spaced = simp (append_assoc, append-nil);
   plain = rw (decimal_inner task (long_number task fits.0), decimal_inner child (long_number child fits.1), decimal_inner process (long_number process fits.2)) refl;
   read = rw (number_back task fits.0, number_back child fits.1, number_back process fits.2) refl;
@@ -249,8 +251,8 @@ exit_back : (script : Script) (task : ℕ) → FitsEvent (event.Exit task)
 unfolding spec.event_of spec.event_names spec.event_named spec.task_event
 exit_back script task fits = record {
   first = codes "exit";
-  rest = (116 ∷ decimal task) ∷ [];
-  spaced = simp (append_assoc, append-nil);
+  rest = (codes "t" ++ decimal task) ∷ [];
+  spaced = simp append-nil;
   plain = rw (decimal_inner task (long_number task fits)) refl;
   read = rw (number_back task fits) refl;
 }

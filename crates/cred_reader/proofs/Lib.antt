@@ -4,9 +4,12 @@ pub mod Sets
 pub mod WordsBack
 pub mod Ids
 pub mod Back
-pub mod Parts
+pub mod QueriesBack
+pub mod ChangesBack
+pub mod CallsBack
 pub mod EventsBack
 pub mod Agrees
+pub mod RefusalsBack
 pub mod AnswersBack
 pub mod EntryBack
 pub mod Spelled

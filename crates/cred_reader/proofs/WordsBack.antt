@@ -1,5 +1,5 @@
 -- Other words that were printed, read back.
-use Rattle.std.proofs.Common.{◌≡◌, ℕ, ◌^◌, ◌<◌, Bool, true, false, ◌||◌, ◌==◌, nat_le, Some, List, [], ◌∷◌, length, Ok, codes, refl, decimal, arith}
+use Rattle.std.proofs.Common.{◌≡◌, ℕ, ◌^◌, ◌<◌, Bool, true, false, ◌||◌, ◌==◌, nat_le, Some, List, [], ◌∷◌, ◌++◌, length, Ok, codes, refl, decimal, arith}
 use Rattle.std.specs.List.{list_all}
 use Rattle.std.specs.Str.{bytes_eq, all_ascii_digits}
 use Rattle.std.proofs.lemmas.Fmt.{decimal_nonempty}
@@ -98,7 +98,7 @@ file_back script place h = rw (h.name, h.own) refl
 pub ns_number : (ns : ℕ) → IsNamespace ns → IsNumber ns
 ns_number ns h = omega arith
 
-pub namespace_back : (ns : ℕ) → IsNamespace ns → spelling.namespace_of (110 ∷ decimal ns) ≡ Some ns
+pub namespace_back : (ns : ℕ) → IsNamespace ns → spelling.namespace_of (codes "n" ++ decimal ns) ≡ Some ns
 namespace_back ns h =
     let number : IsNumber ns = omega arith in
     let low : nat_le 0 ns ≡ true = grind (arith, nat_tests) in
