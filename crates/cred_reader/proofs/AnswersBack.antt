@@ -21,6 +21,7 @@ use Rattle.cred_reader.proofs.Numbers.{long_number, number_back, long_back, id_n
 use Rattle.cred_reader.proofs.Sets.{set_back, set_plain}
 use Rattle.cred_reader.proofs.Ids.{ids_spaced, ids_plain, ids_back}
 use Rattle.cred_reader.proofs.WordsBack.{bits_back}
+use Rattle.cred_reader.proofs.Back.{bare, with_word, with_two}
 use Rattle.cred_reader.proofs.RefusalsBack.{AnswerBack, eperm_back, einval_back, eacces_back, ebadf_back, no_task_back, no_hold_back, no_prepared_back, no_broadcast_back, busy_back, exists_task_back, exists_process_back, exists_label_back, exists_file_back, exists_broadcast_back, overridden_back, not_overridden_back, too_deep_back, stale_back, too_many_tasks_back, too_many_files_back, too_many_holds_back, too_many_prepared_back, table_full_back, aborted_perm_back, aborted_full_back}
 
 bits_long : (bits : ℕ) → bits < 2 ^ 8 → IsLong bits
@@ -44,43 +45,25 @@ caps_parts o b p q r s t = simp append_assoc
 
 done_back : FitsAnswer (answer.Done) → AnswerBack Nothing (answer.Done)
 unfolding spec.answer_of spec.ok_words spec.plain spec.longer spec.longest spec.acted
-done_back fits = record {
-  first = codes "ok";
-  rest = [];
-  spaced = refl;
-  plain = refl;
-  read = refl;
-}
+done_back fits = bare (codes "ok") refl refl
 
 sealed_back : (cred : ℕ) (slot : ℕ) → FitsAnswer (answer.Sealed cred slot) → AnswerBack Nothing (answer.Sealed cred slot)
 unfolding spec.answer_of spec.ok_words spec.plain spec.longer spec.longest spec.acted words.two_of
-sealed_back cred slot fits = record {
-  first = codes "ok";
-  rest = (codes "c" ++ decimal cred) ∷ (codes "s" ++ decimal slot) ∷ [];
-  spaced = simp (append_assoc, append-nil);
-  plain = rw (decimal_inner cred fits.0, decimal_inner slot (long_number slot fits.1)) refl;
-  read = rw (long_back cred fits.0, number_back slot fits.1) refl;
-}
+sealed_back cred slot fits =
+    with_two (codes "ok") (codes "c" ++ decimal cred) (codes "s" ++ decimal slot) (simp (append_assoc, append-nil))
+    refl (rw (decimal_inner cred fits.0) refl) (rw (decimal_inner slot (long_number slot fits.1)) refl)
+    (rw (long_back cred fits.0, number_back slot fits.1) refl)
 
 kept_back : (slot : ℕ) → FitsAnswer (answer.Kept slot) → AnswerBack Nothing (answer.Kept slot)
 unfolding spec.answer_of spec.ok_words spec.plain spec.longer spec.longest spec.acted
-kept_back slot fits = record {
-  first = codes "ok";
-  rest = (codes "s" ++ decimal slot) ∷ [];
-  spaced = simp append-nil;
-  plain = rw (decimal_inner slot (long_number slot fits)) refl;
-  read = rw (number_back slot fits) refl;
-}
+kept_back slot fits =
+    with_word (codes "ok") (codes "s" ++ decimal slot) refl (rw (decimal_inner slot (long_number slot fits)) refl) (rw (number_back slot fits) refl)
 
 was_back : (previous : ℕ) → FitsAnswer (answer.Was previous) → AnswerBack Nothing (answer.Was previous)
 unfolding spec.answer_of spec.ok_words spec.plain spec.longer spec.longest spec.acted
-was_back previous fits = record {
-  first = codes "ok";
-  rest = codes "was" ∷ decimal previous ∷ [];
-  spaced = simp append-nil;
-  plain = rw (decimal_plain previous (long_number previous (id_number previous fits))) refl;
-  read = rw (id_back previous fits) refl;
-}
+was_back previous fits =
+    with_two (codes "ok") (codes "was") (decimal previous) (simp append-nil)
+    refl refl (decimal_plain previous (long_number previous (id_number previous fits))) (rw (id_back previous fits) refl)
 
 executed_back : (cred : ℕ) (slot : ℕ) (ended : ℕ) (gains : Gains) → FitsAnswer (answer.Executed cred slot ended gains) → AnswerBack Nothing (answer.Executed cred slot ended gains)
 unfolding spec.answer_of spec.ok_words spec.plain spec.longer spec.longest spec.acted words.three_of
@@ -144,25 +127,17 @@ groups_told groups fits = record {
 
 bits_told : (bits : ℕ) (nnp : Bool) → FitsAnswer (answer.Told (told.Bits bits nnp)) → AnswerBack Bits (answer.Told (told.Bits bits nnp))
 unfolding spec.answer_of spec.ok_words words.two_of kinds.flags
-bits_told bits false fits = record {
-  first = codes "ok";
-  rest = decimal bits ∷ codes "0" ∷ [];
-  spaced = refl;
-  plain = rw (decimal_plain bits (bits_long bits fits)) refl;
-  read = rw (bits_back bits fits) refl;
-}
-bits_told bits true fits = record {
-  first = codes "ok";
-  rest = decimal bits ∷ codes "1" ∷ [];
-  spaced = refl;
-  plain = rw (decimal_plain bits (bits_long bits fits)) refl;
-  read = rw (bits_back bits fits) refl;
-}
+bits_told bits false fits =
+    with_two (codes "ok") (decimal bits) (codes "0") (simp (append_assoc, append-nil))
+    refl (decimal_plain bits (bits_long bits fits)) refl (rw (bits_back bits fits) refl)
+bits_told bits true fits =
+    with_two (codes "ok") (decimal bits) (codes "1") (simp (append_assoc, append-nil))
+    refl (decimal_plain bits (bits_long bits fits)) refl (rw (bits_back bits fits) refl)
 
 flag_told : (flag : Bool) → FitsAnswer (answer.Told (told.Flag flag)) → AnswerBack Flag (answer.Told (told.Flag flag))
 unfolding spec.answer_of spec.ok_words kinds.flags
-flag_told false fits = record { first = codes "ok"; rest = codes "0" ∷ []; spaced = refl; plain = refl; read = refl }
-flag_told true fits = record { first = codes "ok"; rest = codes "1" ∷ []; spaced = refl; plain = refl; read = refl }
+flag_told false fits = with_word (codes "ok") (codes "0") refl refl refl
+flag_told true fits = with_word (codes "ok") (codes "1") refl refl refl
 
 is_same : (k other : Tells) → same k other ≡ true → k ≡ other
 is_same Nothing Nothing h = refl

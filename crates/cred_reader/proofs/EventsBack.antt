@@ -15,7 +15,7 @@ use Rattle.cred_report.specs.Questions.{file_text, want_text}
 use Rattle.cred_report.specs.Events.{event_text}
 use Rattle.cred_reader.specs.Events as spec
 use Rattle.cred_reader.specs.Fits.{IsFile, FitsEvent}
-use Rattle.cred_reader.proofs.Back.{IsBack, alone}
+use Rattle.cred_reader.proofs.Back.{IsBack, alone, bare, with_word, with_two, with_three}
 use Rattle.cred_reader.proofs.Words.{spaced}
 use Rattle.cred_reader.proofs.Numbers.{long_number, number_back, id_number, id_back, decimal_inner, decimal_plain}
 use Rattle.cred_reader.proofs.WordsBack.{want_back, want_plain, file_back, file_plain, ns_number, namespace_back}
@@ -42,46 +42,33 @@ init_back script task process user group ns fits = record {
 take_back : (script : Script) (label : ℕ) (task : ℕ) → FitsEvent (event.Take label task Subjective)
     → EventBack script (event.Take label task Subjective)
 unfolding spec.event_of spec.event_names spec.event_named spec.label_event spec.take_of words.two_of
-take_back script label task fits = record {
-  first = codes "take";
-  rest = (codes "h" ++ decimal label) ∷ (codes "t" ++ decimal task) ∷ [];
-  spaced = simp (append_assoc, append-nil);
-  plain = rw (decimal_inner label (long_number label fits.0), decimal_inner task (long_number task fits.1)) refl;
-  read = rw (number_back label fits.0, number_back task fits.1) refl;
-}
+take_back script label task fits =
+    with_two (codes "take") (codes "h" ++ decimal label) (codes "t" ++ decimal task) (simp (append_assoc, append-nil))
+    refl (rw (decimal_inner label (long_number label fits.0)) refl) (rw (decimal_inner task (long_number task fits.1)) refl)
+    (rw (number_back label fits.0, number_back task fits.1) refl)
 
 takereal_back : (script : Script) (label : ℕ) (task : ℕ) → FitsEvent (event.Take label task Objective)
     → EventBack script (event.Take label task Objective)
 unfolding spec.event_of spec.event_names spec.event_named spec.label_event spec.take_of words.two_of
-takereal_back script label task fits = record {
-  first = codes "takereal";
-  rest = (codes "h" ++ decimal label) ∷ (codes "t" ++ decimal task) ∷ [];
-  spaced = simp (append_assoc, append-nil);
-  plain = rw (decimal_inner label (long_number label fits.0), decimal_inner task (long_number task fits.1)) refl;
-  read = rw (number_back label fits.0, number_back task fits.1) refl;
-}
+takereal_back script label task fits =
+    with_two (codes "takereal") (codes "h" ++ decimal label) (codes "t" ++ decimal task) (simp (append_assoc, append-nil))
+    refl (rw (decimal_inner label (long_number label fits.0)) refl) (rw (decimal_inner task (long_number task fits.1)) refl)
+    (rw (number_back label fits.0, number_back task fits.1) refl)
 
 takefile_back : (script : Script) (label : ℕ) (fd : ℕ) → FitsEvent (event.TakeFile label fd)
     → EventBack script (event.TakeFile label fd)
 unfolding spec.event_of spec.event_names spec.event_named spec.label_event words.two_of
-takefile_back script label fd fits = record {
-  first = codes "takefile";
-  rest = (codes "h" ++ decimal label) ∷ (codes "f" ++ decimal fd) ∷ [];
-  spaced = simp (append_assoc, append-nil);
-  plain = rw (decimal_inner label (long_number label fits.0), decimal_inner fd (long_number fd fits.1)) refl;
-  read = rw (number_back label fits.0, number_back fd fits.1) refl;
-}
+takefile_back script label fd fits =
+    with_two (codes "takefile") (codes "h" ++ decimal label) (codes "f" ++ decimal fd) (simp (append_assoc, append-nil))
+    refl (rw (decimal_inner label (long_number label fits.0)) refl) (rw (decimal_inner fd (long_number fd fits.1)) refl)
+    (rw (number_back label fits.0, number_back fd fits.1) refl)
 
 release_back : (script : Script) (label : ℕ) → FitsEvent (event.Release label)
     → EventBack script (event.Release label)
 unfolding spec.event_of spec.event_names spec.event_named spec.label_event
-release_back script label fits = record {
-  first = codes "drop";
-  rest = (codes "h" ++ decimal label) ∷ [];
-  spaced = simp append-nil;
-  plain = rw (decimal_inner label (long_number label fits)) refl;
-  read = rw (number_back label fits) refl;
-}
+release_back script label fits =
+    with_word (codes "drop") (codes "h" ++ decimal label)
+    refl (rw (decimal_inner label (long_number label fits)) refl) (rw (number_back label fits) refl)
 
 ask_back : (script : Script) (label : ℕ) (query : Query) → FitsEvent (event.Ask label query) → All (IsFile script) (query_files query)
     → EventBack script (event.Ask label query)
@@ -110,13 +97,11 @@ signal_back script from hold to target fits = record {
 prepare_back : (script : Script) (label : ℕ) (task : ℕ) (hold : ℕ) → FitsEvent (event.Prepare label task hold)
     → EventBack script (event.Prepare label task hold)
 unfolding spec.event_of spec.event_names spec.event_named spec.label_event words.three_of
-prepare_back script label task hold fits = record {
-  first = codes "prepare";
-  rest = (codes "h" ++ decimal label) ∷ (codes "t" ++ decimal task) ∷ (codes "h" ++ decimal hold) ∷ [];
-  spaced = simp (append_assoc, append-nil);
-  plain = rw (decimal_inner label (long_number label fits.0), decimal_inner task (long_number task fits.1), decimal_inner hold (long_number hold fits.2)) refl;
-  read = rw (number_back label fits.0, number_back task fits.1, number_back hold fits.2) refl;
-}
+prepare_back script label task hold fits =
+    with_three (codes "prepare") (codes "h" ++ decimal label) (codes "t" ++ decimal task) (codes "h" ++ decimal hold)
+    (simp (append_assoc, append-nil))
+    refl (rw (decimal_inner label (long_number label fits.0)) refl) (rw (decimal_inner task (long_number task fits.1)) refl) (rw (decimal_inner hold (long_number hold fits.2)) refl)
+    (rw (number_back label fits.0, number_back task fits.1, number_back hold fits.2) refl)
 
 alter_back : (script : Script) (label : ℕ) (change : Change) → FitsEvent (event.Alter label change) → All (IsFile script) (change_files change)
     → EventBack script (event.Alter label change)
@@ -134,46 +119,31 @@ alter_back script label change fits own =
 commit_back : (script : Script) (label : ℕ) → FitsEvent (event.Commit label)
     → EventBack script (event.Commit label)
 unfolding spec.event_of spec.event_names spec.event_named spec.label_event
-commit_back script label fits = record {
-  first = codes "commit";
-  rest = (codes "h" ++ decimal label) ∷ [];
-  spaced = simp append-nil;
-  plain = rw (decimal_inner label (long_number label fits)) refl;
-  read = rw (number_back label fits) refl;
-}
+commit_back script label fits =
+    with_word (codes "commit") (codes "h" ++ decimal label)
+    refl (rw (decimal_inner label (long_number label fits)) refl) (rw (number_back label fits) refl)
 
 abort_back : (script : Script) (label : ℕ) → FitsEvent (event.Abort label)
     → EventBack script (event.Abort label)
 unfolding spec.event_of spec.event_names spec.event_named spec.label_event
-abort_back script label fits = record {
-  first = codes "abort";
-  rest = (codes "h" ++ decimal label) ∷ [];
-  spaced = simp append-nil;
-  plain = rw (decimal_inner label (long_number label fits)) refl;
-  read = rw (number_back label fits) refl;
-}
+abort_back script label fits =
+    with_word (codes "abort") (codes "h" ++ decimal label)
+    refl (rw (decimal_inner label (long_number label fits)) refl) (rw (number_back label fits) refl)
 
 override_back : (script : Script) (task : ℕ) (label : ℕ) → FitsEvent (event.Override task label)
     → EventBack script (event.Override task label)
 unfolding spec.event_of spec.event_names spec.event_named spec.task_event words.two_of
-override_back script task label fits = record {
-  first = codes "override";
-  rest = (codes "t" ++ decimal task) ∷ (codes "h" ++ decimal label) ∷ [];
-  spaced = simp (append_assoc, append-nil);
-  plain = rw (decimal_inner task (long_number task fits.0), decimal_inner label (long_number label fits.1)) refl;
-  read = rw (number_back task fits.0, number_back label fits.1) refl;
-}
+override_back script task label fits =
+    with_two (codes "override") (codes "t" ++ decimal task) (codes "h" ++ decimal label) (simp (append_assoc, append-nil))
+    refl (rw (decimal_inner task (long_number task fits.0)) refl) (rw (decimal_inner label (long_number label fits.1)) refl)
+    (rw (number_back task fits.0, number_back label fits.1) refl)
 
 revert_back : (script : Script) (task : ℕ) → FitsEvent (event.Revert task)
     → EventBack script (event.Revert task)
 unfolding spec.event_of spec.event_names spec.event_named spec.task_event
-revert_back script task fits = record {
-  first = codes "revert";
-  rest = (codes "t" ++ decimal task) ∷ [];
-  spaced = simp append-nil;
-  plain = rw (decimal_inner task (long_number task fits)) refl;
-  read = rw (number_back task fits) refl;
-}
+revert_back script task fits =
+    with_word (codes "revert") (codes "t" ++ decimal task)
+    refl (rw (decimal_inner task (long_number task fits)) refl) (rw (number_back task fits) refl)
 
 begin_back : (script : Script) (task : ℕ) (call : IdCall) → FitsEvent (event.Begin task call)
     → EventBack script (event.Begin task call)
@@ -191,13 +161,7 @@ begin_back script task call fits =
 act_back : (script : Script) (cast : ℕ) → FitsEvent (event.Act cast)
     → EventBack script (event.Act cast)
 unfolding spec.event_of spec.event_names spec.event_named
-act_back script cast fits = record {
-  first = codes "act";
-  rest = decimal cast ∷ [];
-  spaced = simp append-nil;
-  plain = rw (decimal_plain cast (long_number cast fits)) refl;
-  read = rw (number_back cast fits) refl;
-}
+act_back script cast fits = with_word (codes "act") (decimal cast) refl (decimal_plain cast (long_number cast fits)) (rw (number_back cast fits) refl)
 
 open_words : (hold file want fd : List ℕ) → 32 ∷ (codes "open h" ++ hold ++ codes " " ++ file ++ codes " " ++ want ++ codes " f" ++ fd) ≡ spaced (codes "open" ∷ (codes "h" ++ hold) ∷ file ∷ want ∷ (codes "f" ++ fd) ∷ [])
 open_words hold file want fd = simp (append_assoc, append-nil)
@@ -216,57 +180,36 @@ open_back script hold file want fd fits own = record {
 close_back : (script : Script) (fd : ℕ) → FitsEvent (event.CloseFile fd)
     → EventBack script (event.CloseFile fd)
 unfolding spec.event_of spec.event_names spec.event_named
-close_back script fd fits = record {
-  first = codes "close";
-  rest = (codes "f" ++ decimal fd) ∷ [];
-  spaced = simp append-nil;
-  plain = rw (decimal_inner fd (long_number fd fits)) refl;
-  read = rw (number_back fd fits) refl;
-}
+close_back script fd fits =
+    with_word (codes "close") (codes "f" ++ decimal fd) refl (rw (decimal_inner fd (long_number fd fits)) refl) (rw (number_back fd fits) refl)
 
 spawn_back : (script : Script) (task : ℕ) (child : ℕ) → FitsEvent (event.Spawn task child)
     → EventBack script (event.Spawn task child)
 unfolding spec.event_of spec.event_names spec.event_named spec.task_event words.two_of
-spawn_back script task child fits = record {
-  first = codes "spawn";
-  rest = (codes "t" ++ decimal task) ∷ (codes "t" ++ decimal child) ∷ [];
-  spaced = simp (append_assoc, append-nil);
-  plain = rw (decimal_inner task (long_number task fits.0), decimal_inner child (long_number child fits.1)) refl;
-  read = rw (number_back task fits.0, number_back child fits.1) refl;
-}
+spawn_back script task child fits =
+    with_two (codes "spawn") (codes "t" ++ decimal task) (codes "t" ++ decimal child) (simp (append_assoc, append-nil))
+    refl (rw (decimal_inner task (long_number task fits.0)) refl) (rw (decimal_inner child (long_number child fits.1)) refl)
+    (rw (number_back task fits.0, number_back child fits.1) refl)
 
 fork_back : (script : Script) (task : ℕ) (child : ℕ) (process : ℕ) → FitsEvent (event.Fork task child process)
     → EventBack script (event.Fork task child process)
 unfolding spec.event_of spec.event_names spec.event_named spec.task_event words.three_of
-fork_back script task child process fits = record {
-  first = codes "fork";
-  rest = (codes "t" ++ decimal task) ∷ (codes "t" ++ decimal child) ∷ (codes "p" ++ decimal process) ∷ [];
-  spaced = simp (append_assoc, append-nil);
-  plain = rw (decimal_inner task (long_number task fits.0), decimal_inner child (long_number child fits.1), decimal_inner process (long_number process fits.2)) refl;
-  read = rw (number_back task fits.0, number_back child fits.1, number_back process fits.2) refl;
-}
+fork_back script task child process fits =
+    with_three (codes "fork") (codes "t" ++ decimal task) (codes "t" ++ decimal child) (codes "p" ++ decimal process)
+    (simp (append_assoc, append-nil))
+    refl (rw (decimal_inner task (long_number task fits.0)) refl) (rw (decimal_inner child (long_number child fits.1)) refl) (rw (decimal_inner process (long_number process fits.2)) refl)
+    (rw (number_back task fits.0, number_back child fits.1, number_back process fits.2) refl)
 
 exit_back : (script : Script) (task : ℕ) → FitsEvent (event.Exit task)
     → EventBack script (event.Exit task)
 unfolding spec.event_of spec.event_names spec.event_named spec.task_event
-exit_back script task fits = record {
-  first = codes "exit";
-  rest = (codes "t" ++ decimal task) ∷ [];
-  spaced = simp append-nil;
-  plain = rw (decimal_inner task (long_number task fits)) refl;
-  read = rw (number_back task fits) refl;
-}
+exit_back script task fits =
+    with_word (codes "exit") (codes "t" ++ decimal task) refl (rw (decimal_inner task (long_number task fits)) refl) (rw (number_back task fits) refl)
 
 sweep_back : (script : Script) → FitsEvent (event.Sweep)
     → EventBack script (event.Sweep)
 unfolding spec.event_of spec.event_names spec.event_named
-sweep_back script fits = record {
-  first = codes "sweep";
-  rest = [];
-  spaced = refl;
-  plain = refl;
-  read = refl;
-}
+sweep_back script fits = bare (codes "sweep") refl refl
 
 pub event_back : (script : Script) (event : Event) → FitsEvent event → All (IsFile script) (event_files event) → EventBack script event
 event_back script (event.Init task process user group ns) fits own = init_back script task process user group ns fits

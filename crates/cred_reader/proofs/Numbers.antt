@@ -68,7 +68,7 @@ decimal_inner n h = digits_inner (decimal n) (digits_decimal own n h)
 digits_plain : (bs : List ℕ) → all_ascii_digits bs ≡ true → 0 < length bs → is_plain bs ≡ true
 digits_plain [] h some = absurd (omega arith)
 digits_plain (b ∷ bs) h some =
-    let parts = both _ (all_ascii_digits bs) h in
+    let parts = both (nat_le 48 b && nat_le b 57) (all_ascii_digits bs) h in
     let test : (b == 45) ≡ false = grind (arith, nat_tests) in
     rw (digit_inner b parts.0, digits_inner bs parts.1, test) refl
 

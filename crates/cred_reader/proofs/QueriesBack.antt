@@ -10,7 +10,7 @@ use Rattle.cred_spelling.specs.Names as names
 use Rattle.cred_forms.specs.Questions as questions
 use Rattle.cred_report.specs.Questions.{file_text, want_text, query_text}
 use Rattle.cred_reader.specs.Fits.{IsFile, FitsQuery}
-use Rattle.cred_reader.proofs.Back.{IsBack, alone}
+use Rattle.cred_reader.proofs.Back.{IsBack, alone, bare, with_word}
 use Rattle.cred_reader.proofs.Words.{spaced}
 use Rattle.cred_reader.proofs.Numbers.{long_number, number_back, decimal_plain}
 use Rattle.cred_reader.proofs.WordsBack.{want_back, want_plain, file_back, file_plain}
@@ -21,49 +21,32 @@ QueryBack script query = IsBack (query_text script query) (questions.query_named
 
 ids_query : (script : Script) → FitsQuery (query.Ids) → QueryBack script (query.Ids)
 unfolding questions.query_named questions.query_of names.query_names
-ids_query script fits = record { first = codes "ids"; rest = []; spaced = refl; plain = refl; read = refl }
+ids_query script fits = bare (codes "ids") refl refl
 
 caps_query : (script : Script) → FitsQuery (query.Caps) → QueryBack script (query.Caps)
 unfolding questions.query_named questions.query_of names.query_names
-caps_query script fits = record { first = codes "caps"; rest = []; spaced = refl; plain = refl; read = refl }
+caps_query script fits = bare (codes "caps") refl refl
 
 groups_query : (script : Script) → FitsQuery (query.Groups) → QueryBack script (query.Groups)
 unfolding questions.query_named questions.query_of names.query_names
-groups_query script fits = record { first = codes "groups"; rest = []; spaced = refl; plain = refl; read = refl }
+groups_query script fits = bare (codes "groups") refl refl
 
 bits_query : (script : Script) → FitsQuery (query.Bits) → QueryBack script (query.Bits)
 unfolding questions.query_named questions.query_of names.query_names
-bits_query script fits = record { first = codes "bits"; rest = []; spaced = refl; plain = refl; read = refl }
+bits_query script fits = bare (codes "bits") refl refl
 
 capable_query : (script : Script) (cap : ℕ) → FitsQuery (query.Capable cap) → QueryBack script (query.Capable cap)
 unfolding questions.query_named questions.query_of names.query_names
-capable_query script cap fits = record {
-  first = codes "capable";
-  rest = (decimal cap) ∷ [];
-  spaced = simp append-nil;
-  plain = rw (decimal_plain cap (long_number cap fits)) refl;
-  read = rw (number_back cap fits) refl;
-}
+capable_query script cap fits =
+    with_word (codes "capable") (decimal cap) refl (decimal_plain cap (long_number cap fits)) (rw (number_back cap fits) refl)
 
 bset_query : (script : Script) (cap : ℕ) → FitsQuery (query.Bset cap) → QueryBack script (query.Bset cap)
 unfolding questions.query_named questions.query_of names.query_names
-bset_query script cap fits = record {
-  first = codes "bset";
-  rest = (decimal cap) ∷ [];
-  spaced = simp append-nil;
-  plain = rw (decimal_plain cap (long_number cap fits)) refl;
-  read = rw (number_back cap fits) refl;
-}
+bset_query script cap fits = with_word (codes "bset") (decimal cap) refl (decimal_plain cap (long_number cap fits)) (rw (number_back cap fits) refl)
 
 ambis_query : (script : Script) (cap : ℕ) → FitsQuery (query.AmbIs cap) → QueryBack script (query.AmbIs cap)
 unfolding questions.query_named questions.query_of names.query_names
-ambis_query script cap fits = record {
-  first = codes "ambis";
-  rest = (decimal cap) ∷ [];
-  spaced = simp append-nil;
-  plain = rw (decimal_plain cap (long_number cap fits)) refl;
-  read = rw (number_back cap fits) refl;
-}
+ambis_query script cap fits = with_word (codes "ambis") (decimal cap) refl (decimal_plain cap (long_number cap fits)) (rw (number_back cap fits) refl)
 
 check_words : (file want : List ℕ) → 32 ∷ (codes "check " ++ file ++ codes " " ++ want) ≡ spaced (codes "check" ∷ file ∷ want ∷ [])
 check_words file want = simp (append_assoc, append-nil)
