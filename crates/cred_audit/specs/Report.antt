@@ -26,9 +26,9 @@ pub record Begins (script : Script) (bytes : List ℕ) (count : ℕ) : Type 0 wh
 -- to it. Where a report stops too early that is the first entry that it lacks. Bytes behind the
 -- last line feed stand for an entry that goes wrong.
 pub record IsFault (script : Script) (bytes : List ℕ) (entry : ℕ) : Type 0 where
-  pub other : IsReport script bytes → ⊥
+  pub other : ¬ IsReport script bytes
   pub before : (count : ℕ) → count < entry → Begins script bytes count
-  pub wrong : Begins script bytes entry → ⊥
+  pub wrong : ¬ Begins script bytes entry
 
 -- what is said of the bytes is true
 abbrev pub IsVerdict : Script → List ℕ → Verdict → Type 0
