@@ -6,8 +6,8 @@ use Rattle.cred_book.specs.declared.step.Step.{Step}
 use Rattle.cred_book.specs.declared.step.Step.TheVariants.{More, Ended}
 use Rattle.cred_kernel.specs.Turns.{Seen, HasEnded}
 
--- The turn had a line left, and has entered one event more. By that one line of it has ended at
--- most.
+-- The turn had a line left, and has entered one event more. At most one of its lines has ended by
+-- that.
 pub record HasEntered (script : Script) (old new : Seen) : Type 0 where
   pub lane : new.lane ≡ old.lane
   pub entered : new.numbers.entered ≡ old.numbers.entered + 1

@@ -1,6 +1,7 @@
 //! Small scripts as threads.
 use crate::{NoGate, lanes};
 use cred_book::{Journal, run};
+use cred_event::LINE_LIMIT;
 use cred_ids::NoMemory;
 use cred_report::{Pen, prepend};
 use cred_script::{Script, line_count, read};
@@ -47,7 +48,7 @@ const IN_ORDER: [&str; 3] = [
 
 /// The script that the text is.
 fn script_of(alloc: Global, text: &str) -> Result<Script, Fail> {
-    if line_count(text.as_bytes()) > 20000 {
+    if line_count(text.as_bytes()) > LINE_LIMIT {
         return Err(Fail::from("too many lines"));
     }
     Ok(read(alloc, text.as_bytes())?)

@@ -21,8 +21,8 @@ pub fn sequence_is_legal()
 {}
 
 /// Where the setup's lines come before all others and one lane is opened at most, the lines run
-/// whole and in order in every legal journal: with `one_sequence`, such a script has one at most. So
-/// whatever runs it legally enters the same.
+/// whole and in order in every legal journal: with `one_sequence`, such a script has one at most.
+/// So whatever runs it legally enters the same.
 ///
 /// It says nothing of a script that opens two lanes: most of those have more.
 pub fn legal_is_sequence()
