@@ -1,0 +1,214 @@
+"""Processes with the ids 0, 1 and 2, as the pages speak of them, and the tables of all their calls.
+
+A page's generator says what one call makes of one process, in the page's sentences. Here every process
+makes every such call in a child of its own, and is then asked for its ids and its capability sets.
+"""
+from dataclasses import dataclass, replace
+from itertools import islice, product
+
+from reports import LINES, Script
+
+IDS = (0, 1, 2)
+# `(uid_t) -1`, which is no id; as an argument it may keep one.
+NONE = -1
+ALL = (1 << 41) - 1
+# The bits of CAP_NET_RAW, which each process has inheritable and ambient too, and its number.
+RAW, NET_RAW = 0x2000, 13
+# CAP_CHOWN, CAP_DAC_OVERRIDE, CAP_DAC_READ_SEARCH, CAP_FOWNER, CAP_FSETID, CAP_LINUX_IMMUTABLE,
+# CAP_MKNOD and CAP_MAC_OVERRIDE: those on files.
+ON_FILES = sum(1 << it for it in (0, 1, 2, 3, 4, 9, 27, 32))
+# The securebits.
+KEEP_CAPS, NO_SETUID_FIXUP = 0x10, 0x04
+
+
+class Refused(Exception):
+    """A call is refused, with this error."""
+
+
+@dataclass(frozen=True)
+class Process:
+    """A process, as the pages speak of it: its user ids or its group ids.
+
+    It is privileged if it has the capability that a call asks for: CAP_SETUID, or CAP_SETGID.
+    """
+
+    real: int
+    effective: int
+    saved: int
+    fs: int
+    privileged: bool
+
+    def ids(self):
+        """The four ids, as a report has them."""
+        return f"{self.real} {self.effective} {self.saved} {self.fs}"
+
+
+@dataclass(frozen=True)
+class Sets:
+    """The capability sets that a change of user ids may change."""
+
+    permitted: int
+    effective: int
+    ambient: int
+
+    def told(self):
+        """The five sets, as a report has them."""
+        return f"ok {self.permitted:x} {RAW:x} {self.effective:x} {ALL:x} {self.ambient:x}"
+
+
+@dataclass(frozen=True)
+class Kind:
+    """What differs between calls on user ids and calls on group ids."""
+
+    set_all: str
+    set_fs: str
+    capability: int
+    user: bool
+
+    def told(self, process):
+        """The eight ids, of which the other four are 0."""
+        return f"ok {process.ids()} 0 0 0 0" if self.user else f"ok 0 0 0 0 {process.ids()}"
+
+
+USERS = Kind("setresuid", "setfsuid", 7, True)
+GROUPS = Kind("setresgid", "setfsgid", 6, False)
+
+
+def processes():
+    """Each process with these ids, privileged or not."""
+    for privileged, *ids in product((False, True), IDS, IDS, IDS, IDS):
+        yield Process(*ids, privileged)
+
+
+def followed(process):
+    """setfsuid(2): "whenever a process's effective user ID is changed, the kernel also changes the
+    filesystem user ID to be the same as the new value of the effective user ID", and setresuid(2):
+    "Regardless of what changes are made [..]".
+    """
+    return replace(process, fs=process.effective)
+
+
+def held(process, kind):
+    """The sets of a process before its call."""
+    return Sets(ALL, ALL if process.privileged else ALL & ~(1 << kind.capability), RAW)
+
+
+def sets_after(old, new, sets, securebits=0):
+    """The sets after a change of user ids: capabilities(7), "Effect of user ID changes on
+    capabilities".
+    """
+    # "SECBIT_NO_SETUID_FIXUP: Setting this flag stops the kernel from adjusting the process's
+    # permitted, effective, and ambient capability sets when the thread's effective and filesystem
+    # UIDs are switched between zero and nonzero values."
+    if securebits & NO_SETUID_FIXUP:
+        return sets
+    before, after = ((it.real, it.effective, it.saved) for it in (old, new))
+    # "If one or more of the real, effective, or saved set user IDs was previously 0, and as a result
+    # of the UID changes all of these IDs have a nonzero value, then all capabilities are cleared from
+    # the permitted, effective, and ambient capability sets."
+    if 0 in before and 0 not in after:
+        # "SECBIT_KEEP_CAPS: Setting this flag allows a thread that has one or more 0 UIDs to retain
+        # capabilities in its permitted set [..] if the thread has set this flag and its effective UID
+        # is already nonzero [..], then the effective capabilities will not be cleared."
+        kept = securebits & KEEP_CAPS
+        sets = Sets(sets.permitted if kept else 0, sets.effective if kept else 0, 0)
+    # "If the effective user ID is changed from 0 to nonzero, then all capabilities are cleared from
+    # the effective set."
+    if old.effective == 0 and new.effective != 0:
+        sets = replace(sets, effective=0)
+    # "If the effective user ID is changed from nonzero to 0, then the permitted set is copied to the
+    # effective set."
+    if old.effective != 0 and new.effective == 0:
+        sets = replace(sets, effective=sets.permitted)
+    return sets
+
+
+def sets_after_fs(old, new, sets, securebits=0):
+    """The sets after setfsuid(2), by the same section."""
+    if securebits & NO_SETUID_FIXUP:
+        return sets
+    # "If the filesystem user ID is changed from 0 to nonzero (see setfsuid(2)), then the following
+    # capabilities are cleared from the effective set: CAP_CHOWN, [..] and CAP_MKNOD."
+    if old.fs == 0 and new.fs != 0:
+        return replace(sets, effective=sets.effective & ~ON_FILES)
+    # "If the filesystem UID is changed from nonzero to 0, then any of these capabilities that are
+    # enabled in the permitted set are enabled in the effective set."
+    if old.fs != 0 and new.fs == 0:
+        return replace(sets, effective=sets.effective | sets.permitted & ON_FILES)
+    return sets
+
+
+# The tasks of a script: root's, a process of the table, and the child that makes the call.
+ROOT, TASK, CHILD = 1, 2, 3
+
+
+def begun():
+    """A script with root's task, whose children keep their permitted set when they leave root."""
+    script = Script()
+    script.init(ROOT, 1, 0, 0)
+    script.changes(ROOT, "keepcaps 1")
+    return script
+
+
+def make(script, process, kind, securebits=0):
+    """Makes root's child this process."""
+    script.fork(ROOT, TASK, 2)
+    ids = process.real, process.effective, process.saved
+    script.ids(TASK, f"{kind.set_all} {' '.join(map(str, ids))}")
+    script.changes(TASK, f"capset {ALL:x} {RAW:x} {ALL:x}")
+    script.changes(TASK, f"{kind.set_fs} {process.fs}", answer=f"ok was {process.effective}")
+    script.changes(TASK, f"ambraise {NET_RAW}")
+    script.changes(TASK, f"capset {ALL:x} {RAW:x} {ALL:x}")
+    script.changes(TASK, f"securebits {securebits}")
+    script.changes(TASK, f"capset {ALL:x} {RAW:x} {held(process, kind).effective:x}")
+
+
+def shown(script, kind, process, sets):
+    """Asks the child for what it is, and ends it."""
+    script.asks(CHILD, "ids", kind.told(process))
+    script.asks(CHILD, "caps", sets.told())
+    script.exit(CHILD)
+
+
+def tries_ids(script, process, kind, page, words, securebits=0):
+    """A child makes a call that sets ids: what the page says must come of it."""
+    name, *arguments = words
+    script.fork(TASK, CHILD, 3)
+    sets = held(process, kind)
+    call = " ".join(map(str, words))
+    try:
+        new = page(process, *arguments)
+    except Refused as why:
+        script.ids(CHILD, call, str(why))
+        shown(script, kind, process, sets)
+    else:
+        script.ids(CHILD, call)
+        shown(script, kind, new, sets_after(process, new, sets, securebits) if kind.user else sets)
+
+
+def tries_fs(script, process, kind, page, words, securebits=0):
+    """A child sets its filesystem id: what the page says must come of it."""
+    name, argument = words
+    script.fork(TASK, CHILD, 3)
+    sets = held(process, kind)
+    new, answer = page(process, argument)
+    script.changes(CHILD, f"{name} {argument}", answer=f"ok was {answer}")
+    shown(script, kind, new, sets_after_fs(process, new, sets, securebits) if kind.user else sets)
+
+
+def table(name, width, kind, page, tries=tries_ids):
+    """Every call of this name, which takes so many ids, by every process."""
+    calls = [(name, *ids) for ids in product((NONE, *IDS), repeat=width)]
+    # A process takes nine lines to make and to end, and each of its calls five.
+    room = LINES // (5 * len(calls) + 10)
+    left = processes()
+    while some := list(islice(left, room)):
+        script = begun()
+        for process in some:
+            make(script, process, kind)
+            for words in calls:
+                tries(script, process, kind, page, words)
+            script.exit(TASK)
+        first = some[0]
+        privileged = "privileged" if first.privileged else "unprivileged"
+        yield script.case(f"{name} from {first.ids()}, {privileged}", len(some) * len(calls))

@@ -1,0 +1,221 @@
+"""Scripts with their reports, for cases that a generator makes.
+
+Who makes a case says what each line does, as the manual page has it. How its entries are written, which
+number a new credential has and in which slot it stands, is worked out here, from docs/FORMATS.md ("The
+report") and docs/RULES.md ("Holding credentials").
+"""
+import heapq
+from collections import Counter
+
+import suite
+
+# The most lines of a script, and the slots of the table.
+LINES = 20_000
+SLOTS = 256
+
+
+class Slots:
+    """Which credential stands in which slot, as far as something refers to it.
+
+    What is given up keeps its slot until the sweep, which is made where no slot is free.
+    """
+
+    def __init__(self):
+        self.sealed = 0
+        self.place = {}
+        self.uses = Counter()
+        self.free = list(range(SLOTS))
+
+    def keep(self):
+        """The least free slot."""
+        if not self.free:
+            self.sweep()
+        return heapq.heappop(self.free)
+
+    def abort(self, slot):
+        """The slot that was kept is free again."""
+        heapq.heappush(self.free, slot)
+
+    def seal(self, slot):
+        """The number of the new credential in this slot."""
+        number = self.sealed
+        self.sealed += 1
+        self.place[number] = slot
+        self.uses[number] = 1
+        return number
+
+    def sweep(self):
+        """Frees each slot to whose credential nothing refers."""
+        self.uses = +self.uses
+        self.place = {it: self.place[it] for it in self.uses}
+        taken = set(self.place.values())
+        self.free = [it for it in range(SLOTS) if it not in taken]
+
+
+class Script:
+    """A script, and the entries that its lines make."""
+
+    def __init__(self):
+        self.lines = []
+        self.entries = []
+        self.slots = Slots()
+        # The current credential of each live task, its process, and what it acts with in its place.
+        self.current = {}
+        self.process = {}
+        self.lent = {}
+        # What each label holds.
+        self.held = {}
+
+    def line(self, text):
+        """Adds a line."""
+        self.lines.append(text)
+
+    def entry(self, event, answer):
+        """Adds an entry of the last line."""
+        self.entries.append(f"{len(self.lines)} {event} -> {answer}")
+
+    def named(self, number):
+        """A credential and its slot, as an answer names them."""
+        return f"ok c{number} s{self.slots.place[number]}"
+
+    def acts_with(self, task):
+        """The task's subjective credential."""
+        return self.lent.get(task, self.current[task])
+
+    def labels(self):
+        """The labels of the last line."""
+        base = 100_000 + 10 * len(self.lines)
+        return f"h{base}", f"h{base + 1}"
+
+    def declares(self, *texts):
+        """Lines that make no entry."""
+        self.lines += texts
+
+    def init(self, task, process, user, group, namespace=0):
+        """A first task."""
+        words = f"init t{task} p{process} {user} {group} n{namespace}"
+        self.line(words)
+        self.current[task] = self.slots.seal(self.slots.keep())
+        self.process[task] = process
+        self.entry(words, self.named(self.current[task]))
+
+    def starts(self, word, task, child, process):
+        """The child shares the credential of the task."""
+        self.current[child] = self.current[task]
+        self.process[child] = process
+        self.slots.uses[self.current[task]] += 1
+        self.entry(word, self.named(self.current[task]))
+
+    def fork(self, task, child, process):
+        """A new process."""
+        self.line(f"t{task} fork t{child} p{process}")
+        self.starts(f"fork t{task} t{child} p{process}", task, child, process)
+
+    def spawn(self, task, child):
+        """A new thread."""
+        self.line(f"t{task} spawn t{child}")
+        self.starts(f"spawn t{task} t{child}", task, child, self.process[task])
+
+    def exit(self, task):
+        """The task ends."""
+        self.line(f"t{task} exit")
+        self.entry(f"exit t{task}", "ok")
+        self.slots.uses[self.current.pop(task)] -= 1
+        del self.process[task]
+
+    def sweep(self):
+        """All that was given up lets go."""
+        self.line("sweep")
+        self.entry("sweep", "ok")
+        self.slots.sweep()
+
+    def becomes(self, task, slot):
+        """The task has a new credential in this slot."""
+        self.slots.uses[self.current[task]] -= 1
+        self.current[task] = self.slots.seal(slot)
+        return self.named(self.current[task])
+
+    def ids(self, task, call, refusal=None):
+        """A call that sets ids. Where it isn't refused, each other thread of the process makes it too."""
+        self.line(f"t{task} {call}")
+        if refusal:
+            self.entry(f"begin t{task} {call}", refusal)
+            return
+        others = sorted(
+            it for it, process in self.process.items()
+            if process == self.process[task] and it != task
+        )
+        sealed = self.becomes(task, self.slots.keep())
+        self.entry(f"begin t{task} {call}", f"{sealed} left {len(others)}")
+        for left, other in enumerate(others, 1):
+            sealed = self.becomes(other, self.slots.keep())
+            told = f"ok t{other} {sealed.removeprefix('ok ')} left {len(others) - left}"
+            self.entry(f"act {len(self.lines)}", told)
+
+    def changes(self, task, change, refusal=None, answer="ok", then=""):
+        """A change of the task's credential, answered so; `then` ends the answer of its commit."""
+        self.line(f"t{task} {change}")
+        held, prepared = self.labels()
+        slot = self.slots.keep()
+        self.entry(f"take {held} t{task}", self.named(self.current[task]))
+        self.entry(f"prepare {prepared} t{task} {held}", f"ok s{slot}")
+        self.entry(f"change {prepared} {change}", refusal or answer)
+        if refusal:
+            self.slots.abort(slot)
+            self.entry(f"abort {prepared}", "ok")
+        else:
+            self.entry(f"commit {prepared}", self.becomes(task, slot) + then)
+        self.entry(f"drop {held}", "ok")
+
+    def asks(self, task, query, answer):
+        """A question about what the task acts with."""
+        self.line(f"t{task} {query}")
+        held, _ = self.labels()
+        self.entry(f"take {held} t{task}", self.named(self.acts_with(task)))
+        self.entry(f"ask {held} {query}", answer)
+        self.entry(f"drop {held}", "ok")
+
+    def takes(self, label, task):
+        """The label takes hold of what the task acts with."""
+        words = f"take h{label} t{task}"
+        self.line(words)
+        self.held[label] = self.acts_with(task)
+        self.slots.uses[self.held[label]] += 1
+        self.entry(words, self.named(self.held[label]))
+
+    def asks_held(self, label, query, answer):
+        """A question about what the label holds."""
+        words = f"ask h{label} {query}"
+        self.line(words)
+        self.entry(words, answer)
+
+    def overrides(self, task, label):
+        """The task acts with what the label holds."""
+        words = f"override t{task} h{label}"
+        self.line(words)
+        self.lent[task] = self.held[label]
+        self.slots.uses[self.lent[task]] += 1
+        self.entry(words, self.named(self.held[label]))
+
+    def reverts(self, task):
+        """The task acts with its own credential again."""
+        self.line(f"revert t{task}")
+        self.slots.uses[self.lent.pop(task)] -= 1
+        self.entry(f"revert t{task}", "ok")
+
+    def signals(self, task, other, answer):
+        """A signal to the other task."""
+        self.line(f"t{task} signal t{other}")
+        of_task, of_other = self.labels()
+        self.entry(f"take {of_task} t{task}", self.named(self.acts_with(task)))
+        self.entry(f"takereal {of_other} t{other}", self.named(self.current[other]))
+        self.entry(f"signal t{task} {of_task} t{other} {of_other}", answer)
+        self.entry(f"drop {of_other}", "ok")
+        self.entry(f"drop {of_task}", "ok")
+
+    def case(self, name, calls):
+        """The case: this script must be reported so."""
+        if len(self.lines) > LINES:
+            raise ValueError(f"{name}: {len(self.lines)} lines")
+        text, report = ("".join(f"{it}\n" for it in its) for its in (self.lines, self.entries))
+        return suite.script(name, text, report, calls=calls)
