@@ -1,7 +1,9 @@
-"""Processes with the ids 0, 1 and 2, as the pages speak of them, and the tables of all their calls.
+"""Processes with the ids 0, 1 and 2, as the pages speak of them, and the tables of all their
+calls.
 
-A page's generator says what one call makes of one process, in the page's sentences. Here every process
-makes every such call in a child of its own, and is then asked for its ids and its capability sets.
+A page's generator says what one call makes of one process, in the page's sentences. Here every
+process makes every such call in a child of its own, and is then asked for its ids and its
+capability sets.
 """
 from dataclasses import dataclass, replace
 from itertools import islice, product
@@ -103,21 +105,22 @@ def sets_after(old, new, sets, securebits=0):
     if securebits & NO_SETUID_FIXUP:
         return sets
     before, after = ((it.real, it.effective, it.saved) for it in (old, new))
-    # "If one or more of the real, effective, or saved set user IDs was previously 0, and as a result
-    # of the UID changes all of these IDs have a nonzero value, then all capabilities are cleared from
-    # the permitted, effective, and ambient capability sets."
+    # "If one or more of the real, effective, or saved set user IDs was previously 0, and as a
+    # result of the UID changes all of these IDs have a nonzero value, then all capabilities are
+    # cleared from the permitted, effective, and ambient capability sets."
     if 0 in before and 0 not in after:
-        # "SECBIT_KEEP_CAPS: Setting this flag allows a thread that has one or more 0 UIDs to retain
-        # capabilities in its permitted set [..] if the thread has set this flag and its effective UID
-        # is already nonzero [..], then the effective capabilities will not be cleared."
+        # "SECBIT_KEEP_CAPS: Setting this flag allows a thread that has one or more 0 UIDs to
+        # retain capabilities in its permitted set [..] if the thread has set this flag and its
+        # effective UID is already nonzero [..], then the effective capabilities will not be
+        # cleared."
         kept = securebits & KEEP_CAPS
         sets = Sets(sets.permitted if kept else 0, sets.effective if kept else 0, 0)
     # "If the effective user ID is changed from 0 to nonzero, then all capabilities are cleared from
     # the effective set."
     if old.effective == 0 and new.effective != 0:
         sets = replace(sets, effective=0)
-    # "If the effective user ID is changed from nonzero to 0, then the permitted set is copied to the
-    # effective set."
+    # "If the effective user ID is changed from nonzero to 0, then the permitted set is copied to
+    # the effective set."
     if old.effective != 0 and new.effective == 0:
         sets = replace(sets, effective=sets.permitted)
     return sets

@@ -1,8 +1,8 @@
 """Scripts with their reports, for cases that a generator makes.
 
-Who makes a case says what each line does, as the manual page has it. How its entries are written, which
-number a new credential has and in which slot it stands, is worked out here, from docs/FORMATS.md ("The
-report") and docs/RULES.md ("Holding credentials").
+Who makes a case says what each line does, as the manual page has it. How its entries are written,
+which number a new credential has and in which slot it stands, is worked out here, from
+docs/FORMATS.md ("The report") and docs/RULES.md ("Holding credentials").
 """
 import heapq
 from collections import Counter
@@ -136,7 +136,9 @@ class Script:
         return self.named(self.current[task])
 
     def ids(self, task, call, refusal=None):
-        """A call that sets ids. Where it isn't refused, each other thread of the process makes it too."""
+        """A call that sets ids. Where it isn't refused, each other thread of the process makes it
+        too.
+        """
         self.line(f"t{task} {call}")
         if refusal:
             self.entry(f"begin t{task} {call}", refusal)

@@ -1,7 +1,7 @@
 """Every check of a file and of a directory, over all modes of three octal digits.
 
-The processes have a filesystem id that is the file's or isn't, a supplementary group that is or isn't,
-and CAP_DAC_OVERRIDE and CAP_DAC_READ_SEARCH or not. Each is held under a label of its own.
+The processes have a filesystem id that is the file's or isn't, a supplementary group that is or
+isn't, and CAP_DAC_OVERRIDE and CAP_DAC_READ_SEARCH or not. Each is held under a label of its own.
 """
 from dataclasses import dataclass
 from itertools import product
@@ -11,8 +11,8 @@ from reports import Script
 
 # The file's owner and group, and another user and group.
 OWNER, GROUP, OTHER = 1, 2, 3
-# What each octal digit of a mode permits: "read (4), write (2), and execute (1)" (chmod(1)). To execute
-# a directory is to search it.
+# What each octal digit of a mode permits: "read (4), write (2), and execute (1)" (chmod(1)). To
+# execute a directory is to search it.
 DIGITS = [{*it} for it in ("", "x", "w", "wx", "r", "rx", "rw", "rwx")]
 ASKED = {it: {*it} for it in ("r", "w", "x", "rw", "rx", "wx", "rwx")}
 CAP_DAC_OVERRIDE, CAP_DAC_READ_SEARCH = 1, 2
@@ -49,14 +49,15 @@ class File:
 def by_bits(process, file):
     """What the bits grant."""
     owner, group, others = file.digits()
-    # "The first group of three is used when the effective user ID of the calling process equals the
-    # owner ID of the file." But: "Linux uses the fsuid instead of the effective user ID in permission
-    # checks."
+    # "The first group of three is used when the effective user ID of the calling process equals
+    # the owner ID of the file." But: "Linux uses the fsuid instead of the effective user ID in
+    # permission checks."
     if process.fsuid == OWNER:
         return owner
     # "The second group of three is used when the group ID of the file either equals the effective
-    # group ID of the calling process, or is one of the supplementary group IDs of the calling process
-    # (as set by setgroups(2))." But: "Linux uses the fsgid ("filesystem group ID") instead".
+    # group ID of the calling process, or is one of the supplementary group IDs of the calling
+    # process (as set by setgroups(2))." But: "Linux uses the fsgid ("filesystem group ID")
+    # instead".
     if GROUP in (process.fsgid, process.supplementary):
         return group
     # "When neither holds, the third group is used."

@@ -1,4 +1,6 @@
-"""Every setresuid(2) between triples of the ids 0, 1 and 2, under the securebits that change its effect."""
+"""Every setresuid(2) between triples of the ids 0, 1 and 2, under the securebits that change its
+effect.
+"""
 from dataclasses import replace
 from itertools import product
 

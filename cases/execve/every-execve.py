@@ -1,9 +1,10 @@
 """Every execve(2) of a table of processes and programs: 147,456 of one capability each.
 
-A process may have a capability in its sets in sixteen ways, and what becomes of one capability hangs on
-no other, but for the test of capability-dumb binaries. So a process has its 41 capabilities in all
-sixteen ways at once, where that test isn't made. Where it is, it has them in the eight ways that the test
-lets pass, and then eight processes more have one capability in a way that it doesn't.
+A process may have a capability in its sets in sixteen ways, and what becomes of one capability
+hangs on no other, but for the test of capability-dumb binaries. So a process has its 41
+capabilities in all sixteen ways at once, where that test isn't made. Where it is, it has them in
+the eight ways that the test lets pass, and then eight processes more have one capability in a way
+that it doesn't.
 """
 from dataclasses import dataclass
 from itertools import product
@@ -13,9 +14,10 @@ from reports import LINES, Script
 
 NOROOT = 1
 CAPABILITIES = range(41)
-# The user ids of the process where they aren't root's, each another, and its group ids; a saved and a
-# filesystem id that no effective id is, and a supplementary group.
-REAL_USER, EFFECTIVE_USER, REAL_GROUP, EFFECTIVE_GROUP, OTHER, SUPPLEMENTARY = 1000, 2000, 10, 20, 77, 60
+# The user ids of the process where they aren't root's, each another, and its group ids; a saved
+# and a filesystem id that no effective id is, and a supplementary group.
+REAL_USER, EFFECTIVE_USER, REAL_GROUP, EFFECTIVE_GROUP = 1000, 2000, 10, 20
+OTHER, SUPPLEMENTARY = 77, 60
 # The program's owner where it isn't root, and its group; the root id of its attribute.
 OWNER, GROUP, NAMESPACE_ROOT = 500, 50, 7
 # A namespace where the attributes of the table count, and one where they don't.
@@ -60,7 +62,8 @@ class Attribute:
     effective: bool = False
 
     def spelt(self):
-        """Its bytes, in version 3 (linux/capability.h). A damaged one has a revision that is none."""
+        """Its bytes, in version 3 (linux/capability.h). A damaged one has a revision that is none.
+        """
         words = [self.effective | (4 if self.name == "damaged" else 3) << 24]
         for half in (0, 32):
             words += [it >> half & 0xFFFFFFFF for it in (self.permitted, self.inheritable)]
@@ -79,13 +82,17 @@ ATTRIBUTES = (
 )
 
 
+# What all may do, with the set-group-ID bit or without it; with it and without the group's execute
+# bit it stands for mandatory locking.
+MODES = {"": 0o755, "-sgid": 0o2755, "-lock": 0o2745}
+
+
 @dataclass(frozen=True)
 class Program:
     """A program file."""
 
     owner: int
     set_user_id: bool
-    # The set-group-ID bit, with the group's execute bit or without it.
     set_group_id: str
     nosuid: bool
     attribute: Attribute
@@ -95,7 +102,7 @@ class Program:
         return f"u{self.owner}{suid}{self.set_group_id}{nosuid}-{self.attribute.name}"
 
     def declared(self):
-        mode = 0o4000 * self.set_user_id + {"": 0o755, "-sgid": 0o2755, "-sgid-nox": 0o2745}[self.set_group_id]
+        mode = 0o4000 * self.set_user_id + MODES[self.set_group_id]
         attribute = "" if self.attribute == NO_ATTRIBUTE else f" caps {self.attribute.spelt()}"
         nosuid = " nosuid" * self.nosuid
         return f"file {self.name()} reg {self.owner} {GROUP} {mode:04o}{nosuid}{attribute}"
@@ -103,8 +110,8 @@ class Program:
 
 @dataclass(frozen=True)
 class After:
-    """The process after execve, and what its permitted set gained by the file's permitted set, by its
-    inheritable set and as root's.
+    """The process after execve, and what its permitted set gained by the file's permitted set, by
+    its inheritable set and as root's.
     """
 
     user: int
@@ -114,34 +121,34 @@ class After:
 
 
 def is_ignored(process, program):
-    """execve(2): "The aforementioned transformations of the effective IDs are not performed (i.e., the
-    set-user-ID and set-group-ID bits are ignored) if any of the following is true: the no_new_privs
-    attribute is set for the calling thread (see prctl(2)); the underlying filesystem is mounted nosuid
-    [..]. The capabilities of the program file (see capabilities(7)) are also ignored if any of the above
-    are true."
+    """execve(2): "The aforementioned transformations of the effective IDs are not performed (i.e.,
+    the set-user-ID and set-group-ID bits are ignored) if any of the following is true: the
+    no_new_privs attribute is set for the calling thread (see prctl(2)); the underlying filesystem
+    is mounted nosuid [..]. The capabilities of the program file (see capabilities(7)) are also
+    ignored if any of the above are true."
     """
     return process.no_new_privs or program.nosuid
 
 
 def changes_user(process, program):
-    """ "If the set-user-ID bit is set on the program file referred to by pathname, then the effective
-    user ID of the calling process is changed to that of the owner of the program file."
+    """ "If the set-user-ID bit is set on the program file referred to by pathname, then the
+    effective user ID of the calling process is changed to that of the owner of the program file."
     """
     return program.set_user_id and not is_ignored(process, program)
 
 
 def changes_group(process, program):
-    """ "Similarly, if the set-group-ID bit is set on the program file [..]". inode(7): "For a file that
-    does not have the group execution bit (S_IXGRP) set, the set-group-ID bit indicates mandatory
-    file/record locking."
+    """ "Similarly, if the set-group-ID bit is set on the program file [..]". inode(7): "For a file
+    that does not have the group execution bit (S_IXGRP) set, the set-group-ID bit indicates
+    mandatory file/record locking."
     """
     return program.set_group_id == "-sgid" and not is_ignored(process, program)
 
 
 def met(process, program):
-    """The attribute as the process meets it. capabilities(7), "Namespaced file capabilities": "a version
-    3 file capability attribute [..] has force only in the user namespace whose root it names, and in its
-    descendants".
+    """The attribute as the process meets it. capabilities(7), "Namespaced file capabilities": "a
+    version 3 file capability attribute [..] has force only in the user namespace whose root it
+    names, and in its descendants".
     """
     attribute = program.attribute
     if is_ignored(process, program):
@@ -152,9 +159,9 @@ def met(process, program):
 
 
 def check_dumb(sets, attribute):
-    """capabilities(7), "Safety checking for capability-dumb binaries": "The kernel recognizes a file which
-    has the effective capability bit set as capability-dumb [..]. If the process did not obtain the full
-    set of file permitted capabilities, then execve(2) fails with the error EPERM."
+    """capabilities(7), "Safety checking for capability-dumb binaries": "The kernel recognizes a
+    file which has the effective capability bit set as capability-dumb [..]. If the process did not
+    obtain the full set of file permitted capabilities, then execve(2) fails with the error EPERM."
     """
     obtained = attribute.permitted & sets.bounding | attribute.inheritable & sets.inheritable
     if attribute.effective and attribute.permitted & ~obtained:
@@ -162,33 +169,36 @@ def check_dumb(sets, attribute):
 
 
 def is_all_ones(process, user, attribute):
-    """ "Capabilities and execution of programs by root": "If the real or effective user ID of the process
-    is 0 (root), then the file inheritable and permitted sets are ignored; instead they are notionally
-    considered to be all ones". "SECBIT_NOROOT: If this bit is set, then the kernel does not grant
-    capabilities [..] when a process with an effective or real UID of 0 calls execve(2)."
+    """ "Capabilities and execution of programs by root": "If the real or effective user ID of the
+    process is 0 (root), then the file inheritable and permitted sets are ignored; instead they are
+    notionally considered to be all ones". "SECBIT_NOROOT: If this bit is set, then the kernel does
+    not grant capabilities [..] when a process with an effective or real UID of 0 calls execve(2)."
     """
     if process.noroot or 0 not in (process.real_user, user):
         return False
-    # "Set-user-ID-root programs that have file capabilities": "If (a) the binary that is being executed
-    # has capabilities attached and (b) the real user ID of the process is not 0 (root) and (c) the
-    # effective user ID of the process is 0 (root), then the file capability bits are honored".
+    # "Set-user-ID-root programs that have file capabilities": "If (a) the binary that is being
+    # executed has capabilities attached and (b) the real user ID of the process is not 0 (root)
+    # and (c) the effective user ID of the process is 0 (root), then the file capability bits are
+    # honored".
     return not (attribute != NO_ATTRIBUTE and process.real_user != 0 and user == 0)
 
 
 def transformed(process, program, user, attribute):
     """The sets after, by "Transformation of capabilities during execve()", and the gains."""
     sets, root = process.sets, is_all_ones(process, user, attribute)
-    # "If the effective user ID of the process is 0 (root) or the file effective bit is in fact enabled,
-    # then the file effective bit is notionally defined to be one", for root.
+    # "If the effective user ID of the process is 0 (root) or the file effective bit is in fact
+    # enabled, then the file effective bit is notionally defined to be one", for root.
     effective = attribute.effective or root and user == 0
     permitted, inheritable = (ALL, ALL) if root else (attribute.permitted, attribute.inheritable)
-    # "a privileged file is one that has capabilities or has the set-user-ID or set-group-ID bit set."
+    # "a privileged file is one that has capabilities or has the set-user-ID or set-group-ID bit
+    # set."
     by_id = changes_user(process, program) or changes_group(process, program)
     ambient = 0 if attribute != NO_ATTRIBUTE or by_id else sets.ambient
-    # "P'(permitted) = (P(inheritable) & F(inheritable)) | (F(permitted) & P(bounding)) | P'(ambient)"
+    # "P'(permitted) = (P(inheritable) & F(inheritable)) | (F(permitted) & P(bounding)) |
+    # P'(ambient)"
     new = sets.inheritable & inheritable | permitted & sets.bounding | ambient
-    # prctl(2): "With no_new_privs set to 1, execve(2) promises not to grant privileges to do anything that
-    # could not have been done without the execve(2) call".
+    # prctl(2): "With no_new_privs set to 1, execve(2) promises not to grant privileges to do
+    # anything that could not have been done without the execve(2) call".
     if process.no_new_privs:
         new &= sets.permitted
     # "P'(effective) = F(effective) ? P'(permitted) : P'(ambient)"; the others are "unchanged".
@@ -208,8 +218,8 @@ def page(process, program):
 
 
 def ways():
-    """The ways to have a capability, as the sets that have it: what is effective is permitted, and what
-    is ambient is permitted and inheritable.
+    """The ways to have a capability, as the sets that have it: what is effective is permitted, and
+    what is ambient is permitted and inheritable.
     """
     for permitted, inheritable, effective, bounding, ambient in product((False, True), repeat=5):
         if (permitted or not effective) and (permitted and inheritable or not ambient):
@@ -234,13 +244,13 @@ def short_of(way, sets):
 
 def programs():
     """Each program of the table."""
-    kinds = product((0, OWNER), (False, True), ("", "-sgid", "-sgid-nox"), (False, True), ATTRIBUTES)
+    kinds = product((0, OWNER), (False, True), MODES, (False, True), ATTRIBUTES)
     return [Program(*it) for it in kinds]
 
 
 def rows():
-    """The sets of a process, the programs that it executes, and how many ways to have one capability
-    that asks about.
+    """The sets of a process, the programs that it executes, and how many ways to have one
+    capability that asks about.
     """
     dumb = [it for it in programs() if it.attribute == DUMB]
     bounded = sets_of(it for it in ways() if it[3])
@@ -252,12 +262,13 @@ def rows():
 
 def processes(namespace, sets):
     """Each process of the table with these sets."""
-    for real, effective, *flags in product((0, REAL_USER), (0, EFFECTIVE_USER), *[(False, True)] * 3):
+    users = (0, REAL_USER), (0, EFFECTIVE_USER)
+    for real, effective, *flags in product(*users, *[(False, True)] * 3):
         yield Process(real, effective, *flags, namespace, sets)
 
 
-# Root's task, one with the groups and the sets that shrink alone, a process of the table, and the child
-# that executes.
+# Root's task, one with the groups and the sets that shrink alone, a process of the table, and the
+# child that executes.
 ROOT, BODY, TASK, CHILD = 1, 2, 3, 4
 
 
@@ -307,14 +318,16 @@ def executes(script, process, program):
         return
     script.fork(TASK, CHILD, 4)
     script.changes(CHILD, call, then=" ended 0 gain " + " ".join(f"{it:x}" for it in after.gained))
-    # "The effective user ID of the process is copied to the saved set-user-ID; similarly, the effective
-    # group ID is copied to the saved set-group-ID", and so the filesystem ids (security/commoncap.c). "The
-    # process's real UID and real GID, as well as its supplementary group IDs, are unchanged".
+    # "The effective user ID of the process is copied to the saved set-user-ID; similarly, the
+    # effective group ID is copied to the saved set-group-ID", and so the filesystem ids
+    # (security/commoncap.c). "The process's real UID and real GID, as well as its supplementary
+    # group IDs, are unchanged".
     user, group = (f"{it} {it} {it}" for it in (after.user, after.group))
     script.asks(CHILD, "ids", f"ok {process.real_user} {user} {REAL_GROUP} {group}")
     script.asks(CHILD, "groups", f"ok {SUPPLEMENTARY}")
     script.asks(CHILD, "caps", after.sets.told())
-    # "During an execve(2), all of the flags are preserved, except SECBIT_KEEP_CAPS which is always cleared."
+    # "During an execve(2), all of the flags are preserved, except SECBIT_KEEP_CAPS which is always
+    # cleared."
     script.asks(CHILD, "bits", f"ok {NOROOT * process.noroot} {process.no_new_privs:d}")
     script.exit(CHILD)
 

@@ -1,4 +1,5 @@
-"""Every signal between processes with the user ids 0, 1 and 2, and between threads of one process."""
+"""Every signal between processes with the user ids 0, 1 and 2, and between threads of one process.
+"""
 from itertools import combinations_with_replacement, product
 
 from processes import ALL, IDS, NO_SETUID_FIXUP, Process, processes
@@ -11,10 +12,10 @@ THREADS, ONES, OTHERS = 3, 10, 50
 
 
 def allowed(sender, target):
-    """kill(2): "For a process to have permission to send a signal, it must either be privileged (under
-    Linux: have the CAP_KILL capability in the user namespace of the target process), or the real or
-    effective user ID of the sending process must equal the real or saved set-user-ID of the target
-    process."
+    """kill(2): "For a process to have permission to send a signal, it must either be privileged
+    (under Linux: have the CAP_KILL capability in the user namespace of the target process), or the
+    real or effective user ID of the sending process must equal the real or saved set-user-ID of
+    the target process."
     """
     of_sender, of_target = {sender.real, sender.effective}, {target.real, target.saved}
     return sender.privileged or bool(of_sender & of_target)
@@ -89,8 +90,9 @@ def threaded():
 
 
 def to_threads(script, ids):
-    """The process has these ids. Its sender acts as each process in turn, and signals its other threads,
-    each with another filesystem id or other sets: within one process all is allowed (kernel/signal.c).
+    """The process has these ids. Its sender acts as each process in turn, and signals its other
+    threads, each with another filesystem id or other sets: within one process all is allowed
+    (kernel/signal.c).
     """
     script.ids(SENDER, f"setresuid {' '.join(map(str, ids))}")
     targets = [*enumerate(product(IDS, (False, True)), THREADS)]

@@ -9,8 +9,8 @@ def page(process, fsuid):
     # "setfsuid() will succeed only if the caller is the superuser or if fsuid matches either the
     # caller's real user ID, effective user ID, saved set-user-ID, or current filesystem user ID."
     ids = process.real, process.effective, process.saved, process.fs
-    # "On both success and failure, this call returns the previous filesystem user ID of the caller";
-    # "setfsuid(-1) (which will always fail)".
+    # "On both success and failure, this call returns the previous filesystem user ID of the
+    # caller"; "setfsuid(-1) (which will always fail)".
     if fsuid != NONE and (process.privileged or fsuid in ids):
         return replace(process, fs=fsuid), process.fs
     return process, process.fs

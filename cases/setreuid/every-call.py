@@ -16,8 +16,8 @@ def page(old, ruid, euid):
             raise Refused("eperm")
         new = replace(new, effective=euid)
     if ruid != NONE:
-        # "Unprivileged users may only set the real user ID to the real user ID or the effective user
-        # ID."
+        # "Unprivileged users may only set the real user ID to the real user ID or the effective
+        # user ID."
         if not old.privileged and ruid not in (old.real, old.effective):
             raise Refused("eperm")
         new = replace(new, real=ruid)
