@@ -1,8 +1,6 @@
-//! Attributes by tables: bytes as `getfattr -n security.capability` shows them, and what
-//! capabilities(7) and linux/capability.h say of them. All run with ample memory.
-use crate::tests::parts::ALL;
-use cred_filecap::{AttrRefusal, FileCaps, counts, decode, encode};
-use cred_ids::Id;
+//! Attributes as no script has them: bytes that are written, none at all, and a task in no user
+//! namespace.
+use cred_filecap::{AttrRefusal, counts, decode, encode};
 use std::test::Fail;
 
 /// cap_net_raw=ep, in version 2.
@@ -32,69 +30,6 @@ const MIXED: [u8; 20] = [
     0, 0, 0, 2, 2, 0, 0, 0, 0, 0, 0, 0x80, 0, 1, 0, 0, 1, 0, 0, 0,
 ];
 
-/// The version, the bits of the permitted and the inheritable set, the effective flag and the root
-/// id.
-type Seen = (u8, u64, u64, bool, u32);
-
-fn seen(caps: FileCaps) -> Seen {
-    (
-        caps.version,
-        caps.perm.bits(),
-        caps.inh.bits(),
-        caps.effective,
-        caps.root,
-    )
-}
-
-#[test]
-fn bytes_are_read_by_the_header(rt: HostRuntime) -> Result<(), Fail> {
-    const CASES: [(&[u8], Seen); 5] = [
-        (&NET_RAW, (2, 0x2000, 0, true, 0)),
-        (&NAMESPACED, (3, 0x2000, 0, true, 100000)),
-        (&PERMITTED, (2, ALL, 0, false, 0)),
-        (&INHERITABLE, (3, 0, ALL, true, 4294967295)),
-        (&MIXED, (2, 0x100_0000_0002, 0x1_8000_0000, false, 0)),
-    ];
-    for (bytes, value) in CASES {
-        assert!(rt; decode(bytes).map(seen) == Ok(value), "{value:?}");
-    }
-    Ok(())
-}
-
-/// Too few bytes for a revision come first, then the revision, then the version's length.
-#[test]
-fn other_bytes_are_refused(rt: HostRuntime) -> Result<(), Fail> {
-    let longer = [NAMESPACED, NAMESPACED].concat(rt.alloc())?;
-    let cases: &[(&[u8], AttrRefusal)] = &[
-        (&[], AttrRefusal::BadLength(0)),
-        (&[1, 0, 9], AttrRefusal::BadLength(3)),
-        (&[1, 0, 0, 2], AttrRefusal::BadLength(4)),
-        (&[1, 0, 0, 0], AttrRefusal::BadRevision(0)),
-        (
-            &[1, 0, 0, 1, 0, 0x20, 0, 0, 0, 0, 0, 0],
-            AttrRefusal::BadRevision(1),
-        ),
-        (&[1, 0, 0, 255, 0], AttrRefusal::BadRevision(255)),
-        (&NET_RAW[..19], AttrRefusal::BadLength(19)),
-        (&NAMESPACED[..20], AttrRefusal::BadLength(20)),
-        (&NAMESPACED[..23], AttrRefusal::BadLength(23)),
-        (&longer, AttrRefusal::BadLength(48)),
-    ];
-    for (bytes, refusal) in cases {
-        assert!(rt; decode(bytes).err() == Some(*refusal), "{refusal:?}");
-    }
-    Ok(())
-}
-
-/// A version 3 attribute's bytes under revision 2 are four too many.
-#[test]
-fn bytes_of_24_are_no_version_2(rt: HostRuntime) -> Result<(), Fail> {
-    let mut bytes = NAMESPACED;
-    bytes[3] = 2;
-    assert!(rt; decode(&bytes).err() == Some(AttrRefusal::BadLength(24)));
-    Ok(())
-}
-
 #[test]
 fn what_is_written_is_what_was_read(rt: HostRuntime) -> Result<(), Fail> {
     let mut permitted = PERMITTED;
@@ -122,25 +57,16 @@ fn what_is_written_is_what_was_read(rt: HostRuntime) -> Result<(), Fail> {
     Ok(())
 }
 
-/// Version 2 counts everywhere, and version 3 where its root id is that of the namespace or of an
-/// ancestor.
 #[test]
-fn version_3_counts_below_its_root(rt: HostRuntime) -> Result<(), Fail> {
-    let initial = Id::new(0).ok_or("no id")?;
-    let root = Id::new(100000).ok_or("no id")?;
-    let last = Id::new(4294967294).ok_or("no id")?;
-    let cases: &[(&[u8], &[Id], bool)] = &[
-        (&NET_RAW, &[], true),
-        (&NET_RAW, &[root], true),
-        (&NAMESPACED, &[], false),
-        (&NAMESPACED, &[initial], false),
-        (&NAMESPACED, &[root, initial], true),
-        (&NAMESPACED, &[last, root, initial], true),
-        (&INHERITABLE, &[last, initial], false),
-    ];
-    for (bytes, chain, answer) in cases {
+fn no_bytes_have_no_revision(rt: HostRuntime) {
+    assert!(rt; decode(&[]).err() == Some(AttrRefusal::BadLength(0)));
+}
+
+#[test]
+fn version_2_counts_in_no_namespace_too(rt: HostRuntime) -> Result<(), Fail> {
+    for (bytes, answer) in [(NET_RAW.as_slice(), true), (&NAMESPACED, false)] {
         let caps = decode(bytes).map_err(|_| "refused")?;
-        assert!(rt; counts(&caps, chain) == *answer);
+        assert!(rt; counts(&caps, &[]) == answer);
     }
     Ok(())
 }

@@ -1,24 +1,13 @@
-//! The cases, a module for each crate whose calls they make, or for each page.
-mod access;
-mod adjust;
+//! What no script asks, a module for each crate whose calls it makes.
 mod caps;
 mod casts;
-mod course;
-mod decide;
-mod exec;
-mod exec_pages;
 mod filecap;
-mod files;
 mod hold;
 mod ids;
 mod io;
 mod layout;
 mod parts;
-mod permissions;
 mod procs;
 mod record;
-mod setid;
-mod signals;
 mod slots;
-mod transitions;
 mod turns;

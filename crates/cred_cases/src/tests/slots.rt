@@ -77,14 +77,3 @@ fn a_full_table_is_swept(rt: HostRuntime) -> Result<(), Fail> {
     assert!(rt; (slots.uses(7), slots.uses(256)) == (1, 0));
     Ok(())
 }
-
-#[test]
-fn a_sealed_number_stands_in_its_slot(rt: HostRuntime) -> Result<(), Fail> {
-    let mut slots = Slots::new(rt.alloc())?;
-    seal_one(&mut slots)?;
-    let (number, slot) = seal_one(&mut slots)?;
-    if number < slots.next_number() {
-        assert!(rt; (slots.slot_of(number), slot) == (1, 1));
-    }
-    Ok(())
-}
