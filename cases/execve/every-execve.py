@@ -146,9 +146,10 @@ def changes_group(process, program):
 
 
 def met(process, program):
-    """The attribute as the process meets it. capabilities(7), "Namespaced file capabilities": "a
-    version 3 file capability attribute [..] has force only in the user namespace whose root it
-    names, and in its descendants".
+    """The attribute as the process meets it. capabilities(7), "Namespaced file capabilities":
+    "capabilities are conferred only if the binary is executed by a process that resides in a user
+    namespace whose UID 0 maps to the root user ID that is saved in the extended attribute, or when
+    executed by a process that resides in a descendant of such a namespace".
     """
     attribute = program.attribute
     if is_ignored(process, program):
@@ -249,9 +250,7 @@ def programs():
 
 
 def rows():
-    """The sets of a process, the programs that it executes, and how many ways to have one
-    capability that asks about.
-    """
+    """The sets of a process, and the programs that it executes."""
     dumb = [it for it in programs() if it.attribute == DUMB]
     bounded = sets_of(it for it in ways() if it[3])
     yield sets_of(ways()), [it for it in programs() if it.attribute != DUMB]
