@@ -219,5 +219,5 @@ class Script:
         """The case: this script must be reported so."""
         if len(self.lines) > LINES:
             raise ValueError(f"{name}: {len(self.lines)} lines")
-        text, report = ("".join(f"{it}\n" for it in its) for its in (self.lines, self.entries))
+        text, report = ("\n".join([*its, ""]) for its in (self.lines, self.entries))
         return suite.script(name, text, report, calls=calls)
