@@ -76,6 +76,16 @@ USERS = Kind("setresuid", "setfsuid", 7, True)
 GROUPS = Kind("setresgid", "setfsgid", 6, False)
 
 
+def ways():
+    """The ways to have a capability, as whether it is permitted, inheritable, effective, in the
+    bounding set and ambient: what is effective is permitted, and what is ambient is permitted and
+    inheritable.
+    """
+    for permitted, inheritable, effective, bounding, ambient in product((False, True), repeat=5):
+        if (permitted or not effective) and (permitted and inheritable or not ambient):
+            yield permitted, inheritable, effective, bounding, ambient
+
+
 def processes():
     """Each process with these ids, privileged or not."""
     for privileged, *ids in product((False, True), IDS, IDS, IDS, IDS):

@@ -9,7 +9,7 @@ that it doesn't.
 from dataclasses import dataclass
 from itertools import product
 
-from processes import ALL, KEEP_CAPS, NO_SETUID_FIXUP, Refused
+from processes import ALL, KEEP_CAPS, NO_SETUID_FIXUP, Refused, ways
 from reports import LINES, Script
 
 NOROOT = 1
@@ -216,15 +216,6 @@ def page(process, program):
     user = program.owner if changes_user(process, program) else process.effective_user
     group = GROUP if changes_group(process, program) else EFFECTIVE_GROUP
     return After(user, group, *transformed(process, program, user, attribute))
-
-
-def ways():
-    """The ways to have a capability, as the sets that have it: what is effective is permitted, and
-    what is ambient is permitted and inheritable.
-    """
-    for permitted, inheritable, effective, bounding, ambient in product((False, True), repeat=5):
-        if (permitted or not effective) and (permitted and inheritable or not ambient):
-            yield permitted, inheritable, effective, bounding, ambient
 
 
 def sets_of(its):
