@@ -130,7 +130,7 @@ def cases_of(subject):
     """The cases of a folder. Its table has each of its files, once, and no other."""
     files = sorted(it for it in subject.iterdir() if it.suffix in READERS)
     told = re.findall(r"^\| `([^`]+)`", (subject / "TABLE.md").read_text(), re.M)
-    if sorted(told) != [it.stem for it in files]:
+    if sorted(told) != sorted(it.stem for it in files):
         other = set(told) ^ {it.stem for it in files} or told
         raise ValueError(f"{subject.name}/TABLE.md and its folder differ: {sorted(other)}")
     for file in files:
