@@ -44,36 +44,3 @@ fn a_million_references_are_counted(rt: HostRuntime) -> Result<(), Fail> {
     assert!(rt; times_used(&slots, slot, MILLION + 1, MILLION) == MILLION);
     Ok(())
 }
-
-/// Whether the first 255 numbers are sealed, each in the slot of its name.
-fn are_sealed_in_order(slots: &mut Slots) -> Result<bool, Fail> {
-    for number in 0..255 {
-        let next = slots.next_number();
-        if next != number || seal_one(slots)? != (number, number as u32) {
-            return Ok(false);
-        }
-    }
-    Ok(true)
-}
-
-#[test]
-fn a_full_table_is_swept(rt: HostRuntime) -> Result<(), Fail> {
-    let mut slots = Slots::new(rt.alloc())?;
-    assert!(rt; are_sealed_in_order(&mut slots)?);
-    let (number, slot) = seal_one(&mut slots)?;
-    assert!(rt; (number, slot, slots.free_slot()) == (255, 255, None));
-    slots.drop_later(number);
-    let dropped = (slots.uses(255), slots.free_slot());
-    let Some(kept) = slots.claim() else {
-        return Err(Fail::from("no slot is free"));
-    };
-    let claimed = (slots.uses(255), slots.free_slot());
-    slots.give_up(kept);
-    let given_up = (slots.uses(7), slots.free_slot());
-    assert!(rt;
-        kept == 255 && [dropped, claimed, given_up] == [(1, Some(255)), (0, None), (1, Some(255))]
-    );
-    slots.sweep();
-    assert!(rt; (slots.uses(7), slots.uses(256)) == (1, 0));
-    Ok(())
-}
