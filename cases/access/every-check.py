@@ -39,6 +39,7 @@ class File:
     mode: int
 
     def name(self):
+        """Its name in a script."""
         return f"{self.kind}{self.mode:03o}"
 
     def digits(self):
@@ -149,6 +150,7 @@ def checks(files):
 
 
 def cases():
+    """All files, some in each script."""
     files = [File(kind, mode) for kind, mode in product(("reg", "dir"), range(0o1000))]
     for start in range(0, len(files), FILES):
         some = files[start : start + FILES]

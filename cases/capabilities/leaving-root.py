@@ -17,6 +17,7 @@ def page(process, real, effective, saved):
 
 
 def cases():
+    """A script for each choice of securebits."""
     for securebits in (0, KEEP_CAPS, NO_SETUID_FIXUP, KEEP_CAPS | NO_SETUID_FIXUP):
         script = begun()
         for real, effective, saved in product(IDS, repeat=3):

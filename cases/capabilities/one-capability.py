@@ -15,6 +15,7 @@ def alone(script, had):
 
 
 def cases():
+    """One script for all."""
     script = Script()
     script.init(1, 1, 0, 0)
     for it in CAPABILITIES:

@@ -76,6 +76,7 @@ def tries(script, way, new, able):
 
 
 def cases():
+    """One script for all."""
     script = Script()
     script.init(ROOT, 1, 0, 0)
     for way, able in product(ways(), (False, True)):

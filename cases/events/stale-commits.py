@@ -51,11 +51,15 @@ def late_entries():
         yield f"{CHANGE} drop {held} -> ok"
 
 
+def ended(lines):
+    """The lines as a text."""
+    return "".join(f"{it}\n" for it in lines)
+
+
 def cases():
+    """The report of `run`, that where every try is late, and the latter with one try more."""
     made, late = script(), [*late_entries()]
-    text, in_time, too_late = ("".join(f"{it}\n" for it in its) for its in (
-        made.lines, made.entries, late
-    ))
+    text, in_time, too_late = (ended(it) for it in (made.lines, made.entries, late))
     yield suite.script("eight", text, in_time, reports=(too_late.encode(),))
     now = late[-3].partition(f"ok t{TASK} ")[2].partition(" left")[0]
     ninth = f"{CHANGE} take h{100_000 + 10 * CHANGE} t{TASK} -> ok {now}\n"

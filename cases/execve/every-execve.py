@@ -35,6 +35,7 @@ class Sets:
     ambient: int
 
     def told(self):
+        """The five sets, as a report has them."""
         sets = self.permitted, self.inheritable, self.effective, self.bounding, self.ambient
         return "ok " + " ".join(f"{it:x}" for it in sets)
 
@@ -62,8 +63,7 @@ class Attribute:
     effective: bool = False
 
     def spelt(self):
-        """Its bytes, in version 3 (linux/capability.h). A damaged one has a revision that is none.
-        """
+        """Its bytes, in version 3 (linux/capability.h); a damaged one has no version's revision."""
         words = [self.effective | (4 if self.name == "damaged" else 3) << 24]
         for half in (0, 32):
             words += [it >> half & 0xFFFFFFFF for it in (self.permitted, self.inheritable)]
@@ -98,10 +98,12 @@ class Program:
     attribute: Attribute
 
     def name(self):
+        """Its name tells all but its group."""
         suid, nosuid = "-suid" * self.set_user_id, "-nosuid" * self.nosuid
         return f"u{self.owner}{suid}{self.set_group_id}{nosuid}-{self.attribute.name}"
 
     def declared(self):
+        """The line that declares it."""
         mode = 0o4000 * self.set_user_id + MODES[self.set_group_id]
         attribute = "" if self.attribute == NO_ATTRIBUTE else f" caps {self.attribute.spelt()}"
         nosuid = " nosuid" * self.nosuid
@@ -343,5 +345,6 @@ def table(namespace):
 
 
 def cases():
+    """The table in both namespaces."""
     yield from table(INSIDE)
     yield from table(OUTSIDE)

@@ -116,5 +116,6 @@ def between_threads():
 
 
 def cases():
+    """Both tables."""
     yield from between_processes()
     yield from between_threads()
