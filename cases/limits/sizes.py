@@ -21,7 +21,11 @@ def scripts():
     yield suite.script("20,000 lines", "#\n" * 20_000, "")
     yield too_large("20,001 lines", "#\n" * 20_001)
     yield too_large("20,001 bad lines", "frob\n" * 20_001)
-    yield suite.script("1,048,576 bytes", INIT + "#" * (1_048_576 - len(INIT)), INIT_ENTRY)
+    comment = "#" * (1_048_576 - len(INIT))
+    yield suite.script("1,048,576 bytes", f"{INIT}{comment[1:]}\n", INIT_ENTRY)
+    # An audit would need a line feed more.
+    whole = (INIT + comment).encode()
+    yield suite.Case("without the last line feed", ("lanes",), whole, INIT_ENTRY.encode())
     yield too_large("1,048,577 bytes", "#" * 1_048_577)
     yield too_large("1,048,577 blank lines", "\n" * 1_048_577)
 
