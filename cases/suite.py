@@ -11,8 +11,10 @@ from dataclasses import dataclass
 from pathlib import Path
 
 TOP = Path(__file__).resolve().parent
+# The status where the words are no command.
+USAGE = 1
 # What a text says of the status that the program ends with; any other text is a whole one.
-STATUSES = {b"usage: ": 1, b"bad ": 2, b"not legal ": 7}
+STATUSES = {b"usage: ": USAGE, b"bad ": 2, b"not legal ": 7}
 # A script that gives a lane its lines.
 LANE = re.compile(rb"^ *lane ", re.M)
 ESCAPE = re.compile(rb"\\(?:x([0-9a-f]{2})|(.))")
