@@ -1,7 +1,7 @@
 """Reports of scripts with lanes: which turns of the lanes make a report, and which make none.
 
-docs/LANES.md: "the setup's lines first, each lane's lines in their order, each once and whole, and every
-answer the one that the rules give in the state which the entries before it lead to".
+docs/LANES.md: "the setup's lines first, each lane's lines in their order, each once and whole, and
+every answer the one that the rules give in the state which the entries before it lead to".
 """
 from suite import Case
 
@@ -48,8 +48,8 @@ take h1 t1
 take h2 t1
 """
 
-# Two lanes that make events, one of them with an empty line between, and a third one that has no line
-# beside the one that opens it.
+# Two lanes that make events, one of them with an empty line between, and a third one that has no
+# line beside the one that opens it.
 APART = """\
 init t1 p1 0 0 n0
 init t2 p2 0 0 n0
@@ -100,8 +100,8 @@ def wrong():
 
 
 def apart():
-    """A lane waits for the setup, whose second line is left after the first. Then the later lane may
-    go first, and all through its lines, and each lane ends for itself."""
+    """A lane waits for the setup, whose second line is left after the first. Then the later lane
+    may go first, and all through its lines, and each lane ends for itself."""
     setup = (INIT, "2 init t2 p2 0 0 n0 -> ok c1 s1")
     second = ("7 take h2 t2 -> ok c1 s1", "8 drop h2 -> ok")
     first = "5 take h1 t1 -> ok c0 s0"

@@ -1,8 +1,8 @@
 """One report, texts that differ from it by one byte, and texts that stop before its end.
 
-docs/AUDIT.md: "one character of an entry changed: that entry"; "the last line feed cut off: the last
-entry: a line that doesn't end is no entry"; "the last entries cut off: one more than the entries that
-are left".
+docs/AUDIT.md: "one character of an entry changed: that entry"; "the last line feed cut off: the
+last entry: a line that doesn't end is no entry"; "the last entries cut off: one more than the
+entries that are left".
 """
 from suite import Case
 

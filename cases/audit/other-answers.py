@@ -1,7 +1,7 @@
 """Reports in which one answer is another, or an entry is missing: the first wrong one is named.
 
-docs/AUDIT.md: "an entry left out, put in, or moved up: the first line that is not what stands there in
-the script's own report"; "the last entries cut off: one more than the entries that are left".
+docs/AUDIT.md: "an entry left out, put in, or moved up: the first line that is not what stands there
+in the script's own report"; "the last entries cut off: one more than the entries that are left".
 """
 from suite import Case
 

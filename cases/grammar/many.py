@@ -1,8 +1,9 @@
 """Declarations up to their limits: 256 files, and attributes of 2 to 128 digits.
 
 docs/FORMATS.md: HEX is "2 to 128 hexadecimal digits of either case, an even number, with or without
-`0x` before them, which isn't counted (`0X` is no such prefix)". The test `count`: "a `file` line has
-6 to 9. [It] fails here, and so does a `file` line after 256 others." Declarations make no event.
+`0x` before them, which isn't counted (`0X` is no such prefix)". The test `count`: "a `file` line
+has 6 to 9. [It] fails here, and so does a `file` line after 256 others." Declarations make no
+event.
 """
 import suite
 

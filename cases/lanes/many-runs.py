@@ -1,8 +1,8 @@
 """Scripts whose lanes run as threads many times over: each report must be legal.
 
-docs/LANES.md: "its report is the text of one legal journal of the script". No run takes one of the orders
-for granted. Nor can a case tell whether lanes overlapped: where no thread can be made, they run one
-after another.
+docs/LANES.md: "its report is the text of one legal journal of the script". No run takes one of the
+orders for granted. Nor can a case tell whether lanes overlapped: where no thread can be made, they
+run one after another.
 """
 from suite import script
 
@@ -29,8 +29,8 @@ lane 2
 t2 setresuid 5 5 5
 t2 ids
 """,
-    # A call of every thread ends the process where the second thread has no right to it by then, and
-    # needn't wait for the third where that has ended.
+    # A call of every thread ends the process where the second thread has no right to it by then,
+    # and needn't wait for the third where that has ended.
     "one that may not follow": """\
 init t1 p1 0 0 n0
 t1 spawn t2
@@ -80,10 +80,10 @@ t2 exit
 """,
 }
 
-# What a lane makes in each round. Its task leaves root, a label holds what it was then, and it comes
-# back. Outside root a group is refused; but where the tasks are of one process, another lane may have
-# brought them back by then. It comes back again, since there may have been no slot before, and has a
-# thread beside it for a while.
+# What a lane makes in each round. Its task leaves root, a label holds what it was then, and it
+# comes back. Outside root a group is refused; but where the tasks are of one process, another lane
+# may have brought them back by then. It comes back again, since there may have been no slot before,
+# and has a thread beside it for a while.
 ROUND = """\
 t{lane} setresuid -1 1000 -1
 take h{lane} t{lane}
@@ -101,8 +101,8 @@ sweep
 
 
 def sixteen(process_of, held=0):
-    """Sixteen lanes of a task each. The setup leaves so many slots in use for good: the first task gets
-    as many credentials, each of which a label holds."""
+    """Sixteen lanes of a task each. The setup leaves so many slots in use for good: the first task
+    gets as many credentials, each of which a label holds."""
     tasks = "".join(f"init t{lane} p{process_of(lane)} 0 0 n0\n" for lane in LANES)
     holds = "".join(f"take h9{number} t1\nt1 setresuid 0 0 0\n" for number in range(held))
     lanes = "".join(f"lane {lane}\n" + ROUND.format(lane=lane) * ROUNDS for lane in LANES)

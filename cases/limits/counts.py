@@ -1,17 +1,19 @@
 """As many tasks, open files, holds, prepared labels and overrides as there may be, and one more.
 
-docs/RULES.md: "At most 64 tasks live, 512 holds stand and 64 labels are prepared"; "at most 256 files are
-open"; "An override may stand on another, at most eight in all".
+docs/RULES.md: "At most 64 tasks live, 512 holds stand and 64 labels are prepared"; "at most 256
+files are open"; "An override may stand on another, at most eight in all".
 """
+from dataclasses import dataclass, field
+
 import suite
 
 
+@dataclass
 class Run:
     """A script, and beside it the report that it must get."""
 
-    def __init__(self):
-        self.lines = []
-        self.entries = []
+    lines: list = field(default_factory=list)
+    entries: list = field(default_factory=list)
 
     def line(self, text, *events):
         """Adds a line, and its entries without their number."""
@@ -107,8 +109,8 @@ def leaves(run, number, slot):
 
 
 def let_go(run, name):
-    """All that referred to credential 0 but the task and hold 1000 is given up and swept. Then its slot
-    is free once both have let go, and not before."""
+    """All that referred to credential 0 but the task and hold 1000 is given up and swept. Then its
+    slot is free once both have let go, and not before."""
     run.line("sweep", "sweep -> ok")
     leaves(run, 1, 1)
     run.line("sweep", "sweep -> ok")

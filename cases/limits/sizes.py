@@ -1,8 +1,8 @@
 """Inputs at the limits of bytes and of lines, and others that may seem to want much memory.
 
-docs/FORMATS.md, status 6: "the script has more than 1,048,576 bytes or more than 20,000 lines, or an
-input of `audit` more than 134,217,728 bytes; nothing was written. Where no line of an input of `audit`
-is `report`, its script is all of it".
+docs/FORMATS.md, status 6: "the script has more than 1,048,576 bytes or more than 20,000 lines, or
+an input of `audit` more than 134,217,728 bytes; nothing was written. Where no line of an input of
+`audit` is `report`, its script is all of it".
 """
 import suite
 
@@ -17,7 +17,8 @@ def too_large(name, text):
 
 
 def scripts():
-    """Comments and blank lines up to the limits, and beyond. The size is tested before the script."""
+    """Comments and blank lines up to the limits, and beyond. The size is tested before the
+    script."""
     yield suite.script("20,000 lines", "#\n" * 20_000, "")
     yield too_large("20,001 lines", "#\n" * 20_001)
     yield too_large("20,001 bad lines", "frob\n" * 20_001)

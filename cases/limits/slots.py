@@ -1,7 +1,7 @@
 """The 256 slots of sealed credentials.
 
-docs/RULES.md: "A new credential takes the least slot that isn't live; if all are live, the sweep is made
-and the least is looked for again; if there is still none, the table is full."
+docs/RULES.md: "A new credential takes the least slot that isn't live; if all are live, the sweep is
+made and the least is looked for again; if there is still none, the table is full."
 """
 import suite
 
@@ -18,7 +18,8 @@ def numbered(lines):
 
 
 def held(count):
-    """A root task, and so many times a hold on its credential and a call that gives it the next one."""
+    """A root task, and so many times a hold on its credential and a call that gives it the next
+    one."""
     yield INIT, f"{INIT} -> ok c0 s0"
     for number in range(1, count + 1):
         take = f"take h{number} t1"
@@ -27,8 +28,8 @@ def held(count):
 
 
 def full():
-    """Each of 256 credentials is held, so each slot is in use, and a sweep frees none. Once h5 is given
-    up, the sweep that the next call makes frees the slot of the fifth credential."""
+    """Each of 256 credentials is held, so each slot is in use, and a sweep frees none. Once h5 is
+    given up, the sweep that the next call makes frees the slot of the fifth credential."""
     lines = [
         *held(255),
         ("take h256 t1", "take h256 t1 -> ok c255 s255"),
@@ -40,8 +41,8 @@ def full():
 
 
 def taken_again():
-    """No credential is held. c0 to c255 take all slots in order, so c256 needs a sweep, which frees all
-    but that of c255: c256 takes s0, and c257 s1."""
+    """No credential is held. c0 to c255 take all slots in order, so c256 needs a sweep, which frees
+    all but that of c255: c256 takes s0, and c257 s1."""
     lines = [(INIT, f"{INIT} -> ok c0 s0")]
     for number in range(1, 258):
         slot = number if number < 256 else number - 256
@@ -50,8 +51,8 @@ def taken_again():
 
 
 def thread_without():
-    """Holds keep 254 slots and two threads share the credential of the next. The caller's new one takes
-    the last slot, so the other thread finds none, and the process ends."""
+    """Holds keep 254 slots and two threads share the credential of the next. The caller's new one
+    takes the last slot, so the other thread finds none, and the process ends."""
     script, report = numbered([*held(254), ("t1 spawn t2", "spawn t1 t2 -> ok c254 s254")])
     script += f"{CALL}\nt2 exit\n"
     report += (

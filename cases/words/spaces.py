@@ -1,7 +1,7 @@
 """Words that are empty, or that have a space in them.
 
-docs/FORMATS.md: "Any other words write the usage line; so does every line of words of which one is empty
-or begins with `-`."
+docs/FORMATS.md: "Any other words write the usage line; so does every line of words of which one is
+empty or begins with `-`."
 """
 from suite import Case
 
