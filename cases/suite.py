@@ -11,12 +11,16 @@ from dataclasses import dataclass
 from pathlib import Path
 
 TOP = Path(__file__).resolve().parent
+# The status where the words are no command.
+USAGE = 1
 # What a text says of the status that the program ends with; any other text is a whole one.
-STATUSES = {b"usage: ": 1, b"bad ": 2, b"not legal ": 7}
+STATUSES = {b"usage: ": USAGE, b"bad ": 2, b"not legal ": 7}
 # A script that gives a lane its lines.
 LANE = re.compile(rb"^ *lane ", re.M)
 ESCAPE = re.compile(rb"\\(?:x([0-9a-f]{2})|(.))")
 ESCAPES = {b"n": b"\n", b"r": b"\r", b"t": b"\t", b"\\": b"\\"}
+# What stands on standard input where the words ask for no input.
+UNREAD = b"not read\n"
 # How long one run of the program may take, in seconds.
 LIMIT = 60
 
@@ -31,7 +35,8 @@ class Case:
 
     `written` is the whole text; or `entries` are lines of it, in their order, where others may
     stand between. `reports` are further reports that `audit` must find legal. `calls` is how many
-    calls of the interface the case asks about, where that is more than one.
+    calls of the interface the case asks about, where that is more than one. `runs` is how often
+    `lanes` runs a script with lanes.
     """
 
     name: str
@@ -42,6 +47,7 @@ class Case:
     reports: tuple = ()
     status: int | None = None
     calls: int = 1
+    runs: int = 1
 
 
 def script(name, text, report=None, **more):
@@ -100,7 +106,7 @@ def of_rows(word):
 def of_words(file, name):
     """The cases of a file of rows, each the words of a command line."""
     for number, (words, written) in enumerate(rows(file), 1):
-        yield Case(f"{name}:{number}", tuple(words.decode().split()), b"", written)
+        yield Case(f"{name}:{number}", tuple(words.decode().split()), UNREAD, written)
 
 
 def of_generator(file, name):
@@ -173,6 +179,14 @@ def audited(program, given, report):
     hold(program, ("audit",), script_part + b"report\n" + report, b"legal\n", 0)
 
 
+def of_lanes(program, given):
+    """A report that `lanes` writes of a script."""
+    ends, report = run(program, ("lanes",), given)
+    if ends != 0:
+        raise Failure(f"lanes ends with status {ends}, not 0")
+    return report
+
+
 def check_script(program, case, words):
     """Holds `run` to a script's case, then `lanes`, and `audit` to their reports."""
     status = case.status if case.status is not None else status_of(case.written or b"")
@@ -191,7 +205,7 @@ def check_script(program, case, words):
     if "audit" in words and status == 0:
         reports = [report, *case.reports]
         if "lanes" in words and has_lanes:
-            reports.append(run(program, ("lanes",), case.given)[1])
+            reports += [of_lanes(program, case.given) for _ in range(case.runs)]
         for it in reports:
             audited(program, case.given, it)
 

@@ -16,6 +16,3 @@ mod workers;
 pub use gate::{Gate, NoGate, Place};
 pub use run::lanes;
 pub use workers::drive;
-
-#[cfg(test)]
-mod tests;

@@ -1,6 +1,7 @@
-//! Worked examples of the whole program, as tests of its top call over ends in memory; the edges of
-//! the grammar, as tests of its reader; and the texts of entries, as tests of their printer. There
-//! is no code here beside the tests: a crate with tests is proved twice.
+//! What no case in `cases/` can ask: faults of the ends of the program's top call, over ends in
+//! memory; what the lines of a script hold; texts of entries that were built by hand, and texts
+//! that are read back; and calls below the top call. There is no code here beside the tests: a
+//! crate with tests is proved twice.
 #![tactic(auto)]
 
 #[cfg(test)]

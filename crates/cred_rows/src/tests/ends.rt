@@ -1,5 +1,5 @@
-//! What the program does where its words, its input or its ends are not as they should be.
-use crate::tests::runs::{ran, words_of};
+//! What the program does where its ends fail.
+use crate::tests::runs::words_of;
 use cred_io::{MemorySink, MemorySource, StdSink, SureSource};
 use cred_lanes::NoGate;
 use cred_program::{Status, credtrace};
@@ -8,8 +8,6 @@ use std::io::Write;
 use std::sync::Wait;
 use std::test::Fail;
 use std::thread::Threads;
-
-pub(crate) const USAGE: &str = "usage: credtrace run|lanes|audit|gen N|decode HEX\n";
 
 const SCRIPT: &str = "init t1 p1 0 0 n0\nt1 setresuid 1000 1000 1000\nt1 caps\nt1 ids\n";
 
@@ -24,34 +22,6 @@ const ENTRIES: [&str; 8] = [
     "4 ask h100040 ids -> ok 1000 1000 1000 1000 0 0 0 0\n",
     "4 drop h100040 -> ok\n",
 ];
-
-#[test]
-fn other_words_get_the_usage_line(rt: HostRuntime) -> Result<(), Fail> {
-    let table: [&[&str]; 17] = [
-        &[],
-        &["frob"],
-        &["run", "run"],
-        &["run", ""],
-        &["audit", "run"],
-        &["gen"],
-        &["gen", "10", "10"],
-        &["-"],
-        &["-h"],
-        &["--help"],
-        &["--"],
-        &["run", "--help"],
-        &["lanes", "2"],
-        &["decode"],
-        &["decode", "0"],
-        &["decode", "0x"],
-        &["decode", "0g"],
-    ];
-    for texts in table {
-        let (status, sink) = ran(&rt, texts, SCRIPT.as_bytes())?;
-        assert!(rt; status == Status::Usage && sink.bytes() == USAGE.as_bytes());
-    }
-    Ok(())
-}
 
 /// How the program ends where these reads and these writes fail, each once, and what it has
 /// written.
@@ -129,6 +99,24 @@ fn a_text_that_is_not_handed_on_is_a_write_fault(rt: HostRuntime) -> Result<(), 
         let mut sink = StdSink::new(FullDisk);
         let status = credtrace(&rt, rt.alloc(), &words, &mut source, &mut sink, &NoGate);
         assert!(rt; status == Status::WriteFault);
+    }
+    Ok(())
+}
+
+#[test]
+fn an_audit_tells_its_faults(rt: HostRuntime) -> Result<(), Fail> {
+    let words = words_of(rt.alloc(), &["audit"])?;
+    for (reads, writes, status) in [
+        (&[1_u64][..], &[][..], Status::ReadFault),
+        (&[2], &[], Status::ReadFault),
+        (&[], &[1], Status::WriteFault),
+        (&[], &[2], Status::NotLegal),
+    ] {
+        let mut source = MemorySource::of(rt.alloc(), b"report\nx\n", reads)?;
+        let mut sink = MemorySink::of(rt.alloc(), writes)?;
+        let answer = credtrace(&rt, rt.alloc(), &words, &mut source, &mut sink, &NoGate);
+        let is_written = sink.bytes() == "not legal 1\n".as_bytes();
+        assert!(rt; answer == status && is_written == (status == Status::NotLegal));
     }
     Ok(())
 }

@@ -1,21 +1,10 @@
-//! The examples, a module for each kind.
-mod among;
-mod auditing;
-mod changes;
-mod checks;
+//! The tests, a module for each kind.
 mod copies;
-mod decoding;
+mod cuts;
+mod declared;
 mod ends;
-mod execs;
-mod generated;
-mod grammar;
-mod lanes;
-mod lasts;
-mod overrides;
+mod held;
+mod machine;
 mod reading;
-mod refused;
-mod rows;
 mod runs;
-mod sizes;
 mod texts;
-mod threads;

@@ -1,6 +1,6 @@
-//! One run of the program over ends in memory.
+//! Runs of the program over ends in memory.
 use cred_ids::NoMemory;
-use cred_io::{SureSink, SureSource};
+use cred_io::{MemorySink, SureSink, SureSource};
 use cred_lanes::NoGate;
 use cred_program::{Status, credtrace};
 use std::alloc::Global;
@@ -16,25 +16,33 @@ pub(crate) fn words_of(alloc: Global, texts: &[&str]) -> Result<Vec<String>, NoM
     Ok(words)
 }
 
-/// The piece, so many times.
-pub(crate) fn repeated(alloc: Global, piece: &str, count: usize) -> Result<Vec<u8>, NoMemory> {
-    let mut bytes = Vec::new(alloc);
-    for _ in 0..count {
-        bytes.extend_from_slice(piece.as_bytes())?;
-    }
-    Ok(bytes)
-}
-
-/// How the program ends with these words on this input, and what it has written.
-pub(crate) fn ran<R: AllocGlobal + Threads + Wait + Sync>(
+/// How `lanes` ends on this script where the write of this number fails, and what it has written.
+pub(crate) fn failed<R: AllocGlobal + Threads + Wait + Sync>(
     rt: &R,
-    texts: &[&str],
-    input: &[u8],
-) -> Result<(Status, SureSink), NoMemory> {
+    script: &str,
+    write: u64,
+) -> Result<(Status, MemorySink), NoMemory> {
     let alloc = rt.alloc();
-    let words = words_of(alloc, texts)?;
-    let mut source = SureSource::of(alloc, input)?;
-    let mut sink = SureSink::new(alloc);
+    let words = words_of(alloc, &["lanes"])?;
+    let mut source = SureSource::of(alloc, script.as_bytes())?;
+    let mut sink = MemorySink::of(alloc, &[write])?;
     let status = credtrace(rt, alloc, &words, &mut source, &mut sink, &NoGate);
     Ok((status, sink))
+}
+
+/// What `audit` says of a script and of what is to be its report.
+pub(crate) fn audited<R: AllocGlobal + Threads + Wait + Sync>(
+    rt: &R,
+    script: &str,
+    report: &[u8],
+) -> Result<SureSink, NoMemory> {
+    let alloc = rt.alloc();
+    let mut input = script.as_bytes().to_vec(alloc)?;
+    input.extend_from_slice(b"report\n")?;
+    input.extend_from_slice(report)?;
+    let words = words_of(alloc, &["audit"])?;
+    let mut source = SureSource::of(alloc, &input)?;
+    let mut sink = SureSink::new(alloc);
+    let _status = credtrace(rt, alloc, &words, &mut source, &mut sink, &NoGate);
+    Ok(sink)
 }

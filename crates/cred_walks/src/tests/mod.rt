@@ -2,5 +2,3 @@
 mod books;
 mod casts;
 mod counted;
-mod lanes;
-mod limits;
