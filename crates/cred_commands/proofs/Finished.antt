@@ -1,5 +1,5 @@
 -- What the status after a text says of the writing of the text.
-use Rattle.std.proofs.Common.{◌≡◌, ℕ, List, Result, Ok, Err, OnOk, sym, subst, ◌∙◌}
+use Rattle.std.proofs.Common.{◌≡◌, ℕ, List, Result, Ok, Err, OnOk, sym, subst}
 use Rattle.cred_io.specs.Causes.{CountsFaults}
 use Rattle.cred_io.specs.declared.sink.SinkRefusal.{SinkRefusal}
 use Rattle.cred_io.specs.declared.sink.SinkRefusal.TheVariants as sink
@@ -26,13 +26,6 @@ finished_counts (Err sink.Memory) answer result before now other is counts = rec
   stayed = λ no_fault. counts.stayed (λ failed. cc);
   later = counts.later;
 }
-
--- a status that is neither the answer nor that of a text which wasn't written
-pub finished_apart : (r : Result (Unit {0}) SinkRefusal) (answer result other : Status) → (answer ≡ other → ⊥) → (status.WriteFault ≡ other → ⊥) → (status.Memory ≡ other → ⊥)
-    → result ≡ finished r answer → result ≡ other → ⊥
-finished_apart (Ok done) answer result other apart fault memory is same = apart (sym is ∙ same)
-finished_apart (Err sink.Failed) answer result other apart fault memory is same = fault (sym is ∙ same)
-finished_apart (Err sink.Memory) answer result other apart fault memory is same = memory (sym is ∙ same)
 
 pub finished_for_text : (r : Result (Unit {0}) SinkRefusal) (result : Status) → result ≡ finished r status.Done → IsForText result
 finished_for_text (Ok done) result is = subst IsForText (sym is) tt

@@ -12,8 +12,8 @@ ghost use Rattle.cred_commands.specs.Leaves.{IsReading, IsWriting};
 ghost use Rattle.cred_commands.specs.Parts as spec;
 ghost use Rattle.cred_commands.specs.Parts.{script_part};
 
+use crate::limits::{AUDIT_LIMIT, BYTE_LIMIT};
 use crate::parts::parts_of;
-use crate::script::BYTE_LIMIT;
 use crate::status::{Status, finish};
 use crate::writing::{bad_text, write_text};
 use cred_audit::{Verdict, audit};
@@ -22,9 +22,6 @@ use cred_ids::NoMemory;
 use cred_io::{ReadRefusal, Sink, Source, read_all};
 use cred_script::{ScriptRefusal, line_count, read};
 use std::alloc::Global;
-
-/// How many bytes an input may have, its report among them.
-pub const AUDIT_LIMIT: u32 = 134_217_728;
 
 /// What is said of an input, and the status if it was written.
 #[derive(Drop, Debug)]

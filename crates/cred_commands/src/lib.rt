@@ -1,22 +1,18 @@
-//! What each command does, over its input and its output.
+//! What `audit`, `gen` and `decode` do, over their input and their output; and what every command
+//! has of these two ends: how much is read, what is written beside reports, and how it ended.
 #![tactic(auto)]
 
 mod auditing;
 mod decoding;
-mod journals;
+mod limits;
 mod parts;
-mod reading;
-mod report;
-mod runs;
-mod script;
 mod status;
 mod summing;
 mod writing;
 
-pub use auditing::{AUDIT_LIMIT, read_and_audit};
+pub use auditing::read_and_audit;
 pub use decoding::show;
-pub use runs::{read_and_lanes, read_and_run};
-pub use script::BYTE_LIMIT;
+pub use limits::{AUDIT_LIMIT, BYTE_LIMIT};
 pub use status::{Status, finish};
 pub use summing::sum;
-pub use writing::write_text;
+pub use writing::{write_bad, write_text};

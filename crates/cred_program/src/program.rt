@@ -16,12 +16,12 @@ ghost use Rattle.cred_program.specs.Words.{command_of, texts};
 
 use crate::words::{Command, command_of};
 use cred_commands::{
-    AUDIT_LIMIT, BYTE_LIMIT, Status, finish, read_and_audit, read_and_lanes, read_and_run, show,
-    sum, write_text,
+    AUDIT_LIMIT, BYTE_LIMIT, Status, finish, read_and_audit, show, sum, write_text,
 };
 use cred_ids::NoMemory;
 use cred_io::{Sink, Source};
 use cred_lanes::Gate;
+use cred_runs::{read_and_lanes, read_and_run};
 use std::alloc::Global;
 use std::sync::Wait;
 use std::thread::Threads;

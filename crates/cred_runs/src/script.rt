@@ -9,16 +9,13 @@ ghost use Rattle.cred_commands.specs.Leaves.{IsReading, IsWriting, LeavesReport}
 use crate::journals::Journals;
 use crate::reading::script_from;
 use crate::report::report;
-use crate::status::Status;
 use cred_book::Journal;
+use cred_commands::{BYTE_LIMIT, Status};
 use cred_event::LINE_LIMIT;
 use cred_ids::NoMemory;
 use cred_io::{ReadRefusal, Sink, Source, read_all};
 use cred_script::Script;
 use std::alloc::Global;
-
-/// How many bytes an input may have.
-pub const BYTE_LIMIT: u32 = 1_048_576;
 
 /// Reads a script to its end, runs it in this way, and writes the report of the journal that came
 /// about, or the script's first bad line. It is run only where the input is a script.

@@ -5,7 +5,7 @@ use Rattle.cred_io.proofs.Known.{appends_more}
 use Rattle.cred_report.specs.Text.{text}
 use Rattle.cred_report.proofs.Journals.{text_more}
 use Rattle.cred_commands.proofs.Prefixes.{prefix_at, prefix_before}
-use Rattle.cred_commands.proofs.report.write_report.Goals as goal
+use Rattle.cred_runs.proofs.report.write_report.Goals as goal
 
 pub returns-in_default-clause-err : goal.returns-in_default-clause-err
 returns-in_default-clause-err g c =

@@ -5,9 +5,7 @@ ghost use Rattle.cred_io.specs.Causes.{CountsFaults};
 ghost use Rattle.cred_script.specs.Lines.{lines_of};
 ghost use Rattle.cred_commands.specs.Ends.{IsScript, IsWithin, Refuses, RefusesPrefix, Suits};
 
-use crate::script::BYTE_LIMIT;
-use crate::status::{Status, finish};
-use crate::writing::write_bad;
+use cred_commands::{BYTE_LIMIT, Status, finish, write_bad};
 use cred_event::LINE_LIMIT;
 use cred_io::Sink;
 use cred_script::{Script, ScriptRefusal, line_count, read};

@@ -3,7 +3,7 @@ use Rattle.cred_commands.specs.declared.status.Status.TheVariants.{Bad, TooLarge
 use Rattle.cred_commands.proofs.Cuts.{cut_written}
 use Rattle.cred_commands.proofs.Finished.{for_text_apart, for_text_suits}
 use Rattle.cred_commands.proofs.Prefixes.{reported}
-use Rattle.cred_commands.proofs.script.run_script.Goals as goal
+use Rattle.cred_runs.proofs.script.run_script.Goals as goal
 
 pub returns-in-Ok-run-clause-done : goal.returns-in-Ok-run-clause-done
 returns-in-Ok-run-clause-done g c = λ done.

@@ -1,7 +1,7 @@
 use Rattle.std.proofs.Common.{inr, arith}
 use Rattle.cred_commands.specs.Texts.{bad_text}
 use Rattle.cred_commands.proofs.Prefixes.{prefix_either}
-use Rattle.cred_commands.proofs.reading.script_from.Goals as goal
+use Rattle.cred_runs.proofs.reading.script_from.Goals as goal
 
 pub returns-in-Err-Bad-clause-prefix : goal.returns-in-Err-Bad-clause-prefix
 returns-in-Err-Bad-clause-prefix g c =

@@ -6,7 +6,7 @@ ghost use Rattle.cred_io.specs.Ends.{AppendsPrefix};
 ghost use Rattle.cred_report.specs.Text.{text};
 ghost use Rattle.cred_commands.specs.Ends.{IsForText, IsWhole};
 
-use crate::status::{Status, finish};
+use cred_commands::{Status, finish};
 use cred_event::Entry;
 use cred_io::{Sink, SinkRefusal, write_all};
 use cred_report::{Pen, prepend_all};
@@ -51,7 +51,7 @@ pub(crate) fn report<K: Sink>(
 ///
 /// The sink's refusal, and `Memory` if an allocation of the buffer fails: a prefix of the text was
 /// written.
-#[tactic(auto, using(crate::proofs::Prefixes::flushed_entries))]
+#[tactic(auto, using(cred_commands::proofs::Prefixes::flushed_entries))]
 fn write_report<K: Sink>(
     alloc: Global,
     sink: &mut K,

@@ -1,4 +1,4 @@
-use Rattle.cred_commands.proofs.runs.in_order.Goals as goal
+use Rattle.cred_runs.proofs.runs.in_order.Goals as goal
 
 pub returns-clause-sequence : goal.returns-clause-sequence
 returns-clause-sequence c =

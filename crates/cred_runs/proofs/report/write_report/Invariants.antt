@@ -1,7 +1,7 @@
 use Rattle.std.proofs.Common.{◌≡◌, ◌≤◌, ◌-◌, length, take}
 use Rattle.std.specs.Io.KnownBytes.{Appends}
 use Rattle.cred_report.specs.Text.{text}
-use Rattle.cred_commands.proofs.report.write_report.Given as goal
+use Rattle.cred_runs.proofs.report.write_report.Given as goal
 
 abbrev pub invariant-loop-at : goal.invariant-loop-at
 invariant-loop-at g l = record {

@@ -4,9 +4,9 @@ ghost use Rattle.cred_model.specs.Journal.{IsLegal, IsSequence};
 ghost use Rattle.cred_commands.specs.Leaves.{IsReading, IsWriting, LeavesReport};
 
 use crate::journals::{Legal, Sequence};
-use crate::script::{BYTE_LIMIT, read_and_report};
-use crate::status::Status;
+use crate::script::read_and_report;
 use cred_book::{Journal, run};
+use cred_commands::{BYTE_LIMIT, Status};
 use cred_ids::NoMemory;
 use cred_io::{Sink, Source};
 use cred_lanes::{Gate, lanes};
