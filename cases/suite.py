@@ -1,12 +1,10 @@
-"""The cases: how they are read from the folders, and how a program is held to one.
+"""The cases, and how they are read from the folders.
 
 README.md says what each kind of file is. A file NAME.py has a function `cases()` that yields cases
 whose expected answers it works out by itself, from the manual page's words.
 """
-import difflib
 import importlib.util
 import re
-import subprocess
 from dataclasses import dataclass
 from pathlib import Path
 
@@ -15,18 +13,10 @@ TOP = Path(__file__).resolve().parent
 USAGE = 1
 # What a text says of the status that the program ends with; any other text is a whole one.
 STATUSES = {b"usage: ": USAGE, b"bad ": 2, b"not legal ": 7}
-# A script that gives a lane its lines.
-LANE = re.compile(rb"^ *lane ", re.M)
 ESCAPE = re.compile(rb"\\(?:x([0-9a-f]{2})|(.))")
 ESCAPES = {b"n": b"\n", b"r": b"\r", b"t": b"\t", b"\\": b"\\"}
 # What stands on standard input where the words ask for no input.
 UNREAD = b"not read\n"
-# How long one run of the program may take, in seconds.
-LIMIT = 60
-
-
-class Failure(Exception):
-    """What the program did otherwise."""
 
 
 @dataclass(frozen=True)
@@ -48,6 +38,10 @@ class Case:
     status: int | None = None
     calls: int = 1
     runs: int = 1
+
+    def ends(self):
+        """The status that the program must end with."""
+        return status_of(self.written or b"") if self.status is None else self.status
 
 
 def script(name, text, report=None, **more):
@@ -141,79 +135,3 @@ def cases_of(subject):
         raise ValueError(f"{subject.name}/TABLE.md and its folder differ: {sorted(other)}")
     for file in files:
         yield from READERS[file.suffix](file, f"{subject.name}/{file.stem}")
-
-
-def run(program, words, given):
-    """The status that the program ends with, and what it writes."""
-    done = subprocess.run(
-        [*program, *words], input=given, stdout=subprocess.PIPE, timeout=LIMIT, check=False
-    )
-    return done.returncode, done.stdout
-
-
-def difference(wanted, written):
-    """How what was written differs from what was wanted, a line each, the first of them."""
-    lines = [it.decode(errors="replace").splitlines() for it in (wanted, written)]
-    return "\n".join([*difflib.unified_diff(*lines, "wanted", "written", lineterm="")][:40])
-
-
-def hold(program, words, given, wanted, status):
-    """Fails where the program writes or ends otherwise."""
-    ends, written = run(program, words, given)
-    if written != wanted:
-        raise Failure(f"{' '.join(words)} writes otherwise:\n{difference(wanted, written)}")
-    if ends != status:
-        raise Failure(f"{' '.join(words)} ends with status {ends}, not {status}")
-    return written
-
-
-def lacks(entries, report):
-    """The first of these entries that the report hasn't, in their order."""
-    left = iter(report.splitlines())
-    return next((it for it in entries if it not in left), None)
-
-
-def audited(program, given, report):
-    """Fails where `audit` doesn't find the report of the script legal."""
-    script_part = given if given.endswith(b"\n") or not given else given + b"\n"
-    hold(program, ("audit",), script_part + b"report\n" + report, b"legal\n", 0)
-
-
-def of_lanes(program, given):
-    """A report that `lanes` writes of a script."""
-    ends, report = run(program, ("lanes",), given)
-    if ends != 0:
-        raise Failure(f"lanes ends with status {ends}, not 0")
-    return report
-
-
-def check_script(program, case, words):
-    """Holds `run` to a script's case, then `lanes`, and `audit` to their reports."""
-    status = case.status if case.status is not None else status_of(case.written or b"")
-    if case.written is not None:
-        report = hold(program, case.words, case.given, case.written, status)
-    else:
-        ends, report = run(program, case.words, case.given)
-        if ends != status:
-            raise Failure(f"run ends with status {ends}, not {status}")
-    missing = lacks(case.entries, report)
-    if missing is not None:
-        raise Failure(f"the report lacks this entry, here or at all:\n{missing.decode()}")
-    has_lanes = LANE.search(case.given)
-    if "lanes" in words and not (status == 0 and has_lanes):
-        hold(program, ("lanes",), case.given, report, status)
-    if "audit" in words and status == 0:
-        reports = [report, *case.reports]
-        if "lanes" in words and has_lanes:
-            reports += [of_lanes(program, case.given) for _ in range(case.runs)]
-        for it in reports:
-            audited(program, case.given, it)
-
-
-def check(program, case, words):
-    """Holds the program to a case, where it has the case's command; says what it did otherwise."""
-    if case.words[:1] == ("run",) and len(case.words) == 1:
-        check_script(program, case, words)
-    else:
-        status = case.status if case.status is not None else status_of(case.written)
-        hold(program, case.words, case.given, case.written, status)
