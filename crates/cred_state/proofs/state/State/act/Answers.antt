@@ -10,6 +10,7 @@ use Rattle.cred_tables.proofs.Bags.{bag-keeps}
 use Rattle.cred_state.proofs.Inits.{is_sealed, sealed_there}
 use Rattle.cred_model.proofs.Places.{if_some, none_by_other, some_by_test}
 use Rattle.cred_tables.proofs.Sealing.{current-held, drops, none_spare, seals_spare}
+use Rattle.cred_state.proofs.Reserved.{kept_spare}
 use Rattle.cred_state.proofs.state.State.act.Goals as goal
 
 pub returns-in_default-clause-ok : goal.returns-in_default-clause-ok
@@ -136,3 +137,9 @@ returns-then-is_none-clause-ok c =
     (same_spare parts t.store t.slots c.in_ok-reserve.ensures.ok) ended.ensures.answer ended.ensures.state
     (act_full c.self.invariant c.args.number c.in-Some.task next _ (sym has) c.in-Ok.cred (rw (← call) rule)
     (none_spare t.slots c.in_ok-reserve.ensures.ok none)))
+
+pub invariant_of-self : goal.invariant_of-self
+invariant_of-self c = rw c.in_err-reserve.ensures.err c.self.invariant
+
+pub invariant_of-self-then-is_none : goal.invariant_of-self-then-is_none
+invariant_of-self-then-is_none c = kept_spare c.self.invariant c.in_ok-reserve.ensures.ok

@@ -14,6 +14,7 @@ use Rattle.cred_state.proofs.Inits.{is_sealed, sealed_there}
 use Rattle.cred_tables.proofs.Owners.{has_process, owner_process}
 use Rattle.cred_model.proofs.Places.{if_some, none_by_other, some_by_test}
 use Rattle.cred_tables.proofs.Sealing.{current-held, drops, none_spare, roomy_spare, seals_spare}
+use Rattle.cred_state.proofs.Reserved.{kept_spare, kept_swept}
 use Rattle.cred_state.proofs.state.State.begin.Goals as goal
 
 pub returns-then-is_none-clause-ok : goal.returns-then-is_none-clause-ok
@@ -117,3 +118,18 @@ overflow_cast-result c =
     let same = ap length (c.items-2.ensures ∙ these) in
     let few = few_those (is_beside may.owner) t.tasks c.in_ok-others.ensures.tasks.few in
     omega (arith, same, few)
+
+pub invariant_of-self : goal.invariant_of-self
+invariant_of-self c = rw c.in_err-reserve.ensures.err c.self.invariant
+
+pub invariant_of-self-in_err-others : goal.invariant_of-self-in_err-others
+invariant_of-self-in_err-others c = kept_spare c.self.invariant c.in_ok-reserve.ensures.ok
+
+pub invariant_of-self-then-is_none : goal.invariant_of-self-then-is_none
+invariant_of-self-then-is_none c = kept_swept (kept_spare c.self.invariant c.in_ok-reserve.ensures.ok) c.sweep.ensures
+
+pub invariant_of-self-in_err-copy : goal.invariant_of-self-in_err-copy
+invariant_of-self-in_err-copy c = kept_spare c.self.invariant c.in_ok-reserve.ensures.ok
+
+pub invariant_of-self-in_err-begin : goal.invariant_of-self-in_err-begin
+invariant_of-self-in_err-begin c = rw c.in_err-begin.ensures.err (kept_spare c.self.invariant c.in_ok-reserve.ensures.ok)

@@ -6,6 +6,7 @@ use Rattle.cred_tables.proofs.Free.{full_swept}
 use Rattle.cred_state.proofs.Inits.{init_full, init_kept, init_sealed, few_by_test, is_sealed, sealed_there, started}
 use Rattle.cred_model.proofs.Places.{none_by_test, none_by_other, some_by_test}
 use Rattle.cred_tables.proofs.Sealing.{none_spare, roomy_spare, seals_spare}
+use Rattle.cred_state.proofs.Reserved.{kept_spare, kept_swept}
 use Rattle.cred_state.proofs.state.State.init.Goals as goal
 
 pub returns-then-is_none-clause-ok : goal.returns-then-is_none-clause-ok
@@ -47,3 +48,12 @@ returns-clause-ok c =
     rw (← c.self.view_is, tasks, store)
     (init_sealed c.self.invariant c.seal_next.new.slots c.args.number c.args.process c.args.user c.args.group c.args.ns
     c.put.ensures.long (seals_spare c.in_ok-reserve.ensures.ok seals) idle new few)
+
+pub invariant_of-self : goal.invariant_of-self
+invariant_of-self c = rw c.in_err-reserve.ensures.err c.self.invariant
+
+pub invariant_of-self-then-is_none : goal.invariant_of-self-then-is_none
+invariant_of-self-then-is_none c = kept_swept (kept_spare c.self.invariant c.in_ok-reserve.ensures.ok) c.sweep.ensures
+
+pub invariant_of-self-in_err-start : goal.invariant_of-self-in_err-start
+invariant_of-self-in_err-start c = rw c.in_err-start.ensures.err (kept_spare c.self.invariant c.in_ok-reserve.ensures.ok)
