@@ -1,6 +1,5 @@
-use Rattle.std.proofs.Common.{◌≡◌, length, slice_set, Some, sym, ◌∙◌, arith}
-use Rattle.std.proofs.lemmas.Grind.{common_steps}
-use Rattle.cred_record.specs.Credential.{first_credential}
+use Rattle.std.proofs.Common.{◌≡◌, length, slice_set, Some, sym, ap, ◌∙◌}
+use Rattle.cred_record.specs.Credential.{Credential, first_credential}
 use Rattle.cred_tables.specs.Kept.{parts_of}
 use Rattle.cred_tables.proofs.Free.{full_swept}
 use Rattle.cred_state.proofs.Inits.{init_full, init_kept, init_sealed, few_by_test, is_sealed, sealed_there, started}
@@ -31,7 +30,8 @@ invariant_of-self-2 c =
     let t = c.self.inside in
     let seals = sealed_there c.reserve.new.self c.seal_next.new.slots c.seal_next.result _ _ c.unwrap-current.ensures c.seal_next.ensures in
     let tasks = started t.tasks c.start.new.self c.args.number c.args.process _ _ c.in_ok-start.ensures.ok (c.next_number-next.ensures ∙ sym seals.counted) in
-    let store : c.put.new.self ≡ slice_set t.store c.unwrap-current.result.1 (Some (first_credential c.args.user c.args.group c.args.ns)) = grind (arith, common_steps) in
+    let store : c.put.new.self ≡ slice_set t.store c.unwrap-current.result.1 (Some (first_credential c.args.user c.args.group c.args.ns))
+    = c.put.ensures.set ∙ ap (λ (x : Credential). slice_set t.store c.unwrap-current.result.1 (Some x)) c.in_ok-cred.ensures in
     rw (tasks, store)
     (init_kept c.self.invariant c.seal_next.new.slots c.args.number c.args.process c.args.user c.args.group c.args.ns
     c.put.ensures.long (seals_spare c.in_ok-reserve.ensures.ok seals))
@@ -41,7 +41,8 @@ returns-clause-ok c =
     let t = c.self.inside in
     let seals = sealed_there c.reserve.new.self c.seal_next.new.slots c.seal_next.result _ _ c.unwrap-current.ensures c.seal_next.ensures in
     let tasks = started t.tasks c.start.new.self c.args.number c.args.process _ _ c.in_ok-start.ensures.ok (c.next_number-next.ensures ∙ sym seals.counted) in
-    let store : c.put.new.self ≡ slice_set t.store c.unwrap-current.result.1 (Some (first_credential c.args.user c.args.group c.args.ns)) = grind (arith, common_steps) in
+    let store : c.put.new.self ≡ slice_set t.store c.unwrap-current.result.1 (Some (first_credential c.args.user c.args.group c.args.ns))
+    = c.put.ensures.set ∙ ap (λ (x : Credential). slice_set t.store c.unwrap-current.result.1 (Some x)) c.in_ok-cred.ensures in
     let idle = rw (← c.self.view_is) at c.in_default.ensures in
     let new = none_by_test _ c.alive.result c.alive.ensures c.if-alive.false in
     let few = few_by_test (length t.tasks) c.full.result c.full.ensures.full c.if-full.false in

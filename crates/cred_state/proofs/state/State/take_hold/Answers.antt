@@ -1,4 +1,4 @@
-use Rattle.std.proofs.Common.{refl}
+use Rattle.std.proofs.Common.{refl, rules}
 use Rattle.cred_tables.specs.Kept.{parts_of, state_of}
 use Rattle.cred_tables.proofs.Bags.{bag-at}
 use Rattle.cred_tables.proofs.InUse.{in_use-hold}
@@ -23,3 +23,6 @@ invariant_of-self-2 c =
     let s = state_of (parts_of t.tasks t.casts t.files t.holds t.prepared) t.store t.slots in
     rw c.in_ok-take.ensures.ok
     (kept_more c.self.invariant c.in_ok-reserve.ensures.ok c.add.ensures.held c.add.ensures.table (in_use-hold s _) refl)
+
+pub returns-clause-ok : goal.returns-clause-ok
+returns-clause-ok c = search rules
