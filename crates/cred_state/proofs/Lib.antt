@@ -4,6 +4,8 @@ pub mod Broadcasts
 pub mod Inits
 pub mod Begins
 pub mod Acts
+pub mod Made
+pub mod Reserved
 pub mod Standing
 pub mod Holding
 pub mod Opening

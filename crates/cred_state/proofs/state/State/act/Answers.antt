@@ -1,5 +1,4 @@
-use Rattle.std.proofs.Common.{◌≡◌, Ok, inl, inr, refl, sym, ◌∙◌, arith}
-use Rattle.std.proofs.lemmas.Grind.{common_steps}
+use Rattle.std.proofs.Common.{◌≡◌, Ok, inl, inr, refl, sym, ◌∙◌}
 use Rattle.cred_rules.specs.SetId.{set_id}
 use Rattle.cred_cast.proofs.Conditions.{least_waits}
 use Rattle.cred_event.specs.declared.answer.AbortCause.TheVariants.{Perm, Full}
@@ -10,6 +9,8 @@ use Rattle.cred_tables.proofs.Bags.{bag-keeps}
 use Rattle.cred_state.proofs.Inits.{is_sealed, sealed_there}
 use Rattle.cred_model.proofs.Places.{if_some, none_by_other, some_by_test}
 use Rattle.cred_tables.proofs.Sealing.{current-held, drops, none_spare, seals_spare}
+use Rattle.cred_state.proofs.Made.{rule_made}
+use Rattle.cred_state.proofs.Reserved.{kept_spare}
 use Rattle.cred_state.proofs.state.State.act.Goals as goal
 
 pub returns-in_default-clause-ok : goal.returns-in_default-clause-ok
@@ -64,7 +65,7 @@ invariant_of-self-2 c =
     let has = rw (← c.self.view_is) at c.in-Some-current.ensures in
     let next = next_is (state_of (parts_of t.tasks t.casts t.files t.holds t.prepared) t.store t.slots) c.args.number c.in-Some.task sound c.in-Some.ensures.next in
     let call : c.unwrap-call.result.now ≡ next.cast.call = mapped_is _ _ c.call.result _ c.unwrap-call.result next.cast c.call.ensures c.unwrap-call.ensures next.found in
-    let rule : set_id c.in-Some-current.now.cred.now c.unwrap-call.result.now ≡ Ok c.in-Ok.cred = grind (arith, common_steps) in
+    let rule : set_id c.in-Some-current.now.cred.now c.unwrap-call.result.now ≡ Ok c.in-Ok.cred = rule_made _ c.in-Ok.cred c.in-Ok.ensures in
     let sealed = sealed_there c.reserve.new.self c.seal_next.new.slots c.seal_next.result _ _ c.unwrap-new.ensures c.seal_next.ensures in
     rw (c.set_current.ensures.tasks, c.put.ensures.set, c.acted-left.ensures.casts)
     (act_kept c.self.invariant c.args.number c.in-Some.task next _ (sym has) c.in-Ok.cred (rw (← call) rule) c.put.ensures.long
@@ -77,7 +78,7 @@ returns-clause-ok c =
     let has = rw (← c.self.view_is) at c.in-Some-current.ensures in
     let next = next_is (state_of (parts_of t.tasks t.casts t.files t.holds t.prepared) t.store t.slots) c.args.number c.in-Some.task sound c.in-Some.ensures.next in
     let call : c.unwrap-call.result.now ≡ next.cast.call = mapped_is _ _ c.call.result _ c.unwrap-call.result next.cast c.call.ensures c.unwrap-call.ensures next.found in
-    let rule : set_id c.in-Some-current.now.cred.now c.unwrap-call.result.now ≡ Ok c.in-Ok.cred = grind (arith, common_steps) in
+    let rule : set_id c.in-Some-current.now.cred.now c.unwrap-call.result.now ≡ Ok c.in-Ok.cred = rule_made _ c.in-Ok.cred c.in-Ok.ensures in
     let sealed = sealed_there c.reserve.new.self c.seal_next.new.slots c.seal_next.result _ _ c.unwrap-new.ensures c.seal_next.ensures in
     let left = if_some _ (cast_of (state_of (parts_of t.tasks t.casts t.files t.holds t.prepared) t.store t.slots) c.args.number) next.cast next.found c.acted-left.ensures.left in
     rw (← c.self.view_is, c.set_current.ensures.tasks, c.put.ensures.set, c.acted-left.ensures.casts)
@@ -128,7 +129,7 @@ returns-then-is_none-clause-ok c =
     let has = rw (← c.self.view_is) at c.in-Some-current.ensures in
     let next = next_is s c.args.number c.in-Some.task sound c.in-Some.ensures.next in
     let call : c.unwrap-call.result.now ≡ next.cast.call = mapped_is _ _ c.call.result _ c.unwrap-call.result next.cast c.call.ensures c.unwrap-call.ensures next.found in
-    let rule : set_id c.in-Some-current.now.cred.now c.unwrap-call.result.now ≡ Ok c.in-Ok.cred = grind (arith, common_steps) in
+    let rule : set_id c.in-Some-current.now.cred.now c.unwrap-call.result.now ≡ Ok c.in-Ok.cred = rule_made _ c.in-Ok.cred c.in-Ok.ensures in
     let none = sym c.free_slot.ensures ∙ none_by_other c.free_slot.result c.is_none.result c.is_none.ensures c.if-is_none.true in
     let ended = c.end_process_of-then-is_none in
     rw (← c.self.view_is)
@@ -136,3 +137,9 @@ returns-then-is_none-clause-ok c =
     (same_spare parts t.store t.slots c.in_ok-reserve.ensures.ok) ended.ensures.answer ended.ensures.state
     (act_full c.self.invariant c.args.number c.in-Some.task next _ (sym has) c.in-Ok.cred (rw (← call) rule)
     (none_spare t.slots c.in_ok-reserve.ensures.ok none)))
+
+pub invariant_of-self : goal.invariant_of-self
+invariant_of-self c = rw c.in_err-reserve.ensures.err c.self.invariant
+
+pub invariant_of-self-then-is_none : goal.invariant_of-self-then-is_none
+invariant_of-self-then-is_none c = kept_spare c.self.invariant c.in_ok-reserve.ensures.ok

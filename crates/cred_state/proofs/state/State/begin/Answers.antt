@@ -1,6 +1,5 @@
 use Rattle.std.proofs.Common.{◌≡◌, ◌≢◌, Ok, length, is_some, sym, ap, ◌∙◌, subst, arith}
 use Rattle.std.specs.List.{All, AllPairs}
-use Rattle.std.proofs.lemmas.Grind.{common_steps}
 use Rattle.cred_rules.specs.SetId.{set_id}
 use Rattle.cred_model.specs.Ends.{is_beside}
 use Rattle.cred_model.proofs.Rising.{length-in_order}
@@ -14,13 +13,15 @@ use Rattle.cred_state.proofs.Inits.{is_sealed, sealed_there}
 use Rattle.cred_tables.proofs.Owners.{has_process, owner_process}
 use Rattle.cred_model.proofs.Places.{if_some, none_by_other, some_by_test}
 use Rattle.cred_tables.proofs.Sealing.{current-held, drops, none_spare, roomy_spare, seals_spare}
+use Rattle.cred_state.proofs.Made.{rule_made}
+use Rattle.cred_state.proofs.Reserved.{kept_spare, kept_swept}
 use Rattle.cred_state.proofs.state.State.begin.Goals as goal
 
 pub returns-then-is_none-clause-ok : goal.returns-then-is_none-clause-ok
 returns-then-is_none-clause-ok c =
     let t = c.self.inside in
     let may = rw (← c.self.view_is) at c.in-Ok.ensures in
-    let rule : set_id c.in-Ok.now.cred.now c.args.call.now ≡ Ok c.in-Ok-apply.cred = grind (arith, common_steps) in
+    let rule : set_id c.in-Ok.now.cred.now c.args.call.now ≡ Ok c.in-Ok-apply.cred = rule_made _ c.in-Ok-apply.cred c.in-Ok-apply.ensures in
     let none = sym c.free_slot.ensures ∙ none_by_other c.free_slot.result c.is_none.result c.is_none.ensures c.if-is_none.true in
     rw (← c.self.view_is)
     (begin_full c.self.invariant c.sweep.new.self c.args.task _ c.in-Ok-apply.cred may.has c.args.line c.args.call.now may rule
@@ -98,7 +99,7 @@ returns-clause-ok c =
     let t = c.self.inside in
     let may = rw (← c.self.view_is) at c.in-Ok.ensures in
     let sound = rw (← c.self.view_is) at c.requires in
-    let rule : set_id c.in-Ok.now.cred.now c.args.call.now ≡ Ok c.in-Ok-apply.cred = grind (arith, common_steps) in
+    let rule : set_id c.in-Ok.now.cred.now c.args.call.now ≡ Ok c.in-Ok-apply.cred = rule_made _ c.in-Ok-apply.cred c.in-Ok-apply.ensures in
     let sealed = sealed_there c.reserve.new.self c.seal_next.new.slots c.seal_next.result _ _ c.unwrap-number.ensures c.seal_next.ensures in
     let process = owner_process t.tasks c.args.task c.unwrap-process.result may.owner may.lives c.unwrap-process.ensures c.process_of.ensures in
     let these = if_some _ (task_in t.tasks c.args.task) may.owner may.lives c.in_ok-others.ensures.others in
@@ -117,3 +118,18 @@ overflow_cast-result c =
     let same = ap length (c.items-2.ensures ∙ these) in
     let few = few_those (is_beside may.owner) t.tasks c.in_ok-others.ensures.tasks.few in
     omega (arith, same, few)
+
+pub invariant_of-self : goal.invariant_of-self
+invariant_of-self c = rw c.in_err-reserve.ensures.err c.self.invariant
+
+pub invariant_of-self-in_err-others : goal.invariant_of-self-in_err-others
+invariant_of-self-in_err-others c = kept_spare c.self.invariant c.in_ok-reserve.ensures.ok
+
+pub invariant_of-self-then-is_none : goal.invariant_of-self-then-is_none
+invariant_of-self-then-is_none c = kept_swept (kept_spare c.self.invariant c.in_ok-reserve.ensures.ok) c.sweep.ensures
+
+pub invariant_of-self-in_err-copy : goal.invariant_of-self-in_err-copy
+invariant_of-self-in_err-copy c = kept_spare c.self.invariant c.in_ok-reserve.ensures.ok
+
+pub invariant_of-self-in_err-begin : goal.invariant_of-self-in_err-begin
+invariant_of-self-in_err-begin c = rw c.in_err-begin.ensures.err (kept_spare c.self.invariant c.in_ok-reserve.ensures.ok)

@@ -11,6 +11,7 @@ use Rattle.cred_tables.proofs.Ending.{EndsWith, ends_so, ended-held}
 use Rattle.cred_tables.proofs.Labels.{same_label}
 use Rattle.cred_tables.proofs.Owners.{has_process_of, owner_of, owner_process, own_owner, over_owner}
 use Rattle.cred_tables.proofs.Sealing.{drops}
+use Rattle.cred_state.proofs.Reserved.{kept_spare}
 use Rattle.cred_state.proofs.state.State.commit.Goals as goal
 
 pub returns-in_default-clause-ok : goal.returns-in_default-clause-ok
@@ -167,3 +168,9 @@ returns-clause-ok c =
     c.finish-last.result.1 seals sound.tasks sound.slots.own c.args.label (length c.items-2.result.now) gives.gives.found refl
     (ap is_access same.2 ∙ c.in-Some.ensures.for_task) (rw same.0 idle) (own_owner (state_of (parts_of t.tasks t.casts t.files t.holds t.prepared) t.store t.slots) gives.task own.owner own.lives (rw same.0 allowed)) same.2 (c.if-now-base.false ∙ sym same.1)
     (ap length c.items-2.ensures))
+
+pub invariant_of-self : goal.invariant_of-self
+invariant_of-self c = rw c.in_err-reserve.ensures.err c.self.invariant
+
+pub invariant_of-self-in_err-ended : goal.invariant_of-self-in_err-ended
+invariant_of-self-in_err-ended c = rw c.in_err-ended.ensures.err (kept_spare c.self.invariant c.in_ok-reserve.ensures.ok)

@@ -4,6 +4,7 @@ use Rattle.cred_tables.proofs.Bags.{bag-at}
 use Rattle.cred_tables.proofs.InUse.{in_use-file}
 use Rattle.cred_tables.proofs.Sealing.{kept_more, referred_to}
 use Rattle.cred_state.proofs.Standing.{held-in_use}
+use Rattle.cred_state.proofs.Reserved.{kept_spare}
 use Rattle.cred_state.proofs.state.State.open_file.Goals as goal
 
 pub add-requires-2-clause-referred : goal.add-requires-2-clause-referred
@@ -20,3 +21,9 @@ invariant_of-self-2 c =
     let s = state_of (parts_of t.tasks t.casts t.files t.holds t.prepared) t.store t.slots in
     rw c.in_ok-add.ensures.ok
     (kept_more c.self.invariant c.in_ok-reserve.ensures.ok c.add-2.ensures.held c.add-2.ensures.table (in_use-file s _) refl)
+
+pub invariant_of-self : goal.invariant_of-self
+invariant_of-self c = rw c.in_err-reserve.ensures.err c.self.invariant
+
+pub invariant_of-self-in_err-add : goal.invariant_of-self-in_err-add
+invariant_of-self-in_err-add c = rw c.in_err-add.ensures.err (kept_spare c.self.invariant c.in_ok-reserve.ensures.ok)

@@ -63,3 +63,6 @@ returns-clause-ok c =
     (prepared_done c.self.invariant c.args.task c.push_override.new.self sound.tasks c.seal_kept-number.new.slots lent c.args.label gives.place _ gives.there
     sound.slots.own c.finish-last.result.1 c.in_ok-reserve.ensures.ok c.seal_kept-number.ensures.places c.seal_kept-number.ensures.sealed c.next_number-next.ensures
     gives.found for unheld)
+
+pub invariant_of-self : goal.invariant_of-self
+invariant_of-self c = rw c.in_err-reserve.ensures.err c.self.invariant

@@ -33,3 +33,6 @@ returns-clause-ok c =
     rw (← c.self.view_is)
     (lent_done c.self.invariant c.args.task c.push_override.new.self sound.tasks number lent c.reserve.new.self c.add.new.self
     c.in_ok-reserve.ensures.ok c.add.ensures.held c.add.ensures.table c.args.label _ (sym has) refl)
+
+pub invariant_of-self : goal.invariant_of-self
+invariant_of-self c = rw c.in_err-reserve.ensures.err c.self.invariant

@@ -8,6 +8,7 @@ use Rattle.cred_state.proofs.Holding.{hold-held_found}
 use Rattle.cred_model.proofs.Places.{if_some}
 use Rattle.cred_state.proofs.Labelling.{claims, present, held_hold, neither_found, prepare_full, prepare_kept, prepare_done}
 use Rattle.cred_tables.proofs.Sealing.{none_spare, roomy_spare}
+use Rattle.cred_state.proofs.Reserved.{kept_spare, kept_swept}
 use Rattle.cred_state.proofs.state.State.prepare.Goals as goal
 
 pub returns-in_default-free_slot-clause-ok : goal.returns-in_default-free_slot-clause-ok
@@ -62,3 +63,12 @@ returns-clause-ok c =
     (prepare_done c.self.invariant c.add.new.self c.args.label c.args.task c.args.hold slot
     (record { owner = owner.0; lives = owner.1; idle = idle; base = base.0; has = base.1; new = new.0; unprepared = new.1; few = few })
     (rw base.2 claim))
+
+pub invariant_of-self : goal.invariant_of-self
+invariant_of-self c = rw c.in_err-reserve.ensures.err c.self.invariant
+
+pub invariant_of-self-in_default-free_slot : goal.invariant_of-self-in_default-free_slot
+invariant_of-self-in_default-free_slot c = kept_swept (kept_spare c.self.invariant c.in_ok-reserve.ensures.ok) c.sweep.ensures
+
+pub invariant_of-self-in_err-prepare : goal.invariant_of-self-in_err-prepare
+invariant_of-self-in_err-prepare c = rw c.in_err-prepare.ensures.err (kept_spare c.self.invariant c.in_ok-reserve.ensures.ok)

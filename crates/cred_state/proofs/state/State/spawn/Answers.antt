@@ -3,6 +3,7 @@ use Rattle.cred_cast.proofs.Conditions.{dead_waits_nowhere}
 use Rattle.cred_tables.specs.Kept.{parts_of, state_of}
 use Rattle.cred_model.proofs.Places.{none_by_test}
 use Rattle.cred_tables.proofs.Sealing.{current-held, referred_to}
+use Rattle.cred_state.proofs.Reserved.{kept_spare}
 use Rattle.cred_state.proofs.state.State.spawn.Goals as goal
 
 pub spawn_in-requires-clause-nowhere : goal.spawn_in-requires-clause-nowhere
@@ -15,3 +16,9 @@ pub add-requires-clause-referred : goal.add-requires-clause-referred
 add-requires-clause-referred c =
     let has = rw (← c.self.view_is) at c.in-Some.ensures in
     referred_to c.self.inside.slots c.reserve.new.self _ _ c.in_ok-reserve.ensures.ok (current-held c.self.invariant c.args.task _ (sym has))
+
+pub invariant_of-self : goal.invariant_of-self
+invariant_of-self c = rw c.in_err-reserve.ensures.err c.self.invariant
+
+pub invariant_of-self-in_err-spawn_in : goal.invariant_of-self-in_err-spawn_in
+invariant_of-self-in_err-spawn_in c = rw (c.in_err-spawn_in.ensures.no_tasks, c.in_err-spawn_in.ensures.no_casts) (kept_spare c.self.invariant c.in_ok-reserve.ensures.ok)

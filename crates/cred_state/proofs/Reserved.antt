@@ -1,0 +1,16 @@
+-- What is kept stays kept where the table of slots is reserved room, and where it is swept.
+use Rattle.std.proofs.Common.{◌≡◌, ℕ, List, Option, sym, subst}
+use Rattle.cred_record.specs.Credential.{Credential}
+use Rattle.cred_slots.specs.Table.{Table, swept}
+use Rattle.cred_tables.specs.Kept.{Parts, IsKept}
+
+pub kept_spare : {parts : Parts} {store : List (Option Credential)} {t r : Table} {m : ℕ} → IsKept parts store t → r ≡ record t { spare = m }
+    → IsKept parts store r
+kept_spare {parts = parts} {store = store} is made =
+    subst (λ (x : Table). IsKept parts store x) (sym made)
+    (record { counted = record { counts = is.counted.counts; keeps = is.counted.keeps }; filled = is.filled })
+
+pub kept_swept : {parts : Parts} {store : List (Option Credential)} {t r : Table} → IsKept parts store t → r ≡ swept t → IsKept parts store r
+kept_swept {parts = parts} {store = store} is made =
+    subst (λ (x : Table). IsKept parts store x) (sym made)
+    (record { counted = record { counts = is.counted.counts; keeps = is.counted.keeps }; filled = is.filled })
