@@ -1,4 +1,4 @@
-use Rattle.std.proofs.Common.{ℕ, arith, ◌≤◌, ◌++◌, ◌∙◌, refl, length, take, length-append}
+use Rattle.std.proofs.Common.{ℕ, arith, rules, ◌≤◌, ◌++◌, ◌∙◌, refl, length, take, length-append}
 use Rattle.std.proofs.lemmas.List.{take-append-le, length-take}
 use Rattle.cred_io.proofs.Known.{consumes_nothing, consumes_more}
 use Rattle.cred_io.proofs.source.read_all.Goals as goal
@@ -25,3 +25,23 @@ returns-in_err-extend_from_slice-clause-no_more g c =
       taken = consumes_more _ _ _ _ _ c.loop-buf.invariant.taken c.in_ok-count.ensures.bytes.0;
       within = omega (arith, length-take {A = ℕ}, length-append {A = ℕ}, c.read.auto.buf);
     }
+
+pub returns-clause-too_large : goal.returns-clause-too_large
+returns-clause-too_large g c = λ _. record {
+  bytes = c.loop-buf.bytes.items;
+  taken = c.loop-buf.invariant.taken;
+  above = omega arith;
+}
+
+pub returns-clause-fault : goal.returns-clause-fault
+returns-clause-fault g c = λ e. cc
+
+pub returns-clause-cause : goal.returns-clause-cause
+returns-clause-cause g c = search rules
+
+pub returns-clause-no_more : goal.returns-clause-no_more
+returns-clause-no_more g c = record {
+  bytes = c.loop-buf.bytes.items;
+  taken = c.loop-buf.invariant.taken;
+  within = omega arith;
+}

@@ -1,0 +1,16 @@
+use Rattle.std.proofs.Common.{ℕ, replicate, sym, ap, ◌∙◌}
+use Rattle.cred_model.specs.Script.{Script}
+use Rattle.cred_script.specs.Lanes.{lanes}
+use Rattle.cred_turn.specs.Rows.{fresh, home_row}
+use Rattle.cred_kernel.proofs.parts.Parts.new.Goals as goal
+
+pub invariant_of-result : goal.invariant_of-result
+invariant_of-result c = record {
+  ready = c.in_ok-book.ensures.ready;
+  rows = c.in_ok-roll.ensures.rows
+      ∙ ap (λ (n : ℕ). replicate n (home_row fresh))
+      (c.lanes-lanes.ensures.greatest ∙ ap (λ (s : Script). lanes s.lines) (sym c.in_ok-book.ensures.script));
+}
+
+pub returns : goal.returns
+returns c = record { script = c.in_ok-book.ensures.script }
