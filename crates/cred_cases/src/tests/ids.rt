@@ -1,5 +1,5 @@
-//! Ids, arguments and lists of groups, as no script sees them: a number that is no id, a group by its
-//! place, and how many there were too many.
+//! What no script sees of ids, arguments and lists of groups: a number that is no id, and how many
+//! groups there were too many.
 use crate::tests::parts::id;
 use cred_ids::{Arg, Groups, GroupsRefusal, Id};
 use std::test::Fail;
@@ -16,14 +16,6 @@ fn minus_one_is_no_id_and_keeps_the_old_one(rt: HostRuntime) -> Result<(), Fail>
         assert!(rt; answers == (is_id, is_id), "{n}");
     }
     assert!(rt; Arg::of(1000) == Arg::Set(id(1000)?));
-    Ok(())
-}
-
-#[test]
-fn groups_are_found_by_place(rt: HostRuntime) -> Result<(), Fail> {
-    let four = id(4)?;
-    let groups = Groups::from_list(rt.alloc(), &[four]).map_err(|_| "refused")?;
-    assert!(rt; (groups.len(), groups.at(0), groups.at(1)) == (1, Some(four), None));
     Ok(())
 }
 

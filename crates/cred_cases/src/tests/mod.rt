@@ -1,6 +1,5 @@
 //! What no script asks, a module for each crate whose calls it makes.
 mod caps;
-mod casts;
 mod filecap;
 mod hold;
 mod ids;

@@ -1,14 +1,10 @@
-//! What no clause can say of the lists of the process table: that they are made where memory is
-//! left.
-use cred_procs::{Numbers, TaskList};
+//! What no clause says of a list of numbers: that it is made where memory is left. No script has one
+//! made so.
+use cred_procs::Numbers;
 use std::test::Fail;
 
 #[test]
-fn lists_are_what_they_are_made_of(rt: HostRuntime) -> Result<(), Fail> {
-    assert_eq!(rt;
-        TaskList::of(rt.alloc(), &[2, 1])?.items(),
-        [2, 1].as_slice()
-    );
+fn numbers_are_what_they_are_made_of(rt: HostRuntime) -> Result<(), Fail> {
     assert_eq!(rt;
         Numbers::of(rt.alloc(), &[7, 7])?.items(),
         [7, 7].as_slice()
