@@ -173,6 +173,13 @@ def lacks(entries, report):
     return next((it for it in entries if it not in left), None)
 
 
+def beside(entry, report):
+    """An entry that is lacking, and those that the report has of its line."""
+    line = entry.split(b" ")[0]
+    found = [it for it in report.splitlines() if it.split(b" ")[0] == line]
+    return b"\n".join([b"-" + entry, *(b"+" + it for it in found)]).decode(errors="replace")
+
+
 def audited(program, given, report):
     """Fails where `audit` doesn't find the report of the script legal."""
     script_part = given if given.endswith(b"\n") or not given else given + b"\n"
@@ -198,7 +205,7 @@ def check_script(program, case, words):
             raise Failure(f"run ends with status {ends}, not {status}")
     missing = lacks(case.entries, report)
     if missing is not None:
-        raise Failure(f"the report lacks this entry, here or at all:\n{missing.decode()}")
+        raise Failure(f"the report lacks an entry, here or at all:\n{beside(missing, report)}")
     has_lanes = LANE.search(case.given)
     if "lanes" in words and not (status == 0 and has_lanes):
         hold(program, ("lanes",), case.given, report, status)
