@@ -32,6 +32,13 @@ def lacks(entries, report):
     return next((it for it in entries if it not in left), None)
 
 
+def beside(entry, report):
+    """An entry that is lacking, and those that the report has of its line."""
+    line = entry.split(b" ")[0]
+    found = [it for it in report.splitlines() if it.split(b" ")[0] == line]
+    return b"\n".join([b"-" + entry, *(b"+" + it for it in found)]).decode(errors="replace")
+
+
 @dataclass(frozen=True)
 class Program:
     """How it is run, and which commands it has.
@@ -87,7 +94,7 @@ class Program:
         report = self.run(case.words, case.given, case.ends())
         missing = lacks([self.seen(it) for it in case.entries], self.seen(report))
         if missing is not None:
-            raise Failure(f"the report lacks this entry, here or at all:\n{missing.decode()}")
+            raise Failure(f"the report lacks an entry, here or at all:\n{beside(missing, report)}")
         return report
 
     def check_script(self, case):
