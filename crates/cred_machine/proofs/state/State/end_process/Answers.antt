@@ -1,7 +1,8 @@
-use Rattle.std.proofs.Common.{◌≡◌, [], if◌then◌else◌, refl, ◌∙◌}
+use Rattle.std.proofs.Common.{◌≡◌, ℕ, List, [], if◌then◌else◌, refl, ap, ◌∙◌}
 use Rattle.cred_machine.specs.Room.{at_abort}
 use Rattle.cred_machine.proofs.Leads.{process_ended}
 use Rattle.cred_machine.proofs.Seen.{seen_state}
+use Rattle.cred_machine.proofs.Unchanged.{on_err}
 use Rattle.cred_machine.proofs.state.State.end_process.Goals as goal
 use Rattle.cred_machine.proofs.state.State.end_process.Goals.{in-Full, in_default}
 
@@ -16,3 +17,11 @@ returns-clause-state c =
     rw (← c.self.view_is)
     (process_ended s c.args.process _ _ _ _ c.match-matches.matches c.end.ensures c.drop_cast.ensures c.in_ok-defer.ensures.ok
     (c.deref.ensures.value ∙ c.in_ok-append_left.ensures ∙ rw c.new-numbers.ensures.items refl) c.args.cause swept)
+
+pub returns-in_err-append_left-clause-err : goal.returns-in_err-append_left-clause-err
+returns-in_err-append_left-clause-err c = on_err _ refl
+
+pub returns-in_err-defer-clause-err : goal.returns-in_err-defer-clause-err
+returns-in_err-defer-clause-err c =
+    let s = seen_state c.self.inside in
+    rw (← c.self.view_is) (on_err _ (ap (λ (l : List ℕ). record s { deferred = l }) c.in_err-defer.ensures.err))

@@ -1,8 +1,9 @@
-use Rattle.std.proofs.Common.{◌++◌, ◌∷◌, [], sym, ap, ◌∙◌}
-use Rattle.cred_model.specs.State.{Task}
+use Rattle.std.proofs.Common.{List, ◌++◌, ◌∷◌, [], refl, sym, ap, ◌∙◌}
+use Rattle.cred_model.specs.State.{Task, SealedCred}
 use Rattle.cred_model.proofs.Places.{none_by_test}
 use Rattle.cred_machine.proofs.Leads.{idle_in, init_leads, not_full}
 use Rattle.cred_machine.proofs.Seen.{seen_state}
+use Rattle.cred_machine.proofs.Unchanged.{on_err}
 use Rattle.cred_machine.proofs.state.State.init.Goals as goal
 
 pub returns-clause-ok : goal.returns-clause-ok
@@ -17,3 +18,22 @@ returns-clause-ok c =
     (c.in_ok-push.ensures.ok ∙ ap (λ (n : Task). s.tasks ++ n ∷ []) c.first-2.ensures)
     c.seal.ensures.sealed
     c.sweep_if.ensures.items)
+
+pub returns-in_err-cred-clause-err : goal.returns-in_err-cred-clause-err
+returns-in_err-cred-clause-err c = on_err _ refl
+
+pub returns-in_err-slot-clause-err : goal.returns-in_err-slot-clause-err
+returns-in_err-slot-clause-err c = on_err _ refl
+
+pub returns-in_err-reserve-clause-err : goal.returns-in_err-reserve-clause-err
+returns-in_err-reserve-clause-err c =
+    let s = seen_state c.self.inside in
+    rw (← c.self.view_is) (on_err _ (ap (λ (l : List SealedCred). record s { creds = l }) c.in_err-reserve.ensures.list))
+
+pub returns-in_err-push-clause-err : goal.returns-in_err-push-clause-err
+returns-in_err-push-clause-err c =
+    let s = seen_state c.self.inside in
+    rw (← c.self.view_is)
+    (on_err _
+    (ap (λ (l : List Task). record s { tasks = l; creds = c.reserve.new.self.list }) c.in_err-push.ensures.err
+    ∙ ap (λ (l : List SealedCred). record s { creds = l }) c.in_ok-reserve.ensures.list))

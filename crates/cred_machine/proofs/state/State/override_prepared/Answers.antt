@@ -1,9 +1,10 @@
-use Rattle.std.proofs.Common.{◌==◌, sym, ap, ◌∙◌}
-use Rattle.cred_model.specs.State.{Changed, Prepared}
+use Rattle.std.proofs.Common.{◌==◌, sym, ap, ◌∙◌, List, refl}
+use Rattle.cred_model.specs.State.{Changed, Prepared, SealedCred}
 use Rattle.cred_plain.proofs.Places.{found_is}
 use Rattle.cred_machine.proofs.Refusals.{some_of}
 use Rattle.cred_machine.proofs.Lending.{access_deep, access_lends, is_deep, lend_other, not_deep, said_of}
 use Rattle.cred_machine.proofs.Seen.{placed, seen_state}
+use Rattle.cred_machine.proofs.Unchanged.{on_err}
 use Rattle.cred_machine.proofs.state.State.override_prepared.Goals as goal
 
 pub returns-in_default-for_access-clause-ok : goal.returns-in_default-for_access-clause-ok
@@ -45,3 +46,11 @@ returns-clause-ok c =
     (c.in_ok-cred.ensures ∙ ap (λ (l : Changed). l.cred) c.last.view_is)
     (said_of s.tasks c.args.task _ c.unwrap.result.now sound.tasks lives c.in_ok-push_override.ensures.ok)
     c.seal.ensures.sealed c.in_ok-reserve-2.ensures.items c.in_ok-defer.ensures.ok c.remove.ensures.items)
+
+pub returns-in_err-cred-clause-err : goal.returns-in_err-cred-clause-err
+returns-in_err-cred-clause-err c = on_err _ refl
+
+pub returns-in_err-reserve-clause-err : goal.returns-in_err-reserve-clause-err
+returns-in_err-reserve-clause-err c =
+    let s = seen_state c.self.inside in
+    rw (← c.self.view_is) (on_err _ (ap (λ (l : List SealedCred). record s { creds = l }) c.in_err-reserve.ensures.list))
