@@ -1,7 +1,9 @@
+use cred_ids::NoMemory;
 use cred_io::{
     Bytes, Failed, MemorySink, MemorySource, ReadRefusal, Sink, SinkRefusal, Source, StdSink,
     StdSource, SureSink, SureSource, read_all, write_all,
 };
+use std::alloc::Global;
 use std::io;
 use std::io::{Read, Write};
 use std::test::Fail;
@@ -23,49 +25,68 @@ fn is_whole(read: Result<Bytes, ReadRefusal>, bytes: &[u8]) -> Result<bool, Read
     Ok(read?.items() == bytes)
 }
 
+/// How many bytes there are, the limit, and whether they are within it.
+const LIMITS: [(u32, u32, bool); 7] = [
+    (0, 0, true),
+    (1, 0, false),
+    (3, 3, true),
+    (4, 3, false),
+    (MEBIBYTE, MEBIBYTE, true),
+    (MEBIBYTE + 1, MEBIBYTE, false),
+    (9, u32::MAX, true),
+];
+
+/// What comes of reading so many bytes up to a limit, from memory and over a reader of std.
+fn both_read(
+    alloc: Global,
+    len: u32,
+    limit: u32,
+) -> Result<[Result<bool, ReadRefusal>; 2], NoMemory> {
+    let bytes = vec![in alloc; b'#'; len as usize]?;
+    let mut sure = SureSource::of(alloc, &bytes)?;
+    let mut standard = StdSource::new(bytes.as_slice());
+    Ok([
+        is_whole(read_all(alloc, &mut sure, limit), &bytes),
+        is_whole(read_all(alloc, &mut standard, limit), &bytes),
+    ])
+}
+
 #[test]
 fn reads_to_the_limit_and_not_past_it(rt: HostRuntime) -> Result<(), Fail> {
-    let table = [
-        (0, 0, true),
-        (1, 0, false),
-        (3, 3, true),
-        (4, 3, false),
-        (MEBIBYTE, MEBIBYTE, true),
-        (MEBIBYTE + 1, MEBIBYTE, false),
-        (9, u32::MAX, true),
-    ];
-    for (len, limit, fits) in table {
-        let bytes = vec![in rt.alloc(); b'#'; len as usize]?;
-        let mut sure = SureSource::of(rt.alloc(), &bytes)?;
-        let mut standard = StdSource::new(bytes.as_slice());
+    for (len, limit, fits) in LIMITS {
         let want = if fits {
             Ok(true)
         } else {
             Err(ReadRefusal::TooLarge)
         };
-        let reads = [
-            is_whole(read_all(rt.alloc(), &mut sure, limit), &bytes),
-            is_whole(read_all(rt.alloc(), &mut standard, limit), &bytes),
-        ];
+        let reads = both_read(rt.alloc(), len, limit)?;
         assert!(rt; reads == [want, want], "{len} bytes, limit {limit}");
     }
     Ok(())
 }
 
+/// Reads three of the bytes, and then twice the rest, while one of the reads fails. Returns whether
+/// the three were read, and what came of the others.
+fn three_and_rest(
+    alloc: Global,
+    failing: u64,
+    rest: &[u8],
+) -> Result<(bool, [Result<bool, ReadRefusal>; 2]), NoMemory> {
+    let mut source = MemorySource::of(alloc, b"abcdefgh", &[failing])?;
+    let mut buf = [0; 3];
+    let count = source.read(&mut buf);
+    let faulty = is_whole(read_all(alloc, &mut source, 100), rest);
+    let left = is_whole(read_all(alloc, &mut source, 100), rest);
+    Ok(((count, buf) == (Ok(3), *b"abc"), [faulty, left]))
+}
+
 #[test]
 fn a_read_that_fails_in_mid_stream_leaves_the_rest(rt: HostRuntime) -> Result<(), Fail> {
+    let want = (true, [Err(ReadRefusal::Fault), Ok(true)]);
     // The second read finds bytes, and the third would tell the end.
     for (failing, rest) in [(2, b"defgh".as_slice()), (3, b"".as_slice())] {
-        let mut source = MemorySource::of(rt.alloc(), b"abcdefgh", &[failing])?;
-        let mut buf = [0; 3];
-        let count = source.read(&mut buf);
-        assert!(rt; (count, buf) == (Ok(3), *b"abc"));
-        let faulty = is_whole(read_all(rt.alloc(), &mut source, 100), rest);
-        let left = is_whole(read_all(rt.alloc(), &mut source, 100), rest);
-        assert!(rt;
-            (faulty, left) == (Err(ReadRefusal::Fault), Ok(true)),
-            "read {failing} fails"
-        );
+        let read = three_and_rest(rt.alloc(), failing, rest)?;
+        assert!(rt; read == want, "read {failing} fails");
     }
     Ok(())
 }
@@ -83,6 +104,17 @@ fn are_refused(sink: &mut MemorySink) -> Result<bool, SinkRefusal> {
     Ok(refusal.is_some())
 }
 
+/// Whether a piece is refused while this write fails, and whether this is what the sink has then.
+fn of_failing(
+    alloc: Global,
+    failing: u64,
+    prefix: &[u8],
+) -> Result<(Result<bool, SinkRefusal>, bool), NoMemory> {
+    let mut sink = MemorySink::of(alloc, &[failing])?;
+    let are_refused = are_refused(&mut sink);
+    Ok((are_refused, sink.bytes() == prefix))
+}
+
 #[test]
 fn a_write_that_fails_leaves_a_prefix(rt: HostRuntime) -> Result<(), Fail> {
     let table = [
@@ -92,10 +124,8 @@ fn a_write_that_fails_leaves_a_prefix(rt: HostRuntime) -> Result<(), Fail> {
         (4, b"abcdef".as_slice()),
     ];
     for (failing, prefix) in table {
-        let mut sink = MemorySink::of(rt.alloc(), &[failing])?;
-        let are_refused = are_refused(&mut sink);
-        assert!(rt; are_refused == Ok(failing < 4), "write {failing} fails");
-        assert!(rt; sink.bytes() == prefix, "write {failing} fails");
+        let got = of_failing(rt.alloc(), failing, prefix)?;
+        assert!(rt; got == (Ok(failing < 4), true), "write {failing} fails");
     }
     Ok(())
 }

@@ -1,7 +1,7 @@
 //! A credential as words, and the words that are none.
 use crate::tests::parts::{ALL, id};
 use cred_caps::SecureBits;
-use cred_ids::{Groups, Id};
+use cred_ids::{Groups, Id, NoMemory};
 use cred_record::layout::{AMBIENT, FLAGS, GROUPS, NAMESPACE, PERMITTED, SAVED_GROUP, SPARE, USER};
 use cred_record::{Cred, WORDS, first, of_words, to_words};
 use std::alloc::Global;
@@ -70,30 +70,37 @@ fn the_last_group_stands_in_the_last_word(rt: HostRuntime) -> Result<(), Fail> {
     Ok(())
 }
 
+/// Words that stand in their places of no credential with the groups 4 and 5.
+const OTHERS: [(usize, u64); 12] = [
+    (USER, 0xffff_ffff),
+    (SAVED_GROUP, 0xffff_ffff_0000_0000),
+    (PERMITTED, 0x3ff_ffff_ffff),
+    (PERMITTED, 0),
+    (AMBIENT, 1),
+    (FLAGS, 0x2_032f),
+    (FLAGS, 0x21_012f),
+    (NAMESPACE, 1 << 32),
+    (SPARE, 1),
+    (GROUPS, 0x4_0000_0005),
+    (GROUPS, 0xffff_ffff_0000_0004),
+    (GROUPS + 1, 1),
+];
+
+/// Whether the words are a credential's.
+fn is_credential(alloc: Global, words: &[u64; WORDS]) -> Result<bool, NoMemory> {
+    Ok(of_words(alloc, words)?.is_some())
+}
+
 #[test]
 fn other_words_are_no_credential(rt: HostRuntime) -> Result<(), Fail> {
     let words = to_words(&with_groups(rt.alloc(), &[id(4)?, id(5)?])?);
-    for (place, word) in [
-        (USER, 0xffff_ffff),
-        (SAVED_GROUP, 0xffff_ffff_0000_0000),
-        (PERMITTED, 0x3ff_ffff_ffff),
-        (PERMITTED, 0),
-        (AMBIENT, 1),
-        (FLAGS, 0x2_032f),
-        (FLAGS, 0x21_012f),
-        (NAMESPACE, 1 << 32),
-        (SPARE, 1),
-        (GROUPS, 0x4_0000_0005),
-        (GROUPS, 0xffff_ffff_0000_0004),
-        (GROUPS + 1, 1),
-    ] {
+    assert!(rt; is_credential(rt.alloc(), &words)?);
+    for (place, word) in OTHERS {
         let mut other = words;
         assert!(rt; place < WORDS);
         other[place] = word;
-        let refused = of_words(rt.alloc(), &other)?.is_none();
-        assert!(rt; refused, "{word} at {place}");
-        other[place] = words[place];
-        assert!(rt; of_words(rt.alloc(), &other)?.is_some());
+        let is_one = is_credential(rt.alloc(), &other)?;
+        assert!(rt; !is_one, "{word} at {place}");
     }
     Ok(())
 }
