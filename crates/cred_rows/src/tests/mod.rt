@@ -7,4 +7,3 @@ mod held;
 mod machine;
 mod reading;
 mod runs;
-mod texts;
