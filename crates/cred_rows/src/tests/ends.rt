@@ -1,6 +1,6 @@
 //! What the program does where its ends fail.
 use crate::tests::runs::words_of;
-use cred_io::{MemorySink, MemorySource, StdSink, SureSource};
+use cred_io::{MemorySink, MemorySource, StdSink};
 use cred_lanes::NoGate;
 use cred_program::{Status, credtrace};
 use std::io;
@@ -95,7 +95,7 @@ fn a_text_that_is_not_handed_on_is_a_write_fault(rt: HostRuntime) -> Result<(), 
     ];
     for (texts, script) in table {
         let words = words_of(rt.alloc(), texts)?;
-        let mut source = SureSource::of(rt.alloc(), script.as_bytes())?;
+        let mut source = MemorySource::of(rt.alloc(), script.as_bytes(), &[])?;
         let mut sink = StdSink::new(FullDisk);
         let status = credtrace(&rt, rt.alloc(), &words, &mut source, &mut sink, &NoGate);
         assert!(rt; status == Status::WriteFault);

@@ -1,6 +1,6 @@
 //! Runs of the program over ends in memory.
 use cred_ids::NoMemory;
-use cred_io::{MemorySink, SureSink, SureSource};
+use cred_io::{MemorySink, MemorySource};
 use cred_lanes::NoGate;
 use cred_program::{Status, credtrace};
 use std::alloc::Global;
@@ -24,7 +24,7 @@ pub(crate) fn failed<R: AllocGlobal + Threads + Wait + Sync>(
 ) -> Result<(Status, MemorySink), NoMemory> {
     let alloc = rt.alloc();
     let words = words_of(alloc, &["lanes"])?;
-    let mut source = SureSource::of(alloc, script.as_bytes())?;
+    let mut source = MemorySource::of(alloc, script.as_bytes(), &[])?;
     let mut sink = MemorySink::of(alloc, &[write])?;
     let status = credtrace(rt, alloc, &words, &mut source, &mut sink, &NoGate);
     Ok((status, sink))
@@ -35,14 +35,14 @@ pub(crate) fn audited<R: AllocGlobal + Threads + Wait + Sync>(
     rt: &R,
     script: &str,
     report: &[u8],
-) -> Result<SureSink, NoMemory> {
+) -> Result<MemorySink, NoMemory> {
     let alloc = rt.alloc();
     let mut input = script.as_bytes().to_vec(alloc)?;
     input.extend_from_slice(b"report\n")?;
     input.extend_from_slice(report)?;
     let words = words_of(alloc, &["audit"])?;
-    let mut source = SureSource::of(alloc, &input)?;
-    let mut sink = SureSink::new(alloc);
+    let mut source = MemorySource::of(alloc, &input, &[])?;
+    let mut sink = MemorySink::of(alloc, &[])?;
     let _status = credtrace(rt, alloc, &words, &mut source, &mut sink, &NoGate);
     Ok(sink)
 }
