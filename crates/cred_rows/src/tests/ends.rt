@@ -1,8 +1,10 @@
 //! What the program does where its ends fail.
 use crate::tests::runs::words_of;
-use cred_io::{MemorySink, MemorySource};
+use cred_io::{MemorySink, MemorySource, StdSink};
 use cred_lanes::NoGate;
 use cred_program::{Status, credtrace};
+use std::io;
+use std::io::Write;
 use std::sync::Wait;
 use std::test::Fail;
 use std::thread::Threads;
@@ -59,6 +61,45 @@ fn a_failed_write_leaves_the_entries_before(rt: HostRuntime) -> Result<(), Fail>
     }
     let (status, sink) = failing(&rt, &[], &[9])?;
     assert!(rt; status == Status::Done && sink.bytes() == written.as_bytes());
+    Ok(())
+}
+
+/// A writer over a full disk: it takes all, and fails where it is to hand it on.
+#[derive(Drop)]
+struct FullDisk;
+
+impl Write for FullDisk {
+    fn write(&mut self, buf: &[u8]) -> io::Result<usize> {
+        Ok(buf.len())
+    }
+
+    fn flush(&mut self) -> io::Result<()> {
+        Err(io::Error::from(io::ErrorKind::StorageFull))
+    }
+}
+
+#[test]
+fn a_text_that_is_not_handed_on_is_a_write_fault(rt: HostRuntime) -> Result<(), Fail> {
+    // A report, an empty one, both verdicts, a summary, the line of an attribute, the reason why
+    // bytes are none, and the usage line.
+    let table: [(&[&str], &str); 9] = [
+        (&["run"], SCRIPT),
+        (&["run"], ""),
+        (&["lanes"], SCRIPT),
+        (&["audit"], "report\n"),
+        (&["audit"], "report\nx\n"),
+        (&["gen", "1"], ""),
+        (&["decode", "0100000200200000000000000000000000000000"], ""),
+        (&["decode", "0100"], ""),
+        (&["frob"], ""),
+    ];
+    for (texts, script) in table {
+        let words = words_of(rt.alloc(), texts)?;
+        let mut source = MemorySource::of(rt.alloc(), script.as_bytes(), &[])?;
+        let mut sink = StdSink::new(FullDisk);
+        let status = credtrace(&rt, rt.alloc(), &words, &mut source, &mut sink, &NoGate);
+        assert!(rt; status == Status::WriteFault);
+    }
     Ok(())
 }
 
