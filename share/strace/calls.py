@@ -1,0 +1,319 @@
+"""Which lines of a script the calls on credentials are, and what a report should answer them.
+
+Each function here gets the arguments of a call and its result. It returns what the task says in the
+script, and the kernel's result in the words of a report; or None where the call says nothing about
+credentials, as where it failed for another reason.
+"""
+
+from __future__ import annotations
+
+from collections.abc import Callable
+from dataclasses import dataclass
+
+from . import lines
+from .lines import Result
+
+
+class Unheld(Exception):
+    """A call that no line of a script can say, and that can't be passed over."""
+
+
+# capabilities(7), in the order of their numbers.
+CAPABILITIES = (
+    "CHOWN DAC_OVERRIDE DAC_READ_SEARCH FOWNER FSETID KILL SETGID SETUID SETPCAP LINUX_IMMUTABLE "
+    "NET_BIND_SERVICE NET_BROADCAST NET_ADMIN NET_RAW IPC_LOCK IPC_OWNER SYS_MODULE SYS_RAWIO "
+    "SYS_CHROOT SYS_PTRACE SYS_PACCT SYS_ADMIN SYS_BOOT SYS_NICE SYS_RESOURCE SYS_TIME "
+    "SYS_TTY_CONFIG MKNOD LEASE AUDIT_WRITE AUDIT_CONTROL SETFCAP MAC_OVERRIDE MAC_ADMIN SYSLOG "
+    "WAKE_ALARM BLOCK_SUSPEND AUDIT_READ PERFMON BPF CHECKPOINT_RESTORE"
+).split()
+
+ALL_CAPABILITIES = (1 << len(CAPABILITIES)) - 1
+
+CAP_BITS = {f"1<<CAP_{name}": 1 << place for place, name in enumerate(CAPABILITIES)}
+
+# capabilities(7), "The securebits flags", with those of Linux 6.14 and later.
+SECUREBITS = {
+    f"SECBIT_{name}": 1 << place
+    for place, name in enumerate(
+        "NOROOT NOROOT_LOCKED NO_SETUID_FIXUP NO_SETUID_FIXUP_LOCKED KEEP_CAPS KEEP_CAPS_LOCKED "
+        "NO_CAP_AMBIENT_RAISE NO_CAP_AMBIENT_RAISE_LOCKED EXEC_RESTRICT_FILE "
+        "EXEC_RESTRICT_FILE_LOCKED EXEC_DENY_INTERACTIVE EXEC_DENY_INTERACTIVE_LOCKED".split()
+    )
+}
+
+# The limit of groups (docs/FORMATS.md).
+GROUPS = 32
+
+
+@dataclass(frozen=True)
+class Said:
+    """What a task says in the script, and the answer that the kernel's result is.
+
+    In the answer `*` stands for any word, and `&MASK=VALUE` for a number with these bits.
+    """
+
+    words: str
+    answer: str
+
+
+Args = tuple[str, ...]
+Reading = Callable[[Args, Result], Said | None]
+
+
+def answer(result: Result) -> str | None:
+    """`ok`, or the error in the words of a report; None where the error isn't one of credentials."""
+    if result.error is None:
+        return "ok" if result.value is not None and result.value >= 0 else None
+    return result.error.lower() if result.error in ("EPERM", "EINVAL", "EACCES") else None
+
+
+def told(words: str, result: Result) -> Said | None:
+    """A call that succeeds or not, and says no more."""
+    said = answer(result)
+    return None if said is None else Said(words, said)
+
+
+def identity(text: str) -> str | None:
+    """An id as an argument: -1 keeps the old one."""
+    value = lines.number(text)
+    if value is None or not -1 <= value < 1 << 32:
+        return None
+    return "-1" if value in (-1, (1 << 32) - 1) else str(value)
+
+
+def ids_call(name: str, count: int) -> Reading:
+    """setuid(2) and its kin: so many ids."""
+
+    def read(args: Args, result: Result) -> Said | None:
+        words = [identity(arg) for arg in args]
+        if len(words) != count or None in words:
+            return None
+        return told(f"{name} {' '.join(word for word in words if word)}", result)
+
+    return read
+
+
+def file_id(name: str) -> Reading:
+    """setfsuid(2), setfsgid(2): the result is the id before."""
+
+    def read(args: Args, result: Result) -> Said | None:
+        word = identity(args[0]) if args else None
+        if word is None or result.value is None:
+            return None
+        return Said(f"{name} {word}", f"ok was {result.value}")
+
+    return read
+
+
+def setgroups(args: Args, result: Result) -> Said | None:
+    """setgroups(2)."""
+    if len(args) != 2 or answer(result) is None:
+        return None
+    listed = [] if args[1] == "NULL" and args[0] == "0" else lines.items(args[1])
+    if listed is None:
+        if result.error is not None:
+            return None
+        raise Unheld("the list of groups is shortened: strace writes all of it with -v")
+    if len(listed) > GROUPS and result.error is None:
+        raise Unheld(f"it sets {len(listed)} groups, and a script holds {GROUPS}")
+    words = [identity(word) for word in listed]
+    if None in words or "-1" in words:
+        return None
+    return told(" ".join(["setgroups", *(word for word in words if word)]), result)
+
+
+def own(args: Args, pid: int) -> bool:
+    """Whether capset(2) or capget(2) is of the task itself."""
+    named = lines.number(lines.fields(args[0]).get("pid", "")) if args else None
+    return named in (0, pid)
+
+
+def sets(args: Args) -> list[int] | None:
+    """The permitted, the inheritable and the effective set that capset(2) or capget(2) names."""
+    version = lines.fields(args[0]).get("version", "") if len(args) == 2 else ""
+    if not version.startswith("_LINUX_CAPABILITY_VERSION_"):
+        return None
+    named = lines.fields(args[1])
+    found = [
+        lines.bits(named.get(name, ""), CAP_BITS) for name in ("permitted", "inheritable", "effective")
+    ]
+    return None if None in found else [(value or 0) & ALL_CAPABILITIES for value in found]
+
+
+def capset(args: Args, result: Result) -> Said | None:
+    """capset(2), of the task itself."""
+    found = sets(args)
+    if found is None:
+        return None
+    return told("capset " + " ".join(f"{value:x}" for value in found), result)
+
+
+def capget(args: Args, result: Result) -> Said | None:
+    """capget(2): a question about the sets."""
+    found = sets(args)
+    if found is None or result.value != 0:
+        return None
+    permitted, inheritable, effective = (f"{value:x}" for value in found)
+    return Said("caps", f"ok {permitted} {inheritable} {effective} * *")
+
+
+def one_id(place: int) -> Reading:
+    """getuid(2) and its kin: a question about one of the eight ids."""
+
+    def read(args: Args, result: Result) -> Said | None:
+        return None if result.value is None else Said("ids", ids_answer({place: result.value}))
+
+    return read
+
+
+def three_ids(first: int) -> Reading:
+    """getresuid(2), getresgid(2): real, effective and saved id."""
+
+    def read(args: Args, result: Result) -> Said | None:
+        values = [lines.number(arg.strip("[]")) for arg in args]
+        if result.value != 0 or len(values) != 3 or None in values:
+            return None
+        return Said("ids", ids_answer({first + place: value or 0 for place, value in enumerate(values)}))
+
+    return read
+
+
+def ids_answer(known: dict[int, int]) -> str:
+    """The answer of `ids` of which these are known."""
+    return " ".join(["ok", *(str(known.get(place, "*")) for place in range(8))])
+
+
+def getgroups(args: Args, result: Result) -> Said | None:
+    """getgroups(2): the groups, or only how many."""
+    if len(args) != 2 or result.value is None or result.value < 0 or result.value > GROUPS:
+        return None
+    listed = lines.items(args[1])
+    if args[0] == "0" or listed is None:
+        return Said("groups", " ".join(["ok", *["*"] * result.value]))
+    values = sorted(lines.number(word) or 0 for word in listed)
+    return Said("groups", " ".join(["ok", *map(str, values)]))
+
+
+def capability(text: str) -> str | None:
+    """The word for a capability: its name, or its number where it has none."""
+    if text.removeprefix("CAP_") in CAPABILITIES:
+        return text
+    value = lines.number(text)
+    return str(value) if value is not None and 0 <= value < 1 << 32 else None
+
+
+def ambient(args: Args, result: Result) -> Said | None:
+    """prctl(2), PR_CAP_AMBIENT: raise, lower, clear all, ask."""
+    what = args[1].removeprefix("PR_CAP_AMBIENT_") if len(args) > 1 else ""
+    if any(lines.number(arg) != 0 for arg in args[3:]):
+        return None
+    if what == "CLEAR_ALL":
+        return told("ambclear", result)
+    word = capability(args[2]) if len(args) > 2 else None
+    if word is None:
+        return None
+    if what == "IS_SET":
+        return asked(f"ambis {word}", result)
+    forms = {"RAISE": "ambraise", "LOWER": "amblower"}
+    return told(f"{forms[what]} {word}", result) if what in forms else None
+
+
+def asked(words: str, result: Result) -> Said | None:
+    """A question whose result is 0, 1 or an error."""
+    if result.error is None:
+        return None if result.value is None else Said(words, f"ok {result.value}")
+    return told(words, result)
+
+
+def switch(form: str) -> Reading:
+    """prctl(2), PR_SET_KEEPCAPS and PR_SET_NO_NEW_PRIVS: a number, and zeros."""
+
+    def read(args: Args, result: Result) -> Said | None:
+        value = lines.number(args[1]) if len(args) > 1 else None
+        if value is None or not 0 <= value < 1 << 32:
+            return None
+        if form == "nonewprivs" and any(lines.number(arg) != 0 for arg in args[2:]):
+            return None
+        return told(f"{form} {value}", result)
+
+    return read
+
+
+def securebits(args: Args, result: Result) -> Said | None:
+    """prctl(2), PR_SET_SECUREBITS."""
+    value = lines.bits(args[1], SECUREBITS) if len(args) > 1 else None
+    return told(f"securebits {value}", result) if value is not None and value < 1 << 32 else None
+
+
+def bounding(form: str) -> Reading:
+    """prctl(2), PR_CAPBSET_DROP and PR_CAPBSET_READ."""
+
+    def read(args: Args, result: Result) -> Said | None:
+        word = capability(args[1]) if len(args) > 1 else None
+        if word is None:
+            return None
+        return asked(f"bset {word}", result) if form == "bset" else told(f"capdrop {word}", result)
+
+    return read
+
+
+def bits_are(pattern: str) -> Reading:
+    """prctl(2), PR_GET_SECUREBITS and its kin: a question about securebits and no_new_privs."""
+
+    def read(args: Args, result: Result) -> Said | None:
+        if result.value is None or result.error:
+            return None
+        flag = f"&16={16 * result.value}"
+        return Said("bits", pattern.format(value=result.value, flag=flag))
+
+    return read
+
+
+OPERATIONS: dict[str, Reading] = {
+    "PR_SET_KEEPCAPS": switch("keepcaps"),
+    "PR_SET_NO_NEW_PRIVS": switch("nonewprivs"),
+    "PR_SET_SECUREBITS": securebits,
+    "PR_CAPBSET_DROP": bounding("capdrop"),
+    "PR_CAPBSET_READ": bounding("bset"),
+    "PR_CAP_AMBIENT": ambient,
+    "PR_GET_KEEPCAPS": bits_are("ok {flag} *"),
+    "PR_GET_SECUREBITS": bits_are("ok {value} *"),
+    "PR_GET_NO_NEW_PRIVS": bits_are("ok * {value}"),
+}
+
+
+def prctl(args: Args, result: Result) -> Said | None:
+    """prctl(2), where its operation is one on credentials."""
+    read = OPERATIONS.get(args[0]) if args else None
+    return read(args, result) if read else None
+
+
+# The calls that libc has every thread of a process make (nptl(7)).
+ID_CALLS: dict[str, Reading] = {
+    "setuid": ids_call("setuid", 1),
+    "setgid": ids_call("setgid", 1),
+    "setreuid": ids_call("setreuid", 2),
+    "setregid": ids_call("setregid", 2),
+    "setresuid": ids_call("setresuid", 3),
+    "setresgid": ids_call("setresgid", 3),
+    "setgroups": setgroups,
+}
+
+OWN_CALLS: dict[str, Reading] = {
+    "setfsuid": file_id("setfsuid"),
+    "setfsgid": file_id("setfsgid"),
+    "prctl": prctl,
+    "getuid": one_id(0),
+    "geteuid": one_id(1),
+    "getgid": one_id(4),
+    "getegid": one_id(5),
+    "getresuid": three_ids(0),
+    "getresgid": three_ids(4),
+    "getgroups": getgroups,
+}
+
+# The same calls of 32-bit x86.
+ID_CALLS |= {name + "32": read for name, read in ID_CALLS.items()}
+OWN_CALLS |= {name + "32": read for name, read in OWN_CALLS.items() if name != "prctl"}
+
+SET_CALLS: dict[str, Reading] = {"capset": capset, "capget": capget}

@@ -1,0 +1,150 @@
+"""The command credtrace-compare: the kernel's results beside the answers of a report."""
+
+from __future__ import annotations
+
+import argparse
+import os
+import re
+import subprocess
+import sys
+from dataclasses import dataclass, field
+from pathlib import Path
+
+from .command import Fault, Options, add_options, converted
+from .rows import Explainer
+from .script import Line, Script
+
+AGREES, DIFFERS, NOT_COMPARED = 0, 1, 2
+
+# The entries that decide a line; the others take hold of a credential and let go of it.
+DECIDING = frozenset("begin act ask change open signal spawn fork exit".split())
+
+PROGRAM = Path(__file__).resolve().parents[2] / "bin" / "credtrace"
+
+
+def program() -> str:
+    """The program: CREDTRACE names another one than that of the repository."""
+    return os.environ.get("CREDTRACE") or str(PROGRAM)
+
+
+def report_of(script: str) -> str:
+    """The report of a script."""
+    try:
+        done = subprocess.run(
+            [program(), "run"], input=script.encode("ascii"), stdout=subprocess.PIPE, check=False
+        )
+    except OSError as fault:
+        raise Fault(f"{program()} can't be run: {fault.strerror}") from None
+    text = done.stdout.decode("latin-1")
+    if done.returncode:
+        raise Fault(f"{program()} ended with status {done.returncode}: {text.strip()[:200]}")
+    return text
+
+
+def answers(report: str) -> dict[int, str]:
+    """The answer that decides each line of the script: its first refusal, or that of its own event."""
+    found: dict[int, str] = {}
+    refused: set[int] = set()
+    for entry in report.split("\n"):
+        match = re.match(r"(\d+) (\w+) .*?-> (.*)$", entry)
+        if match is None or int(match[1]) in refused:
+            continue
+        number, event, answer = int(match[1]), match[2], match[3]
+        if answer.split()[0] != "ok":
+            refused.add(number)
+        elif event not in DECIDING:
+            continue
+        found[number] = answer
+    return found
+
+
+def fits(pattern: str, word: str) -> bool:
+    """Whether a word of a report is what the kernel's result says."""
+    if pattern == "*":
+        return True
+    match = re.fullmatch(r"&(\d+)=(\d+)", pattern)
+    if match:
+        return word.isdigit() and int(word) & int(match[1]) == int(match[2])
+    return pattern == word
+
+
+def agrees(kernel: str, report: str) -> bool:
+    """Whether the answers are the same. Where the kernel's is `ok` alone, it says nothing of what follows."""
+    wanted, words = kernel.split(), report.split()
+    if len(wanted) == 1:
+        return words[:1] == wanted
+    return len(wanted) == len(words) and all(map(fits, wanted, words))
+
+
+@dataclass
+class Comparison:
+    """How many calls agree, and what is told of the others."""
+
+    agree: int = 0
+    explained: int = 0
+    unexplained: int = 0
+    told: list[str] = field(default_factory=list)
+
+    def differs(self, number: int, line: Line, report: str, row: str | None) -> None:
+        """A call whose result is another one."""
+        call = line.call
+        if call is None:
+            return
+        result = f"{call.result.value} {call.result.error or ''}".strip()
+        self.told.append(
+            f"line {call.first}: pid {call.pid} {call.text} = {result}\n"
+            f"    the kernel: {line.answer}\n"
+            f"    the report: {report} (line {number} of the script: {line.text})\n"
+            f"    docs/LINUX.md: {row if row else 'no row explains it'}"
+        )
+        if row:
+            self.explained += 1
+        else:
+            self.unexplained += 1
+
+    def sum(self) -> str:
+        """How many agree."""
+        return (
+            f"{self.agree} calls agree, {self.explained} differ as docs/LINUX.md says, "
+            f"{self.unexplained} differ otherwise"
+        )
+
+
+def compare(script: Script) -> Comparison:
+    """Runs the script, and holds each answer beside the kernel's."""
+    found = answers(report_of(script.text()))
+    comparison = Comparison()
+    explainer = Explainer()
+    for number, line in enumerate(script.lines(), 1):
+        if line.call is not None and line.answer is not None:
+            report = found.get(number, "nothing")
+            if agrees(line.answer, report):
+                comparison.agree += 1
+            else:
+                comparison.differs(number, line, report, explainer.explain(line, report))
+        explainer.see(line)
+    return comparison
+
+
+def main(words: list[str]) -> int:
+    """Converts a log, runs the script, and compares."""
+    parser = argparse.ArgumentParser(
+        prog="credtrace-compare",
+        description="Converts a log of strace -f, runs the script, and compares the answers with the kernel's.",
+    )
+    add_options(parser)
+    given = parser.parse_args(words)
+    try:
+        converter = converted(Options(given.log, given.files, given.start, given.task))
+        comparison = compare(converter.script)
+    except Fault as fault:
+        print(f"credtrace-compare: {fault}", file=sys.stderr)
+        return NOT_COMPARED
+    for told in comparison.told:
+        print(told)
+    for note in converter.notes:
+        print(note, file=sys.stderr)
+    if converter.stopped:
+        print(converter.stopped)
+    print(comparison.sum())
+    return DIFFERS if comparison.unexplained else AGREES

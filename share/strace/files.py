@@ -1,0 +1,165 @@
+"""The files that a log executes or opens: owner, group, mode, nosuid and attribute.
+
+A list of them is a text of lines, each `PATH KIND OWNER GROUP MODE`, then `nosuid` and `caps HEX` where
+they hold, as in a script but for the path; or `PATH #! INTERPRETER` for a script file. A path with
+a space or with quotes stands in quotes, as in C. Lines that begin with `#` say nothing.
+"""
+
+from __future__ import annotations
+
+import os
+import re
+import stat
+from dataclasses import dataclass
+
+from . import lines
+
+# How many script files may stand one behind the other (execve(2), "Interpreter scripts").
+SCRIPTS = 4
+
+ATTRIBUTE = "security.capability"
+
+
+class BadList(Exception):
+    """The list of files isn't one."""
+
+
+class Missing(Exception):
+    """A file is needed that isn't known."""
+
+
+@dataclass(frozen=True)
+class File:
+    """What a script's `file` line says of a file, or the interpreter that a script file names."""
+
+    words: str
+    interpreter: str | None = None
+
+
+@dataclass(frozen=True)
+class Found:
+    """A file and the path where it lies, which of a script file is its interpreter's."""
+
+    path: str
+    file: File
+
+
+LINE = re.compile(
+    r"(reg|dir) ([0-9]+) ([0-9]+) ([0-7]{4})( nosuid)?( caps (?:0x)?(?:[0-9a-fA-F]{2}){1,64})?$"
+)
+
+
+def quoted(path: str) -> str:
+    """A path as one word."""
+    if re.fullmatch(r"[!-~]+", path) and not path.startswith(("#", '"')) and "\\" not in path:
+        return path
+    return '"' + "".join(c if c in " !" or (c.isalnum() and c < "\x7f") else f"\\x{ord(c):02x}" for c in path) + '"'
+
+
+def read_list(text: str) -> dict[str, File]:
+    """The files of a list, by their paths."""
+    found: dict[str, File] = {}
+    for count, line in enumerate(text.split("\n"), 1):
+        if not line.strip() or line.startswith("#"):
+            continue
+        match = re.match(r'("(?:[^"\\]|\\.)*"|[^ "]+) +(.*)$', line.rstrip())
+        if match is None:
+            raise BadList(f"line {count}: it has no path, or nothing behind it")
+        path = lines.string(match[1]) if match[1][0] == '"' else match[1]
+        words = " ".join(match[2].split())
+        if words.startswith("#! "):
+            found[path or ""] = File("", words[3:])
+        elif LINE.match(words):
+            found[path or ""] = File(words)
+        else:
+            raise BadList(f"line {count}: {words[:60]!r} isn't KIND OWNER GROUP MODE [nosuid] [caps HEX]")
+    return found
+
+
+class Files:
+    """What is known of files: a list, or the file system as it is now."""
+
+    def __init__(self, listed: dict[str, File] | None) -> None:
+        self.listed = listed
+        self.seen: dict[str, File] = {}
+
+    def lists(self, path: str) -> bool:
+        """Whether the list names the file."""
+        return self.listed is not None and path in self.listed
+
+    def get(self, path: str) -> File:
+        """The file of this path."""
+        if self.listed is not None:
+            if path not in self.listed:
+                raise Missing(f"{path} isn't in the list of files")
+            self.seen[path] = self.listed[path]
+        elif path not in self.seen:
+            self.seen[path] = on_disk(path)
+        return self.seen[path]
+
+    def program(self, path: str) -> Found:
+        """What runs where this file is executed: for a script file its interpreter."""
+        for _ in range(SCRIPTS + 1):
+            file = self.get(path)
+            if file.interpreter is None:
+                return Found(path, file)
+            path = os.path.join(os.path.dirname(path), file.interpreter)
+        raise Missing(f"{path} is one script file more than execve(2) follows")
+
+
+def on_disk(path: str) -> File:
+    """The file as the file system has it."""
+    try:
+        name = path.encode("latin-1")
+        status = os.stat(name)
+        interpreter = interpreter_of(name) if stat.S_ISREG(status.st_mode) else None
+        if interpreter:
+            return File("", interpreter)
+        return File(words_of(name, status))
+    except (OSError, ValueError) as fault:
+        reason = fault.strerror if isinstance(fault, OSError) else str(fault)
+        raise Missing(f"{path} can't be asked for its owner and mode: {reason}") from None
+
+
+def words_of(name: bytes, status: os.stat_result) -> str:
+    """The words of a `file` line behind its name."""
+    kind = "dir" if stat.S_ISDIR(status.st_mode) else "reg"
+    words = [kind, str(status.st_uid), str(status.st_gid), f"{status.st_mode & 0o7777:04o}"]
+    if os.statvfs(name).f_flag & os.ST_NOSUID:
+        words.append("nosuid")
+    try:
+        words += ["caps", os.getxattr(name, ATTRIBUTE).hex()]
+    except OSError:
+        pass
+    return " ".join(words)
+
+
+def interpreter_of(name: bytes) -> str | None:
+    """The interpreter that a script file names in its first line (execve(2))."""
+    with open(name, "rb") as file:
+        first = file.read(256)
+    if not first.startswith(b"#!"):
+        return None
+    words = first[2:].split(b"\n")[0].split()
+    return words[0].decode("latin-1") if words else None
+
+
+class Names:
+    """The names that a script gives to files."""
+
+    def __init__(self) -> None:
+        self.of_path: dict[str, str] = {}
+        self._taken: set[str] = set()
+
+    def name(self, path: str) -> str:
+        """The name of the file, by its last component, and apart from all others."""
+        if path not in self.of_path:
+            base = re.sub(r"[^A-Za-z0-9_.-]", "_", os.path.basename(path)) or "f"
+            base = (base if base[0].isalpha() else "f" + base)[:28]
+            name, count = base, 1
+            while name in self._taken:
+                count += 1
+                name = f"{base[: 31 - len(str(count))]}-{count}"
+            self._taken.add(name)
+            self.of_path[path] = name
+        return self.of_path[path]

@@ -1,0 +1,68 @@
+"""The command credtrace-from-strace."""
+
+from __future__ import annotations
+
+import argparse
+import sys
+
+from .command import ENDS_BEFORE, NONE, WHOLE, Fault, Options, add_options, converted
+from .convert import Converter
+from .files import quoted
+
+
+def parser() -> argparse.ArgumentParser:
+    """The words of the command."""
+    words = argparse.ArgumentParser(
+        prog="credtrace-from-strace", description="Writes the script of a log of strace -f."
+    )
+    add_options(words)
+    words.add_argument("--table", metavar="FILE", help="write what the names stand for into this file")
+    words.add_argument(
+        "--list-files", action="store_true", help="write the list of the executed files, and no script"
+    )
+    return words
+
+
+def table(converter: Converter) -> str:
+    """What the names in the script stand for: pids and paths."""
+    return "".join(line + "\n" for line in [*converter.tasks.told, *converter.script.table()])
+
+
+def list_of(converter: Converter) -> str:
+    """The list of all files that were asked for."""
+    found = []
+    for path, file in converter.files.seen.items():
+        words = f"#! {file.interpreter}" if file.interpreter else file.words
+        found.append(f"{quoted(path)} {words}\n")
+    return "".join(found)
+
+
+def main(words: list[str]) -> int:
+    """Converts a log."""
+    given = parser().parse_args(words)
+    try:
+        converter = converted(Options(given.log, given.files, given.start, given.task))
+        if given.table:
+            write_table(given.table, table(converter))
+    except Fault as fault:
+        print(f"credtrace-from-strace: {fault}", file=sys.stderr)
+        return NONE
+    sys.stdout.write(list_of(converter) if given.list_files else converter.script.text())
+    sys.stdout.flush()
+    if not given.table and not given.list_files:
+        sys.stderr.write(table(converter))
+    for note in converter.notes:
+        print(note, file=sys.stderr)
+    print(f"{converter.passed_over} other calls were passed over", file=sys.stderr)
+    if converter.stopped:
+        print(converter.stopped, file=sys.stderr)
+    return ENDS_BEFORE if converter.stopped else WHOLE
+
+
+def write_table(path: str, text: str) -> None:
+    """Writes the table into its file."""
+    try:
+        with open(path, "w", encoding="latin-1") as file:
+            file.write(text)
+    except OSError as fault:
+        raise Fault(f"the table {path}: {fault.strerror}") from None

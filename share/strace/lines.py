@@ -1,0 +1,146 @@
+"""A line of a log: who wrote it, which kind it is, and the arguments of a call."""
+
+from __future__ import annotations
+
+import re
+from dataclasses import dataclass
+
+
+class BadLog(Exception):
+    """The text isn't a log of strace, or not a whole one."""
+
+    def __init__(self, line: int, what: str) -> None:
+        super().__init__(f"line {line}: {what}")
+
+
+@dataclass(frozen=True)
+class Result:
+    """What a call returned: its value where that is known, and the name of its error."""
+
+    value: int | None
+    error: str | None
+
+
+# What stands before a call: the pid (with -f), the time (-t, -r), the instruction pointer or the
+# number of the call (-i, -n).
+HEAD = re.compile(
+    r" *(?:\[pid +(?P<shown>\d+)(?:<[^<>]*>)?\] +|(?P<pid>\d+)(?:<[^<>]*>)? +)?"
+    r"(?:\d\d:\d\d:\d\d(?:\.\d+)? +|\d+\.\d+ +)?(?:\(\+ +\d+\.\d+\) +)?(?:\[[ 0-9a-f?]+\] +)?"
+    r"(?:(?P<call>[a-z_][a-z_0-9]*|\?\?\?\?)\("
+    r"|<\.\.\. (?P<resumed>[a-z_][a-z_0-9]*|\?\?\?\?) resumed>"
+    r"|\+\+\+ (?P<ended>[^+]*) \+\+\+$"
+    r"|(?P<signal>---) .* ---$)"
+)
+
+# Strace's own messages, and the frames that it writes with -k.
+MESSAGE = re.compile(r"strace: .*|\[ Process PID=\d+ runs in .* mode\. \]| > .*")
+
+ATTACHED = re.compile(r"strace: Process (\d+) attached(?: with \d+ threads)?$")
+
+UNFINISHED = "<unfinished ...>"
+
+# A string, a comment, what -y writes behind a descriptor, a shift, a bracket, a comma, other text.
+TOKEN = re.compile(
+    r'"(?:[^"\\]|\\.)*"(?:\.\.\.)?|/\*.*?\*/'
+    r"|(?<=[0-9D])<(?!<)(?:[^<>\[]|\[[^\]]*\]|<[^<>]*>)*>"
+    r'|<<|[(\[{)\]},]|[^"/<(\[{)\]},]+|.'
+)
+
+RESULT = re.compile(r" *= (\?|-?\d+|0x[0-9a-f]+)(?:<.*>)?(?: (E[A-Z0-9]+))?(?: .*)?$")
+
+ESCAPE = re.compile(r"\\(x[0-9a-fA-F]{2}|[0-7]{1,3}|.)")
+
+PLAIN = {"n": "\n", "t": "\t", "r": "\r", "v": "\v", "f": "\f", "a": "\a", "b": "\b"}
+
+
+def has_result(rest: str) -> bool:
+    """Whether what follows a call's opening bracket comes to an end as strace's lines do."""
+    return " = " in rest or rest.endswith((UNFINISHED, "<detached ...>"))
+
+
+def split(text: str) -> tuple[list[str], str] | None:
+    """The arguments of a call, up to its closing bracket, and what follows; None where it isn't closed."""
+    found: list[str] = []
+    depth = start = 0
+    for token in TOKEN.finditer(text):
+        what = token.group()
+        if what in "([{":
+            depth += 1
+        elif what in ")]}":
+            depth -= 1
+            if depth < 0:
+                last = text[start : token.start()].strip()
+                return (found + [last] if found or last else [], text[token.end() :])
+        elif what == "," and depth == 0:
+            found.append(text[start : token.start()].strip())
+            start = token.end()
+    return None
+
+
+def result(text: str) -> Result | None:
+    """What a call returned, from what follows its closing bracket."""
+    match = RESULT.match(text)
+    if match is None:
+        return None
+    value = match[1]
+    return Result(None if value == "?" else int(value, 0), match[2])
+
+
+def string(text: str) -> str | None:
+    """The string that an argument is, each byte a character; None where it is none, or was shortened."""
+    if len(text) < 2 or text[0] != '"' or text[-1] != '"':
+        return None
+    return ESCAPE.sub(unescaped, text[1:-1])
+
+
+def unescaped(match: re.Match[str]) -> str:
+    """The character that an escape of a C string stands for."""
+    code = match[1]
+    if code[0] == "x" and len(code) == 3:
+        return chr(int(code[1:], 16))
+    if code[0] in "01234567":
+        return chr(int(code, 8) & 255)
+    return PLAIN.get(code, code)
+
+
+def fields(text: str) -> dict[str, str]:
+    """The fields of a structure, each `name=value`, and of what was written behind `=>` too."""
+    found: dict[str, str] = {}
+    for part in re.split(r" => ", text):
+        inner = split(part[1:]) if part.startswith("{") else None
+        for field in inner[0] if inner else []:
+            name, equals, value = field.partition("=")
+            if equals:
+                found[name] = value
+    return found
+
+
+def items(text: str) -> list[str] | None:
+    """The elements of an array; None where it is none, or was shortened."""
+    if not text.startswith("["):
+        return None
+    inner = split(text[1:])
+    if inner is None or inner[1] or "..." in inner[0]:
+        return None
+    return [] if inner[0] == [""] else inner[0]
+
+
+def number(text: str) -> int | None:
+    """The number that an argument is, without a comment or what -y and -Y add."""
+    match = re.match(r"(-?(?:0x[0-9a-f]+|\d+))(?:<.*>)?(?: /\*.*\*/)?$", text)
+    if match is None:
+        return None
+    word = match[1]
+    octal = len(word) > 1 and word[0] == "0" and word[1] != "x"
+    return int(word, 8 if octal and not set(word) & set("89") else 10 if octal else 0)
+
+
+def bits(text: str, names: dict[str, int]) -> int | None:
+    """The flags that an argument is, joined by `|`."""
+    found = 0
+    for word in re.sub(r" */\*.*?\*/", "", text).split("|"):
+        value = names.get(word, number(word))
+        if value is None or value < 0:
+            return None
+        found |= value
+    return found

@@ -1,0 +1,254 @@
+"""A whole log: the wanted calls with their results, in an order that a script can keep.
+
+A call stands where it begins, since whatever it made, as a new task, may show up before it ends. An
+execve stands where it ends: until then other threads of its process may make calls.
+"""
+
+from __future__ import annotations
+
+import re
+from collections.abc import Callable, Collection, Iterator
+from dataclasses import dataclass, field
+from typing import BinaryIO
+
+from . import lines
+from .lines import BadLog, Result
+
+# No line of strace is as long, and a stream without line feeds would fill the memory.
+LONGEST = 4 << 20
+
+EXECUTIONS = ("execve", "execveat")
+
+SUPERSEDED = re.compile(r"superseded by execve in pid (\d+)")
+
+# The first process, where only later lines tell its pid, as on a terminal.
+UNKNOWN = 0
+
+
+@dataclass(frozen=True)
+class Call:
+    """A call that returned, with the lines of the log at which it begins and ends."""
+
+    pid: int
+    name: str
+    args: tuple[str, ...]
+    result: Result
+    first: int
+    last: int
+
+    @property
+    def text(self) -> str:
+        """The call as it is told of: no argument longer than a line."""
+        shown = (arg if len(arg) < 100 else arg[:97] + "..." for arg in self.args)
+        return f"{self.name}({', '.join(shown)})"
+
+
+@dataclass(frozen=True)
+class Gone:
+    """A task ended."""
+
+    pid: int
+    last: int
+
+
+@dataclass(frozen=True)
+class Renamed:
+    """A thread that isn't the first one executed a program, and has the first one's pid now."""
+
+    old: int
+    pid: int
+    last: int
+
+
+Item = Call | Gone | Renamed
+
+
+@dataclass(frozen=True)
+class Begun:
+    """A call that isn't ended yet."""
+
+    name: str
+    text: str
+    line: int
+
+
+def text_lines(source: BinaryIO) -> Iterator[str]:
+    """The lines of a log, each byte a character. The last one has to end with a line feed too."""
+    kept = b""
+    count = 0
+    while chunk := source.read(1 << 20):
+        parts = (kept + chunk).split(b"\n")
+        kept = parts.pop()
+        for part in parts:
+            yield part.decode("latin-1")
+        count += len(parts)
+        if len(kept) > LONGEST:
+            raise BadLog(count + 1, "it is too long for a line of strace")
+    if kept:
+        raise BadLog(count + 1, "the log is cut in the middle of this line")
+
+
+@dataclass
+class Reader:
+    """Reads a log line by line, and keeps the wanted calls."""
+
+    wanted: Collection[str]
+    found: list[tuple[int, Item]] = field(default_factory=list)
+    begun: dict[int, Begun] = field(default_factory=dict)
+    passed_over: int = 0
+    count: int = 0
+    first_pid: int | None = None
+    _alive: set[int] = field(default_factory=set)
+    _children: set[int] = field(default_factory=set)
+    _before: str = ""
+    _attached: int | None = None
+
+    def read(self, texts: Iterator[str], progress: Callable[[int], None]) -> list[Item]:
+        """Everything that was found, in its order."""
+        for text in texts:
+            self.count += 1
+            self.line(text)
+            if self.count % 50_000 == 0:
+                progress(self.count)
+        if self._before:
+            raise BadLog(self.count, "the log is cut in the middle of a call")
+        if self.first_pid is None:
+            raise BadLog(self.count + 1, "the log has no call")
+        self.found.sort(key=lambda pair: pair[0])
+        return [item for _, item in self.found]
+
+    def line(self, text: str) -> None:
+        """Reads one line."""
+        if self._attached is not None:
+            text, self._before = self._before + text, ""
+        self.told_by_task(text)
+        if self._attached is not None and not self._before:
+            self.attached(self._attached)
+            self._attached = None
+
+    def told_by_task(self, text: str) -> None:
+        """Reads a line with what was before a message in its middle."""
+        match = lines.HEAD.match(text)
+        if match is None:
+            self.message(text)
+            return
+        kind = match.lastgroup
+        rest = text[match.end() :]
+        if kind == "call":
+            if not lines.has_result(rest):
+                self.cut_by_message(text)
+                return
+            pid = self.pid_of(match)
+            name = match["call"]
+            if name in self.wanted:
+                self.call(pid, name, rest)
+            else:
+                self.passed_over += 1
+        elif kind == "resumed":
+            self.resumed(self.pid_of(match), match["resumed"], rest)
+        elif kind == "ended":
+            self.ended(self.pid_of(match), match["ended"])
+
+    def message(self, text: str) -> None:
+        """A line that isn't a task's."""
+        if not lines.MESSAGE.fullmatch(text):
+            raise BadLog(self.count, "this is no line of strace -f")
+        if match := lines.ATTACHED.match(text):
+            self.attached(int(match[1]))
+
+    def cut_by_message(self, text: str) -> None:
+        """A message that a process was attached stands in the middle of a line, which the next one ends."""
+        match = lines.ATTACHED.search(text)
+        if match is None or self._attached is not None:
+            raise BadLog(self.count, "this call has no end: the line is cut, or another text is mixed in")
+        self._before = text[: match.start()]
+        self._attached = int(match[1])
+
+    def attached(self, pid: int) -> None:
+        """Strace says that it traces one process more."""
+        self._children.add(pid)
+        self._alive.add(pid)
+
+    def pid_of(self, match: re.Match[str]) -> int:
+        """Whose line it is. On a terminal strace names nobody while one process is left."""
+        word = match["pid"] or match["shown"]
+        pid = int(word) if word and len(word) < 10 else self.unnamed(word)
+        if match["shown"] and self.first_pid == UNKNOWN and pid not in self._children:
+            self.told_first(pid)
+        if self.first_pid is None:
+            self.first_pid = pid
+        if match.lastgroup != "ended":
+            self._alive.add(pid)
+        return pid
+
+    def unnamed(self, word: str | None) -> int:
+        """The one task that is left, where a line has no pid."""
+        if word:
+            raise BadLog(self.count, f"{word[:20]} is no pid")
+        if self.first_pid is None:
+            return UNKNOWN
+        if len(self._alive) != 1:
+            raise BadLog(self.count, "it has no pid, and more than one process is there, or none")
+        return next(iter(self._alive))
+
+    def told_first(self, pid: int) -> None:
+        """The first process is this one, as a line tells that names it."""
+        self.first_pid = pid
+        self._alive.discard(UNKNOWN)
+        self.found = [(key, renamed(item, pid)) for key, item in self.found]
+        if UNKNOWN in self.begun:
+            self.begun[pid] = self.begun.pop(UNKNOWN)
+
+    def call(self, pid: int, name: str, rest: str) -> None:
+        """A call begins, and most end on the same line."""
+        if (open_call := self.begun.get(pid)) is not None:
+            raise BadLog(self.count, f"pid {pid} hasn't ended its call of line {open_call.line} yet")
+        if rest.endswith(lines.UNFINISHED) and lines.split(rest) is None:
+            text = rest[: -len(lines.UNFINISHED)].rstrip()
+            self.begun[pid] = Begun(name, text, self.count)
+        else:
+            self.ends(pid, Begun(name, "", self.count), rest)
+
+    def resumed(self, pid: int, name: str, rest: str) -> None:
+        """A call goes on that was broken off by another task's line."""
+        if not lines.has_result(rest):
+            raise BadLog(self.count, "this call has no end: the line is cut, or another text is mixed in")
+        begun = self.begun.pop(pid, None)
+        if begun is not None and begun.name == name:
+            self.ends(pid, begun, rest)
+        elif begun is not None or name in self.wanted:
+            raise BadLog(self.count, f"pid {pid} goes on with a call of {name}, which it hasn't begun")
+        else:
+            self.passed_over += 1
+
+    def ends(self, pid: int, begun: Begun, rest: str) -> None:
+        """A call has ended: its arguments and its result are known."""
+        parts = lines.split(begun.text + rest)
+        result = lines.result(parts[1]) if parts else None
+        if parts is None or result is None:
+            raise BadLog(self.count, f"the arguments or the result of {begun.name} can't be read")
+        call = Call(pid, begun.name, tuple(parts[0]), result, begun.line, self.count)
+        self.found.append((call.last if call.name in EXECUTIONS else call.first, call))
+
+    def ended(self, pid: int, how: str) -> None:
+        """A task ended, or its number went to the thread of its process that executed a program."""
+        if match := SUPERSEDED.fullmatch(how):
+            old = int(match[1])
+            if old in self.begun:
+                self.begun[pid] = self.begun.pop(old)
+            self._alive.discard(old)
+            self._alive.add(pid)
+            self.found.append((self.count, Renamed(old, pid, self.count)))
+            return
+        self.begun.pop(pid, None)
+        self._alive.discard(pid)
+        self.found.append((self.count, Gone(pid, self.count)))
+
+
+def renamed(item: Item, pid: int) -> Item:
+    """The same, of this pid where that wasn't known."""
+    if item.pid != UNKNOWN:
+        return item
+    if isinstance(item, Call):
+        return Call(pid, item.name, item.args, item.result, item.first, item.last)
+    return Gone(pid, item.last) if isinstance(item, Gone) else Renamed(item.old, pid, item.last)

@@ -1,0 +1,78 @@
+"""The script that is written, and what it can hold."""
+
+from __future__ import annotations
+
+from dataclasses import dataclass, field
+
+from .files import Found, Names
+from .log import Call
+
+# docs/FORMATS.md, the exit statuses and the tests of a line.
+LINES = 20_000
+BYTES = 1 << 20
+FILES = 256
+TASKS = 64
+
+
+class Stop(Exception):
+    """The script ends before this line of the log."""
+
+    def __init__(self, line: int, what: str) -> None:
+        super().__init__(f"line {line}: {what}; the script ends before it")
+
+
+@dataclass(frozen=True)
+class Line:
+    """A line of the script, and the call of the log that it stands for with the answer it should get."""
+
+    text: str
+    call: Call | None = None
+    answer: str | None = None
+
+
+@dataclass
+class Script:
+    """The lines that declare, those that lead to the beginning, and those of the log's calls."""
+
+    begin: list[str] = field(default_factory=list)
+    body: list[Line] = field(default_factory=list)
+    names: Names = field(default_factory=Names)
+    _files: dict[str, str] = field(default_factory=dict)
+    _bytes: int = 0
+
+    def begin_with(self, texts: list[str]) -> None:
+        """The first task, and what leads it to where the log begins."""
+        self.begin = texts
+        self._bytes = sum(len(text) + 1 for text in texts)
+
+    def add(self, line: int, *added: Line) -> None:
+        """These lines come next, all of them or none; `line` is that of the log."""
+        size = sum(len(one.text) + 1 for one in added)
+        if len(self._files) + len(self.begin) + len(self.body) + len(added) > LINES:
+            raise Stop(line, f"a script holds {LINES} lines")
+        if self._bytes + size > BYTES:
+            raise Stop(line, f"a script holds {BYTES} bytes")
+        self._bytes += size
+        self.body += added
+
+    def file(self, line: int, found: Found) -> str:
+        """The name of a file, which is declared at its first use."""
+        if found.path not in self._files:
+            if len(self._files) == FILES:
+                raise Stop(line, f"a script declares {FILES} files")
+            text = f"file {self.names.name(found.path)} {found.file.words}"
+            self._files[found.path] = text
+            self._bytes += len(text) + 1
+        return self.names.name(found.path)
+
+    def lines(self) -> list[Line]:
+        """The whole script."""
+        return [Line(text) for text in [*self._files.values(), *self.begin]] + self.body
+
+    def text(self) -> str:
+        """The whole script, as it is written."""
+        return "".join(line.text + "\n" for line in self.lines())
+
+    def table(self) -> list[str]:
+        """Which path each name of a file stands for."""
+        return [f"{name} {path}" for path, name in self.names.of_path.items()]
