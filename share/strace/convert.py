@@ -21,6 +21,8 @@ ENDS = ("exit", "exit_group")
 # The descriptor under which a file is opened. It is closed at once: no call of a log asks who opened it.
 DESCRIPTOR = "f1"
 
+NAMESPACE = "a user namespace is entered, which no line does: record and convert within it"
+
 WANTED_BITS = {"R_OK": 4, "W_OK": 2, "X_OK": 1, "F_OK": 0}
 
 OPENED_FOR = {"O_RDONLY": "r", "O_WRONLY": "w", "O_RDWR": "rw"}
@@ -164,8 +166,8 @@ class Converter:
         call = next(iter(process.making.values()))
         raise Stop(
             call.first,
-            f"pid {call.pid} makes {call.text} = {call.result.value}, and not all of the "
-            f"{len(process.threads)} threads of its process do so, which a script's line would have them do",
+            f"pid {call.pid} makes {call.text}, and not all {len(process.threads)} threads of its process "
+            "make it, or with another result (docs/LINUX.md: an id call is every thread's, whatever line makes it)",
         )
 
     def create(self, task: Task, call: Call) -> None:
@@ -178,7 +180,7 @@ class Converter:
         if call.name == "clone3":
             flags = lines.fields(call.args[0]).get("flags", "") if call.args else ""
         if "CLONE_NEWUSER" in flags:
-            raise Unheld("the child is in a user namespace of its own, which no line makes")
+            raise Unheld(NAMESPACE)
         if old := self.tasks.by_pid.get(pid):
             self.gone([old], call.first)
         if len(self.tasks.by_pid) >= TASKS:
@@ -198,6 +200,8 @@ class Converter:
 
     def gone(self, ended: list[Task], line: int) -> None:
         """These tasks of one process are gone."""
+        if any(task.number in task.process.making for task in ended):
+            self.apart(ended[0].process)
         for task in ended:
             self.tasks.end(task)
         self.complete(ended[0].process)
@@ -311,5 +315,5 @@ class Converter:
         entered = call.name == "setns" and "CLONE_NEWUSER" in call.text
         made = call.name == "unshare" and "CLONE_NEWUSER" in call.text
         if (entered or made) and call.result.value == 0:
-            raise Unheld("the task enters a user namespace, which no line does")
+            raise Unheld(NAMESPACE)
         self.passed_over += 1

@@ -3,6 +3,7 @@
 from __future__ import annotations
 
 import re
+from collections.abc import Collection
 from dataclasses import dataclass
 
 
@@ -32,6 +33,9 @@ HEAD = re.compile(
     r"|(?P<signal>---) .* ---$)"
 )
 
+# Most lines of a long log: a pid and a call, which is seldom a wanted one.
+PLAIN = re.compile(r"\d{1,9} +([a-z_][a-z_0-9]*)\(")
+
 # Strace's own messages, and the frames that it writes with -k.
 MESSAGE = re.compile(r"strace: .*|\[ Process PID=\d+ runs in .* mode\. \]| > .*")
 
@@ -43,14 +47,20 @@ UNFINISHED = "<unfinished ...>"
 TOKEN = re.compile(
     r'"(?:[^"\\]|\\.)*"(?:\.\.\.)?|/\*.*?\*/'
     r"|(?<=[0-9D])<(?!<)(?:[^<>\[]|\[[^\]]*\]|<[^<>]*>)*>"
-    r'|<<|[(\[{)\]},]|[^"/<(\[{)\]},]+|.'
+    r'|[(\[{)\]},]|(?:[^"/<(\[{)\]},]+|<<)+|.'
 )
 
 RESULT = re.compile(r" *= (\?|-?\d+|0x[0-9a-f]+)(?:<.*>)?(?: (E[A-Z0-9]+))?(?: .*)?$")
 
 ESCAPE = re.compile(r"\\(x[0-9a-fA-F]{2}|[0-7]{1,3}|.)")
 
-PLAIN = {"n": "\n", "t": "\t", "r": "\r", "v": "\v", "f": "\f", "a": "\a", "b": "\b"}
+ESCAPES = {"n": "\n", "t": "\t", "r": "\r", "v": "\v", "f": "\f", "a": "\a", "b": "\b"}
+
+
+def is_other(text: str, wanted: Collection[str]) -> bool:
+    """Whether a line is a whole call which isn't wanted."""
+    match = PLAIN.match(text)
+    return match is not None and match[1] not in wanted and " = " in text
 
 
 def has_result(rest: str) -> bool:
@@ -100,7 +110,7 @@ def unescaped(match: re.Match[str]) -> str:
         return chr(int(code[1:], 16))
     if code[0] in "01234567":
         return chr(int(code, 8) & 255)
-    return PLAIN.get(code, code)
+    return ESCAPES.get(code, code)
 
 
 def fields(text: str) -> dict[str, str]:

@@ -119,6 +119,9 @@ class Reader:
 
     def line(self, text: str) -> None:
         """Reads one line."""
+        if self.first_pid and self._attached is None and lines.is_other(text, self.wanted):
+            self.passed_over += 1
+            return
         if self._attached is not None:
             text, self._before = self._before + text, ""
         self.told_by_task(text)

@@ -11,12 +11,15 @@ import re
 from dataclasses import dataclass, field
 from pathlib import Path
 
+from .calls import ID_CALLS
 from .script import Line
 
 PAGE = Path(__file__).resolve().parents[2] / "docs" / "LINUX.md"
 
 FILESYSTEM_IDS = "setresuid and setresgid always set the filesystem id to the new effective id"
 SECUREBITS = "a securebit above bit 7 is EPERM"
+UNMAPPED = "every id that is one may be set"
+DENIED_GROUPS = "setgroups asks for CAP_SETGID alone"
 VERSION_1 = "version 1 attributes are a bad revision"
 DIRECTORIES = "a check is of the one file: its directories are not searched"
 NOT_MODE = "a check looks at the kind, the owner, the group and the mode"
@@ -122,6 +125,10 @@ class Explainer:
         told = report.split()[0]
         if form == "securebits" and int(words[2]) > 255:
             return row(SECUREBITS)
+        if form == "setgroups" and (kernel, told) == ("eperm", "ok"):
+            return row(DENIED_GROUPS)
+        if form in ID_CALLS and (kernel, told) == ("einval", "ok"):
+            return row(UNMAPPED)
         if form == "signal":
             continues = line.call is not None and "SIGCONT" in line.call.args
             return row(CONTINUE) if (kernel, told) == ("ok", "eperm") and continues else None

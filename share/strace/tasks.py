@@ -69,7 +69,6 @@ class Tasks:
     def end(self, task: Task) -> None:
         """The task is gone."""
         task.process.threads.remove(task)
-        task.process.making.pop(task.number, None)
         if self.by_pid.get(task.pid) is task:
             del self.by_pid[task.pid]
 
