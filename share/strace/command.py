@@ -56,7 +56,7 @@ def progress(count: int) -> None:
         print(f"\r{count} lines", end="", file=sys.stderr, flush=True)
 
 
-def converted(options: Options) -> Converter:
+def converted(options: Options, asks: bool = False) -> Converter:
     """The script of a log, with what is to be said of it."""
     try:
         listed = read_list(text_of(options.files, "the list")) if options.files else None
@@ -66,7 +66,7 @@ def converted(options: Options) -> Converter:
         start = start_of(text_of(options.start, "the status")) if options.start else None
     except BadStart as fault:
         raise Fault(f"{options.start}: {fault}") from None
-    converter = Converter(Files(listed))
+    converter = Converter(Files(listed), asks)
     reader = Reader(converter.wanted())
     try:
         if options.log == "-":

@@ -105,8 +105,8 @@ class Comparison:
     def sum(self) -> str:
         """How many agree."""
         return (
-            f"{self.agree} calls agree, {self.explained} differ as docs/LINUX.md says, "
-            f"{self.unexplained} differ otherwise"
+            f"agree: {self.agree} calls, explained by docs/LINUX.md: {self.explained}, "
+            f"unexplained: {self.unexplained}"
         )
 
 

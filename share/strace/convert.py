@@ -47,6 +47,7 @@ class Converter:
     """Makes the script call by call."""
 
     files: Files
+    asks: bool = False
     script: Script = field(default_factory=Script)
     tasks: Tasks = field(default_factory=Tasks)
     notes: list[str] = field(default_factory=list)
@@ -125,7 +126,10 @@ class Converter:
         if said is None:
             self.passed_over += 1
         else:
-            self.script.add(call.first, Line(f"{task.name} {said.words}", call, said.answer))
+            line = Line(f"{task.name} {said.words}", call, said.answer)
+            asked = self.asks and call.name in (*ID_CALLS, *EXECUTIONS, "capset", "prctl", "setfsuid")
+            question = [Line(f"{task.name} caps")] if asked and said.answer == "ok" else []
+            self.script.add(call.first, line, *question)
 
     def own_call(self, task: Task, call: Call) -> None:
         """A call that changes or asks the credential of the thread that makes it."""
@@ -226,6 +230,8 @@ class Converter:
         self.say(task, call, Said(f"exec {name}", said))
         if said == "ok":
             task.process.program = path
+            if task.process.making:
+                self.apart(task.process)
             for other in [one for one in task.process.threads if one is not task]:
                 self.tasks.end(other)
 

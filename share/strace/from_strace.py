@@ -18,6 +18,9 @@ def parser() -> argparse.ArgumentParser:
     add_options(words)
     words.add_argument("--table", metavar="FILE", help="write what the names stand for into this file")
     words.add_argument(
+        "--ask", action="store_true", help="ask for the capability sets after each execve and each change"
+    )
+    words.add_argument(
         "--list-files", action="store_true", help="write the list of the executed files, and no script"
     )
     return words
@@ -41,22 +44,30 @@ def main(words: list[str]) -> int:
     """Converts a log."""
     given = parser().parse_args(words)
     try:
-        converter = converted(Options(given.log, given.files, given.start, given.task))
+        converter = converted(Options(given.log, given.files, given.start, given.task), given.ask)
         if given.table:
             write_table(given.table, table(converter))
     except Fault as fault:
         print(f"credtrace-from-strace: {fault}", file=sys.stderr)
         return NONE
-    sys.stdout.write(list_of(converter) if given.list_files else converter.script.text())
-    sys.stdout.flush()
-    if not given.table and not given.list_files:
-        sys.stderr.write(table(converter))
-    for note in converter.notes:
-        print(note, file=sys.stderr)
-    print(f"{converter.passed_over} other calls were passed over", file=sys.stderr)
+    if given.list_files:
+        sys.stdout.write(list_of(converter))
+    else:
+        sys.stdout.write(converter.script.text())
+        tell(converter, bool(given.table))
     if converter.stopped:
         print(converter.stopped, file=sys.stderr)
     return ENDS_BEFORE if converter.stopped else WHOLE
+
+
+def tell(converter: Converter, has_table: bool) -> None:
+    """Says on standard error what the script doesn't."""
+    sys.stdout.flush()
+    if not has_table:
+        sys.stderr.write(table(converter))
+    for note in converter.notes:
+        print(note, file=sys.stderr)
+    print(f"passed over: {converter.passed_over} other calls", file=sys.stderr)
 
 
 def write_table(path: str, text: str) -> None:

@@ -50,7 +50,7 @@ TOKEN = re.compile(
     r'|[(\[{)\]},]|(?:[^"/<(\[{)\]},]+|<<)+|.'
 )
 
-RESULT = re.compile(r" *= (\?|-?\d+|0x[0-9a-f]+)(?:<.*>)?(?: (E[A-Z0-9]+))?(?: .*)?$")
+RESULT = re.compile(r" *= (\?|-?\d{1,20}|0x[0-9a-f]{1,16})(?:<.*>)?(?: (E[A-Z0-9]+))?(?: .*)?$")
 
 ESCAPE = re.compile(r"\\(x[0-9a-fA-F]{2}|[0-7]{1,3}|.)")
 
@@ -93,7 +93,7 @@ def result(text: str) -> Result | None:
     if match is None:
         return None
     value = match[1]
-    return Result(None if value == "?" else int(value, 0), match[2])
+    return Result(None if value == "?" else int(value, 16 if value.startswith("0x") else 10), match[2])
 
 
 def string(text: str) -> str | None:
@@ -137,12 +137,14 @@ def items(text: str) -> list[str] | None:
 
 def number(text: str) -> int | None:
     """The number that an argument is, without a comment or what -y and -Y add."""
-    match = re.match(r"(-?(?:0x[0-9a-f]+|\d+))(?:<.*>)?(?: /\*.*\*/)?$", text)
+    match = re.match(r"(-?(?:0x[0-9a-f]{1,16}|\d{1,20}))(?:<.*>)?(?: /\*.*\*/)?$", text)
     if match is None:
         return None
     word = match[1]
-    octal = len(word) > 1 and word[0] == "0" and word[1] != "x"
-    return int(word, 8 if octal and not set(word) & set("89") else 10 if octal else 0)
+    if word.startswith("0x"):
+        return int(word, 16)
+    octal = re.fullmatch(r"0[0-7]+", word)
+    return int(word, 8 if octal else 10)
 
 
 def bits(text: str, names: dict[str, int]) -> int | None:

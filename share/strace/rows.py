@@ -29,6 +29,12 @@ NO_NEW_PRIVS_IDS = "under no_new_privs execve keeps the effective ids"
 SET_ID = "a set-id bit in force makes a file privileged"
 PLAIN_FILE = "a plain file is not privileged"
 TRACED = "execve is of a program: there are no scripts, and nobody traces the task"
+ALL = (
+    FILESYSTEM_IDS, SECUREBITS, UNMAPPED, DENIED_GROUPS, VERSION_1, DIRECTORIES, NOT_MODE, CONTINUE,
+    NO_NEW_PRIVS_FILE, NO_NEW_PRIVS_IDS, SET_ID, PLAIN_FILE, TRACED,
+)  # fmt: skip
+
+# What a kept row may have changed.
 IDS, CAPS, FILE_IDS = "ids", "caps", "file ids"
 
 
