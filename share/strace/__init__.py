@@ -1,4 +1,4 @@
-"""From a log of strace(1) to a script of credtrace, and to what a report of it says beside the kernel.
+"""From a log of strace(1) to a script, and to what its report says beside the kernel.
 
     lines     a line of a log: who wrote it, which kind it is, the arguments of a call
     log       the whole log: calls with their results, in an order that a script can keep

@@ -61,7 +61,7 @@ Reading = Callable[[Args, Result], Said | None]
 
 
 def answer(result: Result) -> str | None:
-    """`ok`, or the error in the words of a report; None where the error isn't one of credentials."""
+    """`ok`, or the error in the words of a report; None where it isn't one of credentials."""
     if result.error is None:
         return "ok" if result.value is not None and result.value >= 0 else None
     return result.error.lower() if result.error in ("EPERM", "EINVAL", "EACCES") else None
@@ -135,7 +135,8 @@ def sets(args: Args) -> list[int] | None:
         return None
     named = lines.fields(args[1])
     found = [
-        lines.bits(named.get(name, ""), CAP_BITS) for name in ("permitted", "inheritable", "effective")
+        lines.bits(named.get(name, ""), CAP_BITS)
+        for name in ("permitted", "inheritable", "effective")
     ]
     return None if None in found else [(value or 0) & ALL_CAPABILITIES for value in found]
 
@@ -173,7 +174,8 @@ def three_ids(first: int) -> Reading:
         values = [lines.number(arg.strip("[]")) for arg in args]
         if result.value != 0 or len(values) != 3 or None in values:
             return None
-        return Said("ids", ids_answer({first + place: value or 0 for place, value in enumerate(values)}))
+        known = {first + place: value or 0 for place, value in enumerate(values)}
+        return Said("ids", ids_answer(known))
 
     return read
 

@@ -29,7 +29,7 @@ def verdict(script: bytes) -> tuple[int, str] | None:
         return None
     match = re.fullmatch(rb"bad (\d+) (\w+)\n?", done.stdout)
     if done.returncode == STATUS_LARGE:
-        raise Fault("the script has more bytes or more lines than a script may have (docs/FORMATS.md)")
+        raise Fault("it has more bytes or more lines than a script may have (docs/FORMATS.md)")
     if done.returncode != STATUS_BAD or match is None:
         raise Fault(f"{program()} ended with status {done.returncode}")
     return int(match[1]), match[2].decode("ascii")
@@ -73,9 +73,12 @@ def explained(script: bytes, number: int, reason: str) -> list[str]:
 def main(words: list[str]) -> int:
     """Checks a script."""
     parser = argparse.ArgumentParser(
-        prog="credtrace-check", description="Says why a script is bad, and which form its line should have."
+        prog="credtrace-check",
+        description="Says why a script is bad, and which form its line should have.",
     )
-    parser.add_argument("file", metavar="FILE", nargs="?", default="-", help="the script; else standard input")
+    parser.add_argument(
+        "file", metavar="FILE", nargs="?", default="-", help="the script; else standard input"
+    )
     given = parser.parse_args(words)
     name = shown(given.file)
     try:

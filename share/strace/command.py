@@ -10,7 +10,7 @@ from typing import BinaryIO
 
 from .convert import Converter
 from .files import BadList, Files, read_list
-from .lineage import family
+from .lineage import NoProcess, family
 from .lines import BadLog
 from .log import Reader, text_lines
 from .start import BadStart, start_of
@@ -35,10 +35,18 @@ class Options:
 
 def add_options(parser: argparse.ArgumentParser) -> None:
     """The options of a log."""
-    parser.add_argument("--files", metavar="FILE", help="a list of the files that the log executes or opens")
-    parser.add_argument("--start", metavar="FILE", help="the text of /proc/PID/status where the log begins")
-    parser.add_argument("--task", metavar="PID", type=int, help="this process of the log and its children alone")
-    parser.add_argument("log", metavar="LOG", nargs="?", default="-", help="the log; else standard input")
+    parser.add_argument(
+        "--files", metavar="FILE", help="a list of the files that the log executes or opens"
+    )
+    parser.add_argument(
+        "--start", metavar="FILE", help="the text of /proc/PID/status where the log begins"
+    )
+    parser.add_argument(
+        "--task", metavar="PID", type=int, help="this process of the log and its children alone"
+    )
+    parser.add_argument(
+        "log", metavar="LOG", nargs="?", default="-", help="the log; else standard input"
+    )
 
 
 def text_of(path: str, what: str) -> str:
@@ -77,7 +85,7 @@ def converted(options: Options, asks: bool = False) -> Converter:
         first = reader.first_pid or 0
         if options.task is not None:
             first, items = family(items, options.task, first, start is not None)
-    except BadLog as fault:
+    except (BadLog, NoProcess) as fault:
         raise Fault(f"{shown(options.log)}: {fault}") from None
     except OSError as fault:
         raise Fault(f"{shown(options.log)}: {fault.strerror}") from None

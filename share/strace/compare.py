@@ -42,7 +42,7 @@ def report_of(script: str) -> str:
 
 
 def answers(report: str) -> dict[int, str]:
-    """The answer that decides each line of the script: its first refusal, or that of its own event."""
+    """The answer that decides each line: its first refusal, or that of its own event."""
     found: dict[int, str] = {}
     refused: set[int] = set()
     for entry in report.split("\n"):
@@ -69,7 +69,7 @@ def fits(pattern: str, word: str) -> bool:
 
 
 def agrees(kernel: str, report: str) -> bool:
-    """Whether the answers are the same. Where the kernel's is `ok` alone, it says nothing of what follows."""
+    """Whether the answers are the same. Where the kernel's is one word, it says no more."""
     wanted, words = kernel.split(), report.split()
     if len(wanted) == 1:
         return words[:1] == wanted
@@ -130,7 +130,7 @@ def main(words: list[str]) -> int:
     """Converts a log, runs the script, and compares."""
     parser = argparse.ArgumentParser(
         prog="credtrace-compare",
-        description="Converts a log of strace -f, runs the script, and compares the answers with the kernel's.",
+        description="Runs the script of a log of strace -f, and compares it with the kernel.",
     )
     add_options(parser)
     given = parser.parse_args(words)

@@ -18,10 +18,14 @@ CREATIONS = ("fork", "vfork", "clone", "clone3")
 
 ENDS = ("exit", "exit_group")
 
-# The descriptor under which a file is opened. It is closed at once: no call of a log asks who opened it.
+# The descriptor under which a file is opened. It is closed at once, since no call of a log asks who
+# opened it.
 DESCRIPTOR = "f1"
 
 NAMESPACE = "a user namespace is entered, which no line does: record and convert within it"
+
+# The calls behind which --ask asks for the sets.
+CHANGING = frozenset([*ID_CALLS, *EXECUTIONS, "setfsuid", "capset", "prctl"])
 
 WANTED_BITS = {"R_OK": 4, "W_OK": 2, "X_OK": 1, "F_OK": 0}
 
@@ -85,9 +89,9 @@ class Converter:
         try:
             for item in items:
                 self.item(item)
-            for process in {id(task.process): task.process for task in self.tasks.by_pid.values()}.values():
-                if process.making:
-                    self.apart(process)
+            for task in self.tasks.by_pid.values():
+                if task.process.making:
+                    self.apart(task.process)
         except Stop as stop:
             self.stopped = str(stop)
 
@@ -118,7 +122,8 @@ class Converter:
         if not known and call.pid not in self._strangers:
             self._strangers.add(call.pid)
             self.notes.append(
-                f"line {call.first}: no call of this log made pid {call.pid}; its calls are passed over"
+                f"line {call.first}: no call of this log made pid {call.pid}; "
+                "its calls are passed over"
             )
 
     def say(self, task: Task, call: Call, said: Said | None) -> None:
@@ -127,8 +132,8 @@ class Converter:
             self.passed_over += 1
         else:
             line = Line(f"{task.name} {said.words}", call, said.answer)
-            asked = self.asks and call.name in (*ID_CALLS, *EXECUTIONS, "capset", "prctl", "setfsuid")
-            question = [Line(f"{task.name} caps")] if asked and said.answer == "ok" else []
+            asked = self.asks and said.answer.startswith("ok") and call.name in CHANGING
+            question = [Line(f"{task.name} caps")] if asked else []
             self.script.add(call.first, line, *question)
 
     def own_call(self, task: Task, call: Call) -> None:
@@ -154,7 +159,7 @@ class Converter:
             self.complete(task.process)
 
     def complete(self, process: Process) -> None:
-        """The call is one line as soon as every thread has made it: the last one is who began it."""
+        """The call is one line as soon as every thread has made it, the one who began it last."""
         making = process.making
         if not making or len(making) < len(process.threads):
             return
@@ -170,8 +175,9 @@ class Converter:
         call = next(iter(process.making.values()))
         raise Stop(
             call.first,
-            f"pid {call.pid} makes {call.text}, and not all {len(process.threads)} threads of its process "
-            "make it, or with another result (docs/LINUX.md: an id call is every thread's, whatever line makes it)",
+            f"pid {call.pid} makes {call.text}, and not all {len(process.threads)} threads of its "
+            "process make it, or with another result (docs/LINUX.md: an id call is every thread's, "
+            "whatever line makes it)",
         )
 
     def create(self, task: Task, call: Call) -> None:
@@ -314,7 +320,8 @@ class Converter:
         if call.result.value == 0 and call.args:
             named = lines.string(call.args[0])
             folder = folder_of(call.args[0]) if named is None else named
-            task.process.folder = os.path.join(task.process.folder or "", folder) if folder else None
+            before = task.process.folder or ""
+            task.process.folder = os.path.join(before, folder) if folder else None
 
     def change_namespace(self, task: Task, call: Call) -> None:
         """unshare(2), setns(2): a user namespace can't be entered in a script."""

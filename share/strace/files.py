@@ -1,8 +1,8 @@
 """The files that a log executes or opens: owner, group, mode, nosuid and attribute.
 
-A list of them is a text of lines, each `PATH KIND OWNER GROUP MODE`, then `nosuid` and `caps HEX` where
-they hold, as in a script but for the path; or `PATH #! INTERPRETER` for a script file. A path with
-a space or with quotes stands in quotes, as in C. Lines that begin with `#` say nothing.
+A list of them is a text of lines, each `PATH KIND OWNER GROUP MODE`, then `nosuid` and `caps HEX`
+where they hold, as in a script but for the path; or `PATH #! INTERPRETER` for a script file. A path
+with a space or with quotes stands in quotes, as in C. Lines that begin with `#` say nothing.
 """
 
 from __future__ import annotations
@@ -53,7 +53,7 @@ def quoted(path: str) -> str:
     """A path as one word."""
     if re.fullmatch(r"[!-~]+", path) and not path.startswith(("#", '"')) and "\\" not in path:
         return path
-    return '"' + "".join(c if c in " !" or (c.isalnum() and c < "\x7f") else f"\\x{ord(c):02x}" for c in path) + '"'
+    return '"' + re.sub(r"[^ !#-\[\]-~]", lambda match: f"\\x{ord(match[0]):02x}", path) + '"'
 
 
 def read_list(text: str) -> dict[str, File]:
@@ -72,7 +72,8 @@ def read_list(text: str) -> dict[str, File]:
         elif LINE.match(words):
             found[path or ""] = File(words)
         else:
-            raise BadList(f"line {count}: {words[:60]!r} isn't KIND OWNER GROUP MODE [nosuid] [caps HEX]")
+            form = "KIND OWNER GROUP MODE [nosuid] [caps HEX]"
+            raise BadList(f"line {count}: {words[:60]!r} isn't {form}")
     return found
 
 

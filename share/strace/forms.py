@@ -85,12 +85,16 @@ def form_of(words: list[str]) -> Form | None:
     if re.match(r"t[0-9]", first):
         parts = ((ID_CALLS, "T"), (CHANGES, "T"), (QUERIES, "T"))
         asked = [in_table(found[name], second, before) for name, before in parts]
-        own = [row for row in found[LINES] if row[0].startswith("`T ") and "`T IDCALL`" not in row[0]]
+        own = [row for row in found[LINES] if row[0].startswith("`T ")]
         return next((form for form in [in_table(own, second, ""), *asked] if form), None)
     events = [row for row in found[LINES] if not row[0].startswith("`T ")]
-    nested = {"begin": (ID_CALLS, "begin T"), "ask": (QUERIES, "ask H"), "change": (CHANGES, "change H")}
+    nested = {
+        "begin": (ID_CALLS, "begin T"),
+        "ask": (QUERIES, "ask H"),
+        "change": (CHANGES, "change H"),
+    }
     if first == "change" and third == "access":
-        return Form("change H access", next(row[1] for row in events if "change H access" in row[0]))
+        return in_table([row for row in events if "H access" in row[0]], "change", "")
     if first in nested and third:
         name, before = nested[first]
         return in_table(found[name], third, before)

@@ -16,12 +16,18 @@ def parser() -> argparse.ArgumentParser:
         prog="credtrace-from-strace", description="Writes the script of a log of strace -f."
     )
     add_options(words)
-    words.add_argument("--table", metavar="FILE", help="write what the names stand for into this file")
     words.add_argument(
-        "--ask", action="store_true", help="ask for the capability sets after each execve and each change"
+        "--table", metavar="FILE", help="write what the names stand for into this file"
     )
     words.add_argument(
-        "--list-files", action="store_true", help="write the list of the executed files, and no script"
+        "--ask",
+        action="store_true",
+        help="ask for the capability sets after each execve and each change",
+    )
+    words.add_argument(
+        "--list-files",
+        action="store_true",
+        help="write the list of the executed files, and no script",
     )
     return words
 

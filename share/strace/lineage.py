@@ -3,9 +3,12 @@
 from __future__ import annotations
 
 from .log import Call, Item, Renamed
-from .lines import BadLog
 
 CREATIONS = ("fork", "vfork", "clone", "clone3")
+
+
+class NoProcess(Exception):
+    """The log has no process of this pid."""
 
 
 def creations(items: list[Item]) -> dict[int, Call]:
@@ -49,7 +52,7 @@ def family(items: list[Item], pid: int, first: int, alone: bool) -> tuple[int, l
     """
     made = creations(items)
     if not any(item.pid == pid for item in items) or process_of(pid, made) != pid:
-        raise BadLog(0, f"pid {pid} is no process of this log")
+        raise NoProcess(f"pid {pid} is no process of this log")
     above = {} if alone else ancestors(pid, made)
     kept: list[Item] = []
     inside = {pid} if alone or not above else set()

@@ -69,7 +69,7 @@ def has_result(rest: str) -> bool:
 
 
 def split(text: str) -> tuple[list[str], str] | None:
-    """The arguments of a call, up to its closing bracket, and what follows; None where it isn't closed."""
+    """The arguments of a call up to its closing bracket, and what follows it, if there is one."""
     found: list[str] = []
     depth = start = 0
     for token in TOKEN.finditer(text):
@@ -93,11 +93,12 @@ def result(text: str) -> Result | None:
     if match is None:
         return None
     value = match[1]
-    return Result(None if value == "?" else int(value, 16 if value.startswith("0x") else 10), match[2])
+    known = None if value == "?" else int(value, 16 if value.startswith("0x") else 10)
+    return Result(known, match[2])
 
 
 def string(text: str) -> str | None:
-    """The string that an argument is, each byte a character; None where it is none, or was shortened."""
+    """The string that an argument is, a character for a byte, where it is one and not shortened."""
     if len(text) < 2 or text[0] != '"' or text[-1] != '"':
         return None
     return ESCAPE.sub(unescaped, text[1:-1])

@@ -17,6 +17,8 @@ from .lines import BadLog, Result
 # No line of strace is as long, and a stream without line feeds would fill the memory.
 LONGEST = 4 << 20
 
+NO_END = "this call has no end: the line is cut, or another text is mixed in"
+
 EXECUTIONS = ("execve", "execveat")
 
 SUPERSEDED = re.compile(r"superseded by execve in pid (\d+)")
@@ -160,10 +162,10 @@ class Reader:
             self.attached(int(match[1]))
 
     def cut_by_message(self, text: str) -> None:
-        """A message that a process was attached stands in the middle of a line, which the next one ends."""
+        """A message stands in the middle of a line, which the next line ends."""
         match = lines.ATTACHED.search(text)
         if match is None or self._attached is not None:
-            raise BadLog(self.count, "this call has no end: the line is cut, or another text is mixed in")
+            raise BadLog(self.count, NO_END)
         self._before = text[: match.start()]
         self._attached = int(match[1])
 
@@ -205,7 +207,8 @@ class Reader:
     def call(self, pid: int, name: str, rest: str) -> None:
         """A call begins, and most end on the same line."""
         if (open_call := self.begun.get(pid)) is not None:
-            raise BadLog(self.count, f"pid {pid} hasn't ended its call of line {open_call.line} yet")
+            what = f"pid {pid} hasn't ended its call of line {open_call.line} yet"
+            raise BadLog(self.count, what)
         if rest.endswith(lines.UNFINISHED) and lines.split(rest) is None:
             text = rest[: -len(lines.UNFINISHED)].rstrip()
             self.begun[pid] = Begun(name, text, self.count)
@@ -215,12 +218,13 @@ class Reader:
     def resumed(self, pid: int, name: str, rest: str) -> None:
         """A call goes on that was broken off by another task's line."""
         if not lines.has_result(rest):
-            raise BadLog(self.count, "this call has no end: the line is cut, or another text is mixed in")
+            raise BadLog(self.count, NO_END)
         begun = self.begun.pop(pid, None)
         if begun is not None and begun.name == name:
             self.ends(pid, begun, rest)
         elif begun is not None or name in self.wanted:
-            raise BadLog(self.count, f"pid {pid} goes on with a call of {name}, which it hasn't begun")
+            what = f"pid {pid} goes on with a call of {name}, which it hasn't begun"
+            raise BadLog(self.count, what)
         else:
             self.passed_over += 1
 

@@ -34,6 +34,9 @@ ALL = (
     NO_NEW_PRIVS_FILE, NO_NEW_PRIVS_IDS, SET_ID, PLAIN_FILE, TRACED,
 )  # fmt: skip
 
+# An attribute of the first version.
+VERSION = re.compile(r" caps (0x)?[0-9a-f]{6}01")
+
 # What a kept row may have changed.
 IDS, CAPS, FILE_IDS = "ids", "caps", "file ids"
 
@@ -138,7 +141,7 @@ class Explainer:
         if form == "signal":
             continues = line.call is not None and "SIGCONT" in line.call.args
             return row(CONTINUE) if (kernel, told) == ("ok", "eperm") and continues else None
-        if form == "exec" and told == "einval" and re.search(r" caps (0x)?[0-9a-f]{6}01", self.files[words[2]]):
+        if form == "exec" and told == "einval" and VERSION.search(self.files[words[2]]):
             return row(VERSION_1)
         if form == "exec" and known.no_new_privs and kernel in ("eperm", "einval"):
             return row(NO_NEW_PRIVS_FILE)

@@ -23,7 +23,7 @@ class Stop(Exception):
 
 @dataclass(frozen=True)
 class Line:
-    """A line of the script, and the call of the log that it stands for with the answer it should get."""
+    """A line of the script, the call that it stands for, and the answer that is the kernel's."""
 
     text: str
     call: Call | None = None

@@ -1,4 +1,4 @@
-"""The lines that lead a first task from root with all capabilities to what /proc/PID/status says."""
+"""The lines that lead a first task from root to what /proc/PID/status says."""
 
 from __future__ import annotations
 
@@ -93,7 +93,9 @@ def start_of(text: str) -> Start:
 def set_groups(start: Start, groups: list[int], others: list[int]) -> None:
     """The group ids, and the supplementary groups as far as a script holds them."""
     if len(others) > GROUPS:
-        start.notes.append(f"the task has {len(others)} groups, and a script holds {GROUPS}: the first ones")
+        start.notes.append(
+            f"the task has {len(others)} groups, of which a script holds the first {GROUPS}"
+        )
     if others:
         start.call("setgroups " + " ".join(map(str, others[:GROUPS])))
     real, effective, saved, filesystem = groups
@@ -109,6 +111,8 @@ def securebits(start: Start, fields: dict[str, list[str]], changed: bool) -> Non
     if "Securebits" in fields:
         value = numbers(fields, "Securebits", 1, 10)[0]
     else:
-        start.notes.append("/proc/PID/status doesn't tell securebits: they begin as 0 (or add `Securebits: N`)")
+        start.notes.append(
+            "/proc/PID/status doesn't tell securebits: they begin as 0 (or add `Securebits: N`)"
+        )
     if changed or value:
         start.call(f"securebits {value}")
