@@ -84,7 +84,7 @@ def converted(options: Options, asks: bool = False) -> Converter:
                 items = read(reader, source)
         first = reader.first_pid or 0
         if options.task is not None:
-            first, items = family(items, options.task, first, start is not None)
+            first, items = family(items, options.task, start is not None)
     except (BadLog, NoProcess) as fault:
         raise Fault(f"{shown(options.log)}: {fault}") from None
     except OSError as fault:
@@ -105,4 +105,4 @@ def read(reader: Reader, source: BinaryIO) -> list:
 
 def shown(log: str) -> str:
     """The name of the log as it is told of."""
-    return "standard input" if log == "-" else Path(log).name
+    return "standard input" if log == "-" else Path(log).name or log

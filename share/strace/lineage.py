@@ -2,9 +2,13 @@
 
 from __future__ import annotations
 
+from dataclasses import replace
+
 from .log import Call, Item, Renamed
 
 CREATIONS = ("fork", "vfork", "clone", "clone3")
+
+FOLDERS = ("chdir", "fchdir")
 
 
 class NoProcess(Exception):
@@ -44,7 +48,23 @@ def ancestors(pid: int, made: dict[int, Call]) -> dict[int, Call]:
     return found
 
 
-def family(items: list[Item], pid: int, first: int, alone: bool) -> tuple[int, list[Item]]:
+def creates(item: Item) -> int | None:
+    """The pid of the task that an item makes, if it makes one."""
+    if isinstance(item, Call) and item.name in CREATIONS and (item.result.value or 0) > 0:
+        return item.result.value
+    return None
+
+
+def before(item: Item, call: Call, pid: int, alone: bool) -> Item | None:
+    """What an ancestor's item means for the process: what leads to it, or its folder alone."""
+    if not isinstance(item, Call):
+        return None if alone else item
+    if alone:
+        return replace(item, pid=pid) if item.name in FOLDERS else None
+    return item if item is call or creates(item) is None or is_thread(item) else None
+
+
+def family(items: list[Item], pid: int, alone: bool) -> tuple[int, list[Item]]:
     """The pid of the first task, and what the log tells of the process and its children.
 
     Where nothing is known of how the process begins (`alone` is false), the calls of its ancestors
@@ -53,28 +73,21 @@ def family(items: list[Item], pid: int, first: int, alone: bool) -> tuple[int, l
     made = creations(items)
     if not any(item.pid == pid for item in items) or process_of(pid, made) != pid:
         raise NoProcess(f"pid {pid} is no process of this log")
-    above = {} if alone else ancestors(pid, made)
+    above = ancestors(pid, made)
     kept: list[Item] = []
-    inside = {pid} if alone or not above else set()
+    inside = set() if above else {pid}
     done: set[int] = set()
     for item in items:
-        creates = isinstance(item, Call) and item.name in CREATIONS and (item.result.value or 0) > 0
         if isinstance(item, Renamed) and item.old in inside:
             inside.add(item.pid)
+        process = process_of(item.pid, made)
         if item.pid in inside:
             kept.append(item)
-            if creates and isinstance(item, Call):
-                inside.add(item.result.value or 0)
-            continue
-        process = process_of(item.pid, made)
-        if process not in above or process in done:
-            continue
-        next_call = above[process]
-        if item is next_call:
-            done.add(process)
-            if item.result.value == pid:
-                inside.add(pid)
-            kept.append(item)
-        elif not creates or (isinstance(item, Call) and is_thread(item)):
-            kept.append(item)
-    return (pid if not above else list(above)[-1], kept)
+            inside.add(creates(item) or pid)
+        elif process in above and process not in done:
+            meant = before(item, above[process], pid, alone)
+            kept += [meant] if meant else []
+            if item is above[process]:
+                done.add(process)
+                inside |= {pid} if creates(item) == pid else set()
+    return (pid if alone or not above else list(above)[-1]), kept

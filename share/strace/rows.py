@@ -52,17 +52,30 @@ def row(begins: str) -> str:
     return next(cell for cell in rows() if cell.startswith(begins))
 
 
+@dataclass(frozen=True)
+class Kept:
+    """A row that may explain a later difference: in what, and whether the kernel then has more."""
+
+    row: str
+    part: str
+    more: bool | None = None
+
+
 @dataclass
 class Known:
     """What is known of a task besides its credential."""
 
     no_new_privs: bool = False
     group_changed: bool = False
-    kept: dict[str, str] = field(default_factory=dict)
+    kept: list[Kept] = field(default_factory=list)
 
     def copy(self) -> Known:
         """The same for a child."""
-        return Known(self.no_new_privs, self.group_changed, dict(self.kept))
+        return Known(self.no_new_privs, self.group_changed, self.kept[:])
+
+    def keep(self, *kept: Kept) -> None:
+        """These rows may explain what comes; the newest is asked first."""
+        self.kept = [*kept, *(old for old in self.kept if old not in kept)]
 
 
 # What a question or a refusal of each form depends on.
@@ -106,8 +119,8 @@ class Explainer:
         elif not succeeds:
             return
         elif words[1] in ("setresuid", "setresgid") and words[3] == "-1":
-            known.kept[FILE_IDS] = FILESYSTEM_IDS
-        elif words[:2] == [words[0], "nonewprivs"]:
+            known.keep(Kept(FILESYSTEM_IDS, FILE_IDS))
+        elif words[1] == "nonewprivs":
             known.no_new_privs = True
         elif words[1] == "setfsgid":
             known.group_changed = True
@@ -119,11 +132,13 @@ class Explainer:
         mode = int(file.split()[5], 8) if len(file.split()) > 5 else 0
         counts = mode & 0o6000 or " caps " in file
         if known.no_new_privs:
-            known.kept |= {IDS: NO_NEW_PRIVS_IDS, CAPS: NO_NEW_PRIVS_FILE}
+            known.keep(Kept(NO_NEW_PRIVS_IDS, IDS), Kept(NO_NEW_PRIVS_FILE, CAPS))
         elif counts and " nosuid" not in file:
-            known.kept |= {IDS: TRACED, CAPS: SET_ID if mode & 0o6000 else TRACED}
+            known.keep(Kept(TRACED, IDS), Kept(TRACED, CAPS, more=False))
+            if mode & 0o6000:
+                known.keep(Kept(SET_ID, CAPS, more=True))
         elif known.group_changed:
-            known.kept[CAPS] = PLAIN_FILE
+            known.keep(Kept(PLAIN_FILE, CAPS, more=False))
         known.group_changed = False
 
     def explain(self, line: Line, report: str) -> str | None:
@@ -150,4 +165,21 @@ class Explainer:
         if form in ("open", "access", "check") and (kernel, told) == ("eperm", "ok"):
             return row(NOT_MODE)
         depends = DEPENDS.get(form, (IDS, CAPS))
-        return next((row(known.kept[part]) for part in depends if part in known.kept), None)
+        more = has_more(form, line.answer or "", report)
+        for kept in known.kept:
+            if kept.part in depends and (more is None or kept.more in (None, more)):
+                return row(kept.row)
+        return None
+
+
+def has_more(form: str, kernel: str, report: str) -> bool | None:
+    """Whether the kernel's task has more capabilities than the report's; None if untold."""
+    words, others = kernel.split(), report.split()
+    if form == "caps" and len(words) == len(others):
+        pairs = list(zip(words[1:4], others[1:4], strict=True))
+        return any(int(one, 16) & ~int(other, 16) for one, other in pairs)
+    if form in ("ambis", "bset") and len(words) == len(others) == 2:
+        return words[1] == "1"
+    if form == "ids":
+        return None
+    return words[0] == "ok" if words[0] != others[0] else None
