@@ -24,8 +24,9 @@ DESCRIPTOR = "f1"
 
 NAMESPACE = "a user namespace is entered, which no line does: record and convert within it"
 
-# The calls behind which --ask asks for the sets.
+# The calls behind which --ask asks for the sets, where they are no questions themselves.
 CHANGING = frozenset([*ID_CALLS, *EXECUTIONS, "setfsuid", "capset", "prctl"])
+QUESTIONS = ("bset", "ambis", "bits")
 
 WANTED_BITS = {"R_OK": 4, "W_OK": 2, "X_OK": 1, "F_OK": 0}
 
@@ -132,7 +133,8 @@ class Converter:
             self.passed_over += 1
         else:
             line = Line(f"{task.name} {said.words}", call, said.answer)
-            asked = self.asks and said.answer.startswith("ok") and call.name in CHANGING
+            changes = call.name in CHANGING and said.words.split()[0] not in QUESTIONS
+            asked = self.asks and changes and said.answer.startswith("ok")
             question = [Line(f"{task.name} caps")] if asked else []
             self.script.add(call.first, line, *question)
 

@@ -59,6 +59,7 @@ class Tasks:
         return self._add(pid, creator.process)
 
     def _add(self, pid: int, process: Process) -> Task:
+        """A task more, with the next number."""
         self._tasks += 1
         task = Task(self._tasks, pid, process)
         process.threads.append(task)
