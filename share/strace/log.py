@@ -9,6 +9,7 @@ from __future__ import annotations
 import re
 from collections.abc import Callable, Collection, Iterator
 from dataclasses import dataclass, field
+from functools import lru_cache
 from typing import BinaryIO
 
 from . import lines
@@ -27,7 +28,7 @@ SUPERSEDED = re.compile(r"superseded by execve in pid (\d+)")
 UNKNOWN = 0
 
 
-@dataclass(frozen=True)
+@dataclass(frozen=True, slots=True)
 class Call:
     """A call that returned, with the lines of the log at which it begins and ends."""
 
@@ -72,6 +73,14 @@ class Begun:
     name: str
     text: str
     line: int
+
+
+@lru_cache(maxsize=1024)
+def parsed(text: str) -> tuple[tuple[str, ...], Result] | None:
+    """The arguments and the result of a call. Long logs have the same few calls over and over."""
+    parts = lines.split(text)
+    result = lines.result(parts[1]) if parts else None
+    return (tuple(parts[0]), result) if parts and result else None
 
 
 def text_lines(source: BinaryIO) -> Iterator[str]:
@@ -230,11 +239,10 @@ class Reader:
 
     def ends(self, pid: int, begun: Begun, rest: str) -> None:
         """A call has ended: its arguments and its result are known."""
-        parts = lines.split(begun.text + rest)
-        result = lines.result(parts[1]) if parts else None
-        if parts is None or result is None:
+        parts = parsed(begun.text + rest)
+        if parts is None:
             raise BadLog(self.count, f"the arguments or the result of {begun.name} can't be read")
-        call = Call(pid, begun.name, tuple(parts[0]), result, begun.line, self.count)
+        call = Call(pid, begun.name, *parts, begun.line, self.count)
         self.found.append((call.last if call.name in EXECUTIONS else call.first, call))
 
     def ended(self, pid: int, how: str) -> None:
