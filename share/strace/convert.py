@@ -119,8 +119,7 @@ class Converter:
     def stranger(self, call: Call) -> None:
         """A call of a task that no call of the log made, or that is on its way out."""
         self.passed_over += 1
-        known = any(told.endswith(f" {call.pid}") for told in self.tasks.told)
-        if not known and call.pid not in self._strangers:
+        if call.pid not in self.tasks.pids and call.pid not in self._strangers:
             self._strangers.add(call.pid)
             self.notes.append(
                 f"line {call.first}: no call of this log made pid {call.pid}; "

@@ -39,7 +39,7 @@ PLAIN = re.compile(r"\d{1,9} +([a-z_][a-z_0-9]*)\(")
 # Strace's own messages, and the frames that it writes with -k.
 MESSAGE = re.compile(r"strace: .*|\[ Process PID=\d+ runs in .* mode\. \]| > .*")
 
-ATTACHED = re.compile(r"strace: Process (\d+) attached(?: with \d+ threads)?$")
+ATTACHED = re.compile(r"strace: Process (\d{1,9}) attached(?: with \d+ threads)?$")
 
 UNFINISHED = "<unfinished ...>"
 

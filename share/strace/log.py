@@ -22,7 +22,7 @@ NO_END = "this call has no end: the line is cut, or another text is mixed in"
 
 EXECUTIONS = ("execve", "execveat")
 
-SUPERSEDED = re.compile(r"superseded by execve in pid (\d+)")
+SUPERSEDED = re.compile(r"superseded by execve in pid (\d{1,9})")
 
 # The first process, where only later lines tell its pid, as on a terminal.
 UNKNOWN = 0
@@ -125,6 +125,7 @@ class Reader:
             raise BadLog(self.count, "the log is cut in the middle of a call")
         if self.first_pid is None:
             raise BadLog(self.count + 1, "the log has no call")
+        self.passed_over += len(self.begun)
         self.found.sort(key=lambda pair: pair[0])
         return [item for _, item in self.found]
 
@@ -199,11 +200,11 @@ class Reader:
         """The one task that is left, where a line has no pid."""
         if word:
             raise BadLog(self.count, f"{word[:20]} is no pid")
+        if len(self._alive) == 1:
+            return next(iter(self._alive))
         if self.first_pid is None:
             return UNKNOWN
-        if len(self._alive) != 1:
-            raise BadLog(self.count, "it has no pid, and more than one process is there, or none")
-        return next(iter(self._alive))
+        raise BadLog(self.count, "it has no pid, and more than one process is there, or none")
 
     def told_first(self, pid: int) -> None:
         """The first process is this one, as a line tells that names it."""

@@ -38,6 +38,7 @@ class Tasks:
 
     def __init__(self) -> None:
         self.by_pid: dict[int, Task] = {}
+        self.pids: set[int] = set()
         self.told: list[str] = []
         self._tasks = 0
         self._processes = 0
@@ -64,6 +65,7 @@ class Tasks:
         task = Task(self._tasks, pid, process)
         process.threads.append(task)
         self.by_pid[pid] = task
+        self.pids.add(pid)
         self.told.append(f"t{task.number} p{process.number} {pid}")
         return task
 
