@@ -115,13 +115,15 @@ def compare(script: Script) -> Comparison:
     found = answers(report_of(script.text()))
     comparison = Comparison()
     explainer = Explainer()
+    before = None
     for number, line in enumerate(script.lines(), 1):
         if line.call is not None and line.answer is not None:
             report = found.get(number, "nothing")
             if agrees(line.answer, report):
-                comparison.agree += 1
+                comparison.agree += line.call is not before
             else:
                 comparison.differs(number, line, report, explainer.explain(line, report))
+            before = line.call
         explainer.see(line)
     return comparison
 

@@ -9,7 +9,7 @@ from dataclasses import dataclass, field
 
 from . import lines
 from .calls import ID_CALLS, OWN_CALLS, SET_CALLS, Said, Unheld, answer, own
-from .files import Files, Missing
+from .files import Files, Found, Missing
 from .log import EXECUTIONS, Call, Gone, Item, Renamed
 from .script import TASKS, Line, Script, Stop
 from .tasks import Process, Task, Tasks
@@ -26,7 +26,7 @@ NAMESPACE = "a user namespace is entered, which no line does: record and convert
 
 # The calls behind which --ask asks for the sets, where they are no questions themselves.
 CHANGING = frozenset([*ID_CALLS, *EXECUTIONS, "setfsuid", "capset", "prctl"])
-QUESTIONS = ("bset", "ambis", "bits")
+QUESTIONS = ("bset", "ambis", "bits", "check")
 
 WANTED_BITS = {"R_OK": 4, "W_OK": 2, "X_OK": 1, "F_OK": 0}
 
@@ -227,16 +227,21 @@ class Converter:
         place = 1 if call.name == "execveat" else 0
         path = self.path(task, call, place)
         try:
-            found = self.files.program(path)
+            *scripts, program = self.files.programs(path)
         except Missing:
             if said == "ok":
                 raise
             self.passed_over += 1
             return
-        name = self.script.file(call.first, found)
-        self.say(task, call, Said(f"exec {name}", said))
+        # A script file has to be executable too. Where it isn't, its interpreter isn't asked.
+        refused = said == "eacces" and bool(scripts)
+        for script in scripts[:1] if refused else scripts:
+            name = self.script.file(call.first, script)
+            self.say(task, call, Said(f"check {name} x", said if refused else "ok"))
+        if not refused:
+            self.say(task, call, Said(f"exec {self.script.file(call.first, program)}", said))
         if said == "ok":
-            task.process.program = path
+            task.process.program = program.path
             if task.process.making:
                 self.apart(task.process)
             for other in [one for one in task.process.threads if one is not task]:
@@ -282,7 +287,7 @@ class Converter:
         if not self.files.lists(path):
             return None
         try:
-            return self.script.file(call.first, self.files.program(path))
+            return self.script.file(call.first, Found(path, self.files.get(path)))
         except Missing:
             return None
 

@@ -1,8 +1,8 @@
 """The files that a log executes or opens: owner, group, mode, nosuid and attribute.
 
 A list of them is a text of lines, each `PATH KIND OWNER GROUP MODE`, then `nosuid` and `caps HEX`
-where they hold, as in a script but for the path; or `PATH #! INTERPRETER` for a script file. A path
-with a space or with quotes stands in quotes, as in C. Lines that begin with `#` say nothing.
+where they hold, as in a script but for the path, and `#! INTERPRETER` of a script file. A path with
+a space or with quotes stands in quotes, as in C. Lines that begin with `#` say nothing.
 """
 
 from __future__ import annotations
@@ -30,7 +30,7 @@ class Missing(Exception):
 
 @dataclass(frozen=True)
 class File:
-    """What a script's `file` line says of a file, or the interpreter that a script file names."""
+    """What a script's `file` line says of a file, and the interpreter that a script file names."""
 
     words: str
     interpreter: str | None = None
@@ -38,7 +38,7 @@ class File:
 
 @dataclass(frozen=True)
 class Found:
-    """A file and the path where it lies, which of a script file is its interpreter's."""
+    """A file and the path where it lies."""
 
     path: str
     file: File
@@ -67,13 +67,11 @@ def read_list(text: str) -> dict[str, File]:
             raise BadList(f"line {count}: it has no path, or nothing behind it")
         path = lines.string(match[1]) if match[1][0] == '"' else match[1]
         words = " ".join(match[2].split())
-        if words.startswith("#! "):
-            found[path or ""] = File("", words[3:])
-        elif LINE.match(words):
-            found[path or ""] = File(words)
-        else:
-            form = "KIND OWNER GROUP MODE [nosuid] [caps HEX]"
+        words, _, interpreter = words.partition(" #! ")
+        if not LINE.match(words):
+            form = "KIND OWNER GROUP MODE [nosuid] [caps HEX] [#! INTERPRETER]"
             raise BadList(f"line {count}: {words[:60]!r} isn't {form}")
+        found[path or ""] = File(words, interpreter or None)
     return found
 
 
@@ -98,12 +96,14 @@ class Files:
             self.seen[path] = on_disk(path)
         return self.seen[path]
 
-    def program(self, path: str) -> Found:
-        """What runs where this file is executed: for a script file its interpreter."""
+    def programs(self, path: str) -> list[Found]:
+        """The file to execute; behind a script file its interpreter, which runs in its place."""
+        found: list[Found] = []
         for _ in range(SCRIPTS + 1):
             file = self.get(path)
+            found.append(Found(path, file))
             if file.interpreter is None:
-                return Found(path, file)
+                return found
             path = os.path.join(os.path.dirname(path), file.interpreter)
         raise Missing(f"{path} is one script file more than execve(2) follows")
 
@@ -114,9 +114,7 @@ def on_disk(path: str) -> File:
         name = path.encode("latin-1")
         status = os.stat(name)
         interpreter = interpreter_of(name) if stat.S_ISREG(status.st_mode) else None
-        if interpreter:
-            return File("", interpreter)
-        return File(words_of(name, status))
+        return File(words_of(name, status), interpreter)
     except (OSError, ValueError) as fault:
         reason = fault.strerror if isinstance(fault, OSError) else str(fault)
         raise Missing(f"{path} can't be asked for its owner and mode: {reason}") from None

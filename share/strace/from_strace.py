@@ -41,8 +41,8 @@ def list_of(converter: Converter) -> str:
     """The list of all files that were asked for."""
     found = []
     for path, file in converter.files.seen.items():
-        words = f"#! {file.interpreter}" if file.interpreter else file.words
-        found.append(f"{quoted(path)} {words}\n")
+        interpreter = f" #! {file.interpreter}" if file.interpreter else ""
+        found.append(f"{quoted(path)} {file.words}{interpreter}\n")
     return "".join(found)
 
 

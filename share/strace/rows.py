@@ -18,7 +18,7 @@ PAGE = Path(__file__).resolve().parents[2] / "docs" / "LINUX.md"
 
 FILESYSTEM_IDS = "setresuid and setresgid always set the filesystem id to the new effective id"
 SECUREBITS = "a securebit above bit 7 is EPERM"
-UNMAPPED = "every id that is one may be set"
+UNMAPPED = "any id up to 4294967294 may be set"
 DENIED_GROUPS = "setgroups asks for CAP_SETGID alone"
 VERSION_1 = "version 1 attributes are a bad revision"
 DIRECTORIES = "a check is of the one file: its directories are not searched"
