@@ -92,9 +92,8 @@ class Comparison:
             return
         result = f"{call.result.value} {call.result.error or ''}".strip()
         self.told.append(
-            f"line {call.first}: pid {call.pid} {call.text} = {result}\n"
-            f"    the kernel: {line.answer}\n"
-            f"    the report: {report} (line {number} of the script: {line.text})\n"
+            f"line {call.first}: pid {call.pid} {call.text} = {result}: the kernel {line.answer}, "
+            f"the report {report} (line {number}: {line.text})\n"
             f"    docs/LINUX.md: {row if row else 'no row explains it'}"
         )
         if row:

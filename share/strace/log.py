@@ -41,8 +41,8 @@ class Call:
 
     @property
     def text(self) -> str:
-        """The call as it is told of: no argument longer than a line."""
-        shown = (arg if len(arg) < 100 else arg[:97] + "..." for arg in self.args)
+        """The call as it is told of, with long arguments shortened."""
+        shown = (arg if len(arg) < 60 else arg[:57] + "..." for arg in self.args)
         return f"{self.name}({', '.join(shown)})"
 
 

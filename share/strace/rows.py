@@ -78,19 +78,17 @@ class Known:
         self.kept = [*kept, *(old for old in self.kept if old not in kept)]
 
 
-# What a question or a refusal of each form depends on.
-DEPENDS = {
-    "ids": (IDS,),
-    "caps": (CAPS,),
-    "ambis": (CAPS,),
-    "bset": (CAPS,),
-    "setfsuid": (FILE_IDS, CAPS, IDS),
-    "setfsgid": (FILE_IDS, CAPS, IDS),
-    "exec": (FILE_IDS, CAPS, IDS),
-    "open": (FILE_IDS, CAPS, IDS),
-    "check": (FILE_IDS, CAPS, IDS),
-    "access": (IDS, CAPS),
-}
+# What the answer of each form depends on. Of the others no kept row explains any.
+DEPENDS = (
+    {"ids": (IDS,)}
+    | dict.fromkeys(("caps", "ambis", "capset", "capdrop", "ambraise", "securebits"), (CAPS,))
+    | dict.fromkeys((*ID_CALLS, "signal"), (IDS, CAPS))
+    | dict.fromkeys(("setfsuid", "setfsgid", "exec"), (FILE_IDS, CAPS, IDS))
+    | dict.fromkeys(("open", "check", "access"), (FILE_IDS, CAPS, IDS))
+)
+
+# The answers that rules give. Another one, as that a task isn't there, no row explains.
+RULED = ("ok", "eperm", "einval", "eacces")
 
 
 @dataclass
@@ -147,6 +145,8 @@ class Explainer:
         known = self.known(words[0])
         form, kernel = words[1], (line.answer or "").split()[0]
         told = report.split()[0]
+        if told not in RULED:
+            return None
         if form == "securebits" and int(words[2]) > 255:
             return row(SECUREBITS)
         if form == "setgroups" and (kernel, told) == ("eperm", "ok"):
@@ -164,7 +164,7 @@ class Explainer:
             return row(DIRECTORIES)
         if form in ("open", "access", "check") and (kernel, told) == ("eperm", "ok"):
             return row(NOT_MODE)
-        depends = DEPENDS.get(form, (IDS, CAPS))
+        depends = DEPENDS.get(form, ())
         more = has_more(form, line.answer or "", report)
         for kept in known.kept:
             if kept.part in depends and (more is None or kept.more in (None, more)):
