@@ -124,7 +124,7 @@ def setgroups(args: Args, result: Result) -> Said | None:
 
 def own(args: Args, pid: int) -> bool:
     """Whether capset(2) or capget(2) is of the task itself."""
-    named = lines.number(lines.fields(args[0]).get("pid", "")) if args else None
+    named = lines.pid(lines.fields(args[0]).get("pid", "")) if args else None
     return named in (0, pid)
 
 

@@ -123,7 +123,7 @@ class Converter:
             self._strangers.add(call.pid)
             self.notes.append(
                 f"line {call.first}: no call of this log made pid {call.pid}; "
-                "its calls are passed over"
+                "its calls are passed over (in a PID namespace record with --pidns-translation)"
             )
 
     def say(self, task: Task, call: Call, said: Said | None) -> None:
@@ -270,7 +270,7 @@ class Converter:
     def kill(self, task: Task, call: Call) -> None:
         """kill(2), tkill(2), tgkill(2), where the target is a task of the log."""
         place = 1 if call.name == "tgkill" else 0
-        pid = lines.number(call.args[place]) if place < len(call.args) else None
+        pid = lines.pid(call.args[place]) if place < len(call.args) else None
         other = self.tasks.by_pid.get(pid) if pid is not None else None
         said = answer(call.result)
         if other is None or said not in ("ok", "eperm"):

@@ -52,6 +52,9 @@ TOKEN = re.compile(
 
 RESULT = re.compile(r" *= (\?|-?\d{1,20}|0x[0-9a-f]{1,16})(?:<.*>)?(?: (E[A-Z0-9]+))?(?: .*)?$")
 
+# What --pidns-translation writes behind a pid of another PID namespace.
+TRANSLATED = re.compile(r"/\* (\d{1,9}) in strace's PID NS \*/")
+
 ESCAPE = re.compile(r"\\(x[0-9a-fA-F]{2}|[0-7]{1,3}|.)")
 
 ESCAPES = {"n": "\n", "t": "\t", "r": "\r", "v": "\v", "f": "\f", "a": "\a", "b": "\b"}
@@ -92,6 +95,8 @@ def result(text: str) -> Result | None:
     match = RESULT.match(text)
     if match is None:
         return None
+    if (translated := TRANSLATED.search(text)) is not None:
+        return Result(int(translated[1]), match[2])
     value = match[1]
     known = None if value == "?" else int(value, 16 if value.startswith("0x") else 10)
     return Result(known, match[2])
@@ -146,6 +151,12 @@ def number(text: str) -> int | None:
         return int(word, 16)
     octal = re.fullmatch(r"0[0-7]+", word)
     return int(word, 8 if octal else 10)
+
+
+def pid(text: str) -> int | None:
+    """The pid that an argument is, as strace itself knows it."""
+    translated = TRANSLATED.search(text)
+    return int(translated[1]) if translated else number(text)
 
 
 def bits(text: str, names: dict[str, int]) -> int | None:
