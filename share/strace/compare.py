@@ -11,6 +11,7 @@ from dataclasses import dataclass, field
 from pathlib import Path
 
 from .command import Fault, Options, add_options, converted
+from .log import Call
 from .rows import Explainer
 from .script import Line, Script
 
@@ -114,7 +115,7 @@ def compare(script: Script) -> Comparison:
     found = answers(report_of(script.text()))
     comparison = Comparison()
     explainer = Explainer()
-    before = None
+    before: Call | None = None
     for number, line in enumerate(script.lines(), 1):
         if line.call is not None and line.answer is not None:
             report = found.get(number, "nothing")
@@ -148,4 +149,6 @@ def main(words: list[str]) -> int:
     if converter.stopped:
         print(converter.stopped)
     print(comparison.sum())
+    if not comparison.agree + comparison.explained + comparison.unexplained:
+        return NOT_COMPARED
     return DIFFERS if comparison.unexplained else AGREES

@@ -7,6 +7,7 @@ a space or with quotes stands in quotes, as in C. Lines that begin with `#` say 
 
 from __future__ import annotations
 
+import contextlib
 import os
 import re
 import stat
@@ -44,8 +45,11 @@ class Found:
     file: File
 
 
+# An id has no leading zero, and is smaller than this (docs/FORMATS.md).
+NO_ID = 4294967295
+ID = r"(0|[1-9][0-9]{0,9})"
 LINE = re.compile(
-    r"(reg|dir) ([0-9]+) ([0-9]+) ([0-7]{4})( nosuid)?( caps (?:0x)?(?:[0-9a-fA-F]{2}){1,64})?$"
+    rf"(?:reg|dir) {ID} {ID} [0-7]{{4}}(?: nosuid)?(?: caps (?:0x)?(?:[0-9a-fA-F]{{2}}){{1,64}})?$"
 )
 
 
@@ -62,13 +66,14 @@ def read_list(text: str) -> dict[str, File]:
     for count, line in enumerate(text.split("\n"), 1):
         if not line.strip() or line.startswith("#"):
             continue
-        match = re.match(r'("(?:[^"\\]|\\.)*"|[^ "]+) +(.*)$', line.rstrip())
-        if match is None:
+        parts = re.match(r'("(?:[^"\\]|\\.)*"|[^ "]+) +(.*)$', line.rstrip())
+        if parts is None:
             raise BadList(f"line {count}: it has no path, or nothing behind it")
-        path = lines.string(match[1]) if match[1][0] == '"' else match[1]
-        words = " ".join(match[2].split())
+        path = lines.string(parts[1]) if parts[1][0] == '"' else parts[1]
+        words = " ".join(parts[2].split())
         words, _, interpreter = words.partition(" #! ")
-        if not LINE.match(words):
+        ids = LINE.match(words)
+        if ids is None or any(int(owner) >= NO_ID for owner in ids.groups()):
             form = "KIND OWNER GROUP MODE [nosuid] [caps HEX] [#! INTERPRETER]"
             raise BadList(f"line {count}: {words[:60]!r} isn't {form}")
         found[path or ""] = File(words, interpreter or None)
@@ -126,10 +131,9 @@ def words_of(name: bytes, status: os.stat_result) -> str:
     words = [kind, str(status.st_uid), str(status.st_gid), f"{status.st_mode & 0o7777:04o}"]
     if os.statvfs(name).f_flag & os.ST_NOSUID:
         words.append("nosuid")
-    try:
-        words += ["caps", os.getxattr(name, ATTRIBUTE).hex()]
-    except OSError:
-        pass
+    with contextlib.suppress(OSError):
+        attribute = os.getxattr(name, ATTRIBUTE).hex()
+        words += ["caps", attribute] if attribute else []
     return " ".join(words)
 
 

@@ -79,7 +79,7 @@ class Known:
 
 
 # What the answer of each form depends on. Of the others no kept row explains any.
-DEPENDS = (
+DEPENDS: dict[str, tuple[str, ...]] = (
     {"ids": (IDS,)}
     | dict.fromkeys(("caps", "ambis", "capset", "capdrop", "ambraise", "securebits"), (CAPS,))
     | dict.fromkeys((*ID_CALLS, "signal"), (IDS, CAPS))
