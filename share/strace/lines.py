@@ -147,7 +147,7 @@ def number(text: str) -> int | None:
     if match is None:
         return None
     word = match[1]
-    if word.startswith("0x"):
+    if "0x" in word:
         return int(word, 16)
     octal = re.fullmatch(r"0[0-7]+", word)
     return int(word, 8 if octal else 10)
