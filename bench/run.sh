@@ -1,13 +1,13 @@
 #!/bin/sh
-# Measures the proved program against a plain, unverified one (plain.rs) on four scripts of 20,000
-# lines. It prints for each: entries, the processor time of one run, in the program and in the kernel
-# (the mean of 20), and the greatest resident memory of both, the proved program's also by entry; and,
-# where valgrind is there, the instructions of both and their ratio, which is the same at each run.
-# The marks are ratios of 1.3 on calls, holds and checks and of 1.5 on changes, and at most 150 bytes
-# of memory an entry on changes.
+# Measures the proved program against a plain, unverified one (plain.rs) on five scripts: four of 20,000
+# lines, and one of 2,000 calls that 64 threads make. It prints for each: entries, the processor time of
+# one run, in the program and in the kernel (the mean of 20), and the greatest resident memory of both;
+# and, where valgrind is there, the instructions of both and their ratio, which is the same at each run.
+# The marks are millions of instructions, and at most 4 MB of memory on changes: run keeps no journal,
+# so its memory doesn't grow with the report.
 # Then a script of calls that 64 threads make, 1.28 million entries, is held against a program that only
-# writes as many bytes and digits (writes.rs); there the mark is 2. Its report is audited, which is held
-# against the run that made it: the mark is 2 there too.
+# writes as many bytes and digits (writes.rs); there the mark is 2, and 10 MB. Its report is audited,
+# which is held against the run that made it: the mark is 2 there too.
 #
 # It needs rustc and GNU time. No part of the gate.
 set -eu
@@ -21,8 +21,6 @@ rustc --edition 2021 -C opt-level=3 -C codegen-units=1 -C panic=abort -o "$dir/p
 rustc --edition 2021 -C opt-level=3 -C codegen-units=1 -C panic=abort -o "$dir/writes" "$top/bench/writes.rs"
 "$top/bin/credtrace" run < /dev/null
 proved=$top/crates/credtrace/out/credtrace
-# As bin/credtrace has it.
-export GLIBC_TUNABLES="${GLIBC_TUNABLES-glibc.malloc.hugetlb=1}"
 plain=$dir/plain
 
 lines() { # NAME LINE..: the script of 20,000 lines that has these in turn after its init line
@@ -42,6 +40,12 @@ awk 'BEGIN {
   for (i = 0; i < 19742; i++) print "t1 check f" i % 256 + 1 " r"
 }' > "$dir/checks"
 
+awk 'BEGIN {
+  print "init t1 p1 0 0 n0"
+  for (i = 2; i <= 64; i++) print "t1 spawn t" i
+  for (i = 0; i < 2000; i++) print "t1 setresuid 0 0 0"
+}' > "$dir/broadcast"
+
 seconds() { # PROGRAM NAME: the mean processor time, and the greatest resident memory in KiB
   : > "$dir/times"
   run=0
@@ -59,29 +63,39 @@ instructions() { # PROGRAM NAME
 }
 
 row() {
-  printf '%-8s %7s   %13s   %12s   %21s   %s\n' "$@"
+  printf '%-9s %7s   %13s   %12s   %9s   %s\n' "$@"
 }
 
-row script entries 'proved s, KiB' 'plain s, KiB' 'bytes an entry (mark)' \
+row script entries 'proved s, KiB' 'plain s, KiB' 'mark, KiB' \
   'instructions: proved, plain, ratio (mark)'
-for name in calls changes holds checks; do
+for name in calls changes holds checks broadcast; do
   "$proved" run < "$dir/$name" > "$dir/report"
-  "$plain" run < "$dir/$name" | cmp - "$dir/report"
-  mark=1.3
-  [ "$name" = changes ] && mark=1.5
+  case $name in
+    calls) mark=42 ;;
+    changes) mark=73 ;;
+    holds) mark=22 ;;
+    checks) mark=53 ;;
+    broadcast) mark=115 ;;
+  esac
   ours=$(seconds "$proved" "$name")
-  theirs=$(seconds "$plain" "$name")
+  theirs=- a=0 b=0
   count="valgrind isn't here"
-  if command -v valgrind > /dev/null; then
-    a=$(instructions "$proved" "$name")
-    b=$(instructions "$plain" "$name")
-    count=$(awk -v a="$a" -v b="$b" -v mark="$mark" \
-      'BEGIN { printf "%.1f M, %.1f M, %.2f (%s)", a / 1e6, b / 1e6, a / b, mark }')
+  command -v valgrind > /dev/null && a=$(instructions "$proved" "$name")
+  # The plain program has no threads.
+  if [ "$name" != broadcast ]; then
+    "$plain" run < "$dir/$name" | cmp - "$dir/report"
+    theirs=$(seconds "$plain" "$name")
+    command -v valgrind > /dev/null && b=$(instructions "$plain" "$name")
   fi
+  [ "$a" = 0 ] || count=$(awk -v a="$a" -v b="$b" -v mark="$mark" 'BEGIN {
+    printf "%.1f M, ", a / 1e6
+    if (b > 0) printf "%.1f M, %.2f", b / 1e6, a / b; else printf "-, -"
+    printf " (%s M)", mark
+  }')
   entries=$(wc -l < "$dir/report")
-  bytes=$((${ours#* } * 1024 / entries))
-  [ "$name" = changes ] && bytes="$bytes (150)"
-  row "$name" "$entries" "$ours" "$theirs" "$bytes" "$count"
+  memory=
+  [ "$name" = changes ] && memory=4096
+  row "$name" "$entries" "$ours" "$theirs" "$memory" "$count"
 done
 
 awk 'BEGIN {
@@ -98,11 +112,13 @@ if command -v valgrind > /dev/null; then
   count=$(awk -v a="$a" -v b="$b" -v mark="$mark" \
     'BEGIN { printf "%.1f M, %.1f M, %.2f (%s)", a / 1e6, b / 1e6, a / b, mark }')
 fi
-row threads 1275968 "$ours" "$theirs" $((${ours#* } * 1024 / 1275968)) "$count"
+row threads 1275968 "$ours" "$theirs" 10240 "$count"
 
 "$proved" run < "$dir/threads" > "$dir/report"
 { cat "$dir/threads"; echo report; cat "$dir/report"; } > "$dir/audited"
 word=audit
+# As bin/credtrace has it.
+export GLIBC_TUNABLES="${GLIBC_TUNABLES-glibc.malloc.hugetlb=1}"
 theirs=$ours
 ours=$(seconds "$proved" audited)
 if command -v valgrind > /dev/null; then
@@ -111,4 +127,4 @@ if command -v valgrind > /dev/null; then
   count=$(awk -v a="$a" -v b="$b" -v mark="$mark" \
     'BEGIN { printf "%.1f M, %.1f M, %.2f (%s)", a / 1e6, b / 1e6, a / b, mark }')
 fi
-row audited 1275968 "$ours" "$theirs" $((${ours#* } * 1024 / 1275968)) "$count"
+row audited 1275968 "$ours" "$theirs" '' "$count"

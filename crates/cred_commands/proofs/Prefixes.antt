@@ -64,7 +64,7 @@ flushed_entries a b c script journal at r ended all kept =
     flushed a b c (text script journal) r (rw same at all) kept
 
 -- a text that was refused isn't done
-refused_apart : (refusal : SinkRefusal) → finished (Err refusal) status.Done ≡ status.Done → ⊥
+pub refused_apart : (refusal : SinkRefusal) → finished (Err refusal) status.Done ≡ status.Done → ⊥
 refused_apart sink.Failed is = cc
 refused_apart sink.Memory is = cc
 

@@ -1,6 +1,6 @@
 -- What `audit` leaves at its source and its sink, by the status that it answers.
-use Rattle.std.specs.Prelude.{◌≡◌, ◌≤◌, ◌<◌, ◌⊎◌, ◌+◌, ℕ, List, ◌++◌, length, codes, decimal}
-use Rattle.std.specs.Prelude.{Ok, Err, MatchOption, ⊤}
+use Rattle.std.specs.Prelude.{◌≡◌, ◌≢◌, ◌≤◌, ◌<◌, ◌⊎◌, ◌+◌, ℕ, List, ◌++◌, length, codes, decimal}
+use Rattle.std.specs.Prelude.{Ok, Err, Some, MatchOption, ⊤}
 use Rattle.std.specs.declared.option.Option.{Option}
 use Rattle.std.specs.Io.KnownBytes.{Appends}
 use Rattle.cred_io.specs.Ends.{ReadsMoreThan, AppendsPrefix}
@@ -11,7 +11,7 @@ use Rattle.cred_script.specs.Grammar.{script_of}
 use Rattle.cred_audit.specs.Report.{IsReport, IsFault}
 use Rattle.cred_commands.specs.declared.status.Status.{Status}
 use Rattle.cred_commands.specs.declared.status.Status.TheVariants as status
-use Rattle.cred_commands.specs.Ends.{IsWithin, IsTooLarge, ReadsInput, ReadsAbove}
+use Rattle.cred_commands.specs.Ends.{IsWhole, IsWithin, IsTooLarge, ReadsInput, ReadsAbove}
 use Rattle.cred_commands.specs.Parts.{parts_of, script_part}
 use Rattle.cred_commands.specs.Texts.{bad_text}
 
@@ -94,3 +94,15 @@ AuditSuits input status.ReadFault = ⊤
 AuditSuits input status.WriteFault = IsAuditWithin input
 AuditSuits input status.Memory = ⊤
 AuditSuits input answer = IsAuditWithin input × ((text : List ℕ) × Says input answer text)
+
+-- What `audit` leaves. With a whole text what was left at the source was read and is within the
+-- limits, and the text is what is said of it.
+pub record LeavesVerdict
+    (answer : Status) (before after : Option (List ℕ)) (written now : Option (List ℕ))
+    : Type 0 where
+  pub whole : IsWhole answer → AuditReads before after (Writes answer written now)
+  pub no_usage : answer ≢ status.Usage
+  pub too_large : answer ≡ status.TooLarge → AuditReadsTooMuch before after
+  pub write_fault : answer ≡ status.WriteFault → AuditReadsWithin before after
+  pub suits : (input : List ℕ) → before ≡ Some input → AuditSuits input answer
+  pub prefix : (now ≡ written) ⊎ AuditReads before after (WritesPrefix written now)

@@ -42,3 +42,12 @@ SuitsBytes bytes status.Bad = ¬ IsAttribute bytes
 SuitsBytes bytes status.WriteFault = ⊤
 SuitsBytes bytes status.Memory = ⊤
 SuitsBytes bytes other = ⊥
+
+-- What `decode` leaves: the bytes decide whether it is Done or Bad, and its text.
+pub record LeavesAttribute
+    (bytes : List ℕ) (answer : Status) (written now : Option (List ℕ))
+    : Type 0 where
+  pub done : answer ≡ status.Done → Shows bytes written now
+  pub bad : answer ≡ status.Bad → ShowsFault bytes written now
+  pub suits : SuitsBytes bytes answer
+  pub prefix : (now ≡ written) ⊎ ShowsPrefix bytes written now

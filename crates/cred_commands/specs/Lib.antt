@@ -7,3 +7,4 @@ pub mod Leaves
 pub mod Parts
 pub mod Auditing
 pub mod Statuses
+pub mod Sequences

@@ -1,5 +1,5 @@
 -- What is written of the script that is made from a number.
-use Rattle.std.specs.Prelude.{◌≡◌, ◌≤◌, ℕ, List, Ok}
+use Rattle.std.specs.Prelude.{◌≡◌, ◌≤◌, ◌⊎◌, ℕ, List, Ok}
 use Rattle.std.specs.declared.option.Option.{Option}
 use Rattle.std.specs.Io.KnownBytes.{Appends}
 use Rattle.cred_io.specs.Ends.{AppendsPrefix}
@@ -9,12 +9,22 @@ use Rattle.cred_model.specs.Journal.{IsSequence}
 use Rattle.cred_script.specs.Grammar.{script_of}
 use Rattle.cred_generate.specs.Generated.{CALLS, generated, text_of}
 use Rattle.cred_generate.specs.Summary.{summary}
+use Rattle.cred_generate.specs.declared.summing.Summary.{Summary}
+use Rattle.cred_commands.specs.Ends.{IsForText}
 use Rattle.cred_commands.specs.Texts.{summary_text}
+use Rattle.cred_commands.specs.declared.status.Status.{Status}
+use Rattle.cred_commands.specs.declared.status.Status.TheVariants as status
 
 -- a script may be made from the number
 pub record IsCount (n : ℕ) : Type 0 where
   pub some : 1 ≤ n
   pub few : n ≤ CALLS
+
+-- What is told is the summary of the journal in which all lines of the script run whole and in
+-- order.
+abbrev pub TellsSequence : Script → Summary → Type 0
+TellsSequence script told =
+    (journal : List Entry) × IsSequence script journal × (told ≡ summary script journal)
 
 -- The text tells the summary of the journal in which the lines of the script that is made from the
 -- number run whole and in order.
@@ -36,3 +46,9 @@ pub record SumsPrefix (n : ℕ) (before after : Option (List ℕ)) : Type 0 wher
   pub text : List ℕ
   pub is : IsSummary n text
   pub written : AppendsPrefix before after text
+
+-- What `gen` leaves: the number decides its text.
+pub record LeavesSummary (n : ℕ) (answer : Status) (written now : Option (List ℕ)) : Type 0 where
+  pub done : answer ≡ status.Done → Sums n written now
+  pub suits : IsForText answer
+  pub prefix : (now ≡ written) ⊎ SumsPrefix n written now

@@ -1,12 +1,11 @@
 //! Saying whether a report is the report of a script.
-ghost use Rattle.std.specs.Prelude.{◌≡◌, ◌≢◌, ◌≤◌, ◌⊎◌, ℕ, List, true, Some, IfOk, MatchBool};
+ghost use Rattle.std.specs.Prelude.{◌≡◌, ◌≢◌, ◌≤◌, ◌⊎◌, true, IfOk, MatchBool};
 ghost use Rattle.std.specs.Prelude.{length, string_bytes};
 ghost use Rattle.std.specs.Option.{option_map};
 ghost use Rattle.cred_io.specs.Causes.{CountsFaults};
 ghost use Rattle.cred_script.specs.Lines.{lines_of};
-ghost use Rattle.cred_commands.specs.Auditing.{AuditReads, AuditReadsTooMuch, AuditReadsWithin};
-ghost use Rattle.cred_commands.specs.Auditing.{AuditSuits, IsAuditWithin, Judges, Says, Writes};
-ghost use Rattle.cred_commands.specs.Auditing.{WritesPrefix, no_report_text};
+ghost use Rattle.cred_commands.specs.Auditing.{AuditSuits, IsAuditWithin, Judges, LeavesVerdict};
+ghost use Rattle.cred_commands.specs.Auditing.{Says, Writes, WritesPrefix, no_report_text};
 ghost use Rattle.cred_commands.specs.Ends.{IsTooLarge, IsWhole, IsWithin};
 ghost use Rattle.cred_commands.specs.Leaves.{IsReading, IsWriting};
 ghost use Rattle.cred_commands.specs.Parts as spec;
@@ -32,17 +31,8 @@ struct Said {
 
 /// Reads an input to its end, and says whether its report is its script's.
 pub fn read_and_audit<S: Source, K: Sink>(alloc: Global, source: &mut S, sink: &mut K) -> Status
-    ensures whole { IsWhole result → AuditReads (S.left source.old) (S.left source.new)
-        (Writes result (K.written sink.old) (K.written sink.new)) }
-    ensures no_usage { result ≢ Status.Usage }
-    ensures too_large { result ≡ Status.TooLarge
-        → AuditReadsTooMuch (S.left source.old) (S.left source.new) }
-    ensures write_fault { result ≡ Status.WriteFault
-        → AuditReadsWithin (S.left source.old) (S.left source.new) }
-    ensures suits { (input : List ℕ) → S.left source.old ≡ Some input → AuditSuits input result }
-    ensures prefix { (K.written sink.new ≡ K.written sink.old)
-        ⊎ AuditReads (S.left source.old) (S.left source.new)
-        (WritesPrefix (K.written sink.old) (K.written sink.new)) }
+    ensures verdict { LeavesVerdict result (S.left source.old) (S.left source.new)
+        (K.written sink.old) (K.written sink.new) }
     ensures reading { IsReading AUDIT_LIMIT result (S.left source.old) (S.left source.new)
         (S.faults source.old) (S.faults source.new) }
     ensures writing { IsWriting result (K.handed_on sink.new)
@@ -134,16 +124,20 @@ fn judge(alloc: Global, script: &[u8], report: &[u8]) -> Result<Said, NoMemory>
         (string_bytes said.text)) }
 {
     match read(alloc, script) {
-        Ok(script) => match audit(alloc, &script, report)? {
-            Verdict::Legal => Ok(Said {
-                status: Status::Done,
-                text: String::from_str(alloc, "legal\n")?,
-            }),
-            Verdict::NotLegal { entry } => Ok(Said {
-                status: Status::NotLegal,
-                text: format!(in alloc; "not legal {entry}\n")?,
-            }),
-        },
+        Ok(script) => {
+            let verdict = audit(alloc, &script, report);
+            drop(script);
+            match verdict? {
+                Verdict::Legal => Ok(Said {
+                    status: Status::Done,
+                    text: String::from_str(alloc, "legal\n")?,
+                }),
+                Verdict::NotLegal { entry } => Ok(Said {
+                    status: Status::NotLegal,
+                    text: format!(in alloc; "not legal {entry}\n")?,
+                }),
+            }
+        }
         Err(ScriptRefusal::Bad { line, reason }) => Ok(Said {
             status: Status::Bad,
             text: bad_text(alloc, line, reason)?,

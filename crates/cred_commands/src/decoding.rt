@@ -1,8 +1,7 @@
 //! What the bytes of a file's capability attribute say.
-ghost use Rattle.std.specs.Prelude.{◌≡◌, ◌⊎◌, true, IfOk, string_bytes};
-ghost use Rattle.cred_io.specs.Causes.{CountsFaults};
-ghost use Rattle.cred_commands.specs.Decoding.{ShowsFault, Shows, ShowsPrefix, SuitsBytes};
-ghost use Rattle.cred_commands.specs.Ends.{IsWhole};
+ghost use Rattle.std.specs.Prelude.{◌≡◌, IfOk, string_bytes};
+ghost use Rattle.cred_commands.specs.Decoding.{LeavesAttribute};
+ghost use Rattle.cred_commands.specs.Leaves.{IsWriting};
 ghost use Rattle.cred_commands.specs.Texts as spec;
 ghost use Rattle.cred_commands.specs.Texts.{attr_text};
 
@@ -16,16 +15,9 @@ use std::alloc::Global;
 
 /// Writes what the bytes of an attribute say, or why they are none.
 pub fn show<K: Sink>(alloc: Global, bytes: &[u8], sink: &mut K) -> Status
-    ensures done { result ≡ Status.Done
-        → Shows bytes.now (K.written sink.old) (K.written sink.new) }
-    ensures bad { result ≡ Status.Bad
-        → ShowsFault bytes.now (K.written sink.old) (K.written sink.new) }
-    ensures suits { SuitsBytes bytes.now result }
-    ensures handed_on { IsWhole result → K.handed_on sink.new ≡ true }
-    ensures cause { CountsFaults (result ≡ Status.WriteFault)
+    ensures attribute { LeavesAttribute bytes.now result (K.written sink.old) (K.written sink.new) }
+    ensures writing { IsWriting result (K.handed_on sink.new)
         (K.faults sink.old) (K.faults sink.new) }
-    ensures prefix { (sink.new ≡ sink.old)
-        ⊎ ShowsPrefix bytes.now (K.written sink.old) (K.written sink.new) }
 {
     match decode(bytes) {
         Ok(caps) => match text_of(alloc, caps) {

@@ -1,29 +1,27 @@
 //! The summary of a script that is made from a number.
-ghost use Rattle.std.specs.Prelude.{◌≡◌, ◌⊎◌, ◌++◌, true, IfOk, OnOk, decimal};
-ghost use Rattle.cred_io.specs.Causes.{CountsFaults};
-ghost use Rattle.cred_commands.specs.Ends.{IsForText, IsWhole};
-ghost use Rattle.cred_commands.specs.Summing.{IsCount, IsSummary, Sums, SumsPrefix};
+ghost use Rattle.std.specs.Prelude.{◌≡◌, ◌++◌, IfOk, OnOk, decimal};
+ghost use Rattle.cred_model.specs.State.{opening};
+ghost use Rattle.cred_commands.specs.Leaves.{IsWriting};
+ghost use Rattle.cred_commands.specs.Summing.{IsCount, IsSummary, LeavesSummary, TellsSequence};
 ghost use Rattle.cred_commands.specs.Texts as spec;
 
 use crate::status::{Status, finish};
 use crate::writing::write_text;
-use cred_book::run;
-use cred_generate::{Summary, generate, summary_of};
+use cred_generate::{Summary, generate};
 use cred_ids::NoMemory;
 use cred_io::Sink;
+use cred_order::run_line;
 use cred_report::append_word;
+use cred_script::Script;
+use cred_state::State;
 use std::alloc::Global;
 
 /// Runs the script that is made from a number, and writes the summary of its journal.
 pub fn sum<K: Sink>(alloc: Global, n: u32, sink: &mut K) -> Status
     requires { IsCount n }
-    ensures done { result ≡ Status.Done → Sums n (K.written sink.old) (K.written sink.new) }
-    ensures suits { IsForText result }
-    ensures handed_on { IsWhole result → K.handed_on sink.new ≡ true }
-    ensures cause { CountsFaults (result ≡ Status.WriteFault)
+    ensures summary { LeavesSummary n result (K.written sink.old) (K.written sink.new) }
+    ensures writing { IsWriting result (K.handed_on sink.new)
         (K.faults sink.old) (K.faults sink.new) }
-    ensures prefix { (sink.new ≡ sink.old)
-        ⊎ SumsPrefix n (K.written sink.old) (K.written sink.new) }
 {
     match summed(alloc, n) {
         Ok(text) => finish(write_text(sink, text.as_slice()), Status::Done),
@@ -37,8 +35,37 @@ fn summed(alloc: Global, n: u32) -> Result<Vec<u8>, NoMemory>
     ensures { IfOk result (λ text. IsSummary n text.items) }
 {
     let script = generate(alloc, n)?;
-    let book = run(alloc, script)?;
-    summary_text(alloc, summary_of(book.script(), book.journal()))
+    let told = told_in_order(alloc, &script);
+    drop(script);
+    summary_text(alloc, told?)
+}
+
+/// What is told of the run in which all lines of the script run whole and in order, on this state,
+/// in which nothing has run. No journal is kept.
+fn tell_lines(alloc: Global, script: &Script, state: &mut State) -> Result<Summary, NoMemory>
+    requires { state.old ≡ opening }
+    ensures { IfOk result (λ told. TellsSequence script.now told) }
+{
+    let mut told = Summary::new(script);
+    let mut entries = Vec::new(alloc);
+    let mut past = 0;
+    'lines: while past < script.lines() {
+        run_line(state, script, past, &mut entries)?;
+        told.add(&entries);
+        entries.clear();
+        past += 1;
+    }
+    Ok(told)
+}
+
+/// The same, on a state of its own: to own one is dear to prove, so nothing else is done here.
+fn told_in_order(alloc: Global, script: &Script) -> Result<Summary, NoMemory>
+    ensures { IfOk result (λ told. TellsSequence script.now told) }
+{
+    let mut state = State::new(alloc)?;
+    let told = tell_lines(alloc, script, &mut state);
+    drop(state);
+    told
 }
 
 /// The text that tells a summary.

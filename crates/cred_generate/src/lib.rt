@@ -8,4 +8,4 @@ mod sealing;
 mod summing;
 
 pub use generating::{CALLS, generate};
-pub use summing::{Summary, summary_of};
+pub use summing::Summary;

@@ -1,15 +1,17 @@
-//! How many credentials a journal sealed.
-ghost use Rattle.std.specs.Prelude.{◌≡◌};
+//! How many credentials were sealed.
+ghost use Rattle.std.specs.Prelude.{◌≡◌, ◌+◌, ◌<◌, ◌^◌, fold, length};
 ghost use Rattle.cred_generate.specs.Sealed as spec;
 
 use cred_event::{Answer, Entry};
 
-/// How many credentials the entries sealed, as their answers tell.
-pub(crate) fn count_sealed(journal: &[Entry]) -> u64
-    ensures { result ≡ spec.count_sealed journal.now }
+/// How many credentials are sealed after the entries, where so many were before them, as their
+/// answers tell.
+pub(crate) fn sealed_after(before: u64, entries: &[Entry]) -> u64
+    requires { before + length entries.now < 2 ^ 64 }
+    ensures { result ≡ fold (λ count entry. spec.count_with count entry.answer) before entries.now }
 {
-    let mut count = 0;
-    for entry in journal {
+    let mut count = before;
+    for entry in entries {
         if named(&entry.answer) == Some(count) {
             count += 1;
         }

@@ -1,10 +1,9 @@
 //! What is told of a journal in one line.
-ghost use Rattle.std.specs.Prelude.{◌≡◌, count_by};
+ghost use Rattle.std.specs.Prelude.{◌≡◌, count_by, length};
 ghost use Rattle.cred_model.specs.Answers as model;
-ghost use Rattle.cred_model.specs.Journal.{IsAnswered};
-ghost use Rattle.cred_generate.specs.Summary.{summary, is_refused};
+ghost use Rattle.cred_generate.specs.Summary.{HasRoom, is_refused, nothing_told, told_on};
 
-use crate::sealing::count_sealed;
+use crate::sealing::sealed_after;
 use cred_event::{Answer, Entry};
 use cred_script::Script;
 
@@ -21,25 +20,36 @@ pub struct Summary {
     pub refusals: u64,
 }
 
-/// The summary of a journal whose entries have the defined answers.
-pub fn summary_of(script: &Script, journal: &[Entry]) -> Summary
-    requires { IsAnswered script.now journal.now }
-    ensures { result ≡ summary script.now journal.now }
-{
-    Summary {
-        lines: script.lines(),
-        entries: journal.len() as u64,
-        credentials: count_sealed(journal),
-        refusals: count_refused(journal),
+impl Summary {
+    /// What is told of a script before it has run.
+    pub fn new(script: &Script) -> Summary
+        ensures { result ≡ nothing_told script.now }
+    {
+        Summary {
+            lines: script.lines(),
+            entries: 0,
+            credentials: 0,
+            refusals: 0,
+        }
+    }
+
+    /// Tells of entries more, which come after those that it has told of.
+    pub fn add(&mut self, entries: &[Entry])
+        requires { HasRoom self.old (length entries.now) }
+        ensures { self.new ≡ told_on self.old entries.now }
+    {
+        self.entries += entries.len() as u64;
+        self.credentials = sealed_after(self.credentials, entries);
+        self.refusals += count_refused(entries);
     }
 }
 
 /// How many entries were refused.
-fn count_refused(journal: &[Entry]) -> u64
-    ensures { result ≡ count_by is_refused journal.now }
+fn count_refused(entries: &[Entry]) -> u64
+    ensures { result ≡ count_by is_refused entries.now }
 {
     let mut count = 0;
-    for entry in journal {
+    for entry in entries {
         if !is_ok(&entry.answer) {
             count += 1;
         }

@@ -1,5 +1,7 @@
 -- What is known of a command, and what words that are none get.
 use Rattle.std.specs.Prelude.{◌≡◌, ◌⊎◌, ℕ, List, codes, Some, ⊤}
+use Rattle.std.specs.Io.KnownBytes.{Appends}
+use Rattle.cred_io.specs.Ends.{AppendsPrefix}
 use Rattle.std.specs.declared.option.Option.{Option}
 use Rattle.cred_commands.specs.Auditing.{AUDIT_LIMIT}
 use Rattle.cred_commands.specs.Ends.{BYTE_LIMIT}
@@ -7,16 +9,12 @@ use Rattle.cred_commands.specs.Summing.{IsCount}
 use Rattle.cred_commands.specs.declared.status.Status.{Status}
 use Rattle.cred_commands.specs.declared.status.Status.TheVariants as status
 use Rattle.cred_program.specs.declared.words.Command.{Command}
-use Rattle.cred_program.specs.declared.words.Command.TheVariants.{Run, Lanes, Audit, Gen}
+use Rattle.cred_program.specs.declared.words.Command.TheVariants.{Audit, Gen}
 
 -- how many bytes the input of a command may have
 abbrev pub limit_of : Option Command → ℕ
 limit_of (Some Audit) = AUDIT_LIMIT
 limit_of other = BYTE_LIMIT
-
--- the commands that read a script and run it
-abbrev pub RunsScript : Option Command → Type 0
-RunsScript command = (command ≡ Some Run) ⊎ (command ≡ Some Lanes)
 
 -- a script may be made from the number that a command names
 abbrev pub HasCount : Command → Type 0
@@ -33,3 +31,9 @@ IsForNoCommand status.Usage = ⊤
 IsForNoCommand status.WriteFault = ⊤
 IsForNoCommand status.Memory = ⊤
 IsForNoCommand other = ⊥
+
+-- What words that are no command leave, and no others: the usage line.
+pub record LeavesUsage (answer : Status) (written now : Option (List ℕ)) : Type 0 where
+  pub usage : answer ≡ status.Usage → Appends written now usage_text
+  pub suits : IsForNoCommand answer
+  pub prefix : (now ≡ written) ⊎ AppendsPrefix written now usage_text

@@ -2,16 +2,16 @@ use Rattle.std.proofs.Common.{subst}
 use Rattle.cred_audit.specs.Report.{IsVerdict}
 use Rattle.cred_commands.proofs.auditing.judge.Goals as goal
 
-pub returns-in-Legal : goal.returns-in-Legal
-returns-in-Legal c =
+pub returns-in_ok-from_str-in-Legal : goal.returns-in_ok-from_str-in-Legal
+returns-in_ok-from_str-in-Legal c =
     let read = c.in-Ok.ensures.given in
-    let verdict = c.in_ok-audit-in-Ok.ensures in
+    let verdict = c.in_ok-verdict-in-Ok.ensures in
     (c.in-Ok.script, read, subst (IsVerdict c.in-Ok.script c.args.report.now) c.in-Legal.is verdict, c.in_ok-from_str-in-Legal.ensures.ok)
 
-pub returns-in-Ok : goal.returns-in-Ok
-returns-in-Ok c =
+pub returns-in_ok-format-in-NotLegal : goal.returns-in_ok-format-in-NotLegal
+returns-in_ok-format-in-NotLegal c =
     let read = c.in-Ok.ensures.given in
-    let verdict = c.in_ok-audit-in-Ok.ensures in (
+    let verdict = c.in_ok-verdict-in-Ok.ensures in (
       c.in-Ok.script,
       c.in-NotLegal.entry,
       read,

@@ -7,19 +7,19 @@ use Rattle.cred_runs.proofs.report.report.Goals as goal
 
 pub returns-clause-done : goal.returns-clause-done
 returns-clause-done g c = λ done.
-    done_written _ _ (text c.args.script.now c.args.journal.now) c.write_report.result c.write_report.ensures.ok (sym c.finish.ensures ∙ done)
+    done_written _ _ (text c.args.script.now c.args.journal.now) c.write_last.result c.write_last.ensures.ok (sym c.finish.ensures ∙ done)
 
 pub returns-clause-prefix : goal.returns-clause-prefix
 returns-clause-prefix g c =
-    prefix_either _ _ (text c.args.script.now c.args.journal.now) c.write_report.result c.write_report.ensures.ok c.write_report.ensures.err
+    prefix_either _ _ (text c.args.script.now c.args.journal.now) c.write_last.result c.write_last.ensures.ok c.write_last.ensures.err
 
 pub returns-clause-only : goal.returns-clause-only
-returns-clause-only g c = finished_for_text c.write_report.result c.finish.result c.finish.ensures
+returns-clause-only g c = finished_for_text c.write_last.result c.finish.result c.finish.ensures
 
 pub returns-clause-handed_on : goal.returns-clause-handed_on
 returns-clause-handed_on g c =
-    finished_whole c.write_report.result Done c.finish.result c.write_report.ensures.handed_on c.finish.ensures
+    finished_whole c.write_last.result Done c.finish.result c.write_last.ensures.handed_on c.finish.ensures
 
 pub returns-clause-cause : goal.returns-clause-cause
 returns-clause-cause g c =
-    finished_counts c.write_report.result Done c.finish.result _ _ (λ fault. cc) c.finish.ensures c.write_report.ensures.cause
+    finished_counts c.write_last.result Done c.finish.result _ _ (λ fault. cc) c.finish.ensures c.write_last.ensures.cause

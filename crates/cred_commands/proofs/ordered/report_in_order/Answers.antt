@@ -1,0 +1,24 @@
+use Rattle.std.proofs.Common.{sym, ◌∙◌}
+use Rattle.cred_commands.specs.declared.status.Status.TheVariants.{Done}
+use Rattle.cred_commands.proofs.Finished.{finished_counts, finished_for_text, finished_whole}
+use Rattle.cred_commands.proofs.Kept.{begins_either, sequence_done}
+use Rattle.cred_commands.proofs.ordered.report_in_order.Goals as goal
+
+pub returns-clause-done : goal.returns-clause-done
+returns-clause-done g c = λ done.
+    sequence_done c.args.script.now _ _ c.write_in_order.result c.write_in_order.ensures.ok (sym c.finish.ensures ∙ done)
+
+pub returns-clause-prefix : goal.returns-clause-prefix
+returns-clause-prefix g c =
+    begins_either c.args.script.now _ _ c.write_in_order.result c.write_in_order.ensures.ok c.write_in_order.ensures.err
+
+pub returns-clause-only : goal.returns-clause-only
+returns-clause-only g c = finished_for_text c.write_in_order.result c.finish.result c.finish.ensures
+
+pub returns-clause-handed_on : goal.returns-clause-handed_on
+returns-clause-handed_on g c =
+    finished_whole c.write_in_order.result Done c.finish.result c.write_in_order.ensures.handed_on c.finish.ensures
+
+pub returns-clause-cause : goal.returns-clause-cause
+returns-clause-cause g c =
+    finished_counts c.write_in_order.result Done c.finish.result _ _ (λ fault. cc) c.finish.ensures c.write_in_order.ensures.cause

@@ -1,0 +1,13 @@
+use Rattle.std.proofs.Common.{◌≡◌, ◌≤◌, ◌-◌, [], length}
+use Rattle.cred_commands.proofs.Told.{Told}
+use Rattle.cred_commands.proofs.summing.tell_lines.Given as goal
+
+abbrev pub invariant-lines : goal.invariant-lines
+invariant-lines l = record {
+  within : l.past ≤ length l.script.lines;
+  empty : l.entries.items ≡ [];
+  told : Told l.script l.past l.state l.told;
+}
+
+abbrev pub decreases-lines : goal.decreases-lines
+decreases-lines l = length l.script.lines - l.past

@@ -1,0 +1,168 @@
+//! Running a script's lines in order, and writing the entries of each as they come: no journal is
+//! kept.
+ghost use Rattle.std.specs.Prelude.{◌≡◌, ◌≢◌, ◌≤◌, ◌<◌, ◌⊎◌, true, OnOk, OnErr, length};
+ghost use Rattle.std.specs.Io.KnownBytes.{Appends};
+ghost use Rattle.cred_model.specs.Journal.{IsSequence};
+ghost use Rattle.cred_model.specs.State.{opening};
+ghost use Rattle.cred_io.specs.Causes.{CountsFaults};
+ghost use Rattle.cred_io.specs.Ends.{AppendsPrefix};
+ghost use Rattle.cred_script.specs.Lines.{lines_of};
+ghost use Rattle.cred_report.specs.Text.{text};
+ghost use Rattle.cred_commands.specs.Cuts.{Cuts};
+ghost use Rattle.cred_commands.specs.Ends.{BeginsOne, IsForText, IsWhole, IsWithin, Refuses};
+ghost use Rattle.cred_commands.specs.Ends.{Reports, Suits};
+ghost use Rattle.cred_commands.specs.Leaves.{IsReading, IsWriting, LeavesReport};
+ghost use Rattle.cred_commands.specs.Sequences.{AppendsSequence, BeginsSequence, HandsOver};
+
+use crate::limits::BYTE_LIMIT;
+use crate::reading::script_from;
+use crate::report::{write_entries, write_last};
+use crate::status::{Status, finish};
+use cred_event::{Entry, LINE_LIMIT};
+use cred_io::{ReadRefusal, Sink, SinkRefusal, Source, read_all};
+use cred_order::run_line;
+use cred_report::Pen;
+use cred_script::Script;
+use cred_state::State;
+use std::alloc::Global;
+
+/// Writes the entries and drops them, as far as they fill whole writes. The others stay, and so
+/// does the list's room.
+fn write_some<K: Sink>(
+    sink: &mut K,
+    pen: &mut Pen,
+    script: &Script,
+    entries: &mut Vec<Entry>,
+) -> Result<(), SinkRefusal>
+    ensures ok { OnOk result (HandsOver script.now entries.old.items entries.new.items
+        (K.written sink.old) (K.written sink.new)) }
+    ensures err { OnErr result (AppendsPrefix (K.written sink.old) (K.written sink.new)
+        (text script.now entries.old.items)) }
+    ensures cause { CountsFaults (result ≡ Err SinkRefusal.Failed)
+        (K.faults sink.old) (K.faults sink.new) }
+{
+    let together = sink.pieces_a_write();
+    if entries.len() < together {
+        return Ok(());
+    }
+    let whole = entries.len() - entries.len() % together;
+    let mut rest = entries.split_off(whole)?;
+    write_entries(sink, pen, script, entries)?;
+    entries.clear();
+    entries.append(&mut rest)?;
+    Ok(())
+}
+
+/// Runs the script's lines in order, on the state in which nothing has run, and writes the text of
+/// their entries.
+///
+/// # Errors
+///
+/// The sink's refusal, and `Memory` if an allocation fails: a prefix of the text was written.
+fn write_lines<K: Sink>(
+    alloc: Global,
+    sink: &mut K,
+    script: &Script,
+    state: &mut State,
+) -> Result<(), SinkRefusal>
+    requires { state.old ≡ opening }
+    ensures ok { OnOk result
+        (AppendsSequence script.now (K.written sink.old) (K.written sink.new)) }
+    ensures err { OnErr result
+        (BeginsSequence script.now (K.written sink.old) (K.written sink.new)) }
+    ensures handed_on { OnOk result (K.handed_on sink.new ≡ true) }
+    ensures cause { CountsFaults (result ≡ Err SinkRefusal.Failed)
+        (K.faults sink.old) (K.faults sink.new) }
+{
+    let mut pen = Pen::new(alloc);
+    let mut entries = Vec::new(alloc);
+    let mut past = 0;
+    'lines: while past < script.lines() {
+        let Ok(()) = run_line(state, script, past, &mut entries) else {
+            return Err(SinkRefusal::Memory);
+        };
+        past += 1;
+        write_some(sink, &mut pen, script, &mut entries)?;
+    }
+    write_last(sink, &mut pen, script, &entries)
+}
+
+/// The same, on a state of its own: to own one is dear to prove, so nothing else is done here.
+///
+/// # Errors
+///
+/// The sink's refusal, and `Memory` if an allocation fails: a prefix of the text was written.
+fn write_in_order<K: Sink>(alloc: Global, sink: &mut K, script: &Script) -> Result<(), SinkRefusal>
+    ensures ok { OnOk result
+        (AppendsSequence script.now (K.written sink.old) (K.written sink.new)) }
+    ensures err { OnErr result
+        (BeginsSequence script.now (K.written sink.old) (K.written sink.new)) }
+    ensures handed_on { OnOk result (K.handed_on sink.new ≡ true) }
+    ensures cause { CountsFaults (result ≡ Err SinkRefusal.Failed)
+        (K.faults sink.old) (K.faults sink.new) }
+{
+    let Ok(mut state) = State::new(alloc) else {
+        return Err(SinkRefusal::Memory);
+    };
+    let written = write_lines(alloc, sink, script, &mut state);
+    drop(state);
+    written
+}
+
+/// The same, and says how the command ends.
+fn report_in_order<K: Sink>(alloc: Global, sink: &mut K, script: &Script) -> Status
+    ensures done { result ≡ Status.Done
+        → AppendsSequence script.now (K.written sink.old) (K.written sink.new) }
+    ensures prefix { BeginsSequence script.now (K.written sink.old) (K.written sink.new) }
+    ensures only { IsForText result }
+    ensures handed_on { IsWhole result → K.handed_on sink.new ≡ true }
+    ensures cause { CountsFaults (result ≡ Status.WriteFault)
+        (K.faults sink.old) (K.faults sink.new) }
+{
+    finish(write_in_order(alloc, sink, script), Status::Done)
+}
+
+/// Runs the script that these bytes are, and writes the report, or its first bad line; nothing
+/// where there are too many lines.
+fn run_script_in_order<K: Sink>(alloc: Global, bytes: &[u8], sink: &mut K) -> Status
+    requires within { length bytes.now ≤ BYTE_LIMIT }
+    ensures done { result ≡ Status.Done
+        → Reports IsSequence (K.written sink.old) (K.written sink.new) bytes.now }
+    ensures bad { result ≡ Status.Bad
+        → Refuses (K.written sink.old) (K.written sink.new) bytes.now }
+    ensures too_large { result ≡ Status.TooLarge
+        → (LINE_LIMIT < length (lines_of bytes.now)) × (sink.new ≡ sink.old) }
+    ensures no_read_fault { result ≢ Status.ReadFault }
+    ensures suits { Suits bytes.now result }
+    ensures handed_on { IsWhole result → K.handed_on sink.new ≡ true }
+    ensures cause { CountsFaults (result ≡ Status.WriteFault)
+        (K.faults sink.old) (K.faults sink.new) }
+    ensures prefix { (sink.new ≡ sink.old) ⊎ (IsWithin bytes.now
+        × BeginsOne IsSequence (K.written sink.old) (K.written sink.new) bytes.now) }
+    ensures cut { (sink.new ≡ sink.old)
+        ⊎ (IsWithin bytes.now × Cuts (K.written sink.old) (K.written sink.new) bytes.now) }
+{
+    match script_from(alloc, bytes, sink) {
+        Ok(script) => report_in_order(alloc, sink, &script),
+        Err(status) => status,
+    }
+}
+
+/// Reads a script to its end, runs it, and writes its report, or its first bad line.
+pub fn read_and_run<S: Source, K: Sink>(alloc: Global, source: &mut S, sink: &mut K) -> Status
+    ensures report { LeavesReport IsSequence result (S.left source.old) (S.left source.new)
+        (K.written sink.old) (K.written sink.new) }
+    ensures reading { IsReading BYTE_LIMIT result (S.left source.old) (S.left source.new)
+        (S.faults source.old) (S.faults source.new) }
+    ensures writing { IsWriting result (K.handed_on sink.new)
+        (K.faults sink.old) (K.faults sink.new) }
+    ensures silent { (result ≡ Status.ReadFault) ⊎ (result ≡ Status.TooLarge)
+        → sink.new ≡ sink.old }
+{
+    match read_all(alloc, source, BYTE_LIMIT) {
+        Ok(bytes) => run_script_in_order(alloc, bytes.items(), sink),
+        Err(ReadRefusal::Fault) => Status::ReadFault,
+        Err(ReadRefusal::TooLarge) => Status::TooLarge,
+        Err(ReadRefusal::Memory) => Status::Memory,
+    }
+}

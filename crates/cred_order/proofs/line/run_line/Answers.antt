@@ -1,0 +1,54 @@
+use Rattle.std.proofs.Common.{◌≡◌, ◌+◌, ◌-◌, ◌==◌, ℕ, List, [], ◌∷◌, ◌++◌, length, slice_get, Option, Some, None, is_some, Bool, true, false, refl, sym, ap, ◌∙◌, subst, arith}
+use Rattle.std.specs.Option.{IfSome, option_map}
+use Rattle.std.proofs.lemmas.Bool.Decides.{nat_tests}
+use Rattle.cred_event.specs.declared.event.Event.{Event}
+use Rattle.cred_event.specs.declared.entry.Entry.{Entry}
+use Rattle.cred_model.specs.Script.{Script, Line}
+use Rattle.cred_model.specs.Course.{event_at}
+use Rattle.cred_model.proofs.Names.{event_named}
+use Rattle.cred_script.specs.Grammar.{line_at}
+use Rattle.cred_order.proofs.Order.{line_at-place}
+use Rattle.cred_order.proofs.Goes.{GoesOn, goes_first, goes_sound, goes_by, goes_out}
+use Rattle.cred_order.proofs.line.run_line.Goals as goal
+
+pub events-init : goal.events-init
+events-init c =
+    let found = c.line.ensures.found in
+    let is = c.in-Some.is in
+    let here : slice_get c.args.script.now.lines c.args.past ≡ Some (record { lane = c.in-Some.field-0-0; content = c.in-Some.content.now })
+    = sym (line_at-place c.args.script.now c.args.past) ∙ sym found ∙ ap (option_map _) is in
+    goes_first c.args.script.now c.args.past c.args.state.now c.args.entries.now.items _ c.in-Some.content.now c.start-course.result here refl
+    c.start-course.ensures.value
+
+pub step-requires-clause-kind : goal.step-requires-clause-kind
+step-requires-clause-kind c =
+    event_named (length c.args.script.now.files) c.args.script.now.namespaces c.in-Some.content.now c.events.course c.in-Some-2.event
+    c.in-Some.ensures.kind (sym c.in_ok-event.ensures.event ∙ c.in-Some-2.is)
+
+pub step-requires-clause-sound : goal.step-requires-clause-sound
+step-requires-clause-sound c = goes_sound _ _ _ _ _ _ _ _ c.requires.run c.events.invariant
+
+pub events-smaller : goal.events-smaller
+events-smaller c =
+    (goes_by c.args.script.now c.args.past c.args.state.now c.events.state c.step.new.self c.args.entries.now.items c.events.entries.items
+    c.push_reserved.new.self.items c.in-Some.content.now c.events.course c.took.new.self c.in-Some-2.event (c.args.past + 1) c.in_ok-answer.answer
+    c.requires.run c.events.invariant
+    (sym c.in_ok-event.ensures.ended ∙ ap is_some c.in-Some-2.is) (sym c.in_ok-event.ensures.event ∙ c.in-Some-2.is) refl
+    c.in_ok-answer.ensures.ok c.took.ensures.after
+    (c.push_reserved.ensures.items
+    ∙ ap (λ (js : List Entry). js ++ record { line = c.args.past + 1; event = c.in-Some-2.event; answer = c.in_ok-answer.answer } ∷ []) c.in_ok-reserve.ensures.items)).falls
+
+pub events-preserved : goal.events-preserved
+events-preserved c =
+    (goes_by c.args.script.now c.args.past c.args.state.now c.events.state c.step.new.self c.args.entries.now.items c.events.entries.items
+    c.push_reserved.new.self.items c.in-Some.content.now c.events.course c.took.new.self c.in-Some-2.event (c.args.past + 1) c.in_ok-answer.answer
+    c.requires.run c.events.invariant
+    (sym c.in_ok-event.ensures.ended ∙ ap is_some c.in-Some-2.is) (sym c.in_ok-event.ensures.event ∙ c.in-Some-2.is) refl
+    c.in_ok-answer.ensures.ok c.took.ensures.after
+    (c.push_reserved.ensures.items
+    ∙ ap (λ (js : List Entry). js ++ record { line = c.args.past + 1; event = c.in-Some-2.event; answer = c.in_ok-answer.answer } ∷ []) c.in_ok-reserve.ensures.items)).goes
+
+pub returns : goal.returns
+returns c =
+    goes_out c.args.script.now c.args.past c.args.state.now c.events.state c.args.entries.now.items c.events.entries.items c.in-Some.content.now c.events.course
+    c.events.invariant (sym c.in_ok-event.ensures.ended ∙ ap is_some c.in_default-2.is)

@@ -1,0 +1,46 @@
+//! One line of a run in order.
+ghost use Rattle.std.specs.Prelude.{◌≡◌, ◌<◌, ◌+◌, length, OnOk};
+ghost use Rattle.cred_order.specs.Order.{HasRun, RunsOn};
+
+use cred_course::Course;
+use cred_event::Entry;
+use cred_ids::NoMemory;
+use cred_script::Script;
+use cred_state::State;
+
+/// Runs one line to its end, the one that follows those that have run, `past` of them, and adds its
+/// entries to these.
+///
+/// # Errors
+///
+/// `NoMemory` if an allocation of an event, of the state or of an entry fails.
+pub fn run_line(
+    state: &mut State,
+    script: &Script,
+    past: u32,
+    entries: &mut Vec<Entry>,
+) -> Result<(), NoMemory>
+    requires within { past < length script.now.lines }
+    requires run { HasRun script.now past state.old }
+    ensures { OnOk result (RunsOn script.now past state.old state.new
+        entries.old.items entries.new.items) }
+{
+    // It is asked for its limit alone: the number after `past` is no greater.
+    let _ = script.lines();
+    let number = past + 1;
+    let Some((_, content)) = script.line(number) else {
+        return Ok(());
+    };
+    let mut course = Course::start(number, content);
+    'events: while let Some(event) = course.event(content)? {
+        entries.reserve(1)?;
+        let answer = state.step(script, number, &event)?;
+        course.took(content, &answer);
+        entries.push_reserved(Entry {
+            line: number,
+            event,
+            answer,
+        });
+    }
+    Ok(())
+}
