@@ -105,8 +105,10 @@ impl Book {
         let Book {
             script,
             journal,
+            state,
             ..
         } = self;
+        drop(state);
         Journal {
             script,
             entries: journal,

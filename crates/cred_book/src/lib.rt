@@ -4,10 +4,8 @@
 mod book;
 mod ended;
 mod journal;
-mod sequence;
 mod step;
 
 pub use book::Book;
 pub use journal::Journal;
-pub use sequence::run;
 pub use step::Step;

@@ -35,7 +35,10 @@ impl<K: Name> Kernel<K> {
         ensures { IfOk result (λ made. AreFresh K.script made.1) }
     {
         let Parts { book, mut roll } = parts;
-        let turns = lend_all(alloc, &book, &mut roll)?;
+        let Ok(turns) = lend_all(alloc, &book, &mut roll) else {
+            drop(book);
+            return Err(NoMemory);
+        };
         let locked = Locked {
             book,
             roll,

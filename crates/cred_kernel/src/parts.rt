@@ -1,5 +1,6 @@
 //! What a kernel is made of.
-ghost use Rattle.std.specs.Prelude.{◌≡◌, IfOk};
+ghost use Rattle.std.specs.Prelude.{◌≡◌, [], IfOk, OnOk};
+ghost use Rattle.cred_book.specs.Cursor.{Stands};
 ghost use Rattle.cred_kernel.specs.Locks.{IsReady};
 
 use cred_book::{Book, Step};
@@ -36,9 +37,11 @@ impl Parts {
     pub fn new(alloc: Global, script: Script) -> Result<Parts, NoMemory>
         ensures script { IfOk result (λ parts. parts.script ≡ script) }
     {
-        let lanes = script.lanes();
+        let Ok(roll) = Roll::make(alloc, script.lanes()) else {
+            drop(script);
+            return Err(NoMemory);
+        };
         let book = set_up(alloc, script)?;
-        let roll = Roll::make(alloc, lanes)?;
         Ok(Parts { book, roll })
     }
 }
@@ -49,6 +52,26 @@ fn set_up(alloc: Global, script: Script) -> Result<Book, NoMemory>
     ensures ready { IfOk result (λ book. IsReady book) }
 {
     let mut book = Book::new(alloc, script)?;
+    match run_setup(&mut book) {
+        Ok(()) => Ok(book),
+        Err(NoMemory) => {
+            drop(book);
+            Err(NoMemory)
+        }
+    }
+}
+
+/// Makes all events of the setup.
+///
+/// # Errors
+///
+/// `NoMemory` if an allocation of an event, of the state or of an entry fails.
+fn run_setup(book: &mut Book) -> Result<(), NoMemory>
+    requires stands { Stands book.old }
+    requires empty { book.old.journal ≡ [] }
+    ensures script { book.new.script ≡ book.old.script }
+    ensures ready { OnOk result (IsReady book.new) }
+{
     'setup: while let Step::More = book.next(0)? {}
-    Ok(book)
+    Ok(())
 }

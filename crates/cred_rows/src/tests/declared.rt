@@ -1,5 +1,7 @@
 //! What a script keeps of the files and namespaces that it declares.
 use crate::tests::held::script_of;
+use cred_script::Script;
+use std::alloc::Global;
 use std::test::Fail;
 
 /// Two files, and three namespaces.
@@ -20,17 +22,24 @@ const FILES: [(&str, &str); 2] = [
     ),
 ];
 
+/// Whether the script has the files, with their names.
+fn has_files(alloc: Global, script: &Script) -> Result<bool, Fail> {
+    for (place, (name, want)) in (0..).zip(FILES) {
+        let file = script.file(place).ok_or("a file")?;
+        let got = format!(in alloc; "{file:?}")?;
+        if script.name(place) != Some(name) || got.as_str() != want {
+            return Ok(false);
+        }
+    }
+    Ok(true)
+}
+
 #[test]
 fn keeps_what_files_hold(rt: HostRuntime) -> Result<(), Fail> {
     let script = script_of(rt.alloc(), DECLARED)?;
-    for (place, (name, want)) in (0..).zip(FILES) {
-        let file = script.file(place).ok_or("a file")?;
-        let got = format!(in rt.alloc(); "{file:?}")?;
-        assert!(rt;
-            script.name(place) == Some(name) && got.as_str() == want,
-            "{got}"
-        );
-    }
+    let has_files = has_files(rt.alloc(), &script);
+    drop(script);
+    assert!(rt; has_files?);
     Ok(())
 }
 
@@ -42,8 +51,9 @@ fn finds_files_by_their_names(rt: HostRuntime) -> Result<(), Fail> {
         script.place_of("c"),
         script.place_of(""),
     ];
-    assert!(rt; places == [Some(1), None, None]);
-    assert!(rt; script.name(2).is_none() && script.file(2).is_none());
+    let has_two = script.name(2).is_none() && script.file(2).is_none();
+    drop(script);
+    assert!(rt; places == [Some(1), None, None] && has_two);
     Ok(())
 }
 
@@ -57,13 +67,23 @@ const CHAINS: [(u32, &str); 6] = [
     (16, "None"),
 ];
 
+/// Whether the namespaces of the script have their chains.
+fn has_chains(alloc: Global, script: &Script) -> Result<bool, Fail> {
+    for (number, want) in CHAINS {
+        let chain = script.chain(number);
+        let got = format!(in alloc; "{chain:?}")?;
+        if got.as_str() != want {
+            return Ok(false);
+        }
+    }
+    Ok(true)
+}
+
 #[test]
 fn chains_lead_to_the_initial_namespace(rt: HostRuntime) -> Result<(), Fail> {
     let script = script_of(rt.alloc(), DECLARED)?;
-    for (number, want) in CHAINS {
-        let chain = script.chain(number);
-        let got = format!(in rt.alloc(); "{chain:?}")?;
-        assert!(rt; got.as_str() == want, "{got}");
-    }
+    let has_chains = has_chains(rt.alloc(), &script);
+    drop(script);
+    assert!(rt; has_chains?);
     Ok(())
 }

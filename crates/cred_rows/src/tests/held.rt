@@ -160,16 +160,23 @@ fn holds(alloc: Global, script: &Script, number: u32, want: &str) -> Result<bool
 }
 
 /// Whether the lines of the script hold this, and there is no other line.
-fn are_held(alloc: Global, text: &str, held: &[&str]) -> Result<bool, Fail> {
-    let script = script_of(alloc, text)?;
+fn hold(alloc: Global, script: &Script, held: &[&str]) -> Result<bool, Fail> {
     for (number, want) in (1..).zip(held) {
-        if !holds(alloc, &script, number, want)? {
+        if !holds(alloc, script, number, want)? {
             return Ok(false);
         }
     }
     let lines = script.lines();
     let ends = script.line(0).is_none() && script.line(lines.saturating_add(1)).is_none();
     Ok(ends && lines as usize == held.len())
+}
+
+/// The same of the script that the text is.
+fn are_held(alloc: Global, text: &str, held: &[&str]) -> Result<bool, Fail> {
+    let script = script_of(alloc, text)?;
+    let are_held = hold(alloc, &script, held);
+    drop(script);
+    are_held
 }
 
 #[test]
@@ -202,12 +209,18 @@ fn belong(script: &Script, lanes: &[u32]) -> bool {
     })
 }
 
+/// The same of the script that the text is, and whether it names this lane as its greatest.
+fn are_theirs(alloc: Global, text: &str, lanes: &[u32], greatest: u32) -> Result<bool, Fail> {
+    let script = script_of(alloc, text)?;
+    let are_theirs = belong(&script, lanes) && script.lanes() == greatest;
+    drop(script);
+    Ok(are_theirs)
+}
+
 #[test]
 fn lines_belong_to_the_lane_that_was_opened_last(rt: HostRuntime) -> Result<(), Fail> {
     for (text, lanes, greatest) in LANES {
-        let script = script_of(rt.alloc(), text)?;
-        let are_theirs = belong(&script, lanes) && script.lanes() == greatest;
-        assert!(rt; are_theirs, "{text}");
+        assert!(rt; are_theirs(rt.alloc(), text, lanes, greatest)?, "{text}");
     }
     Ok(())
 }

@@ -1,5 +1,6 @@
 //! Texts of entries, read and printed again; and texts that are those of none.
 use cred_event::{Answer, Entry, Told};
+use cred_ids::NoMemory;
 use cred_reader::read;
 use cred_report::print;
 use cred_script::Script;
@@ -128,28 +129,51 @@ fn comes_back(alloc: Global, script: &Script, text: &str) -> Result<bool, Fail> 
     }
 }
 
+/// The first text that doesn't come back.
+fn first_lost(alloc: Global, script: &Script) -> Result<Option<&'static str>, Fail> {
+    for text in &TEXTS {
+        if !comes_back(alloc, script, text)? {
+            return Ok(Some(*text));
+        }
+    }
+    Ok(None)
+}
+
 #[test]
 fn entries_come_back(rt: HostRuntime) -> Result<(), Fail> {
     let script = script(rt.alloc())?;
-    for text in &TEXTS {
-        assert!(rt; comes_back(rt.alloc(), &script, text)?);
-    }
+    let lost = first_lost(rt.alloc(), &script);
+    drop(script);
+    let lost = lost?;
+    assert!(rt; lost.is_none(), "{lost:?}");
     Ok(())
+}
+
+/// The first text of those that are no entries which is read as one.
+fn first_read(alloc: Global, script: &Script) -> Result<Option<&'static str>, Fail> {
+    for text in &NONE {
+        if read(alloc, script, text.as_bytes())?.is_some() {
+            return Ok(Some(*text));
+        }
+    }
+    Ok(None)
 }
 
 #[test]
 fn other_texts_are_no_entries(rt: HostRuntime) -> Result<(), Fail> {
     let script = script(rt.alloc())?;
-    for text in &NONE {
-        assert!(rt; read(rt.alloc(), &script, text.as_bytes())?.is_none());
-    }
+    let taken = first_read(rt.alloc(), &script);
+    drop(script);
+    let taken = taken?;
+    assert!(rt; taken.is_none(), "{taken:?}");
     Ok(())
 }
 
 fn answer(alloc: Global, text: &[u8]) -> Result<Option<Answer>, Fail> {
     let script = script(alloc)?;
-    let entry: Option<Entry> = read(alloc, &script, text)?;
-    match entry {
+    let entry: Result<Option<Entry>, NoMemory> = read(alloc, &script, text);
+    drop(script);
+    match entry? {
         Some(entry) => Ok(Some(entry.answer)),
         None => Ok(None),
     }

@@ -30,7 +30,9 @@ pub(crate) fn walk_in_book<W: Walk>(alloc: Global, text: &str, walk: &mut W) -> 
     }
     let script = read(alloc, text.as_bytes())?;
     let mut book = Book::new(alloc, script)?;
-    walk.walk(alloc, &mut book)
+    let walked = walk.walk(alloc, &mut book);
+    drop(book);
+    walked
 }
 
 /// Runs all lines whole, in the script's order.

@@ -8,8 +8,8 @@ invariant_of-locked g c = record {
   roll_is = c.lend_all.ensures.roll ∙ ap (λ (m : Made). m.roll) c.parts.view_is ∙ c.requires.roll;
   stands = c.parts.invariant.ready.stands;
   set_up = c.parts.invariant.ready.set_up;
-  lent = c.in_ok-turns.ensures.rows;
+  lent = c.in-Ok.ensures.rows;
 }
 
 pub returns : goal.returns
-returns g c = c.in_ok-turns.ensures.turns
+returns g c = c.in-Ok.ensures.turns

@@ -7,9 +7,9 @@ use Rattle.cred_kernel.proofs.parts.Parts.new.Goals as goal
 pub invariant_of-result : goal.invariant_of-result
 invariant_of-result c = record {
   ready = c.in_ok-book.ensures.ready;
-  rows = c.in_ok-roll.ensures.rows
+  rows = c.in-Ok.ensures.rows
       ∙ ap (λ (n : ℕ). replicate n (home_row fresh))
-      (c.lanes-lanes.ensures.greatest ∙ ap (λ (s : Script). lanes s.lines) (sym c.in_ok-book.ensures.script));
+      (c.lanes.ensures.greatest ∙ ap (λ (s : Script). lanes s.lines) (sym c.in_ok-book.ensures.script));
 }
 
 pub returns : goal.returns

@@ -6,7 +6,7 @@ use Rattle.cred_book.specs.Book.{Recorded}
 use Rattle.cred_book.specs.Counts.{Counts, IsSetUp, entered_of}
 use Rattle.cred_book.specs.Cursor.{Makes}
 use Rattle.cred_book.specs.declared.step.Step.TheVariants.{More, Ended}
-use Rattle.cred_kernel.proofs.parts.set_up.Goals as goal
+use Rattle.cred_kernel.proofs.parts.run_setup.Goals as goal
 
 -- a step that was Ended has left the book as it was
 as_it_was : (before after : Recorded) (entry : Option Entry) → Makes before after entry Ended → after ≡ before
