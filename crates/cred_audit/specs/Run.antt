@@ -2,8 +2,8 @@
 use Rattle.std.specs.Prelude.{◌≡◌, ◌≢◌, ◌≤◌, ℕ, true, List, [], ◌∷◌, ◌++◌}
 use Rattle.std.specs.Prelude.{length, Some, None, is_some}
 use Rattle.std.specs.declared.option.Option.{Option}
+use Rattle.cred_ids.specs.Limits.{LINE_LIMIT}
 use Rattle.cred_event.specs.declared.entry.Entry.{Entry}
-use Rattle.cred_event.specs.declared.entry.TheConstants.{LINE_LIMIT}
 use Rattle.cred_model.specs.Script.{Script}
 use Rattle.cred_model.specs.Like.{IsLike}
 use Rattle.cred_model.specs.Journal.{SoFar, next, replay}

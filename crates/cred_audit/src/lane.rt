@@ -1,8 +1,8 @@
 //! The lane of an entry, by the number with which its text begins.
 ghost use Rattle.std.specs.Prelude.{◌≡◌, ◌≤◌, ◌++◌, ◌∷◌, ℕ, List, Some, decimal, length};
+ghost use Rattle.cred_ids.specs.Limits.{LINE_LIMIT};
 ghost use Rattle.cred_audit.specs.Next.{IsLaneAt};
 
-use cred_event::LINE_LIMIT;
 use cred_script::Script;
 use cred_spelling::{LineNumber, Spelling};
 

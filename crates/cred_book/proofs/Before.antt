@@ -4,8 +4,8 @@ use Rattle.std.proofs.lemmas.Bool.{cases_eq, cases_lt}
 use Rattle.std.proofs.lemmas.Bool.Decides.{nat_tests}
 use Rattle.std.proofs.lemmas.List.{get_or-replicate, get_or-set_other, get_or-set_same, get_or_past, length-replicate, length-set}
 use Rattle.std.proofs.lemmas.Option.{slice_get_within}
+use Rattle.cred_ids.specs.Limits.{LINE_LIMIT}
 use Rattle.cred_event.specs.declared.content.Content.{Content}
-use Rattle.cred_event.specs.declared.entry.TheConstants.{LINE_LIMIT}
 use Rattle.cred_model.specs.Script.{Script, Line}
 use Rattle.cred_model.specs.Course.{event_at, start}
 use Rattle.cred_model.specs.Journal.{next_event}

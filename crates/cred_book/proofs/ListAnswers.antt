@@ -2,6 +2,7 @@
 use Rattle.std.proofs.Common.{◌≡◌, ℕ, ◌==◌, ◌-◌, true, false, cond, List, [], ◌∷◌, length, Result, Ok, Err, IfOk, Option, Some, None, find, position, slice_get, refl, sym, subst}
 use Rattle.std.specs.List.{count_by}
 use Rattle.std.specs.Option.{option_and_then}
+use Rattle.cred_ids.specs.Limits.{TASKS, OPEN_FILES, HOLDS, PREPARED, DEPTH}
 use Rattle.cred_record.specs.Credential.{Credential, first_credential}
 use Rattle.cred_record.specs.File.{File}
 use Rattle.cred_record.specs.declared.gains.Gains.{Gains}
@@ -26,7 +27,8 @@ use Rattle.cred_model.specs.Change.{Made, made_by_rule, made_by_exec, executed, 
 use Rattle.cred_model.specs.Ends.{is_thread_of, ended}
 use Rattle.cred_model.specs.Casts.{others_of, with_cast, waits_no_more}
 use Rattle.cred_model.specs.Like.{IsLike, IsOutcomeLike}
-use Rattle.cred_model.specs.Moves.{TASKS, FILES, HOLDS, PREPARED, DEPTH, table_full, first_task, created, replaced, preparing, given_up, committed}
+use Rattle.cred_model.specs.Moves.{table_full, first_task, created, replaced, preparing, given_up}
+use Rattle.cred_model.specs.Moves.{committed}
 use Rattle.cred_model.specs.Step.{aborted, casts_after, commit_answer, committed_by, ends_with, follow, for_access, for_task, override_held, override_prepared, step, take_hold, try_commit}
 use Rattle.cred_sound.proofs.Tests.{IfAllowed, outcome_has, if_some, if_none, if_either, if_fewer, if_passed, if_idle, if_own, if_last, if_rule, if_ok, in_slots}
 
@@ -204,7 +206,7 @@ by_event script s line (OpenFile hold place asked fd) =
     (if_some (Leaves s) (held_by s hold) _ _
     (λ held is. if_none (Leaves s) (open_of s fd) _ _
     (λ new. if_passed (Leaves s) (checked held.cred (info_of script (place ∷ [])) asked) _
-    (if_fewer (Leaves s) (length s.files) FILES _ _ (λ list. absurd list)))))
+    (if_fewer (Leaves s) (length s.files) OPEN_FILES _ _ (λ list. absurd list)))))
 by_event script s line (CloseFile fd) =
     outcome_has (Leaves s) s _ (refuses s)
     (if_some (Leaves s) (position (λ f. f.fd == fd) s.files) _ _

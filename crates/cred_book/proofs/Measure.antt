@@ -1,6 +1,7 @@
 -- Fewer steps are left after each event that is entered.
 use Rattle.std.proofs.Common.{◌≡◌, ℕ, ◌+◌, ◌*◌, ◌-◌, ◌<◌, ◌≤◌, cond, List, [], ◌∷◌, ◌++◌, length, Option, Some, None, is_some, true, false, refl, sym, ap, ◌∙◌, subst, arith}
 use Rattle.std.specs.Option.{IfSome, option_and_then, option_map_or}
+use Rattle.cred_ids.specs.Limits.{TRIES, TASKS}
 use Rattle.cred_event.specs.declared.content.Content.{Content}
 use Rattle.cred_event.specs.declared.content.Content.TheVariants.{One, Id, Question, Open, Fcap, Signal, Change, Access}
 use Rattle.cred_event.specs.declared.content.Stage.{Stage}
@@ -12,9 +13,9 @@ use Rattle.cred_event.specs.declared.entry.Entry.{Entry}
 use Rattle.cred_record.specs.declared.id_call.IdCall.{IdCall}
 use Rattle.cred_model.specs.Script.{Script, Line}
 use Rattle.cred_model.specs.Course as model
-use Rattle.cred_model.specs.Course.{Course, Leads, TRIES, TRY_EVENTS, event_in, event_at, is_bounded, is_stale, most, next_stage, next_try, some_wait}
+use Rattle.cred_model.specs.Course.{Course, Leads, TRY_EVENTS, event_in, event_at, is_bounded}
+use Rattle.cred_model.specs.Course.{is_stale, most, next_stage, next_try, some_wait}
 use Rattle.cred_model.specs.Journal.{entry_of, replay}
-use Rattle.cred_model.specs.Moves.{TASKS}
 use Rattle.cred_model.specs.Step.{step}
 use Rattle.cred_model.proofs.Courses.{after_line, leads_on}
 use Rattle.cred_model.proofs.Journals.{replay-push}

@@ -4,8 +4,8 @@ use Rattle.std.specs.Prelude.{Bool, true, not, slice_index_or}
 use Rattle.std.specs.declared.option.Option.{Option}
 use Rattle.std.specs.List.{sum_by}
 use Rattle.std.specs.Option.{option_map_or}
+use Rattle.cred_ids.specs.Limits.{LINE_LIMIT}
 use Rattle.cred_event.specs.declared.entry.Entry.{Entry}
-use Rattle.cred_event.specs.declared.entry.TheConstants.{LINE_LIMIT}
 use Rattle.cred_model.specs.Course.{Course}
 use Rattle.cred_model.specs.Script.{SetupFirst}
 use Rattle.cred_model.specs.State.{State, Broadcast}

@@ -1,6 +1,7 @@
 //! The journal of a run.
 ghost use Rattle.std.specs.Prelude.{◌≡◌, ◌<◌, [], length, true, is_some, IfOk, IfSome, MatchOption};
 ghost use Rattle.std.specs.Prelude.{OnOk, OnErr, slice_index_or};
+ghost use Rattle.cred_ids.specs.Limits.{LINE_LIMIT};
 ghost use Rattle.cred_model.specs.Course as course_model;
 ghost use Rattle.cred_model.specs.Journal as model;
 ghost use Rattle.cred_model.specs.Journal.{replay};
@@ -19,7 +20,7 @@ use crate::journal::Journal;
 use crate::step::Step;
 use cred_course::Course;
 use cred_cursor::{Cursors, cursor_after, next_event};
-use cred_event::{Answer, Entry, Event, LINE_LIMIT, copy_answer};
+use cred_event::{Answer, Entry, Event, copy_answer};
 use cred_ids::NoMemory;
 use cred_script::Script;
 use cred_state::State;

@@ -1,11 +1,11 @@
 //! How many lines have ended before anything has run.
 ghost use Rattle.std.specs.Prelude.{◌≡◌, ◌≤◌, ◌+◌, [], length, IfOk};
+ghost use Rattle.cred_ids.specs.Limits.{LINE_LIMIT};
 ghost use Rattle.cred_model.specs.Script.{SetupFirst};
 ghost use Rattle.cred_script.specs.Lanes.{lanes};
 ghost use Rattle.cred_book.specs.Counts.{AreEnded};
 
 use cred_course::Course;
-use cred_event::LINE_LIMIT;
 use cred_ids::NoMemory;
 use cred_script::Script;
 use std::alloc::Global;

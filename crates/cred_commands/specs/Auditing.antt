@@ -9,15 +9,12 @@ use Rattle.cred_spelling.specs.declared.reason.Reason.{Reason}
 use Rattle.cred_script.specs.Lines.{lines_of}
 use Rattle.cred_script.specs.Grammar.{script_of}
 use Rattle.cred_audit.specs.Report.{IsReport, IsFault}
+use Rattle.cred_ids.specs.Limits.{AUDIT_LIMIT}
 use Rattle.cred_commands.specs.declared.status.Status.{Status}
 use Rattle.cred_commands.specs.declared.status.Status.TheVariants as status
 use Rattle.cred_commands.specs.Ends.{IsWhole, IsWithin, IsTooLarge, ReadsInput, ReadsAbove}
 use Rattle.cred_commands.specs.Parts.{parts_of, script_part}
 use Rattle.cred_commands.specs.Texts.{bad_text}
-
--- how many bytes an input of `audit` may have, its report among them
-abbrev pub AUDIT_LIMIT : ℕ
-AUDIT_LIMIT = 134217728
 
 -- An input that has no more bytes than it may have, and of which what is to be a script has no more
 -- bytes and no more lines than a script may have.

@@ -3,11 +3,11 @@ use Rattle.std.specs.Prelude.{◌≡◌, ◌≤◌, ◌<◌, ◌⊎◌, ℕ, len
 use Rattle.std.specs.Result.{MatchResult}
 use Rattle.std.specs.declared.option.Option.{Option}
 use Rattle.std.specs.Io.KnownBytes.{Appends}
+use Rattle.cred_ids.specs.Limits.{BYTE_LIMIT, LINE_LIMIT}
 use Rattle.cred_io.specs.Ends.{ReadsAll, ReadsMoreThan, AppendsPrefix}
 use Rattle.cred_io.specs.declared.sink.SinkRefusal.{SinkRefusal}
 use Rattle.cred_io.specs.declared.sink.SinkRefusal.TheVariants as sink
 use Rattle.cred_event.specs.declared.entry.Entry.{Entry}
-use Rattle.cred_event.specs.declared.entry.TheConstants.{LINE_LIMIT}
 use Rattle.cred_model.specs.Script.{Script, SetupFirst}
 use Rattle.cred_model.specs.Journal.{IsSequence, IsLegal}
 use Rattle.cred_laws.specs.Journals.{IsLawful}
@@ -18,10 +18,6 @@ use Rattle.cred_report.specs.Text.{text}
 use Rattle.cred_commands.specs.declared.status.Status.{Status}
 use Rattle.cred_commands.specs.declared.status.Status.TheVariants as status
 use Rattle.cred_commands.specs.Texts.{bad_text}
-
--- how many bytes an input may have
-abbrev pub BYTE_LIMIT : ℕ
-BYTE_LIMIT = 1048576
 
 -- an input that has no more bytes and no more lines than it may have
 pub record IsWithin (input : List ℕ) : Type 0 where

@@ -2,6 +2,7 @@
 ghost use Rattle.std.specs.Prelude.{◌≡◌, ◌≢◌, ◌≤◌, ◌⊎◌, true, IfOk, MatchBool};
 ghost use Rattle.std.specs.Prelude.{length, string_bytes};
 ghost use Rattle.std.specs.Option.{option_map};
+ghost use Rattle.cred_ids.specs.Limits.{LINE_LIMIT, AUDIT_LIMIT};
 ghost use Rattle.cred_io.specs.Causes.{CountsFaults};
 ghost use Rattle.cred_script.specs.Lines.{lines_of};
 ghost use Rattle.cred_commands.specs.Auditing.{AuditSuits, IsAuditWithin, Judges, LeavesVerdict};
@@ -11,12 +12,11 @@ ghost use Rattle.cred_commands.specs.Leaves.{IsReading, IsWriting};
 ghost use Rattle.cred_commands.specs.Parts as spec;
 ghost use Rattle.cred_commands.specs.Parts.{script_part};
 
-use crate::limits::{AUDIT_LIMIT, BYTE_LIMIT};
 use crate::parts::parts_of;
 use crate::status::{Status, finish};
 use crate::writing::{bad_text, write_text};
 use cred_audit::{Verdict, audit};
-use cred_event::LINE_LIMIT;
+use cred_ids::limits;
 use cred_ids::NoMemory;
 use cred_io::{ReadRefusal, Sink, Source, read_all};
 use cred_script::{ScriptRefusal, line_count, read};
@@ -40,7 +40,7 @@ pub fn read_and_audit<S: Source, K: Sink>(alloc: Global, source: &mut S, sink: &
     ensures silent { (result ≡ Status.ReadFault) ⊎ (result ≡ Status.TooLarge)
         → sink.new ≡ sink.old }
 {
-    match read_all(alloc, source, AUDIT_LIMIT) {
+    match read_all(alloc, source, limits::AUDIT_LIMIT) {
         Ok(bytes) => run_audit(alloc, bytes.items(), sink),
         Err(ReadRefusal::Fault) => Status::ReadFault,
         Err(ReadRefusal::TooLarge) => Status::TooLarge,
@@ -89,7 +89,7 @@ fn script_part<'b>(input: &'b [u8], parts: Option<(&'b [u8], &'b [u8])>) -> &'b 
 fn is_too_large(script: &[u8]) -> bool
     ensures { MatchBool result (IsTooLarge script.now) (IsWithin script.now) }
 {
-    script.len() > BYTE_LIMIT as usize || line_count(script) > LINE_LIMIT
+    script.len() > limits::BYTE_LIMIT as usize || line_count(script) > limits::LINE_LIMIT
 }
 
 /// What is said of an input within the limits.

@@ -4,7 +4,6 @@
 
 mod auditing;
 mod decoding;
-mod limits;
 mod ordered;
 mod parts;
 mod reading;
@@ -15,7 +14,6 @@ mod writing;
 
 pub use auditing::read_and_audit;
 pub use decoding::show;
-pub use limits::{AUDIT_LIMIT, BYTE_LIMIT};
 pub use ordered::read_and_run;
 pub use reading::script_from;
 pub use report::write_last;

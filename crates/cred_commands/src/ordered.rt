@@ -2,6 +2,7 @@
 //! kept.
 ghost use Rattle.std.specs.Prelude.{◌≡◌, ◌≢◌, ◌≤◌, ◌<◌, ◌⊎◌, true, OnOk, OnErr, length};
 ghost use Rattle.std.specs.Io.KnownBytes.{Appends};
+ghost use Rattle.cred_ids.specs.Limits.{BYTE_LIMIT, LINE_LIMIT};
 ghost use Rattle.cred_model.specs.Journal.{IsSequence};
 ghost use Rattle.cred_model.specs.State.{opening};
 ghost use Rattle.cred_io.specs.Causes.{CountsFaults};
@@ -14,11 +15,11 @@ ghost use Rattle.cred_commands.specs.Ends.{Reports, Suits};
 ghost use Rattle.cred_commands.specs.Leaves.{IsReading, IsWriting, LeavesReport};
 ghost use Rattle.cred_commands.specs.Sequences.{AppendsSequence, BeginsSequence, HandsOver};
 
-use crate::limits::BYTE_LIMIT;
 use crate::reading::script_from;
 use crate::report::{write_entries, write_last};
 use crate::status::{Status, finish};
-use cred_event::{Entry, LINE_LIMIT};
+use cred_event::Entry;
+use cred_ids::limits;
 use cred_io::{ReadRefusal, Sink, SinkRefusal, Source, read_all};
 use cred_order::run_line;
 use cred_report::Pen;
@@ -159,7 +160,7 @@ pub fn read_and_run<S: Source, K: Sink>(alloc: Global, source: &mut S, sink: &mu
     ensures silent { (result ≡ Status.ReadFault) ⊎ (result ≡ Status.TooLarge)
         → sink.new ≡ sink.old }
 {
-    match read_all(alloc, source, BYTE_LIMIT) {
+    match read_all(alloc, source, limits::BYTE_LIMIT) {
         Ok(bytes) => run_script_in_order(alloc, bytes.items(), sink),
         Err(ReadRefusal::Fault) => Status::ReadFault,
         Err(ReadRefusal::TooLarge) => Status::TooLarge,

@@ -1,14 +1,14 @@
 //! Making a script of bytes, for the commands that run one.
 ghost use Rattle.std.specs.Prelude.{◌≡◌, ◌≢◌, ◌≤◌, ◌<◌, ◌⊎◌, true};
 ghost use Rattle.std.specs.Prelude.{IfOk, IfErr, OnOk, OnErr, length};
+ghost use Rattle.cred_ids.specs.Limits.{BYTE_LIMIT, LINE_LIMIT};
 ghost use Rattle.cred_io.specs.Causes.{CountsFaults};
 ghost use Rattle.cred_script.specs.Lines.{lines_of};
 ghost use Rattle.cred_commands.specs.Ends.{IsScript, IsWithin, Refuses, RefusesPrefix, Suits};
 
-use crate::limits::BYTE_LIMIT;
 use crate::status::{Status, finish};
 use crate::writing::write_bad;
-use cred_event::LINE_LIMIT;
+use cred_ids::limits;
 use cred_io::Sink;
 use cred_script::{Script, ScriptRefusal, line_count, read};
 use std::alloc::Global;
@@ -37,7 +37,7 @@ pub fn script_from<K: Sink>(alloc: Global, bytes: &[u8], sink: &mut K) -> Result
     ensures prefix { OnErr result ((sink.new ≡ sink.old) ⊎ (IsWithin bytes.now
         × RefusesPrefix (K.written sink.old) (K.written sink.new) bytes.now)) }
 {
-    if line_count(bytes) > LINE_LIMIT {
+    if line_count(bytes) > limits::LINE_LIMIT {
         return Err(Status::TooLarge);
     }
     match read(alloc, bytes) {

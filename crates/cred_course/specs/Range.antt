@@ -1,7 +1,6 @@
 -- What is true of every course.
 use Rattle.std.specs.Prelude.{ℕ, ◌≤◌}
-use Rattle.cred_model.specs.Course.{TRIES}
-use Rattle.cred_event.specs.declared.entry.TheConstants.{LINE_LIMIT}
+use Rattle.cred_ids.specs.Limits.{TRIES, LINE_LIMIT}
 
 -- A script has no more lines, and a line no more tries.
 pub record IsInRange (number tries : ℕ) : Type 0 where

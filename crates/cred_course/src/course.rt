@@ -1,17 +1,16 @@
 //! The course of one line.
 ghost use Rattle.std.specs.Prelude.{◌≡◌, ◌≤◌, ◌<◌, true, IfOk, OnErr, IfSome, is_none, is_some};
+ghost use Rattle.cred_ids.specs.Limits.{LINE_LIMIT};
 ghost use Rattle.cred_event.specs.Lists.{BeginsSetGroups};
 ghost use Rattle.cred_model.specs.Course as spec;
 ghost use Rattle.cred_model.specs.Course.{Leads, after, event_at, is_bounded, left};
 
 use crate::events::{event_in, makes_events};
 use crate::stages::{is_stale, next_stage};
-use cred_event::{Answer, Content, Event, LINE_LIMIT, Stage};
+use cred_event::{Answer, Content, Event, Stage};
+use cred_ids::limits;
 use cred_ids::NoMemory;
 use std::marker::Model;
-
-/// How often a line tries to change a credential, where another change comes before its commit.
-const TRIES: u8 = 8;
 
 /// How far a line has come: its number, from 1 to 20,000; the stage that comes next, or none where
 /// it has ended; and which try this is, from 1 to 8. The release with which a next try begins
@@ -126,7 +125,7 @@ impl Course {
     fn next_try(self) -> Course
         ensures { result ≡ spec.next_try self }
     {
-        if self.tries < TRIES {
+        if self.tries < limits::TRIES {
             Course {
                 stage: Some(Stage::Retrying),
                 tries: self.tries + 1,

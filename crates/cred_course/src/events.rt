@@ -1,12 +1,14 @@
 //! The event of each stage of a line.
 ghost use Rattle.std.specs.Prelude.{◌≡◌, ◌≤◌, ℕ, Some, IfOk, OnErr, IfSome};
+ghost use Rattle.cred_ids.specs.Limits.{LINE_LIMIT};
 ghost use Rattle.cred_event.specs.Lists.{BeginsSetGroups};
 ghost use Rattle.cred_event.specs.declared.content.Content.TheVariants as content;
 ghost use Rattle.cred_event.specs.declared.event.Event.TheVariants as event;
 ghost use Rattle.cred_event.specs.declared.event.Side.TheVariants.{Subjective};
 ghost use Rattle.cred_model.specs.Course as spec;
 
-use cred_event::{Change, Content, Event, LINE_LIMIT, Query, Side, Stage, copy_event};
+use cred_event::{Change, Content, Event, Query, Side, Stage, copy_event};
+use cred_ids::limits;
 use cred_ids::NoMemory;
 use cred_record::Want;
 
@@ -59,7 +61,7 @@ fn hold_label(line: u32) -> u32
     requires { line ≤ LINE_LIMIT }
     ensures { result ≡ spec.hold_label line }
 {
-    100_000 + 10 * line
+    limits::FIRST_LINE_LABEL + limits::LABELS_A_LINE * line
 }
 
 /// The label of the new credential that a line prepares.
@@ -67,7 +69,7 @@ fn new_label(line: u32) -> u32
     requires { line ≤ LINE_LIMIT }
     ensures { result ≡ spec.new_label line }
 {
-    100_001 + 10 * line
+    hold_label(line) + 1
 }
 
 /// The label of what a line holds of the task that it signals. A line that signals prepares
@@ -76,7 +78,7 @@ fn target_label(line: u32) -> u32
     requires { line ≤ LINE_LIMIT }
     ensures { result ≡ spec.target_label line }
 {
-    100_001 + 10 * line
+    hold_label(line) + 1
 }
 
 /// The label of what access(2) asks by.
@@ -84,7 +86,7 @@ fn access_label(line: u32) -> u32
     requires { line ≤ LINE_LIMIT }
     ensures { result ≡ spec.access_label line }
 {
-    100_002 + 10 * line
+    hold_label(line) + 2
 }
 
 /// The label takes hold of the credential that the task acts with.

@@ -3,6 +3,7 @@ use Rattle.std.specs.Prelude.{◌≡◌, ℕ, ◌+◌, ◌-◌, ◌*◌, ◌<◌
 use Rattle.std.specs.Prelude.{slice_get, Some, None, IfSome, is_some}
 use Rattle.std.specs.declared.option.Option.{Option}
 use Rattle.std.specs.Option.{option_map_or}
+use Rattle.cred_ids.specs.Limits.{TASKS, TRIES}
 use Rattle.cred_event.specs.declared.content.Content.{Content}
 use Rattle.cred_event.specs.declared.content.Content.TheVariants.{One, Id}
 use Rattle.cred_event.specs.declared.content.Stage.{Stage}
@@ -10,8 +11,7 @@ use Rattle.cred_event.specs.declared.content.Stage.TheVariants.{First}
 use Rattle.cred_event.specs.declared.entry.Entry.{Entry}
 use Rattle.cred_model.specs.Script.{Script, Line}
 use Rattle.cred_model.specs.Course as model
-use Rattle.cred_model.specs.Moves.{TASKS}
-use Rattle.cred_model.specs.Course.{Course, Leads, TRIES, TRY_EVENTS, leads}
+use Rattle.cred_model.specs.Course.{Course, Leads, TRY_EVENTS, leads}
 use Rattle.cred_model.specs.Journal.{answers_of, next_event}
 use Rattle.cred_script.specs.Grammar.{line_at}
 

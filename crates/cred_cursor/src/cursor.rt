@@ -1,6 +1,7 @@
 //! The cursor: the course of the first line that has not ended.
 ghost use Rattle.std.specs.Prelude.{◌≡◌, ◌≤◌, true, [], length, IfOk, IfSome, OnErr, is_some};
 ghost use Rattle.std.specs.Option.{option_and_then};
+ghost use Rattle.cred_ids.specs.Limits.{LINE_LIMIT};
 ghost use Rattle.cred_event.specs.Lists.{BeginsSetGroups};
 ghost use Rattle.cred_model.specs.Course as model;
 ghost use Rattle.cred_model.specs.Named.{IsEventOf};
@@ -8,7 +9,7 @@ ghost use Rattle.cred_script.specs.Grammar.{line_at};
 ghost use Rattle.cred_cursor.specs.Cursor.{IsLaneCursor, IsOfLine, PassesFrom, PassesTo};
 
 use cred_course::Course;
-use cred_event::{Answer, Event, LINE_LIMIT};
+use cred_event::{Answer, Event};
 use cred_ids::NoMemory;
 use cred_script::Script;
 

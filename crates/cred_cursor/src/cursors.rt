@@ -2,13 +2,13 @@
 ghost use Rattle.std.specs.Prelude.{◌≡◌, ◌+◌, ◌<◌, ◌≤◌, [], length, set};
 ghost use Rattle.std.specs.Prelude.{IfOk, MatchOption, is_none};
 ghost use Rattle.std.specs.List.{list_all};
+ghost use Rattle.cred_ids.specs.Limits.{LINE_LIMIT};
+ghost use Rattle.cred_ids.specs.Limits.{LAST_LANE};
 ghost use Rattle.cred_cursor.specs.Cursors.{AreCursors, AreOver, IsEarlier, IsLeast, cursor_of};
 ghost use Rattle.cred_cursor.specs.Cursors.{due_of};
-ghost use Rattle.cred_spelling.specs.Spellings.{LAST_LANE};
 
 use crate::cursor::first_cursor;
 use cred_course::Course;
-use cred_event::LINE_LIMIT;
 use cred_ids::NoMemory;
 use cred_script::Script;
 use std::alloc::Global;
@@ -24,8 +24,8 @@ pub struct Cursors {
 impl Model for Cursors {
     ghost use Rattle.std.specs.Prelude.{List, length, ◌+◌, ◌≤◌};
     ghost use Rattle.std.specs.declared.option.Option.{Option};
+    ghost use Rattle.cred_ids.specs.Limits.{LAST_LANE};
     ghost use Rattle.cred_model.specs.Course.{Course};
-    ghost use Rattle.cred_spelling.specs.Spellings.{LAST_LANE};
 
     ghost Value = { List (Option Course) };
 

@@ -2,9 +2,6 @@
 use crate::answer::Answer;
 use crate::event::Event;
 
-/// How many lines a script may have, and so the greatest number of a line.
-pub const LINE_LIMIT: usize = 20_000;
-
 /// One event with its answer, and the number of the line that made it, from 1.
 #[derive(Drop, Debug)]
 pub struct Entry {

@@ -11,5 +11,5 @@ mod event;
 
 pub use answer::{AbortCause, Answer, Counted, Named, Told, copy_answer};
 pub use content::{Content, Stage};
-pub use entry::{Entry, LINE_LIMIT};
+pub use entry::Entry;
 pub use event::{Change, Event, Query, Side, copy_event};

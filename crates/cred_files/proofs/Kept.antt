@@ -4,8 +4,9 @@ use Rattle.std.specs.List.{IsDistinct}
 use Rattle.std.specs.Map.{keys_of, lookup, remove_entry}
 use Rattle.std.specs.Option.{option_map}
 use Rattle.std.proofs.lemmas.List.{length-map}
+use Rattle.cred_ids.specs.Limits.{OPEN_FILES}
 use Rattle.cred_files.specs.declared.file.File.{File}
-use Rattle.cred_files.specs.Open.{AreOpen, OPEN_FILES, file_as, file_at, files_of, place_of, Closes}
+use Rattle.cred_files.specs.Open.{AreOpen, file_as, file_at, files_of, place_of, Closes}
 use Rattle.cred_files.proofs.ByKey.{keys-things, find-things, not_there, no_place, added, taken}
 
 pub are_open : (es : List (ℕ × File)) → IsDistinct nat_eq (keys_of es) → length es ≤ OPEN_FILES → AreOpen (files_of es)

@@ -4,12 +4,9 @@ use Rattle.std.specs.Prelude.{◌≡◌, ℕ, ◌==◌, ◌≤◌, nat_eq, List,
 use Rattle.std.specs.Prelude.{slice_get, Some}
 use Rattle.std.specs.declared.option.Option.{Option}
 use Rattle.std.specs.List.{IsDistinct}
+use Rattle.cred_ids.specs.Limits.{OPEN_FILES}
 use Rattle.cred_model.specs.State.{OpenFile}
 use Rattle.cred_files.specs.declared.file.File.{File}
-
--- how many files may be open
-abbrev pub OPEN_FILES : ℕ
-OPEN_FILES = 256
 
 -- What is true of the open files at all times.
 pub record AreOpen (files : List OpenFile) : Type 0 where

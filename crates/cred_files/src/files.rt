@@ -2,16 +2,15 @@
 ghost use Rattle.std.specs.Prelude.{◌≡◌, ◌<◌, not, nat_lt, is_some, [], ◌∷◌, ◌++◌, length, None};
 ghost use Rattle.std.specs.Prelude.{IfOk, MatchOption, OnOk, OnErr};
 ghost use Rattle.std.specs.Option.{option_map};
-ghost use Rattle.cred_files.specs.Open.{AreOpen, OPEN_FILES, file_as, file_at, place_of, Closes};
+ghost use Rattle.cred_ids.specs.Limits.{OPEN_FILES};
+ghost use Rattle.cred_files.specs.Open.{AreOpen, file_as, file_at, place_of, Closes};
 
 use crate::file::File;
+use cred_ids::limits;
 use cred_ids::NoMemory;
 use indexmap::IndexMap;
 use std::alloc::Global;
 use std::marker::Model;
-
-/// How many files may be open.
-const OPEN_FILES: usize = 256;
 
 /// The open files: at most 256, no two at one descriptor. A descriptor is a number of the whole
 /// system. Contracts see the list of the files, in the order in which they were opened.
@@ -58,7 +57,7 @@ impl Files {
         ensures full { result ≡ not (nat_lt (length self.now) OPEN_FILES) }
         ensures files { AreOpen self.now }
     {
-        self.files.len() >= OPEN_FILES
+        self.files.len() >= limits::OPEN_FILES
     }
 
     /// The number of the credential that the file at a descriptor was opened by. `None` where none

@@ -5,15 +5,12 @@ use Rattle.std.specs.declared.option.Option.{Option}
 use Rattle.std.specs.Option.{option_map, option_map_or}
 use Rattle.std.specs.Str.{bytes_eq}
 use Rattle.cred_record.specs.File.{File}
+use Rattle.cred_ids.specs.Limits.{FILES}
 use Rattle.cred_model.specs.Script.{NamedFile}
 use Rattle.cred_spelling.specs.declared.reason.Reason.{Reason}
 use Rattle.cred_spelling.specs.declared.reason.Reason.TheVariants.{Word, Count}
 use Rattle.cred_spelling.specs.Words.{◌>>=◌, name_of, word_of, three_of}
 use Rattle.cred_spelling.specs.Spellings.{id_of, bytes_of, kind_of, mode_of}
-
--- how many files a script may declare
-abbrev pub FILES : ℕ
-FILES = 256
 
 -- how many words stand after the first one of such a line: the five of each, and the three that may
 -- follow

@@ -4,9 +4,9 @@ use Rattle.std.specs.List.{IsDistinct}
 use Rattle.std.specs.Map.{keys_of}
 use Rattle.std.specs.String.{string_eq}
 use Rattle.std.specs.declared.alloc.Global.{Global}
+use Rattle.cred_ids.specs.Limits.{FILES}
 use Rattle.cred_record.specs.File.{File}
 use Rattle.cred_model.specs.Script.{NamedFile}
-use Rattle.cred_forms.specs.Files.{FILES}
 
 abbrev pub file_of : String Global × File → NamedFile
 file_of entry = record { name = string_bytes entry.0; info = entry.1 }

@@ -3,8 +3,9 @@ ghost use Rattle.cred_spelling.specs.Read.{nows};
 ghost use Rattle.cred_forms.specs.Files as spec;
 ghost use Rattle.cred_forms.specs.Read.{GivesLine};
 
-use crate::files::{FILES, Files, ScriptFile};
+use crate::files::{Files, ScriptFile};
 use crate::refusal::LineRefusal;
+use cred_ids::limits;
 use cred_ids::Id;
 use cred_record::{Attr, FileInfo, FileKind};
 use cred_spelling::{Reason, bytes_of, is, mode_of, name_of, three};
@@ -25,7 +26,7 @@ pub(crate) fn file_of(
 ) -> Result<ScriptFile, LineRefusal>
     ensures { GivesLine (λ file. file) result (spec.file_of files.now (nows words.now)) }
 {
-    let has_room = files.len() < FILES;
+    let has_room = files.len() < limits::FILES;
     let has_count = LEAST_WORDS <= words.len() && words.len() <= MOST_WORDS;
     if !has_room || !has_count {
         return Err(LineRefusal::Bad(Reason::Count));

@@ -2,6 +2,7 @@
 ghost use Rattle.std.specs.Prelude.{◌≡◌, ◌<◌, ◌∷◌, ◌++◌, [], IfSome, None, Some, OnErr, OnOk};
 ghost use Rattle.std.specs.Prelude.{length, slice_get};
 ghost use Rattle.std.specs.Option.{option_map};
+ghost use Rattle.cred_ids.specs.Limits.{FILES};
 ghost use Rattle.cred_spelling.specs.Read.{Says};
 ghost use Rattle.cred_forms.specs.Files as spec;
 
@@ -11,9 +12,6 @@ use cred_spelling::{Reason, name_of};
 use indexmap::IndexMap;
 use std::alloc::Global;
 use std::marker::Model;
-
-/// How many files a script may declare.
-pub const FILES: usize = 256;
 
 /// A file that a line declares.
 #[derive(Drop)]

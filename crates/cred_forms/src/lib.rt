@@ -19,7 +19,7 @@ mod questions;
 mod refusal;
 
 pub use changes::change_of;
-pub use files::{FILES, Files, ScriptFile};
+pub use files::{Files, ScriptFile};
 pub use forms::{Parsed, parse_form};
 pub use id_calls::{id_call_of, ids};
 pub use questions::query_named;

@@ -5,6 +5,7 @@ use Rattle.std.specs.Option.{option_map_or, option_and_then}
 use Rattle.std.proofs.lemmas.Bool.Decides.{nat_tests}
 use Rattle.std.proofs.lemmas.List.{length_push}
 use Rattle.std.proofs.lemmas.Option.{slice_get_within}
+use Rattle.cred_ids.specs.Limits.{TASKS, OPEN_FILES, HOLDS, PREPARED, DEPTH}
 use Rattle.cred_record.specs.Credential.{Credential, first_credential}
 use Rattle.cred_record.specs.File.{File}
 use Rattle.cred_record.specs.declared.gains.Gains.{Gains}
@@ -31,7 +32,8 @@ use Rattle.cred_model.specs.Answers.{is_ok, refusal, flag, checked, reply}
 use Rattle.cred_model.specs.Casts.{others_of, with_cast, waits_no_more}
 use Rattle.cred_model.specs.Change.{Made, by_rule, made_by_rule, executed, made_by_exec, by_change}
 use Rattle.cred_model.specs.Ends.{ended, is_thread_of}
-use Rattle.cred_model.specs.Moves.{TASKS, FILES, HOLDS, PREPARED, DEPTH, ◌>>=◌, in_slot, table_full, first_task, created, replaced, preparing, altered, committed, given_up}
+use Rattle.cred_model.specs.Moves.{◌>>=◌, in_slot, table_full, first_task, created, replaced}
+use Rattle.cred_model.specs.Moves.{preparing, altered, committed, given_up}
 use Rattle.cred_model.specs.Named.{query_files, change_files}
 use Rattle.cred_model.specs.Script.{Script, info_of, chain_of}
 use Rattle.cred_model.specs.Slots.{room, free, least_free, swept}
@@ -313,7 +315,7 @@ of_open script s hold place asked fd =
     none_case (Tells s) (open_of s fd) _ _ refl (λ new.
     let file = info_of script (place ∷ []) in
     test_case (Tells s) (is_ok (checked held.cred file asked)) _ _ (silent (length s.creds) _ (of_check held.cred file asked))
-    (test_case (Tells s) (nat_lt (length s.files) FILES) _ _ refl refl)))
+    (test_case (Tells s) (nat_lt (length s.files) OPEN_FILES) _ _ refl refl)))
 
 of_close : (s : State) (fd : ℕ) → Tells s (by_close s fd)
 of_close s fd =

@@ -2,11 +2,11 @@
 use Rattle.std.specs.Prelude.{◌≡◌, ◌≢◌, ℕ, List, length, replicate, Option, Some, None, Bool, true}
 use Rattle.std.specs.Prelude.{false, not, slice_get}
 use Rattle.std.specs.List.{AllByRecursion}
+use Rattle.cred_ids.specs.Limits.{SLOTS}
 use Rattle.atomic_table.specs.Seated.{TableId}
 use Rattle.cred_record.specs.Credential.{Credential}
 use Rattle.cred_record.specs.Words.{credential_of, are_words}
 use Rattle.cred_words.specs.Size.{width}
-use Rattle.cred_words.specs.declared.size.TheConstants.{SLOTS}
 use Rattle.cred_words.specs.declared.view.Slot.{Slot}
 use Rattle.cred_words.specs.declared.view.Token.{Token}
 

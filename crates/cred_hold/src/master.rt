@@ -1,11 +1,12 @@
 //! The master of the shared words: what it lends, and what it takes back.
 ghost use Rattle.std.specs.Prelude.{◌≡◌, ◌<◌, [], ◌∷◌, Some, None, IfOk, slice_get, slice_set};
+ghost use Rattle.cred_ids.specs.Limits.{SLOTS};
 ghost use Rattle.cred_words.specs.Lists.{IsTaken};
 ghost use Rattle.cred_hold.specs.Tokens.{entry, none_sealed, IsSealed, IsAlone};
 
 use crate::tokens::{Hold, Writer};
 use cred_ids::NoMemory;
-use cred_words::{Cells, SLOTS, cells};
+use cred_words::{Cells, cells};
 use std::alloc::Global;
 use std::marker::Model;
 

@@ -2,13 +2,10 @@
 use Rattle.std.specs.Prelude.{ℕ, ◌≤◌, List, length, All}
 use Rattle.std.specs.List.Sorted.{IsNonDecreasing}
 use Rattle.cred_ids.specs.Id.{IsId}
-
--- the largest number of groups, as on Linux before 2.6.4
-abbrev pub LIMIT : ℕ
-LIMIT = 32
+use Rattle.cred_ids.specs.Limits.{GROUP_LIMIT}
 
 -- at most 32 ids, sorted, with their repeats
 pub record IsGroupList (ids : List ℕ) : Type 0 where
   pub ordered : IsNonDecreasing ids
   pub each : All IsId ids
-  pub few : length ids ≤ LIMIT
+  pub few : length ids ≤ GROUP_LIMIT

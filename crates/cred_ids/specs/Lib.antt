@@ -1,4 +1,5 @@
 pub mod Groups
 pub mod Id
 pub mod Ids4
+pub mod Limits
 pub mod Ordered

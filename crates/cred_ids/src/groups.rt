@@ -5,6 +5,7 @@ ghost use Rattle.cred_ids.specs.Groups.{IsGroupList};
 ghost use Rattle.cred_ids.specs.Ordered.{in_order};
 
 use crate::id::Id;
+use crate::limits::GROUP_LIMIT;
 use crate::memory::NoMemory;
 use std::alloc::{AllocError, Global};
 use std::marker::Model;
@@ -47,9 +48,6 @@ impl From<AllocError> for GroupsRefusal {
 }
 
 impl Groups {
-    /// The largest number of groups, as on Linux before 2.6.4.
-    pub const LIMIT: usize = 32;
-
     /// No groups. It takes no memory.
     pub fn none(alloc: Global) -> Groups
         ensures { result ≡ [] }
@@ -68,13 +66,13 @@ impl Groups {
     pub fn from_list(alloc: Global, list: &[Id]) -> Result<Groups, GroupsRefusal>
         ensures sorted { IfOk result (λ g. g ≡ in_order list.now) }
         ensures too_many { IsErrOf result (GroupsRefusal.TooMany (length list.now))
-            ↔ (Self.LIMIT < length list.now) }
+            ↔ (GROUP_LIMIT < length list.now) }
 
         // No other number of ids is told.
         ensures refusal { IfErr result
             (λ e. (e ≡ GroupsRefusal.TooMany (length list.now)) ⊎ (e ≡ GroupsRefusal.Memory)) }
     {
-        if list.len() > Self::LIMIT {
+        if list.len() > GROUP_LIMIT {
             return Err(GroupsRefusal::TooMany(list.len()));
         }
         let mut ids = Vec::with_capacity(alloc, list.len())?;
@@ -97,7 +95,7 @@ impl Groups {
     /// The number of groups, each repeat counted: 0 to 32.
     pub fn len(&self) -> usize
         ensures value { result ≡ length self.now }
-        ensures limit { result ≤ Self.LIMIT }
+        ensures limit { result ≤ GROUP_LIMIT }
     {
         self.ids.len()
     }

@@ -6,6 +6,7 @@ pub mod arg;
 pub mod bytes;
 pub mod groups;
 pub mod id;
+pub mod limits;
 pub mod memory;
 
 pub use arg::Arg;

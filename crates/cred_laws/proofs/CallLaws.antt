@@ -6,8 +6,8 @@ use Rattle.cred_ids.specs.declared.arg.Arg.{Arg}
 use Rattle.cred_ids.specs.declared.id.Ids4.{Ids4}
 use Rattle.cred_ids.specs.declared.id.Kind.{Kind}
 use Rattle.cred_ids.specs.declared.id.Kind.TheVariants.{User, Group}
-use Rattle.cred_ids.specs.Groups.{LIMIT}
 use Rattle.cred_ids.specs.Ordered.{in_order}
+use Rattle.cred_ids.specs.Limits.{GROUP_LIMIT}
 use Rattle.cred_caps.specs.declared.secure.Flag.{Flag}
 use Rattle.cred_caps.specs.declared.secure.Flag.TheVariants.{NoRoot, NoSetuidFixup, KeepCaps, NoAmbientRaise}
 use Rattle.cred_caps.specs.Caps.{Caps, empty, meet, less, IsWithin}
@@ -79,7 +79,7 @@ not-false false is = cc
 setgroups-leaves : (c d : Credential) (list : List ℕ) → after_setgroups c list ≡ Ok d → Leaves c d
 unfolding after_setgroups
 setgroups-leaves c d list same =
-    two-tests (Leaves c) (not (has_cap c SETGID)) (nat_lt LIMIT (length list)) Perm Invalid (record c { groups = in_order list }) d
+    two-tests (Leaves c) (not (has_cap c SETGID)) (nat_lt GROUP_LIMIT (length list)) Perm Invalid (record c { groups = in_order list }) d
     (λ _. record { bits = refl; bound = refl; nnp = refl }) same
 
 set_id-leaves : (c d : Credential) (call : IdCall) → set_id c call ≡ Ok d → Leaves c d

@@ -2,12 +2,13 @@
 use Rattle.std.proofs.Common.{◌≡◌, ◌≢◌, ◌==◌, ℕ, List, length, position, slice_get, drop, Option, Some, None, refl, ap, ◌∙◌}
 use Rattle.std.specs.List.{All, find}
 use Rattle.std.specs.Option.{option_map}
+use Rattle.cred_ids.specs.Limits.{DEPTH}
 use Rattle.cred_event.specs.declared.answer.Answer.{Answer}
 use Rattle.cred_event.specs.declared.entry.Entry.{Entry}
 use Rattle.cred_event.specs.declared.event.Event.TheVariants.{Override, Revert, CloseFile}
 use Rattle.cred_model.specs.Script.{Script}
 use Rattle.cred_model.specs.State.{State, Task, Numbered, OpenFile, task_of, open_of, held_by, opener_of}
-use Rattle.cred_model.specs.Moves.{DEPTH, overriding, with_overrides}
+use Rattle.cred_model.specs.Moves.{overriding, with_overrides}
 use Rattle.cred_model.specs.Step.{for_access}
 use Rattle.cred_model.proofs.Numbers.{overriding_task, overriding_current}
 use Rattle.cred_sound.proofs.Events.{changes}

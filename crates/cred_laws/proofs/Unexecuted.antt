@@ -2,6 +2,7 @@
 use Rattle.std.proofs.Common.{◌≡◌, ◌==◌, ◌-◌, ℕ, List, [], ◌∷◌, length, nat_lt, position, slice_get, Option, Some, None, Result, Ok, Err, ok_or, Bool, true, false, cond, refl}
 use Rattle.std.specs.List.{find}
 use Rattle.std.specs.Option.{option_map_or}
+use Rattle.cred_ids.specs.Limits.{TASKS, OPEN_FILES, HOLDS, PREPARED, DEPTH}
 use Rattle.cred_record.specs.Credential.{Credential, first_credential}
 use Rattle.cred_record.specs.File.{File}
 use Rattle.cred_record.specs.declared.refusal.Denial.{Denial}
@@ -29,7 +30,8 @@ use Rattle.cred_model.specs.Ends.{is_thread_of}
 use Rattle.cred_model.specs.Slots.{free, room}
 use Rattle.cred_model.specs.Answers.{refusal, flag, checked, reply, is_ok}
 use Rattle.cred_model.specs.Change.{Made, made_by_rule, made_by_exec, by_rule, by_change}
-use Rattle.cred_model.specs.Moves.{◌>>=◌, none_or, fewer_or, passed, not_overridden, TASKS, FILES, HOLDS, PREPARED, DEPTH, in_slot, table_full, first_task, created, preparing, replaced}
+use Rattle.cred_model.specs.Moves.{◌>>=◌, none_or, fewer_or, passed, not_overridden, in_slot}
+use Rattle.cred_model.specs.Moves.{table_full, first_task, created, preparing, replaced}
 use Rattle.cred_model.specs.Step.{take_hold, for_access, aborted, follow, done, outcome}
 
 abbrev pub is_executed : Answer → Bool
@@ -256,7 +258,7 @@ plain script s line (OpenFile hold place asked fd) other =
     some_plain (held_by s hold) _ _ refl
     (λ held. none_plain (open_of s fd) _ _ refl
     (passed_plain (checked held.cred (info_of script (place ∷ [])) asked) _ (file_plain held.cred (info_of script (place ∷ [])) asked)
-    (fewer_plain (length s.files) FILES _ _ refl (at_once _ _ refl))))
+    (fewer_plain (length s.files) OPEN_FILES _ _ refl (at_once _ _ refl))))
 plain script s line (CloseFile fd) other =
     some_plain (position (λ f. f.fd == fd) s.files) _ _ refl
     (λ place. some_plain (slice_get s.files place) _ _ refl (λ file. at_once _ _ refl))

@@ -7,9 +7,11 @@ use Rattle.cred_event.specs.declared.answer.Answer.TheVariants.{Done, Kept, Seal
 use Rattle.cred_model.specs.State.{State, Broadcast, Changed, Hold, Prepared, Task, Numbered, begun_by, cast_in, cast_of, hold_of, numbered, prepared_of, task_of}
 use Rattle.cred_model.specs.Casts.{joined, not_busy, waits_no_more, others_of}
 use Rattle.cred_model.specs.Ends.{is_task, is_thread_of, left_by, survivors}
-use Rattle.cred_model.specs.Moves.{PREPARED, TASKS, created, first_task, in_slot, not_overridden, preparing, table_full}
+use Rattle.cred_model.specs.Moves.{created, first_task, in_slot, not_overridden, preparing}
+use Rattle.cred_model.specs.Moves.{table_full}
 use Rattle.cred_model.specs.Step.{by_begin, by_commit, by_exit, by_fork, by_init, by_prepare, by_spawn, outcome, try_commit, for_task}
 use Rattle.std.specs.Option.{option_and_then}
+use Rattle.cred_ids.specs.Limits.{PREPARED, TASKS}
 use Rattle.cred_machine.specs.Room.{begun}
 
 pub exited : (s : State) (task : ℕ) (owner : Task) → task_of s task ≡ Some owner → not_busy (begun_by s task) ≡ Ok tt → not_overridden owner ≡ Ok tt

@@ -3,9 +3,10 @@ use Rattle.std.proofs.Common.{◌≡◌, ◌<◌, ◌⊎◌, inl, inr, not, ℕ,
 use Rattle.std.specs.List.{All, Contains}
 use Rattle.std.specs.Option.{option_map_or}
 use Rattle.std.proofs.lemmas.Bool.Decides.{nat_tests}
+use Rattle.cred_ids.specs.Limits.{HOLDS}
 use Rattle.cred_event.specs.declared.answer.Answer.{Answer}
 use Rattle.cred_event.specs.declared.answer.Answer.TheVariants.{Done, Kept}
-use Rattle.cred_model.specs.Moves.{HOLDS, altered, given_up, holding, in_slot, preparing}
+use Rattle.cred_model.specs.Moves.{altered, given_up, holding, in_slot, preparing}
 use Rattle.cred_model.specs.Slots.{least_free, refs, swept}
 use Rattle.cred_model.specs.State.{State, SealedCred, Broadcast, OpenFile as Open, Hold, Prepared, Changed, Numbered, hold_of, prepared_of}
 use Rattle.cred_model.specs.Step.{take_hold}

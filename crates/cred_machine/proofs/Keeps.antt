@@ -1,6 +1,7 @@
 -- No event lets go of what is referred to, and only a sweep of what was given up.
 use Rattle.std.proofs.Common.{◌≡◌, ◌==◌, ◌-◌, ◌⊎◌, inl, inr, ℕ, List, [], ◌∷◌, length, nat_lt, slice_get, find, position, Some, None, true, Result, Ok, Err, refl, arith}
 use Rattle.std.specs.Option.{option_and_then}
+use Rattle.cred_ids.specs.Limits.{TASKS, OPEN_FILES, PREPARED, DEPTH}
 use Rattle.cred_record.specs.Credential.{Credential, first_credential}
 use Rattle.cred_record.specs.declared.id_call.IdCall.{IdCall}
 use Rattle.cred_record.specs.declared.refusal.Denial.{Denial}
@@ -16,7 +17,7 @@ use Rattle.cred_model.specs.Answers.{checked}
 use Rattle.cred_model.specs.Casts.{joined, others_of, waits_no_more, with_cast}
 use Rattle.cred_model.specs.Change.{by_change, by_rule}
 use Rattle.cred_model.specs.Ends.{is_task, is_thread_of}
-use Rattle.cred_model.specs.Moves.{TASKS, FILES, PREPARED, DEPTH, created, first_task, preparing, replaced, table_full}
+use Rattle.cred_model.specs.Moves.{created, first_task, preparing, replaced, table_full}
 use Rattle.cred_model.specs.Named.{change_files}
 use Rattle.cred_model.specs.Script.{Script, chain_of, info_of}
 use Rattle.cred_model.specs.State.{State, Task, Broadcast, Prepared, Numbered, begun_by, cast_in, cast_of, credential_of, held_by, hold_of, numbered, open_of, opener_of, prepared_of, task_of}
@@ -58,7 +59,7 @@ open_keeps script s line hold place asked fd =
     (if_some Q (held_by s hold) _ _
     (λ held is. if_none Q (open_of s fd) _ _
     (λ new. if_passed Q (checked held.cred (info_of script (place ∷ [])) asked) _
-    (if_fewer Q (length s.files) FILES _ _
+    (if_fewer Q (length s.files) OPEN_FILES _ _
     (opens s (record { fd = fd; opener = held.number; file = place }))))))
 
 close_keeps : (script : Script) (s : State) (line fd : ℕ) → Keeps s (step script s line (CloseFile fd))

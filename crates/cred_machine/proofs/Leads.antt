@@ -1,5 +1,6 @@
 -- What the events that create and end tasks lead to, by the parts of the state after them.
 use Rattle.std.proofs.Common.{◌≡◌, ℕ, ◌==◌, ◌||◌, nat_lt, not, is_some, Result, Bool, true, false, List, [], ◌∷◌, ◌++◌, length, find, Some, None, Ok, if◌then◌else◌, refl, sym, ap, ◌∙◌, subst}
+use Rattle.cred_ids.specs.Limits.{PREPARED, TASKS}
 use Rattle.cred_event.specs.declared.answer.AbortCause.{AbortCause}
 use Rattle.cred_event.specs.declared.answer.Answer.{Answer}
 use Rattle.cred_event.specs.declared.answer.Answer.TheVariants.{Done, Kept, Sealed, TableFull}
@@ -8,7 +9,7 @@ use Rattle.cred_model.specs.State.{State, Broadcast, Hold, Prepared, SealedCred,
 use Rattle.cred_model.specs.Slots.{free, least_free, swept}
 use Rattle.cred_model.specs.Casts.{dropped, joined, not_busy, waits_no_more}
 use Rattle.cred_model.specs.Ends.{is_task, is_thread_of, left_by, survivors}
-use Rattle.cred_model.specs.Moves.{PREPARED, TASKS, created, preparing, first_task, not_overridden, table_full}
+use Rattle.cred_model.specs.Moves.{created, preparing, first_task, not_overridden, table_full}
 use Rattle.cred_model.specs.Step.{aborted, by_exit, by_fork, by_init, by_prepare, by_spawn, outcome}
 use Rattle.cred_model.proofs.Places.{none_by_test}
 use Rattle.cred_machine.specs.Room.{at_abort, swept_if}

@@ -3,10 +3,11 @@ use Rattle.std.proofs.Common.{◌≡◌, ◌≢◌, ◌<◌, ◌≤◌, ◌==◌
 use Rattle.std.specs.List.{AllPairs}
 use Rattle.std.specs.Option.{IfSome}
 use Rattle.std.proofs.lemmas.Bool.Decides.{nat_tests}
+use Rattle.cred_ids.specs.Limits.{DEPTH}
 use Rattle.cred_record.specs.Credential.{Credential}
 use Rattle.cred_event.specs.declared.answer.Answer.TheVariants.{NoHold, Sealed, TooDeep}
 use Rattle.cred_model.specs.State.{State, Task, Prepared, Changed, Numbered, SealedCred, held_by, task_of}
-use Rattle.cred_model.specs.Moves.{DEPTH, lent, overridden, with_overrides}
+use Rattle.cred_model.specs.Moves.{lent, overridden, with_overrides}
 use Rattle.cred_model.specs.Step.{by_override, for_access, outcome}
 use Rattle.cred_model.proofs.Numbers.{owner_number}
 use Rattle.cred_plain.specs.Tasks.{OfOneTask}

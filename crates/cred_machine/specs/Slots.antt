@@ -3,10 +3,11 @@ use Rattle.std.specs.Prelude.{◌≡◌, ℕ, ◌<◌, ◌==◌, ◌||◌, Bool,
 use Rattle.std.specs.Prelude.{List, length, slice_index_or, IfSome}
 use Rattle.std.specs.declared.option.Option.{Option}
 use Rattle.std.specs.List.{list_any}
+use Rattle.cred_ids.specs.Limits.{SLOTS}
 use Rattle.cred_event.specs.declared.answer.Answer.{Answer}
 use Rattle.cred_event.specs.declared.answer.Answer.TheVariants.{Acted}
 use Rattle.cred_model.specs.State.{State, SealedCred}
-use Rattle.cred_model.specs.Slots.{SLOTS, is_live, stands_in}
+use Rattle.cred_model.specs.Slots.{is_live, stands_in}
 use Rattle.cred_machine.specs.Kept.{KeepsReferred}
 
 -- a slot's mark; none past the last

@@ -1,10 +1,11 @@
 //! The id calls, which every thread of a process makes, one after another (nptl(7)).
 ghost use Rattle.std.specs.Prelude.{◌≡◌, ◌≤◌, is_some, length, not, IfOk, OnOk, OnErr};
+ghost use Rattle.cred_ids.specs.Limits.{TASKS};
 ghost use Rattle.cred_event.specs.declared.answer.Answer.TheVariants.{Aborted};
 ghost use Rattle.cred_model.specs.State.{Broadcast};
 ghost use Rattle.cred_model.specs.Like.{Gives};
 ghost use Rattle.cred_model.specs.Slots.{free, least_free};
-ghost use Rattle.cred_model.specs.Moves.{TASKS, in_slot, replaced, table_full};
+ghost use Rattle.cred_model.specs.Moves.{in_slot, replaced, table_full};
 ghost use Rattle.cred_model.specs.Step.{aborted, by_act, by_begin};
 ghost use Rattle.cred_sound.specs.Sound.{IsSound};
 ghost use Rattle.cred_machine.specs.Room.{at_abort, begun, swept_if};

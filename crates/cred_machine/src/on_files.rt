@@ -9,14 +9,12 @@ ghost use Rattle.cred_plain.specs.Creds.{seen_numbered};
 use crate::state::State;
 use cred_declared::may_open;
 use cred_event::{Answer, Counted, Named};
+use cred_ids::limits;
 use cred_ids::NoMemory;
 use cred_plain::files::{open_of, open_place};
 use cred_plain::{Numbered, OpenFile};
 use cred_record::Want;
 use cred_script::Script;
-
-/// How many files may be open.
-const FILES: usize = 256;
 
 impl State {
     /// The file is opened under the descriptor, by the credential that the hold has (open(2)). The
@@ -52,7 +50,7 @@ impl State {
         if !may_open(script, cred, file, want) {
             return Ok(Answer::Eacces);
         }
-        if self.files.len() >= FILES {
+        if self.files.len() >= limits::OPEN_FILES {
             return Ok(Answer::TooMany(Counted::Files));
         }
         self.files.push(OpenFile { fd, opener, file })?;

@@ -16,18 +16,13 @@ use cred_access::may_signal;
 use cred_decide::{Made, change as change_of, reply};
 use cred_declared::{asked_file, chain_of, executed_file};
 use cred_event::{Answer, Change, Counted, Named, Query, Side};
+use cred_ids::limits;
 use cred_ids::NoMemory;
 use cred_plain::casts::{begun_by, drop_cast};
 use cred_plain::labels::{change_at, hold_of, hold_place, prepared_of, prepared_place};
 use cred_plain::{Cast, Changed, Ending, Hold, Numbered, Prepared};
 use cred_record::{Gains, copy};
 use cred_script::Script;
-
-/// How many holds may stand.
-const HOLDS: usize = 512;
-
-/// How many prepared labels may stand.
-const PREPARED: usize = 64;
 
 impl State {
     pub(crate) fn take(&mut self, label: u32, task: u32, side: Side) -> Result<Answer, NoMemory>
@@ -58,7 +53,7 @@ impl State {
                 number: label,
             });
         }
-        if self.holds.len() >= HOLDS {
+        if self.holds.len() >= limits::HOLDS {
             return Ok(Answer::TooMany(Counted::Holds));
         }
         self.holds.push(Hold { label, number })?;
@@ -137,7 +132,7 @@ impl State {
                 number: label,
             });
         }
-        if self.prepared.len() >= PREPARED {
+        if self.prepared.len() >= limits::PREPARED {
             return Ok(Answer::TooMany(Counted::Prepared));
         }
         let Room { slot, swept } = self.room()?;

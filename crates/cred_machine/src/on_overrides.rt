@@ -9,13 +9,11 @@ ghost use Rattle.cred_sound.specs.Sound.{IsSound};
 use crate::slots::defer;
 use crate::state::State;
 use cred_event::Answer;
+use cred_ids::limits;
 use cred_ids::NoMemory;
 use cred_plain::Numbered;
 use cred_plain::labels::prepared_place;
 use cred_record::copy;
-
-/// How many overrides a task may have.
-const DEPTH: u32 = 8;
 
 impl State {
     /// A task acts with another credential from now on (`override_creds` in the kernel;
@@ -35,7 +33,7 @@ impl State {
         let Some(Numbered { number, slot, .. }) = self.held(label) else {
             return self.override_prepared(task, label);
         };
-        if depth >= DEPTH {
+        if depth >= limits::DEPTH as u32 {
             return Ok(Answer::TooDeep);
         }
         self.tasks.push_override(task, number)?;
@@ -60,7 +58,7 @@ impl State {
             return Ok(Answer::NoHold(label));
         };
         // It is there: the task is alive.
-        if self.tasks.get(task).unwrap().depth() >= DEPTH {
+        if self.tasks.get(task).unwrap().depth() >= limits::DEPTH as u32 {
             return Ok(Answer::TooDeep);
         }
         let (base, slot) = (own.base, own.slot);

@@ -3,20 +3,22 @@ ghost use Rattle.std.specs.Prelude.{◌≡◌, ℕ, ◌+◌, ◌<◌, ◌≤◌,
 ghost use Rattle.std.specs.Prelude.{find, is_some, length, map, not, if◌then◌else◌};
 ghost use Rattle.std.specs.Prelude.{IfOk, IsOk, OnOk, OnErr, vec_capacity, vec_len};
 ghost use Rattle.std.specs.List.{flat_map, list_any};
+ghost use Rattle.cred_ids.specs.Limits.{SLOTS};
 ghost use Rattle.cred_event.specs.declared.answer.Answer.TheVariants.{TableFull};
 ghost use Rattle.cred_model.specs.Slots as model;
-ghost use Rattle.cred_model.specs.Slots.{SLOTS, least_free, free, in_use, stands_in};
+ghost use Rattle.cred_model.specs.Slots.{least_free, free, in_use, stands_in};
 ghost use Rattle.cred_machine.specs.Slots.{AreLive, is_live_by, is_marked};
 
 use crate::state::State;
 use cred_event::Answer;
+use cred_ids::limits;
 use cred_ids::NoMemory;
 use cred_plain::{Creds, Hold, OpenFile, Prepared, Task};
 use std::alloc::Global;
 use std::marker::Model;
 
 /// How many slots there are.
-const SLOTS: u32 = 256;
+const SLOTS: u32 = limits::SLOTS as u32;
 
 /// The slots that something stands in or that are kept, as 256 marks.
 #[derive(Drop, Debug)]

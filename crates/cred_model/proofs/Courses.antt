@@ -4,6 +4,7 @@ use Rattle.std.specs.Prelude.{fold, ⊤}
 use Rattle.std.specs.Option.{IfSome, option_and_then}
 use Rattle.std.proofs.lemmas.List.Sums.{fold_push}
 use Rattle.std.proofs.lemmas.Bool.Decides.{nat_tests}
+use Rattle.cred_ids.specs.Limits.{TRIES}
 use Rattle.cred_event.specs.declared.content.Stage.{Stage}
 use Rattle.cred_event.specs.declared.content.Stage.TheVariants.{First, Acting, Asking, Opening, TakingTarget, Signalling, ReleasingTarget, Preparing, Altering, Committing, Aborting, Overriding, TakingAccess, ReleasingAccess, Reverting, Releasing, Retrying}
 use Rattle.cred_event.specs.declared.answer.Answer.{Answer}
@@ -11,7 +12,9 @@ use Rattle.cred_event.specs.declared.answer.Answer.TheVariants.{Stale}
 use Rattle.cred_event.specs.declared.content.Content.{Content}
 use Rattle.cred_event.specs.declared.content.Content.TheVariants.{Nothing, One, Id, Question, Open, Fcap, Signal, Change, Access}
 use Rattle.cred_model.specs.Answers.{is_ok}
-use Rattle.cred_model.specs.Course.{Course, TRIES, start, event_in, event_at, either, some_wait, next_stage, is_stale, next_try, after, most, left, is_bounded, leads, Leads}
+use Rattle.cred_model.specs.Course.{Course, start, event_in, event_at, either, some_wait}
+use Rattle.cred_model.specs.Course.{next_stage, is_stale, next_try, after, most, left, is_bounded}
+use Rattle.cred_model.specs.Course.{leads, Leads}
 
 -- ---- each event is followed by fewer
 

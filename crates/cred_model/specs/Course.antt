@@ -3,6 +3,7 @@ use Rattle.std.specs.Prelude.{◌≡◌, ℕ, ◌+◌, ◌-◌, ◌*◌, ◌==�
 use Rattle.std.specs.Prelude.{None, List, fold, if◌then◌else◌}
 use Rattle.std.specs.declared.option.Option.{Option}
 use Rattle.std.specs.Option.{option_and_then, option_map_or}
+use Rattle.cred_ids.specs.Limits.{FIRST_LINE_LABEL, LABELS_A_LINE, TRIES}
 use Rattle.cred_event.specs.declared.content.Stage.{Stage}
 use Rattle.cred_event.specs.declared.content.Stage.TheVariants.{First, Acting, Asking, Opening}
 use Rattle.cred_event.specs.declared.content.Stage.TheVariants.{TakingTarget, Signalling}
@@ -29,20 +30,16 @@ use Rattle.cred_model.specs.Answers.{is_ok}
 -- The labels that a line takes for itself: for what it holds first; for the new credential that it
 -- prepares, or the credential of the task that it signals; and for what access(2) asks by.
 abbrev pub hold_label : ℕ → ℕ
-hold_label line = 100000 + 10 * line
+hold_label line = FIRST_LINE_LABEL + LABELS_A_LINE * line
 
 abbrev pub new_label : ℕ → ℕ
-new_label line = 100001 + 10 * line
+new_label line = hold_label line + 1
 
 abbrev pub target_label : ℕ → ℕ
-target_label line = 100001 + 10 * line
+target_label line = hold_label line + 1
 
 abbrev pub access_label : ℕ → ℕ
-access_label line = 100002 + 10 * line
-
--- how often a line tries to change a credential, at most
-abbrev pub TRIES : ℕ
-TRIES = 8
+access_label line = hold_label line + 2
 
 -- How far a line has come: the stage that comes next, or none where it has ended, and which try
 -- this is, from 1.

@@ -10,23 +10,6 @@ use Rattle.cred_model.specs.State.{State, Task, Prepared, Changed}
 use Rattle.cred_model.specs.Slots.{room, free}
 use Rattle.cred_model.specs.Answers.{is_ok}
 
--- how many tasks may live, files be open, holds and prepared labels stand, and how many overrides a
--- task may have
-abbrev pub TASKS : ℕ
-TASKS = 64
-
-abbrev pub FILES : ℕ
-FILES = 256
-
-abbrev pub HOLDS : ℕ
-HOLDS = 512
-
-abbrev pub PREPARED : ℕ
-PREPARED = 64
-
-abbrev pub DEPTH : ℕ
-DEPTH = 8
-
 -- An event's tests come in order: the first that refuses gives the answer.
 infixl 10 ◌>>=◌
 abbrev pub ◌>>=◌ : {A B : Type 0} → Result A Answer → (A → Result B Answer) → Result B Answer

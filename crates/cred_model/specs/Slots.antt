@@ -4,11 +4,8 @@ use Rattle.std.specs.Prelude.{count_by, slice_get, is_some, if◌then◌else◌}
 use Rattle.std.specs.declared.option.Option.{Option}
 use Rattle.std.specs.List.{concat, flat_map, list_any, range_with_len}
 use Rattle.std.specs.Option.{option_map_or}
+use Rattle.cred_ids.specs.Limits.{SLOTS}
 use Rattle.cred_model.specs.State.{State, SealedCred}
-
--- how many slots there are
-abbrev pub SLOTS : ℕ
-SLOTS = 256
 
 -- The places that refer to a credential, by its number: a list for each kind of thing that refers.
 abbrev pub places : State → List (List ℕ)

@@ -4,6 +4,7 @@ use Rattle.std.specs.Prelude.{find, position, remove, slice_get, Result, Ok, Err
 use Rattle.std.specs.Prelude.{if◌then◌else◌, count_by}
 use Rattle.std.specs.declared.option.Option.{Option}
 use Rattle.std.specs.Option.{option_and_then, option_map_or}
+use Rattle.cred_ids.specs.Limits.{TASKS, OPEN_FILES, HOLDS, PREPARED, DEPTH}
 use Rattle.cred_record.specs.Credential.{Credential, first_credential}
 use Rattle.cred_record.specs.declared.gains.Gains.{Gains}
 use Rattle.cred_record.specs.declared.id_call.IdCall.{IdCall}
@@ -39,7 +40,7 @@ use Rattle.cred_model.specs.Ends.{is_task, is_thread_of, is_beside, ended}
 use Rattle.cred_model.specs.Casts.{not_busy, others_of, with_cast, waits_no_more, joined, dropped}
 use Rattle.cred_model.specs.Answers.{checked, reply}
 use Rattle.cred_model.specs.Change.{by_change, by_rule}
-use Rattle.cred_model.specs.Moves.{TASKS, FILES, HOLDS, PREPARED, DEPTH, ◌>>=◌, none_or, fewer_or}
+use Rattle.cred_model.specs.Moves.{◌>>=◌, none_or, fewer_or}
 use Rattle.cred_model.specs.Moves.{passed, not_overridden, in_slot, table_full, first_task, created}
 use Rattle.cred_model.specs.Moves.{replaced, with_overrides, holding, preparing, altered, given_up}
 use Rattle.cred_model.specs.Moves.{committed, lent, overridden}
@@ -285,7 +286,7 @@ by_open script s hold place asked fd = do
   held ← ok_or (held_by s hold) (NoHold hold)
   new ← none_or (open_of s fd) (Exists named.File fd)
   may ← passed (checked held.cred (info_of script (place ∷ [])) asked)
-  few ← fewer_or (length s.files) FILES (TooMany counted.Files)
+  few ← fewer_or (length s.files) OPEN_FILES (TooMany counted.Files)
   Ok (
     Done,
     record s { files = s.files ++ record { fd = fd; opener = held.number; file = place } ∷ [] },

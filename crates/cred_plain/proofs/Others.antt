@@ -4,8 +4,8 @@ use Rattle.std.specs.List.{filter}
 use Rattle.std.proofs.lemmas.List.{length-map}
 use Rattle.std.proofs.lemmas.List.Sums.{length-filter, count_by-le-length}
 use Rattle.cred_ids.specs.Ordered.{in_order}
+use Rattle.cred_ids.specs.Limits.{TASKS}
 use Rattle.cred_model.specs.State.{Task}
-use Rattle.cred_model.specs.Moves.{TASKS}
 use Rattle.cred_model.proofs.Rising.{length-in_order}
 
 pub few_others : (test : Task → Bool) (tasks : List Task) (others : List ℕ) → others ≡ in_order (map (λ (t : Task). t.number) (filter test tasks))

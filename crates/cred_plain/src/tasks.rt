@@ -3,18 +3,17 @@ ghost use Rattle.std.specs.Prelude.{◌≡◌, ◌-◌, ◌<◌, ◌≤◌, ◌=
 ghost use Rattle.std.specs.Prelude.{is_some, length, map, not, position, slice_get, take, count_by};
 ghost use Rattle.std.specs.Prelude.{nat_lt, All, IfOk, IfSome, OnOk, OnErr};
 ghost use Rattle.std.specs.Option.{option_map};
+ghost use Rattle.cred_ids.specs.Limits.{DEPTH, TASKS};
 ghost use Rattle.cred_model.specs.State.{acting};
 ghost use Rattle.cred_model.specs.Ends.{is_thread_of, left_by, numbers_of, survivors};
-ghost use Rattle.cred_model.specs.Moves.{DEPTH, TASKS, first_task, updated, with_current};
+ghost use Rattle.cred_model.specs.Moves.{first_task, updated, with_current};
 ghost use Rattle.cred_model.specs.Moves.{with_overrides};
 ghost use Rattle.cred_plain.specs.Tasks.{ends_by, others_in, OfOneTask};
 
+use cred_ids::limits;
 use cred_ids::NoMemory;
 use std::alloc::Global;
 use std::marker::Model;
-
-/// How many tasks may be alive.
-const TASKS: usize = 64;
 
 /// A task has the number of its current credential, and those of the credentials that it acts with
 /// in its place, the newest first.
@@ -28,7 +27,7 @@ pub struct Task {
 
 impl Model for Task {
     ghost use Rattle.std.specs.Prelude.{◌≤◌, length};
-    ghost use Rattle.cred_model.specs.Moves.{DEPTH};
+    ghost use Rattle.cred_ids.specs.Limits.{DEPTH};
     ghost use Rattle.cred_model.specs.State.{Task};
 
     ghost Value = { Task };
@@ -165,7 +164,7 @@ pub struct Tasks {
 
 impl Model for Tasks {
     ghost use Rattle.std.specs.Prelude.{◌≤◌, List, length};
-    ghost use Rattle.cred_model.specs.Moves.{TASKS};
+    ghost use Rattle.cred_ids.specs.Limits.{TASKS};
     ghost use Rattle.cred_model.specs.State.{Task};
 
     ghost Value = { List Task };
@@ -197,7 +196,7 @@ impl Tasks {
     pub fn full(&self) -> bool
         ensures { result ≡ not (nat_lt (length self.now) TASKS) }
     {
-        self.list.len() >= TASKS
+        self.list.len() >= limits::TASKS
     }
 
     /// The task of a number.

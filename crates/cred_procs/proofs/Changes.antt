@@ -3,9 +3,9 @@
 use Rattle.std.proofs.Common.{◌≡◌, ℕ, suc, ◌≤◌, ◌==◌, Bool, true, false, cond, List, [], ◌∷◌, filter, length, map, nat_eq, refl, sym, ap, subst, ◌∙◌, arith}
 use Rattle.std.specs.List.{IsDistinct, AllByRecursion}
 use Rattle.std.proofs.lemmas.List.Elements.{All-from_recursion, recursion_from_All}
+use Rattle.cred_ids.specs.Limits.{DEPTH}
 use Rattle.cred_model.specs.State.{Task}
 use Rattle.cred_model.specs.Ends.{is_thread_of}
-use Rattle.cred_slots.specs.Stack.{DEPTH}
 use Rattle.cred_procs.specs.Tasks.{AreTasks, members}
 
 abbrev numbers : List Task → List ℕ

@@ -6,10 +6,9 @@ use Rattle.std.proofs.lemmas.Bool.Decides.{nat_tests}
 use Rattle.std.proofs.lemmas.List.{map-append}
 use Rattle.std.proofs.lemmas.List.Elements.{All-filter, All-push, filter-append}
 use Rattle.std.proofs.lemmas.List.Filters.{length-filter_both}
+use Rattle.cred_ids.specs.Limits.{TASKS, DEPTH}
 use Rattle.cred_model.specs.State.{Task}
 use Rattle.cred_model.specs.Ends.{is_task, is_thread_of, survivors}
-use Rattle.cred_model.specs.Moves.{TASKS}
-use Rattle.cred_slots.specs.Stack.{DEPTH}
 use Rattle.cred_procs.specs.declared.processes.Processes.{Processes}
 use Rattle.cred_procs.specs.Kept.{threads_at, IsKept}
 use Rattle.cred_procs.specs.Tasks.{members, has_process, task_in}

@@ -7,9 +7,9 @@ use Rattle.std.proofs.lemmas.Bool.Decides.{nat_tests}
 use Rattle.std.proofs.lemmas.List.{take_more, length-map}
 use Rattle.std.proofs.lemmas.List.Folds.{list_any-append}
 use Rattle.std.proofs.lemmas.List.Sums.{length-filter, count_by-le-length}
+use Rattle.cred_ids.specs.Limits.{TASKS}
 use Rattle.cred_model.specs.State.{Task}
 use Rattle.cred_model.specs.Ends.{is_task, is_thread_of, is_beside, numbers_of, survivors, left_by}
-use Rattle.cred_model.specs.Moves.{TASKS}
 use Rattle.cred_procs.specs.Tasks.{task_in, those, members}
 use Rattle.cred_procs.proofs.Ends.{is_other}
 

@@ -5,11 +5,11 @@ use Rattle.std.specs.Map.{keys_of, lookup, set_value}
 use Rattle.std.specs.Option.{IfSome, IsSome, option_copied_mut, option_map, option_map_or}
 use Rattle.std.proofs.lemmas.List.Elements.{recursion_from_All}
 use Rattle.std.proofs.lemmas.Map.Steps.{set_value_same}
+use Rattle.cred_ids.specs.Limits.{DEPTH}
 use Rattle.cred_model.specs.State.{Task}
 use Rattle.cred_procs.specs.declared.processes.Processes.{Processes}
 use Rattle.cred_procs.specs.declared.thread.Thread.{Thread}
 use Rattle.cred_procs.specs.Kept.{task_as, tasks_of, IsKept}
-use Rattle.cred_slots.specs.Stack.{DEPTH}
 use Rattle.cred_procs.specs.Tasks.{task_in, overrides_of, with_overrides}
 use Rattle.cred_procs.proofs.Entries.{task_in-tasks_of, set_value-tasks_of, changed}
 use Rattle.cred_procs.proofs.Changes.{LeavesPlace, IsShallow, AreTasks-map, members-map}

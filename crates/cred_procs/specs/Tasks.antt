@@ -6,10 +6,10 @@ use Rattle.std.specs.declared.option.Option.{Option}
 use Rattle.std.specs.List.{IsDistinct}
 use Rattle.std.specs.Option.{option_map_or, unwrap_or}
 use Rattle.cred_ids.specs.Ordered.{in_order}
+use Rattle.cred_ids.specs.Limits.{TASKS, DEPTH}
 use Rattle.cred_model.specs.State.{Task}
 use Rattle.cred_model.specs.Ends.{is_task, is_thread_of, survivors, left_by}
-use Rattle.cred_model.specs.Moves.{TASKS, first_task}
-use Rattle.cred_slots.specs.Stack.{DEPTH}
+use Rattle.cred_model.specs.Moves.{first_task}
 
 -- What is true of the tasks at all times.
 pub record AreTasks (tasks : List Task) : Type 0 where

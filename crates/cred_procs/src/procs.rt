@@ -3,10 +3,10 @@ ghost use Rattle.std.specs.Prelude.{◌≡◌, ◌<◌, Bool, not, nat_lt, is_so
 ghost use Rattle.std.specs.Prelude.{length, slice_get, false, None, IfNone, IfOk, IfSome, OnOk};
 ghost use Rattle.std.specs.Prelude.{OnErr, if◌then◌else◌};
 ghost use Rattle.std.specs.Option.{option_map, IsSome};
+ghost use Rattle.cred_ids.specs.Limits.{TASKS, DEPTH};
 ghost use Rattle.cred_model.specs.Ends.{is_task, is_thread_of, is_beside, survivors, left_by};
 ghost use Rattle.cred_model.specs.State.{Task};
-ghost use Rattle.cred_model.specs.Moves.{TASKS, first_task, with_current};
-ghost use Rattle.cred_slots.specs.Stack.{DEPTH};
+ghost use Rattle.cred_model.specs.Moves.{first_task, with_current};
 ghost use Rattle.cred_procs.specs.Kept.{task_as};
 ghost use Rattle.cred_procs.specs.Tasks.{AreTasks, Ends, task_in, acting, those, threads_of};
 ghost use Rattle.cred_procs.specs.Tasks.{has_process, spawned, forked, overrides_of};
@@ -15,15 +15,13 @@ ghost use Rattle.cred_procs.specs.Tasks.{with_overrides};
 use crate::lists::{Numbers, TaskList};
 use crate::processes::{Processes, take_off};
 use crate::thread::Thread;
+use cred_ids::limits;
 use cred_ids::NoMemory;
 use cred_slots::Stack;
 use indexmap::IndexMap;
 use std::alloc::Global;
 use std::marker::Model;
 use std::mem;
-
-/// How many tasks may be alive.
-const TASKS: usize = 64;
 
 /// The live tasks: at most 64, no two of one number. Contracts see the list of the tasks, in the
 /// order in which they were created. After `NoMemory` a table is as it was.
@@ -83,7 +81,7 @@ impl Procs {
         ensures full { result ≡ not (nat_lt (length self.now) TASKS) }
         ensures tasks { AreTasks self.now }
     {
-        self.tasks.len() >= TASKS
+        self.tasks.len() >= limits::TASKS
     }
 
     /// The process of a task. `None` where the task isn't alive.

@@ -3,8 +3,7 @@ use Rattle.std.specs.Prelude.{◌≡◌, ◌⊎◌, ℕ, List, codes, Some, ⊤}
 use Rattle.std.specs.Io.KnownBytes.{Appends}
 use Rattle.cred_io.specs.Ends.{AppendsPrefix}
 use Rattle.std.specs.declared.option.Option.{Option}
-use Rattle.cred_commands.specs.Auditing.{AUDIT_LIMIT}
-use Rattle.cred_commands.specs.Ends.{BYTE_LIMIT}
+use Rattle.cred_ids.specs.Limits.{AUDIT_LIMIT, BYTE_LIMIT}
 use Rattle.cred_commands.specs.Summing.{IsCount}
 use Rattle.cred_commands.specs.declared.status.Status.{Status}
 use Rattle.cred_commands.specs.declared.status.Status.TheVariants as status

@@ -7,6 +7,7 @@ use Rattle.cred_ids.specs.declared.arg.Arg.{Arg}
 use Rattle.cred_ids.specs.declared.arg.Arg.TheVariants.{Keep, Set}
 use Rattle.cred_ids.specs.declared.id.Ids4.{Ids4}
 use Rattle.cred_ids.specs.Id.{IsId}
+use Rattle.cred_ids.specs.Limits.{LAST_NAMESPACE}
 use Rattle.cred_caps.specs.Caps.{IsCaps}
 use Rattle.cred_record.specs.declared.want.Want.{Want}
 use Rattle.cred_record.specs.declared.gains.Gains.{Gains}
@@ -35,7 +36,7 @@ use Rattle.cred_event.specs.declared.answer.Answer.TheVariants as answer
 use Rattle.cred_event.specs.declared.entry.Entry.{Entry}
 use Rattle.cred_model.specs.Script.{Script}
 use Rattle.cred_model.specs.Named.{AreDeclared, event_files, event_namespaces}
-use Rattle.cred_spelling.specs.Spellings.{LAST_NAMESPACE, is_name}
+use Rattle.cred_spelling.specs.Spellings.{is_name}
 use Rattle.cred_forms.specs.Files.{place_of}
 use Rattle.cred_report.specs.Questions.{file_text}
 use Rattle.cred_reader.specs.Rows.{CanAnswer}

@@ -11,9 +11,10 @@ use Rattle.std.proofs.lemmas.Bool.{ltb-true, lt-ltb, leb-true, le-leb, eqb-true,
 use Rattle.std.proofs.lemmas.List.Sorted.{IsPermutation-refl}
 use Rattle.cred_ids.specs.declared.id.Ids4.{Ids4}
 use Rattle.cred_ids.specs.Id.{NO_ID, IsId}
-use Rattle.cred_ids.specs.Groups.{LIMIT, IsGroupList}
+use Rattle.cred_ids.specs.Groups.{IsGroupList}
 use Rattle.cred_ids.specs.Ordered.{in_order}
 use Rattle.cred_ids.proofs.InOrder.{in_order-is}
+use Rattle.cred_ids.specs.Limits.{GROUP_LIMIT}
 use Rattle.cred_record.specs.Credential.{Credential, AreValidSets}
 use Rattle.cred_record.specs.Words.{pair, low, high, group_words, unpaired, words_of, credential_of, ids_of, group_count, are_ids, are_groups, are_sets, is_credential, IsCredential, are_words}
 use Rattle.cred_record.specs.WordLaws.{NoWordsSpellTwo, WordsAreTested}
@@ -76,7 +77,7 @@ length-words_of c = omega (arith, length-group_words (WORDS - GROUPS) c.groups)
 
 -- ---- the word of flags
 
-pub or-flags : (count nnp bits : ℕ) → count ≤ LIMIT → nnp < 2 → bits < 256 → bit_or (count * 2 ^ 16 % 2 ^ 64) (bit_or (nnp * 2 ^ 8 % 2 ^ 64) bits) ≡ count * 2 ^ 16 + (nnp * 2 ^ 8 + bits)
+pub or-flags : (count nnp bits : ℕ) → count ≤ GROUP_LIMIT → nnp < 2 → bits < 256 → bit_or (count * 2 ^ 16 % 2 ^ 64) (bit_or (nnp * 2 ^ 8 % 2 ^ 64) bits) ≡ count * 2 ^ 16 + (nnp * 2 ^ 8 + bits)
 or-flags count nnp bits few one small =
     ap (λ x. bit_or x (bit_or (nnp * 2 ^ 8 % 2 ^ 64) bits)) (shl_whole count 16 16 64 (omega arith) (omega arith)) ∙
     ap (λ x. bit_or (count * 2 ^ 16) (bit_or x bits)) (shl_whole nnp 1 8 64 (omega arith) (omega arith)) ∙
@@ -126,7 +127,7 @@ ids-test i h = both_true (both_true (both_true (lt-ltb _ _ h.real) (lt-ltb _ _ h
 pub record AllGroups (gs : List ℕ) : Type 0 where
   pub ordered : in_order gs ≡ gs
   pub each : AllByRecursion (λ g. g < NO_ID) gs
-  pub few : length gs ≤ LIMIT
+  pub few : length gs ≤ GROUP_LIMIT
 
 each-are : (gs : List ℕ) → list_all (λ g. nat_lt g NO_ID) gs ≡ true → AllByRecursion (λ g. g < NO_ID) gs
 each-are [] is = tt
@@ -370,7 +371,7 @@ groups-sorted ws n is same =
     (credential-is (credential_of ws) (words-are ws is).0).groups.ordered
 
 -- no more than a credential has
-pub groups-few : (ws : List ℕ) → are_words ws ≡ true → group_count (slice_index ws FLAGS) ≤ LIMIT
+pub groups-few : (ws : List ℕ) → are_words ws ≡ true → group_count (slice_index ws FLAGS) ≤ GROUP_LIMIT
 groups-few ws is =
     let few = (credential-is (credential_of ws) (words-are ws is).0).groups.few in
     omega (arith, count-is ws is)

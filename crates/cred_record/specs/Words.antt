@@ -7,8 +7,8 @@ use Rattle.std.specs.List.{list_all}
 use Rattle.std.specs.Cmp.Lexicographic.{pointwise}
 use Rattle.cred_ids.specs.declared.id.Ids4.{Ids4}
 use Rattle.cred_ids.specs.Id.{NO_ID}
-use Rattle.cred_ids.specs.Groups.{LIMIT}
 use Rattle.cred_ids.specs.Ordered.{in_order}
+use Rattle.cred_ids.specs.Limits.{GROUP_LIMIT}
 use Rattle.cred_caps.specs.Caps.{Caps, is_within}
 use Rattle.cred_record.specs.Credential.{Credential, AreValidSets}
 use Rattle.cred_record.specs.declared.layout.TheConstants.{WORDS, USER, SAVED_USER, GROUP}
@@ -62,7 +62,7 @@ abbrev pub are_groups : List ℕ → Bool
 are_groups gs =
     pointwise nat_eq (in_order gs) gs &&
     list_all (λ g. nat_lt g NO_ID) gs &&
-    nat_le (length gs) LIMIT
+    nat_le (length gs) GROUP_LIMIT
 
 -- no bit above the last capability
 abbrev pub is_caps : Caps → Bool

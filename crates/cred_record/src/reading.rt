@@ -14,6 +14,7 @@ use crate::layout::{
 use crate::valid::is_credential;
 use crate::writing::to_words;
 use cred_caps::{CapSet, SecureBits};
+use cred_ids::limits;
 use cred_ids::{Groups, GroupsRefusal, Id, Ids4, NoMemory};
 use std::alloc::Global;
 
@@ -64,7 +65,7 @@ fn groups_in(alloc: Global, words: &[u64; WORDS]) -> Result<Option<Groups>, NoMe
     ensures none { IfOk result (λ o. IfNone o (¬ (are_words words.now ≡ true))) }
 {
     let count = (words[FLAGS] >> 16) as usize;
-    if count > Groups::LIMIT {
+    if count > limits::GROUP_LIMIT {
         return Ok(None);
     }
     let mut ids = Vec::with_capacity(alloc, count)?;

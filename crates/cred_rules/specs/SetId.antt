@@ -8,8 +8,8 @@ use Rattle.cred_ids.specs.declared.id.Ids4.{Ids4}
 use Rattle.cred_ids.specs.declared.arg.Arg.{Arg}
 use Rattle.cred_ids.specs.declared.arg.Arg.TheVariants.{Keep, Set}
 use Rattle.cred_ids.specs.Ids4.{all_four}
-use Rattle.cred_ids.specs.Groups.{LIMIT}
 use Rattle.cred_ids.specs.Ordered.{in_order}
+use Rattle.cred_ids.specs.Limits.{GROUP_LIMIT}
 use Rattle.cred_caps.specs.Numbers.{SETGID, SETUID}
 use Rattle.cred_record.specs.declared.id_call.IdCall.{IdCall}
 use Rattle.cred_record.specs.declared.id_call.IdCall.TheVariants.{SetUid, SetEuid, SetReuid}
@@ -100,7 +100,7 @@ for_groups c (Err e) = Err e
 unfoldable pub after_setgroups : Credential → List ℕ → Result Credential Denial
 after_setgroups c list =
     if not (has_cap c SETGID) then Err Perm
-    else if nat_lt LIMIT (length list) then Err Invalid
+    else if nat_lt GROUP_LIMIT (length list) then Err Invalid
     else Ok (record c { groups = in_order list })
 
 -- the credential after a call, or why the call is refused

@@ -1,5 +1,6 @@
 //! Running a script's lanes as threads, from its bytes to its report.
 ghost use Rattle.std.specs.Prelude.{◌≡◌, ◌≢◌, ◌≤◌, ◌<◌, ◌⊎◌, true, length};
+ghost use Rattle.cred_ids.specs.Limits.{BYTE_LIMIT, LINE_LIMIT};
 ghost use Rattle.cred_io.specs.Causes.{CountsFaults};
 ghost use Rattle.cred_model.specs.Journal.{IsLegal};
 ghost use Rattle.cred_script.specs.Lines.{lines_of};
@@ -8,8 +9,8 @@ ghost use Rattle.cred_commands.specs.Ends.{BeginsOne, IsWhole, IsWithin, Refuses
 ghost use Rattle.cred_commands.specs.Leaves.{IsReading, IsWriting, LeavesReport};
 
 use crate::report::report;
-use cred_commands::{BYTE_LIMIT, Status, script_from};
-use cred_event::LINE_LIMIT;
+use cred_commands::{Status, script_from};
+use cred_ids::limits;
 use cred_ids::NoMemory;
 use cred_io::{ReadRefusal, Sink, Source, read_all};
 use cred_lanes::{Gate, lanes};
@@ -36,7 +37,7 @@ pub fn read_and_lanes<R: Threads + Wait + Sync, S: Source, K: Sink, G: Gate + Sy
     ensures silent { (result ≡ Status.ReadFault) ⊎ (result ≡ Status.TooLarge)
         → sink.new ≡ sink.old }
 {
-    match read_all(alloc, source, BYTE_LIMIT) {
+    match read_all(alloc, source, limits::BYTE_LIMIT) {
         Ok(bytes) => run_lanes(rt, alloc, bytes.items(), sink, gate),
         Err(ReadRefusal::Fault) => Status::ReadFault,
         Err(ReadRefusal::TooLarge) => Status::TooLarge,

@@ -4,9 +4,9 @@ use Rattle.std.specs.List.{cons_option}
 use Rattle.std.proofs.lemmas.Bool.Decides.{nat_tests}
 use Rattle.std.proofs.lemmas.List.Elements.{All-nil, All-cons, All-push, All-head, All-tail, All-weaker, All-contains}
 use Rattle.std.proofs.lemmas.List.Quantifiers.{all_pairs_push}
+use Rattle.cred_ids.specs.Limits.{LAST_LANE}
 use Rattle.cred_event.specs.declared.content.Content.{Content}
 use Rattle.cred_model.specs.Script.{Line, Namespace, SetupBefore}
-use Rattle.cred_spelling.specs.Spellings.{LAST_LANE}
 use Rattle.cred_forms.specs.Acting.{actor}
 use Rattle.cred_names.specs.Labels.{labels}
 use Rattle.cred_names.specs.Owners.{Lanes, Owners, KeepsLanes, KeepsOwners, HasAll, owner_of, are_free, may_name, naming}

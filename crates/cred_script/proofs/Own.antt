@@ -7,6 +7,7 @@ use Rattle.std.specs.Result.{IfOk}
 use Rattle.std.proofs.lemmas.Bool.Decides.{nat_tests}
 use Rattle.std.proofs.lemmas.List.Elements.{All-nil, All-cons}
 use Rattle.std.proofs.lemmas.List.Sums.{AllPass-from_list_all}
+use Rattle.cred_ids.specs.Limits.{LAST_LANE, FILES, LAST_NUMBER}
 use Rattle.cred_event.specs.declared.event.Event.{Event}
 use Rattle.cred_event.specs.declared.event.Side.{Side}
 use Rattle.cred_event.specs.declared.content.Content.{Content}
@@ -25,13 +26,15 @@ use Rattle.cred_spelling.specs.declared.reason.Reason.TheVariants.{Word, Name, B
 use Rattle.cred_spelling.specs.declared.reason.Reason.TheVariants as reason
 use Rattle.cred_spelling.specs.Lines.{is_printable}
 use Rattle.cred_spelling.specs.Names.{id_name, altered_name, call_name, form_of}
-use Rattle.cred_spelling.specs.Spellings.{LAST_LANE, letter, number_of, within, id_of, cap_of, label_of, task_of, process_of, descriptor_of, line_number_of, lane_number_of, namespace_of, new_namespace_of, parent_of}
+use Rattle.cred_spelling.specs.Spellings.{letter, number_of, within, id_of, cap_of, label_of}
+use Rattle.cred_spelling.specs.Spellings.{task_of, process_of, descriptor_of, line_number_of}
+use Rattle.cred_spelling.specs.Spellings.{lane_number_of, namespace_of, new_namespace_of, parent_of}
 use Rattle.cred_spelling.specs.Words.{◌>>=◌, words_of, is_comment, word_of, no_words, one_of, two_of, three_of, five_of}
 use Rattle.cred_forms.specs.declared.forms.Parsed.{Parsed}
 use Rattle.cred_forms.specs.declared.forms.Parsed.TheVariants.{Empty, File, Starts, Lane, Holds}
 use Rattle.cred_forms.specs.declared.forms.Parsed.TheVariants as parsed
 use Rattle.cred_forms.specs.Changes.{change_of}
-use Rattle.cred_forms.specs.Files.{FILES, place_of, has_room, file_of}
+use Rattle.cred_forms.specs.Files.{place_of, has_room, file_of}
 use Rattle.cred_forms.specs.IdCalls.{id_call_of}
 use Rattle.cred_forms.specs.Questions.{query_of, query_named, file_and_want}
 use Rattle.cred_forms.specs.Calls.{open_of, other_of, call_of, content_of}
@@ -40,7 +43,7 @@ use Rattle.cred_script.specs.Grammar.{parse_full, parse_words, parse_line}
 use Rattle.cred_forms.specs.Acting.{event_actor, actor}
 use Rattle.cred_names.specs.Labels.{event_labels, labels}
 use Rattle.cred_script.specs.Reading.{Reading, has_namespaces, has_files, uses_declared, has_names, names_declared, is_apart, in_order, admits}
-use Rattle.cred_script.specs.Sound.{LAST_LABEL, IsParsed}
+use Rattle.cred_script.specs.Sound.{IsParsed}
 
 -- ---- what holds of a value, if there is one, through the steps that lead to it
 
@@ -76,7 +79,7 @@ and_tested P holds false e = record { is = tt }
 -- ---- labels
 
 abbrev IsLabel : ℕ → Type 0
-IsLabel label = label ≤ LAST_LABEL
+IsLabel label = label ≤ LAST_NUMBER
 
 at_most : (a b : Bool) (n most : ℕ) → nat_le n most ≡ b → IfSome (cond (a && b) (Some n) None) (λ number. number ≤ most)
 at_most false b n most is = tt
@@ -90,7 +93,7 @@ small true least most (Some n) = at_most (nat_le least n) (nat_le n most) n most
 
 label_small : (word : List ℕ) → IfSome (label_of word) IsLabel
 label_small [] = tt
-label_small (first ∷ digits) = small (first == letter (codes "h")) 1 LAST_LABEL (number_of digits)
+label_small (first ∷ digits) = small (first == letter (codes "h")) 1 LAST_NUMBER (number_of digits)
 
 spelled_good : {A : Type 0} (P : A → Type 0) (o : Option A) → IfSome o P → Good P (ok_or o Word)
 spelled_good P None holds = record { is = tt }

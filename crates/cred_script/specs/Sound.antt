@@ -3,28 +3,23 @@ use Rattle.std.specs.Prelude.{◌≡◌, ◌≢◌, ℕ, ◌≤◌, ◌<◌, tru
 use Rattle.std.specs.Prelude.{Contains, IfSome, IsSome, None, Some, ⊤}
 use Rattle.std.specs.declared.option.Option.{Option}
 use Rattle.std.specs.List.{cons_option}
-use Rattle.cred_event.specs.declared.entry.TheConstants.{LINE_LIMIT}
+use Rattle.cred_ids.specs.Limits.{LINE_LIMIT, LAST_LANE, LAST_NUMBER, FILES}
 use Rattle.cred_event.specs.declared.content.Content.{Content}
 use Rattle.cred_model.specs.Script.{Line, Namespace, SetupBefore, chain_in}
 use Rattle.cred_model.specs.Named.{IsContentOf}
-use Rattle.cred_spelling.specs.Spellings.{LAST_LANE, LAST_NUMBER}
 use Rattle.cred_forms.specs.declared.forms.Parsed.{Parsed}
 use Rattle.cred_forms.specs.declared.forms.Parsed.TheVariants.{Empty, File, Starts, Lane, Holds}
 use Rattle.cred_forms.specs.declared.forms.Parsed.TheVariants as parsed
 use Rattle.cred_forms.specs.Acting.{actor}
-use Rattle.cred_forms.specs.Files.{FILES, place_of}
+use Rattle.cred_forms.specs.Files.{place_of}
 use Rattle.cred_names.specs.Labels.{labels}
 use Rattle.cred_names.specs.Owners.{Lanes, HasAll, may_name}
 use Rattle.cred_script.specs.Reading.{Reading, next_line}
 
--- The greatest label that a script may name. Greater ones are those that a line takes for itself.
-abbrev pub LAST_LABEL : ℕ
-LAST_LABEL = LAST_NUMBER
-
 -- what is true of each line of a script that declares so many files, and these namespaces
 pub record IsSound (count : ℕ) (declared : List Namespace) (line : Line) : Type 0 where
   pub lane : line.lane ≤ LAST_LANE
-  pub labels : All (λ label. label ≤ LAST_LABEL) (labels line.content)
+  pub labels : All (λ label. label ≤ LAST_NUMBER) (labels line.content)
   pub content : IsContentOf count declared line.content
 
 -- The lane of the line has the task that acts by it and its labels, if it isn't the setup's.
@@ -48,7 +43,7 @@ AreApart earlier later =
 
 -- the next line is sound if it holds this
 pub record IsNext (reading : Reading) (content : Content) : Type 0 where
-  pub labels : All (λ label. label ≤ LAST_LABEL) (labels content)
+  pub labels : All (λ label. label ≤ LAST_NUMBER) (labels content)
   pub named : IsContentOf (length reading.files) reading.namespaces content
   pub owned : IsOwned reading.lanes (next_line reading content)
 
@@ -60,7 +55,7 @@ pub record IsStart (reading : Reading) (content : Content) : Type 0 where
 
 -- A line by which this task acts holds this.
 pub record IsHeld (reading : Reading) (by : Option ℕ) (content : Content) : Type 0 where
-  pub labels : All (λ label. label ≤ LAST_LABEL) (labels content)
+  pub labels : All (λ label. label ≤ LAST_NUMBER) (labels content)
   pub actor : IfSome (actor content) (λ task. by ≡ Some task)
   pub named : IsContentOf (length reading.files) reading.namespaces content
   pub apart : may_name reading.lanes by content ≡ true

@@ -1,5 +1,6 @@
 //! Reading a script.
 ghost use Rattle.std.specs.Prelude.{◌≡◌, ◌≤◌, IfOk, length};
+ghost use Rattle.cred_ids.specs.Limits.{LINE_LIMIT};
 ghost use Rattle.cred_model.specs.Script.{SetupFirst};
 ghost use Rattle.cred_spelling.specs.Lines.{lines_of};
 ghost use Rattle.cred_script.specs.FirstBad.{ReportsFirstBad};
@@ -9,7 +10,6 @@ ghost use Rattle.cred_script.specs.Read.{Gives};
 use crate::reading::Reading;
 use crate::refusal::ScriptRefusal;
 use crate::script::Script;
-use cred_event::LINE_LIMIT;
 use cred_spelling::first_line;
 use std::alloc::Global;
 

@@ -1,5 +1,7 @@
 //! What was read of a script, and one more line of it.
 ghost use Rattle.std.specs.Prelude.{◌≡◌, ◌<◌, ◌≤◌, ◌+◌, IfErr, OnOk, length};
+ghost use Rattle.cred_ids.specs.Limits.{LINE_LIMIT};
+ghost use Rattle.cred_ids.specs.Limits.{LAST_LANE};
 ghost use Rattle.cred_model.specs.Script.{SetupFirst};
 ghost use Rattle.cred_spelling.specs.Lines.{is_printable};
 ghost use Rattle.cred_spelling.specs.Read.{Says, nows};
@@ -9,13 +11,12 @@ ghost use Rattle.cred_script.specs.Grammar.{at_line};
 ghost use Rattle.cred_script.specs.Read.{Gives};
 ghost use Rattle.cred_script.specs.Reading as spec;
 ghost use Rattle.cred_script.specs.Sound.{IsHeld, IsNext, IsParsed};
-ghost use Rattle.cred_spelling.specs.Spellings.{LAST_LANE};
 ghost use Rattle.cred_event.specs.declared.content.Content.TheVariants.{Nothing};
 
 use crate::refusal::ScriptRefusal;
 use crate::script::{Script, ScriptLine};
 use crate::uses::{has_files, has_namespaces};
-use cred_event::{Content, LINE_LIMIT};
+use cred_event::Content;
 use cred_forms::{Files, LineRefusal, Parsed, parse_form};
 use cred_names::{Lanes, Namespaces};
 use cred_spelling::{Reason, form_of, is_comment, split_into};

@@ -2,6 +2,8 @@
 //! what it holds.
 ghost use Rattle.std.specs.Prelude.{◌≡◌, ◌≤◌, ◌<◌, All, AllPairs, IfSome, Some, length, slice_get};
 ghost use Rattle.std.specs.Option.{option_map};
+ghost use Rattle.cred_ids.specs.Limits.{LINE_LIMIT, FILES};
+ghost use Rattle.cred_ids.specs.Limits.{LAST_LANE};
 ghost use Rattle.cred_model.specs.Named.{IsContentOf};
 ghost use Rattle.cred_model.specs.Script.{SetupFirst, chain_in};
 ghost use Rattle.cred_forms.specs.Files as spec;
@@ -9,9 +11,8 @@ ghost use Rattle.cred_script.specs.Grammar.{line_at};
 ghost use Rattle.cred_script.specs.Lanes.{lanes};
 ghost use Rattle.cred_script.specs.Read.{seen};
 ghost use Rattle.cred_script.specs.Sound.{AreApart, IsSound};
-ghost use Rattle.cred_spelling.specs.Spellings.{LAST_LANE};
 
-use cred_event::{Content, LINE_LIMIT};
+use cred_event::Content;
 use cred_forms::{FILES, Files};
 use cred_ids::Id;
 use cred_names::Namespaces;

@@ -8,8 +8,8 @@ use Rattle.cred_ids.specs.declared.id.Ids4.{Ids4}
 use Rattle.cred_ids.specs.declared.arg.Arg.{Arg}
 use Rattle.cred_ids.specs.declared.arg.Arg.TheVariants.{Keep, Set}
 use Rattle.cred_caps.specs.declared.secure.Flag.TheVariants.{NoSetuidFixup}
-use Rattle.cred_ids.specs.Groups.{LIMIT}
 use Rattle.cred_ids.specs.Ordered.{in_order}
+use Rattle.cred_ids.specs.Limits.{GROUP_LIMIT}
 use Rattle.cred_caps.specs.Caps.{Caps, empty, IsWithin}
 use Rattle.cred_caps.specs.Numbers.{SETGID, SETUID}
 use Rattle.cred_caps.specs.Secure.{is_set}
@@ -164,7 +164,7 @@ setgroups-cases P true false new d holds same = let is : new ≡ d = cc in subst
 pub setgroups-gives : (P : Credential → Type 0) (c d : Credential) (list : List ℕ) → P (record c { groups = in_order list }) → after_setgroups c list ≡ Ok d → P d
 unfolding after_setgroups
 setgroups-gives P c d list holds same =
-    setgroups-cases P (has_cap c SETGID) (nat_lt LIMIT (length list)) (record c { groups = in_order list }) d holds same
+    setgroups-cases P (has_cap c SETGID) (nat_lt GROUP_LIMIT (length list)) (record c { groups = in_order list }) d holds same
 
 -- ---- the laws
 

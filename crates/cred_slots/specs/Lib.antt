@@ -1,4 +1,3 @@
 pub mod Table
 pub mod Flags
 pub mod Rows
-pub mod Stack

@@ -1,8 +1,9 @@
 -- What the rows of a table count, and what holds of a table's parts at all times.
 use Rattle.std.specs.Prelude.{◌≡◌, ℕ, ◌+◌, ◌<◌, ◌≤◌, Bool, true, false, nat_lt, List, [], ◌∷◌, ◌++◌}
 use Rattle.std.specs.Prelude.{length, replicate, slice_get, slice_index_or, Some}
+use Rattle.cred_ids.specs.Limits.{SLOTS}
 use Rattle.cred_slots.specs.declared.row.Row.{Row}
-use Rattle.cred_slots.specs.Table.{SLOTS, IsSameBag}
+use Rattle.cred_slots.specs.Table.{IsSameBag}
 
 -- a row that counts nothing
 abbrev pub unused : Row

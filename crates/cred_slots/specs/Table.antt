@@ -4,10 +4,7 @@ use Rattle.std.specs.Prelude.{find, count_by, slice_get, slice_index_or, is_some
 use Rattle.std.specs.declared.option.Option.{Option}
 use Rattle.std.specs.List.{list_any, range_with_len}
 use Rattle.std.specs.Option.{option_map_or}
-
--- how many slots there are
-abbrev pub SLOTS : ℕ
-SLOTS = 256
+use Rattle.cred_ids.specs.Limits.{SLOTS}
 
 pub record Table : Type 0 where
   -- the slot of each number that was sealed: the place in this list is the number

@@ -8,4 +8,4 @@ pub mod slots;
 pub mod stack;
 
 pub use slots::Slots;
-pub use stack::{DEPTH, Stack};
+pub use stack::Stack;

@@ -2,12 +2,14 @@
 ghost use Rattle.std.specs.Prelude.{◌≡◌, ℕ, ◌<◌, ◌+◌, ◌-◌, ◌++◌, [], ◌∷◌, length, max, false, true};
 ghost use Rattle.std.specs.Prelude.{slice_get, slice_set, count_by, ◌==◌, IfOk, OnOk, OnErr};
 ghost use Rattle.std.specs.Prelude.{IfSome, IfNone, IsTrue};
-ghost use Rattle.cred_slots.specs.Table.{SLOTS, empty, references_to, uses, stands_in, is_kept};
+ghost use Rattle.cred_ids.specs.Limits.{SLOTS};
+ghost use Rattle.cred_slots.specs.Table.{empty, references_to, uses, stands_in, is_kept};
 ghost use Rattle.cred_slots.specs.Table.{is_live, least_free, swept, room, free, IsSameBag};
 ghost use Rattle.cred_slots.specs.Table.{IsAlone};
 
 use crate::flags::Flags;
 use crate::row::{Row, UNUSED, forget_late};
+use cred_ids::limits;
 use cred_ids::NoMemory;
 use std::alloc::Global;
 use std::marker::Model;
@@ -66,7 +68,7 @@ impl Slots {
     pub fn new(alloc: Global) -> Result<Slots, NoMemory>
         ensures { IfOk result (λ slots. slots ≡ empty) }
     {
-        let rows = Vec::from_array(alloc, [UNUSED; 256])?;
+        let rows = Vec::from_array(alloc, [UNUSED; limits::SLOTS])?;
         Ok(Slots {
             sealed: Vec::new(alloc),
             rows,

@@ -1,25 +1,23 @@
 //! A stack of at most eight numbers.
 ghost use Rattle.std.specs.Prelude.{◌≡◌, ◌≤◌, [], ◌∷◌, drop, length, reverse, nat_lt, slice_get};
 ghost use Rattle.std.specs.Prelude.{if◌then◌else◌};
-ghost use Rattle.cred_slots.specs.Stack.{DEPTH};
+ghost use Rattle.cred_ids.specs.Limits.{DEPTH};
 
+use cred_ids::limits;
 use std::marker::Model;
-
-/// How many numbers a stack may have.
-pub const DEPTH: usize = 8;
 
 /// At most `DEPTH` numbers, of which the newest is on top. It takes no memory. Contracts see the
 /// list of the numbers, the newest first.
 #[derive(Drop, Debug)]
 pub struct Stack {
     /// The numbers, the oldest first, and after them what is left of those that were taken off.
-    numbers: [u64; DEPTH],
+    numbers: [u64; limits::DEPTH],
     depth: usize,
 }
 
 impl Model for Stack {
     ghost use Rattle.std.specs.Prelude.{ℕ, ◌≤◌, List, reverse, take};
-    ghost use Rattle.cred_slots.specs.Stack.{DEPTH};
+    ghost use Rattle.cred_ids.specs.Limits.{DEPTH};
 
     ghost Value = { List ℕ };
 
@@ -34,7 +32,7 @@ impl Stack {
         ensures { result ≡ [] }
     {
         Stack {
-            numbers: [0; DEPTH],
+            numbers: [0; limits::DEPTH],
             depth: 0,
         }
     }
@@ -44,7 +42,7 @@ impl Stack {
         ensures pushed { result ≡ nat_lt (length self.old) DEPTH }
         ensures stack { self.new ≡ (if result then number ∷ self.old else self.old) }
     {
-        if self.depth == DEPTH {
+        if self.depth == limits::DEPTH {
             return false;
         }
         self.numbers[self.depth] = number;

@@ -4,6 +4,7 @@ use Rattle.std.proofs.Common.{◌≡◌, ◌-◌, ℕ, List, [], ◌∷◌, ◌+
 use Rattle.std.specs.List.{All, Contains, find}
 use Rattle.std.specs.Option.{option_and_then}
 use Rattle.std.proofs.lemmas.List.Elements.{All-contains_itself}
+use Rattle.cred_ids.specs.Limits.{TASKS}
 use Rattle.cred_record.specs.Credential.{Credential}
 use Rattle.cred_record.specs.declared.id_call.IdCall.{IdCall}
 use Rattle.cred_record.specs.declared.refusal.Denial.{Denial}
@@ -18,7 +19,7 @@ use Rattle.cred_model.specs.Slots.{refs}
 use Rattle.cred_model.specs.Change.{by_rule}
 use Rattle.cred_model.specs.Ends.{is_task, is_thread_of, survivors, ended}
 use Rattle.cred_model.specs.Casts.{others_of, with_cast, waits_no_more, joined, dropped}
-use Rattle.cred_model.specs.Moves.{TASKS, table_full, with_current, first_task, replaced}
+use Rattle.cred_model.specs.Moves.{table_full, with_current, first_task, replaced}
 use Rattle.cred_model.specs.Step.{aborted, follow, step}
 use Rattle.cred_model.proofs.Numbers.{owner_number}
 use Rattle.cred_model.proofs.Referred.{all_survive, each_ended}

@@ -4,6 +4,7 @@ use Rattle.std.specs.List.{All, Contains, count_by, remove}
 use Rattle.std.specs.Option.{option_and_then}
 use Rattle.std.proofs.lemmas.Bool.{eqb-true}
 use Rattle.std.proofs.lemmas.List.Elements.{All-append, All-cons, All-contains_itself, All-drop, All-nil, All-weaker}
+use Rattle.cred_ids.specs.Limits.{TASKS, OPEN_FILES, HOLDS, PREPARED, DEPTH}
 use Rattle.cred_record.specs.Credential.{first_credential}
 use Rattle.cred_record.specs.declared.want.Want.{Want}
 use Rattle.cred_rules.specs.Access.{may_signal}
@@ -21,7 +22,8 @@ use Rattle.cred_model.specs.Named.{change_files}
 use Rattle.cred_model.specs.Answers.{checked}
 use Rattle.cred_model.specs.Change.{by_change}
 use Rattle.cred_model.specs.Ends.{ended}
-use Rattle.cred_model.specs.Moves.{TASKS, FILES, HOLDS, PREPARED, DEPTH, table_full, with_overrides, lent, overridden, with_change, first_task, created, preparing, committed, given_up}
+use Rattle.cred_model.specs.Moves.{table_full, with_overrides, lent, overridden, with_change}
+use Rattle.cred_model.specs.Moves.{first_task, created, preparing, committed, given_up}
 use Rattle.cred_model.specs.Step.{ends_with, casts_after, commit_answer, try_commit, take_hold, is_access, for_task, for_access, override_held, override_prepared, step}
 use Rattle.cred_model.proofs.Lists.{All-at}
 use Rattle.cred_sound.specs.Ledger.{SealsOf}
@@ -100,7 +102,7 @@ open_changes script s line hold place asked fd =
     (if_some Q (held_by s hold) _ _
     (λ held is. if_none Q (open_of s fd) _ _
     (λ new. if_passed Q (checked held.cred (info_of script (place ∷ [])) asked) _
-    (if_fewer Q (length s.files) FILES _ _
+    (if_fewer Q (length s.files) OPEN_FILES _ _
     (let file : Open = record { fd = fd; opener = held.number; file = place } in
     with_lists script s event Done (s.files ++ file ∷ []) s.holds s.deferred
     (Adds file refl new (held_by_stands s hold held is)) (Stays refl) (still_left s s.deferred))))))

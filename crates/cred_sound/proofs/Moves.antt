@@ -5,7 +5,7 @@ use Rattle.std.specs.List.{All, AllPairs, Contains}
 use Rattle.std.proofs.lemmas.List.{length_push}
 use Rattle.std.proofs.lemmas.List.Elements.{All-contains, All-push, All-weaker}
 use Rattle.std.proofs.lemmas.List.Quantifiers.{all_pairs_push}
-use Rattle.cred_model.specs.Slots.{SLOTS}
+use Rattle.cred_ids.specs.Limits.{SLOTS}
 use Rattle.cred_model.proofs.Lists.{slice_get-left, slice_get-last}
 use Rattle.cred_sound.specs.Ledger.{Ledger, referred, StandsIn, IsClear, AreApart, IsOrderly}
 

@@ -4,12 +4,13 @@ use Rattle.std.specs.List.{All, Contains, remove}
 use Rattle.std.proofs.lemmas.Bool.{eqb-true}
 use Rattle.std.proofs.lemmas.List.Elements.{All-contains_itself, All-map, All-push, All-weaker}
 use Rattle.std.proofs.lemmas.List.Quantifiers.{position-Some}
+use Rattle.cred_ids.specs.Limits.{SLOTS}
 use Rattle.cred_record.specs.Credential.{Credential}
 use Rattle.cred_event.specs.declared.event.Event.{Event}
 use Rattle.cred_event.specs.declared.answer.Answer.{Answer}
 use Rattle.cred_model.specs.Script.{Script}
 use Rattle.cred_model.specs.State.{State, Task, Broadcast, OpenFile as Open, Hold, Prepared}
-use Rattle.cred_model.specs.Slots.{SLOTS, refs, kept, free}
+use Rattle.cred_model.specs.Slots.{refs, kept, free}
 use Rattle.cred_model.proofs.Lists.{All-at, All-unmap, AllPairs-unmap, alone, at_place, others_differ}
 use Rattle.cred_sound.specs.Ledger.{IsClear, IsOrderly, SealsOf, ledger}
 use Rattle.cred_sound.proofs.Moves.{Apart}

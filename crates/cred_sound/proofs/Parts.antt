@@ -2,6 +2,7 @@
 use Rattle.std.proofs.Common.{◌≡◌, ◌≢◌, ◌==◌, ◌-◌, ◌⊎◌, Bool, false, ℕ, ◌<◌, List, [], ◌∷◌, ◌++◌, length, slice_get, Some, None, Ok, position, refl, ap, arith}
 use Rattle.std.specs.List.{All, Contains, find, remove}
 use Rattle.std.proofs.lemmas.List.{length_push}
+use Rattle.cred_ids.specs.Limits.{SLOTS}
 use Rattle.cred_record.specs.Credential.{Credential, first_credential}
 use Rattle.cred_record.specs.declared.id_call.IdCall.{IdCall}
 use Rattle.cred_rules.specs.SetId.{set_id}
@@ -14,7 +15,7 @@ use Rattle.cred_event.specs.declared.answer.Answer.TheVariants.{Began, Acted, Ab
 use Rattle.cred_event.specs.declared.answer.AbortCause.{AbortCause}
 use Rattle.cred_model.specs.Script.{Script, info_of, chain_of}
 use Rattle.cred_model.specs.State.{State, SealedCred, Task, Broadcast, OpenFile, Hold, Prepared, Changed, Numbered, numbered, task_of, cast_of, cast_in, begun_by, hold_of, prepared_of, current_of}
-use Rattle.cred_model.specs.Slots.{SLOTS, refs, kept}
+use Rattle.cred_model.specs.Slots.{refs, kept}
 use Rattle.cred_model.specs.Named.{change_files}
 use Rattle.cred_model.specs.Change.{by_change}
 use Rattle.cred_model.specs.Ends.{is_task, is_thread_of, survivors}

@@ -1,9 +1,9 @@
 -- How many tasks live in a state that a kernel comes to.
 use Rattle.std.specs.Prelude.{◌≤◌, List, length}
+use Rattle.cred_ids.specs.Limits.{TASKS}
 use Rattle.cred_event.specs.declared.entry.Entry.{Entry}
 use Rattle.cred_model.specs.Script.{Script}
 use Rattle.cred_model.specs.Journal.{replay}
-use Rattle.cred_model.specs.Moves.{TASKS}
 
 -- so it is after every journal
 abbrev pub TasksAreFew : Type 0

@@ -2,10 +2,11 @@
 use Rattle.std.specs.Prelude.{◌≡◌, ◌≢◌, ℕ, ◌<◌, List, ◌++◌, length, map, slice_get, Some, All}
 use Rattle.std.specs.Prelude.{Contains}
 use Rattle.std.specs.List.{AllPairs}
+use Rattle.cred_ids.specs.Limits.{SLOTS}
 use Rattle.cred_event.specs.declared.event.Event.{Event}
 use Rattle.cred_event.specs.declared.event.Event.TheVariants.{Commit, Override}
 use Rattle.cred_model.specs.State.{State}
-use Rattle.cred_model.specs.Slots.{SLOTS, in_use, kept}
+use Rattle.cred_model.specs.Slots.{in_use, kept}
 
 -- The slot of each number that was sealed, the references in use, those that were given up since
 -- the last sweep, and the slots that are kept for credentials that are being prepared.

@@ -12,6 +12,7 @@ use Rattle.std.specs.Str.Parse.{digits_value}
 use Rattle.hex.specs.Hex.{decode_of}
 use Rattle.cred_caps.specs.Names.{cap_names}
 use Rattle.cred_ids.specs.Id.{NO_ID}
+use Rattle.cred_ids.specs.Limits.{LAST_LANE, LAST_NAMESPACE, LAST_NUMBER, LINE_LIMIT}
 use Rattle.cred_ids.specs.declared.arg.Arg.{Arg}
 use Rattle.cred_ids.specs.declared.arg.Arg.TheVariants.{Keep, Set}
 use Rattle.cred_record.specs.declared.file.FileKind.{FileKind}
@@ -107,23 +108,6 @@ numbered letter least most (first ∷ digits) =
 abbrev pub letter : List ℕ → ℕ
 letter text = slice_index text 0
 
--- the last number of a task, a process, a label or a descriptor: greater labels are those that a
--- line takes for itself
-abbrev pub LAST_NUMBER : ℕ
-LAST_NUMBER = 99999
-
--- the last number of a namespace
-abbrev pub LAST_NAMESPACE : ℕ
-LAST_NAMESPACE = 15
-
--- the last number of a line
-abbrev pub LAST_LINE : ℕ
-LAST_LINE = 20000
-
--- the last number of a lane
-abbrev pub LAST_LANE : ℕ
-LAST_LANE = 16
-
 -- a task, as `t1`
 abbrev pub task_of : List ℕ → Option ℕ
 task_of word = numbered (letter (codes "t")) 1 LAST_NUMBER word
@@ -154,7 +138,7 @@ parent_of word = number_within 0 LAST_NAMESPACE word
 
 -- the number of a line
 abbrev pub line_number_of : List ℕ → Option ℕ
-line_number_of word = number_within 1 LAST_LINE word
+line_number_of word = number_within 1 LINE_LIMIT word
 
 -- the number of a lane
 abbrev pub lane_number_of : List ℕ → Option ℕ

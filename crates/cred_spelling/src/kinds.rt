@@ -6,21 +6,9 @@ ghost use Rattle.cred_spelling.specs.Spellings as spec;
 use crate::spellings::{cap_named, hexadecimal, is, number_of, number_within, numbered};
 use crate::table::named;
 use cred_caps::CapSet;
+use cred_ids::limits::{LAST_LANE, LAST_NAMESPACE, LAST_NUMBER, LINE_LIMIT};
 use cred_ids::{Arg, Id};
 use cred_record::{FileKind, Want};
-
-/// The last number of a task, a process, a label or a descriptor. Greater labels are those that a
-/// line takes for itself.
-const LAST_NUMBER: u32 = 99999;
-
-/// The last number of a namespace.
-const LAST_NAMESPACE: u32 = 15;
-
-/// The last number of a line.
-const LAST_LINE: u32 = 20_000;
-
-/// The last number of a lane.
-const LAST_LANE: u32 = 16;
 
 /// A kind of words, and what such a word spells.
 pub trait Spelling {
@@ -162,7 +150,7 @@ impl Spelling for LineNumber {
     ghost spelled = { spec.line_number_of };
 
     fn of(word: &[u8]) -> Option<u32> {
-        number_within(1, LAST_LINE, word)
+        number_within(1, LINE_LIMIT as u32, word)
     }
 }
 

@@ -1,6 +1,7 @@
 -- A thread that waits makes its step in a broadcast, or its process ends.
 use Rattle.std.proofs.Common.{◌≡◌, ℕ, ◌+◌, ◌-◌, ◌==◌, List, ◌++◌, ◌⊎◌, length, slice_get, slice_set, Option, None, Some, is_some, Result, Ok, Err, IfOk, OnOk, inl, inr, refl, sym, ap, ◌∙◌, subst, arith}
 use Rattle.std.specs.Option.{IfSome, IsSome, option_and_then, option_map}
+use Rattle.cred_ids.specs.Limits.{SLOTS}
 use Rattle.cred_record.specs.Credential.{Credential}
 use Rattle.cred_record.specs.Answer.{AnswersBy}
 use Rattle.cred_record.specs.declared.refusal.Denial.{Denial}
@@ -23,7 +24,7 @@ use Rattle.cred_sound.specs.Casts.{IsThread, IsUnderWay}
 use Rattle.cred_sound.specs.Sound.{IsSound}
 use Rattle.cred_sound.proofs.Threads.{thread_is, waits_at}
 use Rattle.cred_cast.proofs.Conditions.{least_waits}
-use Rattle.cred_slots.specs.Table.{Table, SLOTS, IsSameBag}
+use Rattle.cred_slots.specs.Table.{Table, IsSameBag}
 use Rattle.cred_slots.specs.Table as table
 use Rattle.cred_tables.specs.Begin.{at_abort, table_at}
 use Rattle.cred_tables.specs.Kept.{Parts, state_of, IsKept, Seals}

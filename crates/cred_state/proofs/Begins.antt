@@ -7,6 +7,7 @@ use Rattle.std.proofs.lemmas.List.Elements.{All-map}
 use Rattle.std.proofs.lemmas.List.Filters.{length-filter_both}
 use Rattle.std.proofs.lemmas.List.Kept.{AllPairs-filter}
 use Rattle.cred_ids.specs.Ordered.{in_order}
+use Rattle.cred_ids.specs.Limits.{TASKS, SLOTS}
 use Rattle.cred_record.specs.Credential.{Credential}
 use Rattle.cred_record.specs.declared.id_call.IdCall.{IdCall}
 use Rattle.cred_record.specs.declared.refusal.Denial.{Denial}
@@ -19,7 +20,7 @@ use Rattle.cred_model.specs.Ends.{is_beside}
 use Rattle.cred_model.specs.Answers.{refusal}
 use Rattle.cred_model.specs.Casts.{not_busy, with_cast}
 use Rattle.cred_model.specs.Like.{IsOutcomeLike}
-use Rattle.cred_model.specs.Moves.{TASKS, in_slot, table_full, not_overridden, with_current, replaced}
+use Rattle.cred_model.specs.Moves.{in_slot, table_full, not_overridden, with_current, replaced}
 use Rattle.cred_model.specs.Step.{by_begin, outcome}
 use Rattle.cred_model.proofs.Lists.{AllPairs-map}
 use Rattle.cred_model.proofs.Numbers.{current_is}
@@ -31,7 +32,7 @@ use Rattle.cred_sound.proofs.Threads.{beside_is, finds_itself, is_thread}
 use Rattle.cred_cast.specs.Casts.{WaitsNowhere}
 use Rattle.cred_cast.proofs.Conditions.{idle_waits_nowhere}
 use Rattle.cred_procs.specs.Tasks.{those}
-use Rattle.cred_slots.specs.Table.{Table, SLOTS, IsSameBag, IsAlone}
+use Rattle.cred_slots.specs.Table.{Table, IsSameBag, IsAlone}
 use Rattle.cred_slots.specs.Table as table
 use Rattle.cred_tables.specs.Begin.{MayBegin, cast_begun}
 use Rattle.cred_tables.specs.Kept.{Parts, AreFilled, state_of, IsKept, Seals}

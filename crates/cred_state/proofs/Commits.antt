@@ -5,6 +5,7 @@ use Rattle.std.specs.Option.{option_and_then, option_map}
 use Rattle.std.proofs.lemmas.Bool.{eq-eqb}
 use Rattle.std.proofs.lemmas.Bool.Decides.{nat_tests}
 use Rattle.std.proofs.lemmas.List.Kept.{AllPairs-filter}
+use Rattle.cred_ids.specs.Limits.{SLOTS}
 use Rattle.cred_record.specs.Credential.{Credential}
 use Rattle.cred_event.specs.declared.answer.Answer.{Answer}
 use Rattle.cred_event.specs.declared.answer.Answer.TheVariants.{Busy, NoTask, NoPrepared, Overridden, Stale}
@@ -18,7 +19,7 @@ use Rattle.cred_model.specs.Like.{IsLike, IsOutcomeLike}
 use Rattle.cred_model.specs.Moves.{not_overridden, with_current, given_up, committed}
 use Rattle.cred_model.specs.Step.{by_abort, by_commit, outcome, try_commit, commit_answer, committed_by, casts_after, ends_with, for_task, is_access}
 use Rattle.cred_model.proofs.Likes.{does_same}
-use Rattle.cred_slots.specs.Table.{Table, SLOTS, IsSameBag, is_kept}
+use Rattle.cred_slots.specs.Table.{Table, IsSameBag, is_kept}
 use Rattle.cred_slots.proofs.Counting.{count-cons}
 use Rattle.cred_sound.proofs.Survivors.{find_goes_on}
 use Rattle.cred_tables.specs.Prepared.{changed_of}

@@ -2,11 +2,12 @@
 -- given up. So a commit ends, and an override by what was prepared for access(2).
 use Rattle.std.proofs.Common.{◌≡◌, ◌≢◌, ℕ, List, [], ◌∷◌, ◌++◌, remove, length, slice_get, slice_set, slice_index_or, false, Option, Some, sym, ap, ◌∙◌, subst, arith}
 use Rattle.std.specs.List.{AllPairs}
+use Rattle.cred_ids.specs.Limits.{SLOTS}
 use Rattle.cred_record.specs.Credential.{Credential}
 use Rattle.cred_model.specs.State.{State, Task, Prepared}
 use Rattle.cred_model.specs.Slots.{in_use, kept}
 use Rattle.cred_model.specs.Like.{IsLike}
-use Rattle.cred_slots.specs.Table.{Table, SLOTS, IsSameBag, IsAlone}
+use Rattle.cred_slots.specs.Table.{Table, IsSameBag, IsAlone}
 use Rattle.cred_slots.proofs.Counting.{count-cons}
 use Rattle.cred_tables.specs.Kept.{AreFilled, Parts, creds_in, state_of, IsKept, SealsKept}
 use Rattle.cred_tables.proofs.InUse.{in_use-unlabel}

@@ -2,6 +2,7 @@
 use Rattle.std.proofs.Common.{◌≡◌, ℕ, ◌<◌, Bool, true, false, not, ◌==◌, nat_lt, List, [], ◌∷◌, ◌++◌, find, length, slice_set, Option, None, Some, Ok, refl, sym, ap, ◌∙◌, subst, arith}
 use Rattle.std.specs.Option.{IsSome, MatchOption}
 use Rattle.std.proofs.lemmas.Bool.Decides.{nat_tests}
+use Rattle.cred_ids.specs.Limits.{SLOTS}
 use Rattle.cred_record.specs.Credential.{Credential, first_credential}
 use Rattle.cred_event.specs.declared.answer.Answer.{Answer}
 use Rattle.cred_event.specs.declared.answer.Answer.TheVariants.{Sealed, TableFull}
@@ -11,7 +12,7 @@ use Rattle.cred_model.specs.Like.{IsOutcomeLike}
 use Rattle.cred_model.specs.Moves.{in_slot, table_full, first_task, created}
 use Rattle.cred_model.specs.Step.{by_init, outcome}
 use Rattle.cred_model.proofs.Likes.{does_same}
-use Rattle.cred_slots.specs.Table.{Table, SLOTS, IsAlone}
+use Rattle.cred_slots.specs.Table.{Table, IsAlone}
 use Rattle.cred_slots.specs.Table as table
 use Rattle.cred_tables.specs.Kept.{Parts, AreFilled, state_of, IsKept, Seals}
 use Rattle.cred_tables.proofs.Bags.{bag-more}

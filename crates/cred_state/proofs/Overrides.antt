@@ -2,16 +2,17 @@
 use Rattle.std.proofs.Common.{◌≡◌, ◌≢◌, ℕ, ◌<◌, Bool, true, false, cond, ◌&&◌, ◌==◌, nat_lt, List, [], ◌∷◌, ◌++◌, drop, find, position, remove, length, slice_get, slice_set, count_by, is_some, Option, None, Some, refl, sym, ap, ◌∙◌, subst, arith}
 use Rattle.std.specs.List.{AllPairs}
 use Rattle.std.specs.Option.{IsSome, option_and_then, option_map_or}
+use Rattle.cred_ids.specs.Limits.{DEPTH, SLOTS}
 use Rattle.cred_record.specs.Credential.{Credential}
 use Rattle.cred_event.specs.declared.answer.Answer.TheVariants.{Done, NoHold, Sealed, TooDeep}
 use Rattle.cred_model.specs.State.{State, Task, Prepared, Changed, Numbered, task_of, prepared_of, held_by}
 use Rattle.cred_model.specs.Slots.{in_use, kept}
 use Rattle.cred_model.specs.Like.{IsLike, IsOutcomeLike}
-use Rattle.cred_model.specs.Moves.{DEPTH, with_overrides, lent, overridden}
+use Rattle.cred_model.specs.Moves.{with_overrides, lent, overridden}
 use Rattle.cred_model.specs.Step.{by_override, by_revert, for_access, is_access, outcome}
 use Rattle.cred_model.proofs.Likes.{does_same}
 use Rattle.cred_model.proofs.Numbers.{owner_number}
-use Rattle.cred_slots.specs.Table.{Table, SLOTS, IsSameBag}
+use Rattle.cred_slots.specs.Table.{Table, IsSameBag}
 use Rattle.cred_procs.specs.Tasks.{task_in, overrides_of}
 use Rattle.cred_tables.specs.Prepared.{changed_of}
 use Rattle.cred_tables.specs.Kept.{Parts, creds_in, state_of, IsKept, SealsKept}

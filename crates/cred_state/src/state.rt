@@ -24,6 +24,7 @@ use cred_decide::reply;
 use cred_declared::asked_file;
 use cred_event::{Answer, Counted, Event, Named, Query, Side};
 use cred_files::Files;
+use cred_ids::limits;
 use cred_ids::NoMemory;
 use cred_procs::Procs;
 use cred_script::Script;
@@ -31,9 +32,6 @@ use cred_slots::Slots;
 use cred_tables::{Holds, Numbered, Preparing, Store, sealed_at};
 use std::alloc::Global;
 use std::marker::Model;
-
-/// How many holds may stand.
-const HOLDS: usize = 512;
 
 /// The state of the kernel. Contracts see under each sealed number what stands in its slot's place:
 /// where nothing refers to the number any more, that may be a later credential.
@@ -211,7 +209,7 @@ impl State {
                 number: label,
             });
         }
-        if self.holds.len() >= HOLDS {
+        if self.holds.len() >= limits::HOLDS {
             return Ok(Answer::TooMany(Counted::Holds));
         }
         self.slots.reserve()?;

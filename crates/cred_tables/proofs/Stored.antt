@@ -5,13 +5,14 @@ use Rattle.std.specs.Option.{IsSome, is_some, option_map, option_map_or}
 use Rattle.std.proofs.lemmas.Bool.{cases_eq, eq-eqb}
 use Rattle.std.proofs.lemmas.List.Elements.{All-append, All-nil, All-cons}
 use Rattle.std.proofs.lemmas.Option.{slice_get_within, slice_get-map}
+use Rattle.cred_ids.specs.Limits.{SLOTS}
 use Rattle.cred_record.specs.Credential.{Credential}
 use Rattle.cred_event.specs.declared.answer.Answer.{Answer}
 use Rattle.cred_model.specs.State.{State, SealedCred, numbered}
 use Rattle.cred_model.specs.Slots.{in_use, refs}
 use Rattle.cred_model.specs.Like.{IsLike, IsOutcomeLike}
 use Rattle.cred_model.proofs.Lists.{slice_get-left}
-use Rattle.cred_slots.specs.Table.{Table, SLOTS, IsAlone, stands_in, references_to}
+use Rattle.cred_slots.specs.Table.{Table, IsAlone, stands_in, references_to}
 use Rattle.cred_slots.proofs.Counting.{count-append}
 use Rattle.cred_tables.specs.Kept.{Parts, parts_of, placed, creds_in, AreFilled, state_of, IsKept}
 use Rattle.cred_tables.proofs.Bags.{count-at}

@@ -6,6 +6,7 @@ use Rattle.std.specs.Prelude.{slice_index_or, slice_set, false, Some, None}
 use Rattle.std.specs.declared.option.Option.{Option}
 use Rattle.std.specs.List.{All, list_any}
 use Rattle.std.specs.Option.{IsSome, option_map_or}
+use Rattle.cred_ids.specs.Limits.{SLOTS}
 use Rattle.cred_record.specs.Credential.{Credential, first_credential}
 use Rattle.cred_model.specs.State.{State, Task, Broadcast, OpenFile, Hold, Prepared, SealedCred}
 use Rattle.cred_model.specs.State.{Numbered}
@@ -13,7 +14,7 @@ use Rattle.cred_event.specs.declared.event.Change.{Change}
 use Rattle.cred_event.specs.declared.event.Change.TheVariants.{Exec}
 use Rattle.cred_model.specs.Casts.{dropped}
 use Rattle.cred_model.specs.Slots.{in_use, kept}
-use Rattle.cred_slots.specs.Table.{Table, SLOTS, IsSameBag, IsAlone, is_kept, room, free}
+use Rattle.cred_slots.specs.Table.{Table, IsSameBag, IsAlone, is_kept, room, free}
 use Rattle.cred_tables.specs.declared.table.Numbered as table
 
 -- what stands for the credential of a place that has none

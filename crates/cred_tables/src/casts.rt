@@ -1,8 +1,8 @@
 //! What happens to the tasks and the open broadcasts together.
 ghost use Rattle.std.specs.Prelude.{◌≡◌, ◌<◌, All, length, None, OnOk, OnErr};
 ghost use Rattle.std.specs.Option.{IsSome};
+ghost use Rattle.cred_ids.specs.Limits.{TASKS};
 ghost use Rattle.cred_model.specs.Casts.{joined};
-ghost use Rattle.cred_model.specs.Moves.{TASKS};
 ghost use Rattle.cred_cast.specs.Casts.{WaitsNowhere};
 ghost use Rattle.cred_procs.specs.Tasks.{spawned, task_in};
 

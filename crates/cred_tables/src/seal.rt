@@ -1,7 +1,8 @@
 //! Taking a slot for a new credential, and giving up references.
 ghost use Rattle.std.specs.Prelude.{◌≡◌, ◌<◌, ◌==◌, ◌++◌, IsTrue, MatchOption, None, count_by};
 ghost use Rattle.std.specs.Prelude.{length, slice_set};
-ghost use Rattle.cred_slots.specs.Table.{IsSameBag, SLOTS, is_kept, room, free};
+ghost use Rattle.cred_ids.specs.Limits.{SLOTS};
+ghost use Rattle.cred_slots.specs.Table.{IsSameBag, is_kept, room, free};
 ghost use Rattle.cred_tables.specs.Begin.{table_at};
 ghost use Rattle.cred_tables.specs.Kept.{AreHeld, Seals, SealsKept};
 

@@ -2,15 +2,13 @@
 ghost use Rattle.std.specs.Prelude.{◌≡◌, ◌<◌, None, Some, IfOk, length, replicate, slice_index_or};
 ghost use Rattle.std.specs.Prelude.{slice_set};
 ghost use Rattle.std.specs.Option.{option_map};
-ghost use Rattle.cred_slots.specs.Table.{SLOTS};
+ghost use Rattle.cred_ids.specs.Limits.{SLOTS};
 
+use cred_ids::limits;
 use cred_ids::NoMemory;
 use cred_record::Cred;
 use std::alloc::Global;
 use std::marker::Model;
-
-/// How many places there are.
-const PLACES: usize = 256;
 
 /// A place for a credential in each of the 256 slots. A credential that is put in a place replaces
 /// the one that stood there.
@@ -22,8 +20,8 @@ pub struct Store {
 impl Model for Store {
     ghost use Rattle.std.specs.Prelude.{◌≡◌, List, length};
     ghost use Rattle.std.specs.declared.option.Option.{Option};
+    ghost use Rattle.cred_ids.specs.Limits.{SLOTS};
     ghost use Rattle.cred_record.specs.Credential.{Credential};
-    ghost use Rattle.cred_slots.specs.Table.{SLOTS};
 
     ghost Value = { List (Option Credential) };
 
@@ -41,8 +39,8 @@ impl Store {
     pub fn new(alloc: Global) -> Result<Store, NoMemory>
         ensures { IfOk result (λ store. store ≡ replicate SLOTS None) }
     {
-        let mut places = Vec::with_capacity(alloc, PLACES)?;
-        for _ in 0..PLACES {
+        let mut places = Vec::with_capacity(alloc, limits::SLOTS)?;
+        for _ in 0..limits::SLOTS {
             places.push(None)?;
         }
         Ok(Store { places })

@@ -1,8 +1,8 @@
 -- How many words a slot has, and how many slots there are. No proof unfolds either but where the
 -- table is made.
 use Rattle.std.specs.Prelude.{ℕ, ◌+◌, ◌*◌}
+use Rattle.cred_ids.specs.Limits.{SLOTS}
 use Rattle.cred_record.specs.declared.layout.TheConstants.{WORDS}
-use Rattle.cred_words.specs.declared.size.TheConstants.{SLOTS}
 
 -- the words of a credential
 unfoldable pub width : ℕ

@@ -8,9 +8,9 @@ ghost use Rattle.cred_words.specs.Words.{after_back, put_words, EntryFits, entry
 ghost use Rattle.cred_words.specs.Seen.{IsSealed, IsAlone};
 
 use crate::rule::{Learns, LendsHold, LendsWriter, Order, Puts, Reads, Returns, Words};
-use crate::size::SLOTS;
 use crate::view::View;
 use atomic_table::{Seat, Table};
+use cred_ids::limits;
 use cred_record::WORDS;
 use std::alloc::{AllocError, Global};
 use std::marker::{Brand, Model};
@@ -119,7 +119,7 @@ fn place_of(slot: u32, i: usize) -> usize
 fn word_count() -> usize
     ensures { result ≡ total }
 {
-    1 + SLOTS * WORDS
+    1 + limits::SLOTS * WORDS
 }
 
 /// So many zeros.

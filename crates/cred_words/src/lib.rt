@@ -6,8 +6,6 @@
 pub mod cells;
 pub mod laws;
 mod rule;
-pub mod size;
 pub mod view;
 
 pub use cells::{Cells, Hold, Master, Writer, put_word, read_word};
-pub use size::SLOTS;

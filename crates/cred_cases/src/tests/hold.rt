@@ -2,13 +2,13 @@
 //! that holds are read by threads of their own beside a writer.
 ghost use Rattle.cred_hold.specs.Tokens.{IsSealed};
 ghost use Rattle.std.specs.Prelude.{◌≡◌, ◌≢◌, ◌<◌, ℕ, [], Some, IfOk, slice_get, length};
+ghost use Rattle.cred_ids.specs.Limits.{SLOTS};
 
 use crate::tests::parts::id;
 use cred_caps::CapSet;
 use cred_hold::{Cells, Hold, Master, Writer, make, put, read, read_caps, read_ids};
 use cred_ids::{Groups, Ids4, NoMemory};
 use cred_record::{Cred, first, to_words};
-use cred_words::SLOTS;
 use std::alloc::Global;
 use std::mem::size_of;
 use std::test::Fail;

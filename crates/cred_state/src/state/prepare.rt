@@ -11,15 +11,13 @@ use crate::state::State;
 use cred_decide::{Made, change as change_of};
 use cred_declared::{chain_of, executed_file};
 use cred_event::{Answer, Change, Counted, Named};
+use cred_ids::limits;
 use cred_ids::NoMemory;
 use cred_script::Script;
 use cred_tables::{
     Changed, Ended, Numbered, Preparation, Ready, committed_by, drop_all, drop_cast, end_with,
     seal_kept, sealed_at,
 };
-
-/// How many prepared labels may stand.
-const PREPARED: usize = 64;
 
 impl State {
     /// The label prepares a new credential for the task, based on the one that the hold has, and
@@ -50,7 +48,7 @@ impl State {
                 number: label,
             });
         }
-        if self.prepared.len() >= PREPARED {
+        if self.prepared.len() >= limits::PREPARED {
             return Ok(Answer::TooMany(Counted::Prepared));
         }
         self.slots.reserve()?;

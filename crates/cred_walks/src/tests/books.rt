@@ -3,7 +3,7 @@
 ghost use Rattle.cred_book.specs.Cursor.{Stands};
 
 use cred_book::{Book, Step};
-use cred_event::LINE_LIMIT;
+use cred_ids::limits;
 use cred_script::{line_count, read};
 use std::alloc::Global;
 use std::test::Fail;
@@ -25,7 +25,7 @@ pub(crate) trait Walk {
 ///
 /// A text that is no script, want of memory, or what kept the walk from its end.
 pub(crate) fn walk_in_book<W: Walk>(alloc: Global, text: &str, walk: &mut W) -> Result<(), Fail> {
-    if line_count(text.as_bytes()) > LINE_LIMIT {
+    if line_count(text.as_bytes()) > limits::LINE_LIMIT {
         return Err(Fail::from("too many lines"));
     }
     let script = read(alloc, text.as_bytes())?;

@@ -1,7 +1,8 @@
 use Rattle.std.proofs.Common.{◌<◌, ◌∙◌, is_some, length}
+use Rattle.cred_ids.specs.Limits.{OPEN_FILES}
 use Rattle.indexmap.proofs.CallerLemmas.{insert_entry-new}
 use Rattle.cred_files.specs.declared.file.File.{File}
-use Rattle.cred_files.specs.Open.{OPEN_FILES, files_of}
+use Rattle.cred_files.specs.Open.{files_of}
 use Rattle.cred_files.proofs.Kept.{is_new, opened, still_open}
 use Rattle.cred_files.proofs.files.Files.add.Goals as goal
 

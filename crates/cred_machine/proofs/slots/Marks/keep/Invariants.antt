@@ -1,7 +1,7 @@
 use Rattle.std.proofs.Common.{◌≡◌, ◌<◌, ◌==◌, ◌||◌, ℕ, take}
 use Rattle.std.specs.List.{list_any}
+use Rattle.cred_ids.specs.Limits.{SLOTS}
 use Rattle.cred_model.specs.State.{Prepared}
-use Rattle.cred_model.specs.Slots.{SLOTS}
 use Rattle.cred_machine.specs.Slots.{is_marked}
 use Rattle.cred_machine.proofs.slots.Marks.keep.Given as goal
 

@@ -1,7 +1,7 @@
 use Rattle.std.proofs.Common.{◌≡◌, ℕ, ◌≤◌, ◌∙◌, List, [], ◌∷◌, drop, length, slice_get, sym, ap, refl, nat_eq, Option, None, Some, arith, length-drop}
 use Rattle.std.specs.Map.{lookup}
 use Rattle.std.specs.Option.{IfNone, option_copied_mut}
-use Rattle.cred_model.specs.Moves.{DEPTH}
+use Rattle.cred_ids.specs.Limits.{DEPTH}
 use Rattle.cred_procs.specs.Kept.{tasks_of}
 use Rattle.cred_procs.proofs.Writes.{is_there, is_shallow, overrides_is, written_overrides, kept_overrides, unwritten}
 use Rattle.cred_procs.proofs.procs.Procs.pop_override.Goals as goal

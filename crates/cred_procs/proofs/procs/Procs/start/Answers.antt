@@ -2,10 +2,11 @@ use Rattle.std.proofs.Common.{◌≡◌, ℕ, ◌<◌, ◌∙◌, List, [], ◌�
 use Rattle.std.specs.List.{IsDistinct}
 use Rattle.std.specs.Map.{lookup}
 use Rattle.std.proofs.lemmas.List.{map-append}
+use Rattle.cred_ids.specs.Limits.{TASKS}
 use Rattle.indexmap.specs.IndexMap.{IndexMap, insert_entry}
 use Rattle.indexmap.proofs.CallerLemmas.{insert_entry-new}
 use Rattle.cred_model.specs.State.{Task}
-use Rattle.cred_model.specs.Moves.{TASKS, first_task}
+use Rattle.cred_model.specs.Moves.{first_task}
 use Rattle.cred_procs.specs.declared.thread.Thread.{Thread}
 use Rattle.cred_procs.specs.Kept.{task_as, tasks_of, IsKept}
 use Rattle.cred_procs.specs.Tasks.{task_in}

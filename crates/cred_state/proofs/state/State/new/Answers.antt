@@ -1,7 +1,8 @@
 use Rattle.std.proofs.Common.{◌≡◌, ℕ, zero, suc, false, List, [], ◌∷◌, Option, map, slice_index_or, refl, arith}
 use Rattle.std.specs.List.{range_with_len}
+use Rattle.cred_ids.specs.Limits.{SLOTS}
 use Rattle.cred_record.specs.Credential.{Credential}
-use Rattle.cred_slots.specs.Table.{SLOTS, empty}
+use Rattle.cred_slots.specs.Table.{empty}
 use Rattle.cred_model.specs.State.{opening}
 use Rattle.cred_tables.specs.Kept.{parts_of, IsKept, state_of}
 use Rattle.cred_state.proofs.state.State.new.Goals as goal
