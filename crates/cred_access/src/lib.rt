@@ -9,5 +9,6 @@ mod real;
 mod rights;
 
 pub use file::may;
+pub use mode::has_bit;
 pub use real::access_cred;
 pub use rights::{capable, may_signal};

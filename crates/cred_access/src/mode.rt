@@ -1,6 +1,7 @@
 //! The permission bits of a mode (inode(7)).
 ghost use Rattle.std.specs.Prelude.{◌≡◌, ◌<◌};
-ghost use Rattle.cred_rules.specs.Access.{has_bit, permits, has_execute_bit};
+ghost use Rattle.cred_rules.specs.Access.{permits, has_execute_bit};
+ghost use Rattle.cred_rules.specs.Bits.{has_bit};
 ghost use Rattle.cred_access.specs.Class.{place};
 
 use crate::class::Class;
@@ -12,9 +13,9 @@ const WRITE: u32 = 1;
 /// How far after it its read bit stands.
 const READ: u32 = 2;
 
-/// Whether the bit at this place is set.
+/// Whether the bit at this place of the mode is set.
 #[tactic(auto, using(std::proofs::lemmas::Nat::Bits::shr_and_one))]
-fn has_bit(mode: u16, place: u32) -> bool
+pub fn has_bit(mode: u16, place: u32) -> bool
     requires { place < 16 }
     ensures { result ≡ has_bit mode place }
 {

@@ -1,6 +1,7 @@
 //! What a task may do by its capabilities, and to another task.
 ghost use Rattle.std.specs.Prelude.{◌≡◌};
-ghost use Rattle.cred_rules.specs.Access.{capable, owns, may_signal};
+ghost use Rattle.cred_record.specs.Credential.{capable};
+ghost use Rattle.cred_rules.specs.Access.{owns, may_signal};
 
 use cred_caps::Cap;
 use cred_ids::{Id, Ids4};

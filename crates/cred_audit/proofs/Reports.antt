@@ -15,7 +15,7 @@ use Rattle.cred_report.specs.Events.{event_text}
 use Rattle.cred_report.specs.Answers.{answer_text}
 use Rattle.cred_audit.specs.Report.{IsReport, Begins, IsFault}
 use Rattle.cred_audit.specs.Next.{ComesNext, IsLaneAt}
-use Rattle.cred_audit.specs.Run.{IsAfter, IsRun, GoesOn, Passes, GoesWrong, HasEnded, IsLeft}
+use Rattle.cred_audit.specs.Run.{IsAfter, IsRun, GoesOn, ReadsEntry, GoesWrong, RunHasEnded, IsLeft}
 use Rattle.cred_audit.specs.declared.run.Run.{Run}
 use Rattle.cred_audit.proofs.Prefixes.{so_far_prefix, comes_behind, longer_begins}
 
@@ -161,7 +161,7 @@ nothing_compared script bytes run after = record {
 pub is_run : (script : Script) (bytes rest : List ℕ) (number : ℕ) (run : Run) → Compared script bytes rest number run → IsRun script run
 is_run script bytes rest number run so = (so.journal, so.after)
 
-pub shorter_behind : (script : Script) (before after : Run) (rest behind : List ℕ) → Passes script before after rest behind
+pub shorter_behind : (script : Script) (before after : Run) (rest behind : List ℕ) → ReadsEntry script before after rest behind
     → length behind < length rest
 shorter_behind script before after rest behind passes =
     let shorter : length rest ≡ length (entry_text script passes.entry) + length behind
@@ -169,7 +169,7 @@ shorter_behind script before after rest behind passes =
     omega (arith, shorter, entry_text-some script passes.entry)
 
 pub one_more_compared : (script : Script) (bytes rest : List ℕ) (number : ℕ) (before after : Run) (behind : List ℕ)
-    → Compared script bytes rest number before → Passes script before after rest behind
+    → Compared script bytes rest number before → ReadsEntry script before after rest behind
     → Compared script bytes behind (number + 1) after
 one_more_compared script bytes rest number before after behind so passes =
     let entry = passes.entry in
@@ -191,7 +191,7 @@ one_more_compared script bytes rest number before after behind so passes =
 pub followed_by : {E : Type 0} (script : Script) (bytes : List ℕ) (before after : Run) (lane : ℕ) (entry : Entry)
     (result : Result (Option (Bor (List ℕ))) E) → GoesOn script lane before after (Some entry) → IsLaneAt script bytes (Some lane)
     → IfOk result (λ found. MatchOption found ((rest : List ℕ) → bytes ≢ entry_text script entry ++ rest) (λ rest. bytes ≡ entry_text script entry ++ rest.now))
-    → IfOk result (λ found. MatchOption found (GoesWrong script before bytes) (λ rest. Passes script before after bytes rest.now))
+    → IfOk result (λ found. MatchOption found (GoesWrong script before bytes) (λ rest. ReadsEntry script before after bytes rest.now))
 followed_by script bytes before after lane entry (Err e) on at is = tt
 followed_by script bytes before after lane entry (Ok (Some rest)) on at is = record { entry = entry; leads = on.leads; is = is }
 followed_by script bytes before after lane entry (Ok None) on at differs = λ journal is other rest comes begins.
@@ -229,7 +229,7 @@ stops_early script bytes rest number run so none left =
 
 -- where neither is left
 pub nothing_left : (script : Script) (bytes rest : List ℕ) (number : ℕ) (run : Run) → Compared script bytes rest number run
-    → rest ≡ [] → HasEnded run → IsReport script bytes
+    → rest ≡ [] → RunHasEnded run → IsReport script bytes
 nothing_left script bytes rest number run so none ended = record {
   journal = so.journal;
   legal = record { so_far = so.after.so_far; ended = ended script so.journal so.after };

@@ -18,12 +18,12 @@ use Rattle.cred_model.proofs.Likes.{does_like, like_self}
 use Rattle.cred_sound.specs.Sound.{IsSound}
 use Rattle.cred_sound.proofs.Sound.{like_sound, sound_after}
 use Rattle.cred_script.specs.Grammar.{line_at}
-use Rattle.cred_cursor.specs.Cursor.{IsOfLine, PassesTo}
+use Rattle.cred_cursor.specs.Cursor.{IsOfLine, MovesOnTo}
 use Rattle.cred_cursor.specs.Cursors.{AreCursors, cursor_of, due_of, waits}
 use Rattle.cred_cursor.proofs.AllLanes.{is_due, no_cursor, some_cursor}
 use Rattle.cred_cursor.proofs.Lanes.{lane_makes_due, lane_of_line, lane_of_course, SoFar-push}
 use Rattle.cred_cursor.proofs.Turns.{next_by, next_none, next_some, stands_at, lanes_go_on}
-use Rattle.cred_audit.specs.Run.{IsAfter, IsRun, GoesOn, HasEnded, IsLeft}
+use Rattle.cred_audit.specs.Run.{IsAfter, IsRun, GoesOn, RunHasEnded, IsLeft}
 use Rattle.cred_audit.specs.declared.run.Run.{Run}
 
 -- ---- where it stands
@@ -84,7 +84,7 @@ pub goes_on_by : (script : Script) (lane : ℕ) (before after : Run) (course : C
     → option_and_then (λ (l : Line). event_at l.content course) (line_at script course.line) ≡ Some event
     → line ≡ course.line
     → IsOutcomeLike (step script before.state line event) answer after.state
-    → IfSome (line_at script course.line) (λ l. PassesTo script lane (model.after l.content course answer) to)
+    → IfSome (line_at script course.line) (λ l. MovesOnTo script lane (model.after l.content course answer) to)
     → after.cursors ≡ set before.cursors lane to
     → GoesOn script lane before after (Some (entry_with line event answer))
 goes_on_by script lane before after course event line answer to due has number does passes kept =
@@ -108,7 +108,7 @@ goes_on_by script lane before after course event line answer to due has number d
 -- ---- its start and its end
 
 -- where no lane has a cursor
-pub no_cursor_ended : (run : Run) → ((lane : ℕ) → cursor_of run.cursors lane ≡ None) → HasEnded run
+pub no_cursor_ended : (run : Run) → ((lane : ℕ) → cursor_of run.cursors lane ≡ None) → RunHasEnded run
 no_cursor_ended run none script journal after lane =
     (stops script lane run (by (waits run.cursors lane) (none lane))).next journal after
   where
@@ -139,7 +139,7 @@ cursor_left run lane some script journal after = by (cursor_of run.cursors 0) re
         (lane, due lane some free)
     by (Some course) at = (0, due 0 (ap is_some at) refl)
 
-pub ended_by : (run : Run) (ended : Bool) → ended ≡ list_all is_none run.cursors → MatchBool ended (HasEnded run) (IsLeft run)
+pub ended_by : (run : Run) (ended : Bool) → ended ≡ list_all is_none run.cursors → MatchBool ended (RunHasEnded run) (IsLeft run)
 ended_by run true is = no_cursor_ended run (no_cursor run.cursors (sym is))
 ended_by run false is = let left = some_cursor run.cursors (sym is) in cursor_left run left.0 left.1
 

@@ -39,8 +39,8 @@ pub record GoesOn (script : Script) (lane : ℕ) (before after : Run) (found : O
       → IsAfter script (grown journal found) after
 
 -- Whatever script and journal it is that the run has come to, no lane has a next entry.
-abbrev pub HasEnded : Run → Type 0
-HasEnded run =
+abbrev pub RunHasEnded : Run → Type 0
+RunHasEnded run =
     (script : Script) (journal : List Entry) → IsAfter script journal run
     → (lane : ℕ) → next script journal lane ≡ None
 
@@ -52,7 +52,7 @@ IsLeft run =
 
 -- Whatever journal the run before had come to, the bytes begin with the text of an entry with which
 -- the run after has come to it, and this is what follows.
-pub record Passes (script : Script) (before after : Run) (bytes rest : List ℕ) : Type 0 where
+pub record ReadsEntry (script : Script) (before after : Run) (bytes rest : List ℕ) : Type 0 where
   pub entry : Entry
   pub leads : (journal : List Entry) → IsAfter script journal before
       → IsAfter script (journal ++ entry ∷ []) after

@@ -1,6 +1,6 @@
 //! A run of a script whose lanes take turns in any way, of which no journal is kept.
 ghost use Rattle.std.specs.Prelude.{◌≡◌, [], IfOk, OnErr, MatchBool};
-ghost use Rattle.cred_audit.specs.Run.{GoesOn, HasEnded, IsAfter, IsLeft, IsRun};
+ghost use Rattle.cred_audit.specs.Run.{GoesOn, RunHasEnded, IsAfter, IsLeft, IsRun};
 
 use cred_cursor::{Cursors, cursor_after, next_event};
 use cred_event::Entry;
@@ -50,7 +50,7 @@ impl Run {
         let line = course.line();
         let answer = self.state.step(script, line, &event)?;
         let cursor = cursor_after(script, lane, course, &answer);
-        self.cursors.pass(lane, cursor);
+        self.cursors.move_on(lane, cursor);
         Ok(Some(Entry {
             line,
             event,
@@ -60,7 +60,7 @@ impl Run {
 
     /// Whether no lane has a next event.
     pub fn has_ended(&self) -> bool
-        ensures { MatchBool result (HasEnded self.now) (IsLeft self.now) }
+        ensures { MatchBool result (RunHasEnded self.now) (IsLeft self.now) }
     {
         self.cursors.has_ended()
     }

@@ -2,7 +2,7 @@
 ghost use Rattle.std.specs.Prelude.{◌≡◌, ◌≢◌, ◌++◌, [], IfOk, MatchOption, List, ℕ};
 ghost use Rattle.cred_report.specs.Text.{entry_text};
 ghost use Rattle.cred_audit.specs.Report.{IsVerdict};
-ghost use Rattle.cred_audit.specs.Run.{GoesWrong, IsAfter, IsRun, Passes};
+ghost use Rattle.cred_audit.specs.Run.{GoesWrong, IsAfter, IsRun, ReadsEntry};
 
 use crate::lane::lane_at;
 use crate::run::Run;
@@ -74,7 +74,7 @@ fn behind_next<'b>(
 ) -> Result<Option<&'b [u8]>, NoMemory>
     requires { IsRun script.now run.old }
     ensures { IfOk result (λ found. MatchOption found (GoesWrong script.now run.old bytes.now)
-        (λ rest. Passes script.now run.old run.new bytes.now rest.now)) }
+        (λ rest. ReadsEntry script.now run.old run.new bytes.now rest.now)) }
 {
     let Some(lane) = lane_at(script, bytes) else {
         return Ok(None);

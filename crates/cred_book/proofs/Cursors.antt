@@ -16,7 +16,7 @@ use Rattle.cred_model.specs.Journal.{SoFar, entry_of, next, replay, IsInOrder, I
 use Rattle.cred_model.proofs.Journals.{IsInOrder-push}
 use Rattle.cred_script.specs.Grammar.{line_at}
 use Rattle.cred_script.specs.Lanes.{lanes}
-use Rattle.cred_cursor.specs.Cursor.{IsLaneCursor, IsOfLine, PassesTo, left_at}
+use Rattle.cred_cursor.specs.Cursor.{IsLaneCursor, IsOfLine, MovesOnTo, left_at}
 use Rattle.cred_cursor.specs.Cursors.{AreCursors, AreOver, IsLeast, cursor_of, due_of}
 use Rattle.cred_cursor.proofs.AllLanes.{cursor_at}
 use Rattle.cred_cursor.proofs.Courses.{line_is, of_line}
@@ -25,7 +25,8 @@ use Rattle.cred_cursor.proofs.Least.{least_due, least_is_due, none_due}
 use Rattle.cred_cursor.proofs.Turns.{due_is, lanes_go_on, next_none, next_some, stands_at}
 use Rattle.cred_book.specs.Book.{Recorded, with_event, answer_of}
 use Rattle.cred_book.specs.Counts.{AreEnded, Counts, IsSameOrNext, count_of}
-use Rattle.cred_book.specs.Cursor.{HasEnded, IsLeastLane, left, waiting, Stands, Makes, has_left, passed}
+use Rattle.cred_book.specs.Cursor.{NoLineIsLeft, IsLeastLane, left, waiting, Stands, Makes}
+use Rattle.cred_book.specs.Cursor.{has_left, moved_on}
 use Rattle.cred_book.specs.declared.step.Step.{Step}
 use Rattle.cred_book.specs.declared.step.Step.TheVariants as step
 use Rattle.cred_book.specs.declared.step.Step.TheVariants.{More}
@@ -70,7 +71,7 @@ entry_falls : (script : Script) (journal : List Entry) (cursors : List (Option C
     → AreCursors script journal cursors → due_of cursors lane ≡ Some course
     → option_and_then (λ (line : Line). event_at line.content course) (line_at script course.line) ≡ Some event
     → let entry = entry_of script journal (record { line = course.line; event = event }) in
-    IfSome (line_at script course.line) (λ line. PassesTo script lane (model.after line.content course entry.answer) to)
+    IfSome (line_at script course.line) (λ line. MovesOnTo script lane (model.after line.content course entry.answer) to)
     → sum_by (left_at script) (set cursors lane to) + waiting (replay script (journal ++ entry ∷ []))
     < sum_by (left_at script) cursors + waiting (replay script journal)
 entry_falls script journal cursors lane course event to at due has passes =
@@ -80,8 +81,8 @@ entry_falls script journal cursors lane course event to at due has passes =
     let entry : Entry = entry_of script journal (record { line = course.line; event = event }) in
     let own : Leads line.content course
     = subst (λ (o : Option Line). IfSome o (λ l. Leads l.content course)) here (of_line script journal course stands.0) in
-    let passed = subst (λ (o : Option Line). IfSome o (λ l. PassesTo script lane (model.after l.content course entry.answer) to)) here passes in
-    let most : left_at script to ≤ left_at script (Some (model.after line.content course entry.answer)) = passed.falls in
+    let moved_on = subst (λ (o : Option Line). IfSome o (λ l. MovesOnTo script lane (model.after l.content course entry.answer) to)) here passes in
+    let most : left_at script to ≤ left_at script (Some (model.after line.content course entry.answer)) = moved_on.falls in
     let stage = stage_is course stands.1 in
     let fell = step_falls script journal course stage.stage line event stage.is here own (due_here script journal course event stands.0 has) in
     let moved = sum_moved (left_at script) cursors lane course to (due_is cursors lane course due).1 in
@@ -97,7 +98,7 @@ entry_counts : (book : Recorded) (lane : ℕ) (course : Course) (event : Event) 
     → let after : Recorded = with_event book course.line event in
     IsLaneCursor book.script after.journal lane to
     → AreCursors book.script after.journal (set book.cursors lane to)
-    → Counts book (passed after lane course.line to) lane More
+    → Counts book (moved_on after lane course.line to) lane More
 entry_counts book lane course event to stands due own now =
     let entry : Entry = entry_of book.script book.journal (record { line = course.line; event = event }) in
     let at = stands_at book.script book.journal book.cursors lane course stands.cursors due in
@@ -116,8 +117,8 @@ entry_counts book lane course event to stands due own now =
 pub moves : (book : Recorded) (lane : ℕ) (course : Course) (event : Event) (to : Option Course)
     → Stands book → due_of book.cursors lane ≡ Some course
     → option_and_then (λ (line : Line). event_at line.content course) (line_at book.script course.line) ≡ Some event
-    → IfSome (line_at book.script course.line) (λ line. PassesTo book.script lane (model.after line.content course (answer_of book course.line event)) to)
-    → Moves book (passed (with_event book course.line event) lane course.line to) lane
+    → IfSome (line_at book.script course.line) (λ line. MovesOnTo book.script lane (model.after line.content course (answer_of book course.line event)) to)
+    → Moves book (moved_on (with_event book course.line event) lane course.line to) lane
 moves book lane course event to stands due has passes =
     let script = book.script in
     let entry : Entry = entry_of script book.journal (record { line = course.line; event = event }) in
@@ -251,12 +252,12 @@ runs_on script before after lane came so is made same stands =
     }
 
 -- where every line has ended the journal is the sequence
-pub is_sequence : (script : Script) (book : Recorded) → Runs script book → HasEnded book → IsSequence book.script book.journal
+pub is_sequence : (script : Script) (book : Recorded) → Runs script book → NoLineIsLeft book → IsSequence book.script book.journal
 is_sequence script book so ended = record { in_order = so.order; ended = ended }
 
 -- ---- the lane that is the least
 
-pub has_ended : (book : Recorded) → Stands book → AreOver book.cursors → HasEnded book
+pub has_ended : (book : Recorded) → Stands book → AreOver book.cursors → NoLineIsLeft book
 has_ended book stands over =
     ap (option_map (entry_of book.script book.journal)) (none_due book.script book.journal book.cursors stands.cursors over)
 
@@ -278,6 +279,6 @@ least_lane book lane stands is =
     }
 
 pub least_by : (book : Recorded) (found : Option ℕ) → Stands book
-    → MatchOption found (AreOver book.cursors) (IsLeast book.cursors) → MatchOption found (HasEnded book) (IsLeastLane book)
+    → MatchOption found (AreOver book.cursors) (IsLeast book.cursors) → MatchOption found (NoLineIsLeft book) (IsLeastLane book)
 least_by book None stands over = has_ended book stands over
 least_by book (Some lane) stands is = least_lane book lane stands is

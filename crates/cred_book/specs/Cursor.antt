@@ -33,10 +33,10 @@ pub record Stands (book : Recorded) : Type 0 where
 abbrev pub has_left : Option Course → ℕ → Bool
 has_left cursor line = option_map_or (λ course. not (course.line == line)) cursor true
 
--- The book in which the lane has passed on from this line to this cursor. A line that it has left
+-- The book in which the lane has moved on from this line to this cursor. A line that it has left
 -- is counted.
-abbrev pub passed : Recorded → ℕ → ℕ → Option Course → Recorded
-passed book lane line cursor = record book {
+abbrev pub moved_on : Recorded → ℕ → ℕ → Option Course → Recorded
+moved_on book lane line cursor = record book {
   cursors = set book.cursors lane cursor;
   ended = set book.ended lane
       (slice_index_or book.ended lane 0 + count_of (has_left cursor line));
@@ -61,8 +61,8 @@ Makes before after None Ended = after ≡ before
 Makes before after next step = ⊥
 
 -- no line is left
-abbrev pub HasEnded : Recorded → Type 0
-HasEnded book = next_in_order book.script book.journal ≡ None
+abbrev pub NoLineIsLeft : Recorded → Type 0
+NoLineIsLeft book = next_in_order book.script book.journal ≡ None
 
 -- The lane is that of the least line that has not ended. So the next entry where all lines run in
 -- order is the lane's next one.

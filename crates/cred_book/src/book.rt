@@ -8,11 +8,11 @@ ghost use Rattle.cred_model.specs.Journal.{replay};
 ghost use Rattle.cred_model.specs.Named.{IsEventOf};
 ghost use Rattle.cred_model.specs.Slots.{uses};
 ghost use Rattle.cred_script.specs.Grammar.{line_at};
-ghost use Rattle.cred_cursor.specs.Cursor.{IsOfLine, PassesTo};
+ghost use Rattle.cred_cursor.specs.Cursor.{IsOfLine, MovesOnTo};
 ghost use Rattle.cred_book.specs.Book.{with_event, answer_of};
 ghost use Rattle.cred_book.specs.Counts.{Counts, ended_of};
-ghost use Rattle.cred_book.specs.Cursor.{HasEnded, IsLeastLane, Makes, Stands, has_left};
-ghost use Rattle.cred_book.specs.Cursor.{left, passed};
+ghost use Rattle.cred_book.specs.Cursor.{NoLineIsLeft, IsLeastLane, Makes, Stands, has_left};
+ghost use Rattle.cred_book.specs.Cursor.{left, moved_on};
 ghost use Rattle.cred_book.specs.declared.step.Step.TheVariants.{More};
 
 use crate::ended::lines_without_events;
@@ -182,7 +182,7 @@ impl Book {
             return Ok(Step::Ended);
         };
         let cursor = self.enter(lane, course, event)?;
-        self.pass(lane, course.line(), cursor);
+        self.move_on(lane, course.line(), cursor);
         Ok(Step::More)
     }
 
@@ -190,7 +190,7 @@ impl Book {
     /// taken.
     pub fn least(&self) -> Option<u32>
         requires { Stands self.now }
-        ensures { MatchOption result (HasEnded self.now) (IsLeastLane self.now) }
+        ensures { MatchOption result (NoLineIsLeft self.now) (IsLeastLane self.now) }
     {
         self.cursors.least()
     }
@@ -203,7 +203,7 @@ impl Book {
         requires going { is_some course.stage ≡ true }
         ensures entered { OnOk result (self.new ≡ with_event self.old course.line event) }
         ensures passes { IfOk result (λ cursor. IfSome (line_at self.old.script course.line)
-            (λ line. PassesTo self.old.script lane
+            (λ line. MovesOnTo self.old.script lane
             (course_model.after line.content course (answer_of self.old course.line event))
             cursor)) }
         ensures err { OnErr result (self.new ≡ self.old) }
@@ -220,16 +220,16 @@ impl Book {
         Ok(cursor)
     }
 
-    /// Lets the lane pass on from this line to its next cursor, and counts the line where that has
+    /// Moves the lane on from this line to its next cursor, and counts the line where that has
     /// ended.
-    fn pass(&mut self, lane: u32, line: u32, cursor: Option<Course>)
+    fn move_on(&mut self, lane: u32, line: u32, cursor: Option<Course>)
         requires cursors { lane < length self.old.cursors }
         requires counts { lane < length self.old.ended }
         requires few { slice_index_or self.old.ended lane 0 < LINE_LIMIT }
-        ensures { self.new ≡ passed self.old lane line cursor }
+        ensures { self.new ≡ moved_on self.old lane line cursor }
     {
         let has_ended = has_left(&cursor, line);
-        self.cursors.pass(lane, cursor);
+        self.cursors.move_on(lane, cursor);
         if has_ended {
             self.ended[lane as usize] += 1;
         }

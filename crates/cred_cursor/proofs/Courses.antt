@@ -16,7 +16,8 @@ use Rattle.cred_model.specs.Journal.{answers_of, next_event}
 use Rattle.cred_model.proofs.Courses.{after_line}
 use Rattle.cred_model.proofs.Lines.{answers_of-push_same, answers_of-push_other}
 use Rattle.cred_script.specs.Grammar.{line_at}
-use Rattle.cred_cursor.specs.Cursor.{HasEnded, NotBegun, IsOver, IsPast, StandsOn, IsLaneCursor, may_wait, may_wait_at, IsOfLine, PassesTo, PassesFrom, is_of}
+use Rattle.cred_cursor.specs.Cursor.{EndedInLane, NotBegun, IsOver, IsPast, StandsOn, IsLaneCursor}
+use Rattle.cred_cursor.specs.Cursor.{may_wait, may_wait_at, IsOfLine, MovesOnTo, MovesOnFrom, is_of}
 
 -- the line at a place has the next number
 line_at-place : (script : Script) (place : ℕ) → line_at script (place + 1) ≡ slice_get script.lines place
@@ -59,7 +60,7 @@ next_is script journal course at = ap (event_at at.line.content) (sym at.stands)
 
 -- a line whose course has no stage has ended
 ended_here : (script : Script) (journal : List Entry) (lane : ℕ) (course : Course) (at : StandsOn script journal lane course)
-    → course.stage ≡ None → HasEnded script journal lane at.place
+    → course.stage ≡ None → EndedInLane script journal lane at.place
 ended_here script journal lane course at over =
     subst (λ (o : Option Line). IfSome o (λ line. is_of lane line ≡ true → next_event journal (at.place + 1) line.content ≡ None)) (sym at.here)
     (λ own. next_is script journal course at ∙ ap (option_and_then (event_in course.line at.line.content)) over)
@@ -75,7 +76,7 @@ past : (script : Script) (journal : List Entry) (lane : ℕ) (course : Course) �
     → course.stage ≡ None → IsPast script journal lane course.line
 past script journal lane course at over =
     subst (IsPast script journal lane) (sym at.number) (record {
-      ended = one_more (HasEnded script journal lane) at.place at.ended (ended_here script journal lane course at over);
+      ended = one_more (EndedInLane script journal lane) at.place at.ended (ended_here script journal lane course at over);
       later = λ k le. at.later k (omega arith);
     })
 
@@ -110,13 +111,13 @@ passes_by : (script : Script) (journal : List Entry) (lane : ℕ) (number : ℕ)
     → line_at script (number + 1) ≡ Some line → (is_of lane line ≡ true → (start (number + 1) line.content).stage ≡ None)
     → IsPast script journal lane (number + 1)
 passes_by script journal lane number line at following over =
-    let here : HasEnded script journal lane number
+    let here : EndedInLane script journal lane number
     = subst (λ (o : Option Line). IfSome o (λ l. is_of lane l ≡ true → next_event journal (number + 1) l.content ≡ None))
     (sym (line_behind script number line following))
     (λ own. ap (λ answers. event_at line.content (leads (number + 1) line.content answers)) (no_answers script journal lane number line at following own)
     ∙ ap (option_and_then (event_in (number + 1) line.content)) (over own)) in
     record {
-      ended = one_more (HasEnded script journal lane) number at.ended here;
+      ended = one_more (EndedInLane script journal lane) number at.ended here;
       later = λ k le. at.later k (omega arith);
     }
 
@@ -140,7 +141,7 @@ nothing_begun : (o : Option Line) (lane number : ℕ) → IfSome o (λ line. is_
 nothing_begun None lane number = tt
 nothing_begun (Some line) lane number = λ own. refl
 
-pub first_of_lane : (script : Script) (lane : ℕ) (to : Option Course) → PassesFrom script lane 0 to → IsLaneCursor script [] lane to
+pub first_of_lane : (script : Script) (lane : ℕ) (to : Option Course) → MovesOnFrom script lane 0 to → IsLaneCursor script [] lane to
 first_of_lane script lane to from = from.stands [] (record {
   ended = λ k lt. absurd (omega arith);
   later = λ k le. nothing_begun (slice_get script.lines k) lane (k + 1);
@@ -199,7 +200,7 @@ next_shorter script number line following =
     omega (arith, within)
 
 pub reaches_end : (script : Script) (lane : ℕ) (from number : ℕ) → Reaches script lane from number → line_at script (number + 1) ≡ None
-    → PassesFrom script lane from None
+    → MovesOnFrom script lane from None
 reaches_end script lane from number at none = record {
   stands = λ journal before. all_past script journal lane number (at.stands journal before) none;
   falls = omega arith;
@@ -207,7 +208,7 @@ reaches_end script lane from number at none = record {
 
 pub reaches_due : (script : Script) (lane : ℕ) (from number : ℕ) (line : Line) → Reaches script lane from number
     → line_at script (number + 1) ≡ Some line → is_of lane line ≡ true → is_none (start (number + 1) line.content).stage ≡ false
-    → PassesFrom script lane from (Some (start (number + 1) line.content))
+    → MovesOnFrom script lane from (Some (start (number + 1) line.content))
 reaches_due script lane from number line at following own going =
     let course = start (number + 1) line.content in
     let within = later_line script number line following in
@@ -225,7 +226,7 @@ reaches_due script lane from number line at following own going =
 -- ---- from a course on
 
 pub passes_ended : (script : Script) (lane : ℕ) (course : Course) (to : Option Course) → is_none course.stage ≡ true
-    → PassesFrom script lane course.line to → PassesTo script lane course to
+    → MovesOnFrom script lane course.line to → MovesOnTo script lane course to
 passes_ended script lane course to over from =
     let fell = from.falls in
     record {
@@ -233,7 +234,7 @@ passes_ended script lane course to over from =
       falls = omega (arith, fell);
     }
 
-pub passes_due : (script : Script) (lane : ℕ) (course : Course) → is_none course.stage ≡ false → PassesTo script lane course (Some course)
+pub passes_due : (script : Script) (lane : ℕ) (course : Course) → is_none course.stage ≡ false → MovesOnTo script lane course (Some course)
 passes_due script lane course going = record {
   stands = λ journal at. (at, some_of course.stage going);
   falls = omega arith;
@@ -273,7 +274,7 @@ both None p q f = tt
 both (Some x) p q f = f x p q
 
 ended_stays : (script : Script) (journal : List Entry) (lane : ℕ) (entry : Entry) (k : ℕ) → IsOther script lane entry
-    → HasEnded script journal lane k → HasEnded script (journal ++ entry ∷ []) lane k
+    → EndedInLane script journal lane k → EndedInLane script (journal ++ entry ∷ []) lane k
 ended_stays script journal lane entry k other ended =
     both (slice_get script.lines k) (other k) ended
     (λ line differ over own. ap (λ answers. event_at line.content (leads (k + 1) line.content answers))

@@ -11,7 +11,7 @@ use Rattle.cred_model.specs.Journal.{due_in, next, lane_of, SoFar}
 use Rattle.cred_model.proofs.Courses.{makes_event}
 use Rattle.cred_model.proofs.Journals.{each_push}
 use Rattle.cred_script.specs.Grammar.{line_at}
-use Rattle.cred_cursor.specs.Cursor.{IsLaneCursor, IsOfLine, PassesTo, StandsOn, is_of}
+use Rattle.cred_cursor.specs.Cursor.{IsLaneCursor, IsOfLine, MovesOnTo, StandsOn, is_of}
 use Rattle.cred_cursor.proofs.Courses.{IsOther, line_is, of_line, next_is, goes_on, cursor_stays}
 use Rattle.cred_cursor.proofs.Due.{first_due_at, first_due_none}
 
@@ -74,10 +74,10 @@ lane_of_course script journal lane course at =
 -- one of the course's line leads to the lane's next cursor
 pub lane_goes_on : (script : Script) (journal : List Entry) (lane : ℕ) (course : Course) (entry : Entry) (to : Option Course)
     → IsLaneCursor script journal lane (Some course) → entry.line ≡ course.line
-    → IfSome (line_at script course.line) (λ line. PassesTo script lane (model.after line.content course entry.answer) to)
+    → IfSome (line_at script course.line) (λ line. MovesOnTo script lane (model.after line.content course entry.answer) to)
     → IsLaneCursor script (journal ++ entry ∷ []) lane to
 lane_goes_on script journal lane course entry to at same passes =
-    let passed = subst (λ (o : Option Line). IfSome o (λ line. PassesTo script lane (model.after line.content course entry.answer) to))
+    let passed = subst (λ (o : Option Line). IfSome o (λ line. MovesOnTo script lane (model.after line.content course entry.answer) to))
     (line_is script journal course at.0) passes in
     passed.stands (journal ++ entry ∷ []) (goes_on script journal course entry at.0 same)
 

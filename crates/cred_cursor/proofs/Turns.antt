@@ -9,7 +9,7 @@ use Rattle.cred_model.specs.Course as model
 use Rattle.cred_model.specs.Course.{Course, event_at}
 use Rattle.cred_model.specs.Journal.{due_in, entry_of, lane_of, next}
 use Rattle.cred_script.specs.Grammar.{line_at}
-use Rattle.cred_cursor.specs.Cursor.{IsLaneCursor, PassesTo}
+use Rattle.cred_cursor.specs.Cursor.{IsLaneCursor, MovesOnTo}
 use Rattle.cred_cursor.specs.Cursors.{AreCursors, cursor_of, due_of, waits}
 use Rattle.cred_cursor.proofs.Lanes.{lane_over, lane_due, lane_of_course, lane_goes_on, lane_stays}
 use Rattle.cred_cursor.proofs.AllLanes.{has_place, cursor_set, other_cursor, is_due}
@@ -69,7 +69,7 @@ next_some script journal cursors lane course event at due has =
 -- the lane's own cursor goes on, all others stay
 cursor_by : (script : Script) (journal : List Entry) (cursors : List (Option Course)) (lane : ℕ) (course : Course) (entry : Entry) (to : Option Course)
     → AreCursors script journal cursors → due_of cursors lane ≡ Some course → entry.line ≡ course.line
-    → IfSome (line_at script course.line) (λ line. PassesTo script lane (model.after line.content course entry.answer) to)
+    → IfSome (line_at script course.line) (λ line. MovesOnTo script lane (model.after line.content course entry.answer) to)
     → (other : ℕ) (b : Bool) → (other == lane) ≡ b
     → IsLaneCursor script (journal ++ entry ∷ []) other (cursor_of (set cursors lane to) other)
 cursor_by script journal cursors lane course entry to at due number passes other true test =
@@ -89,7 +89,7 @@ cursor_by script journal cursors lane course entry to at due number passes other
 
 pub lanes_go_on : (script : Script) (journal : List Entry) (cursors : List (Option Course)) (lane : ℕ) (course : Course) (entry : Entry) (to : Option Course)
     → AreCursors script journal cursors → due_of cursors lane ≡ Some course → entry.line ≡ course.line
-    → IfSome (line_at script course.line) (λ line. PassesTo script lane (model.after line.content course entry.answer) to)
+    → IfSome (line_at script course.line) (λ line. MovesOnTo script lane (model.after line.content course entry.answer) to)
     → AreCursors script (journal ++ entry ∷ []) (set cursors lane to)
 lanes_go_on script journal cursors lane course entry to at due number passes other =
     cursor_by script journal cursors lane course entry to at due number passes other (other == lane) refl

@@ -20,8 +20,8 @@ abbrev pub is_of : ℕ → Line → Bool
 is_of lane line = line.lane == lane
 
 -- the line at this place, where it is of the lane, has ended
-abbrev pub HasEnded : Script → List Entry → ℕ → ℕ → Type 0
-HasEnded script journal lane place =
+abbrev pub EndedInLane : Script → List Entry → ℕ → ℕ → Type 0
+EndedInLane script journal lane place =
     IfSome (slice_get script.lines place)
     (λ line. is_of lane line ≡ true → next_event journal (place + 1) line.content ≡ None)
 
@@ -33,11 +33,11 @@ NotBegun script journal lane place =
 
 -- All lines of the lane have ended.
 pub record IsOver (script : Script) (journal : List Entry) (lane : ℕ) : Type 0 where
-  pub ended : (k : ℕ) → k < length script.lines → HasEnded script journal lane k
+  pub ended : (k : ℕ) → k < length script.lines → EndedInLane script journal lane k
 
 -- The lane's lines up to this number have ended, and no later one of them has begun.
 pub record IsPast (script : Script) (journal : List Entry) (lane number : ℕ) : Type 0 where
-  pub ended : (k : ℕ) → k < number → HasEnded script journal lane k
+  pub ended : (k : ℕ) → k < number → EndedInLane script journal lane k
   pub later : (k : ℕ) → number ≤ k → NotBegun script journal lane k
 
 -- The course's line is one of the lane, and has come as far as the course. Those of the lane's
@@ -49,7 +49,7 @@ pub record StandsOn (script : Script) (journal : List Entry) (lane : ℕ) (cours
   pub line : Line
   pub here : slice_get script.lines place ≡ Some line
   pub own : is_of lane line ≡ true
-  pub ended : (k : ℕ) → k < place → HasEnded script journal lane k
+  pub ended : (k : ℕ) → k < place → EndedInLane script journal lane k
   pub later : (k : ℕ) → place < k → NotBegun script journal lane k
   pub stands : course ≡ leads (place + 1) line.content (answers_of journal (place + 1))
 
@@ -91,14 +91,14 @@ abbrev pub IsOfLine : Script → Course → Type 0
 IsOfLine script course = IfSome (line_at script course.line) (λ line. Leads line.content course)
 
 -- From a course of one of the lane's lines on, this is the lane's cursor.
-pub record PassesTo (script : Script) (lane : ℕ) (course : Course) (to : Option Course)
+pub record MovesOnTo (script : Script) (lane : ℕ) (course : Course) (to : Option Course)
     : Type 0 where
   pub stands : (journal : List Entry) → StandsOn script journal lane course
       → IsLaneCursor script journal lane to
   pub falls : left_at script to ≤ left_at script (Some course)
 
 -- Where the lane's lines up to this number are past, this is the lane's cursor.
-pub record PassesFrom (script : Script) (lane number : ℕ) (to : Option Course) : Type 0 where
+pub record MovesOnFrom (script : Script) (lane number : ℕ) (to : Option Course) : Type 0 where
   pub stands : (journal : List Entry) → IsPast script journal lane number
       → IsLaneCursor script journal lane to
   pub falls : left_at script to ≤ LINE_EVENTS * (length script.lines - number)

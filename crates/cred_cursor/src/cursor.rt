@@ -6,7 +6,7 @@ ghost use Rattle.cred_event.specs.Lists.{BeginsSetGroups};
 ghost use Rattle.cred_model.specs.Course as model;
 ghost use Rattle.cred_model.specs.Named.{IsEventOf};
 ghost use Rattle.cred_script.specs.Grammar.{line_at};
-ghost use Rattle.cred_cursor.specs.Cursor.{IsLaneCursor, IsOfLine, PassesFrom, PassesTo};
+ghost use Rattle.cred_cursor.specs.Cursor.{IsLaneCursor, IsOfLine, MovesOnFrom, MovesOnTo};
 
 use cred_course::Course;
 use cred_event::{Answer, Event};
@@ -48,7 +48,7 @@ pub fn cursor_after(script: &Script, lane: u32, course: Course, answer: &Answer)
     requires line { IsOfLine script.now course }
     requires going { is_some course.stage ≡ true }
     ensures { IfSome (line_at script.now course.line) (λ line.
-        PassesTo script.now lane (model.after line.content course answer.now) result) }
+        MovesOnTo script.now lane (model.after line.content course answer.now) result) }
 {
     let (_, content) = script.line(course.line())?;
     let mut course = course;
@@ -59,7 +59,7 @@ pub fn cursor_after(script: &Script, lane: u32, course: Course, answer: &Answer)
 /// The cursor of the lane from a course on: that course, or, where its line has ended, that of the
 /// lane's first later line that has not.
 fn first_left(script: &Script, lane: u32, course: Course) -> Option<Course>
-    ensures { PassesTo script.now lane course result }
+    ensures { MovesOnTo script.now lane course result }
 {
     if course.ended() {
         first_after(script, lane, course.line())
@@ -72,7 +72,7 @@ fn first_left(script: &Script, lane: u32, course: Course) -> Option<Course>
 /// the course of its first later line that makes events.
 fn first_after(script: &Script, lane: u32, line: u32) -> Option<Course>
     requires { line ≤ LINE_LIMIT }
-    ensures { PassesFrom script.now lane line result }
+    ensures { MovesOnFrom script.now lane line result }
 {
     let mut number = line;
     'lines: loop {

@@ -62,8 +62,8 @@ impl Cursors {
         cursor_of(&self.cursors, lane)
     }
 
-    /// Lets the lane pass on to this cursor.
-    pub fn pass(&mut self, lane: u32, cursor: Option<Course>)
+    /// Moves the lane on to this cursor.
+    pub fn move_on(&mut self, lane: u32, cursor: Option<Course>)
         requires { lane < length self.old }
         ensures { self.new ≡ set self.old lane cursor }
     {

@@ -1,4 +1,4 @@
-//! What an event sees of the script besides the kernel's state: the files and the user namespaces
+//! What an event sees of the script besides the state of the run: the files and the user namespaces
 //! that the script declares. Both bodies of a step ask here.
 #![tactic(auto)]
 

@@ -1,4 +1,4 @@
-//! The events: each is one step of the kernel's book.
+//! The events: each is one step of the book.
 ghost use Rattle.std.specs.Prelude.{◌≡◌, IfOk, OnErr};
 ghost use Rattle.cred_event.specs.Lists.{BeginsSetGroups};
 
@@ -49,7 +49,7 @@ pub enum Change {
     Access,
 }
 
-/// One step of the kernel's book. Tasks, processes, descriptors and labels are named by number,
+/// One step of the book. Tasks, processes, descriptors and labels are named by number,
 /// a broadcast by the number of the line that began it.
 #[derive(Clone, Drop, Debug)]
 pub enum Event {

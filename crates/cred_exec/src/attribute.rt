@@ -1,10 +1,10 @@
 //! What of the file has effect: its set-id bits, and its capability attribute.
-ghost use Rattle.std.specs.Prelude.{◌≡◌, ◌<◌, Ok, Err, IfOk, OnErr};
-ghost use Rattle.cred_rules.specs.Access.{has_bit};
+ghost use Rattle.std.specs.Prelude.{◌≡◌, Ok, Err, IfOk, OnErr};
 ghost use Rattle.cred_rules.specs.Attribute.{attribute_of};
 ghost use Rattle.cred_rules.specs.Exec.{SpellsNothing, has_effect, sets_user, sets_group};
 ghost use Rattle.cred_rules.specs.Exec.{read_by, attribute_for};
 
+use cred_access::has_bit;
 use cred_filecap::{AttrRefusal, FileCaps, counts, decode};
 use cred_ids::Id;
 use cred_record::{Cred, FileInfo};
@@ -17,15 +17,6 @@ const SET_GROUP_ID: u32 = 10;
 
 /// The place of the execute bit of the group.
 const GROUP_EXECUTE: u32 = 3;
-
-/// Whether the bit at this place of the mode is set.
-#[tactic(auto, using(std::proofs::lemmas::Nat::Bits::shr_and_one))]
-fn has_bit(mode: u16, place: u32) -> bool
-    requires { place < 16 }
-    ensures { result ≡ has_bit mode place }
-{
-    mode >> place & 1 == 1
-}
 
 /// Whether the set-id bits and the attribute have effect: not under no_new_privs, and not where the
 /// file system is mounted nosuid.

@@ -8,7 +8,8 @@ use Rattle.std.proofs.lemmas.Nat.{and_le_r, or_shifted, shl_whole, shr-shr}
 use Rattle.std.proofs.lemmas.Nat.Bits.{bit_at_and, bit_at_cat_low, bit_at_cat_high, bit_at_ones, bit_at_above, bit_at-lt}
 use Rattle.cred_caps.specs.Caps.{IsCap, IsCaps, full, has, meet}
 use Rattle.cred_caps.proofs.SetLaws.{has-meet, has-full, same_caps}
-use Rattle.cred_rules.specs.Attribute.{is_bit, SpellsSet}
+use Rattle.cred_rules.specs.Attribute.{SpellsSet}
+use Rattle.cred_rules.specs.Bits.{has_bit}
 
 -- ---- two words as a set
 
@@ -37,20 +38,20 @@ or-words low high small small' =
 
 -- ---- a set as two words
 
-low-word : (s n : ℕ) → n < 32 → has s n ≡ is_bit (bit_and s (2 ^ 32 - 1)) n
+low-word : (s n : ℕ) → n < 32 → has s n ≡ has_bit (bit_and s (2 ^ 32 - 1)) n
 low-word s n lt =
     let one : bit_at (2 ^ 32 - 1) n ≡ 1 = bit_at_ones 32 n lt in
     let same : bit_at (bit_and s (2 ^ 32 - 1)) n ≡ bit_at s n = bit_at_and s (2 ^ 32 - 1) n ∙ omega (arith, bit_at-lt s n) in
     ap (λ d. d == 1) (sym same)
 
-high-word : (s n : ℕ) → has s (32 + n) ≡ is_bit (s / 2 ^ 32) n
+high-word : (s n : ℕ) → has s (32 + n) ≡ has_bit (s / 2 ^ 32) n
 high-word s n = ap (λ d. d % 2 == 1) (sym (shr-shr s 32 n))
 
 pub words-spell : (s : ℕ) → IsCaps s → SpellsSet (bit_and s (2 ^ 32 - 1)) (s / 2 ^ 32) s
 words-spell s caps = record { below = low-word s; above = λ n _. high-word s n; others = caps }
 
 -- the bits of a word that is below 2 ^ 9
-pub high-canonical : (w i : ℕ) → w < 2 ^ 9 → 40 < 32 + i → is_bit w i ≡ false
+pub high-canonical : (w i : ℕ) → w < 2 ^ 9 → 40 < 32 + i → has_bit w i ≡ false
 high-canonical w i small above = ap (λ d. d == 1) (bit_at_above w 9 i small (omega arith))
 
 -- ---- two words say one set

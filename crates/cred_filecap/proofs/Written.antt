@@ -5,7 +5,9 @@ use Rattle.std.proofs.Math.Nat.{mod-eq_of_lt}
 use Rattle.std.proofs.lemmas.Nat.{shr_high}
 use Rattle.std.proofs.lemmas.Nat.Bits.{bit_at_cat_low, bit_at_above}
 use Rattle.byteorder.specs.Endian.{little_bytes}
-use Rattle.cred_rules.specs.Attribute.{Attribute, is_version, word_at, is_bit, IsVersion2, IsVersion3, SpellsSet, Spells, IsCanonical}
+use Rattle.cred_rules.specs.Attribute.{Attribute, is_version, word_at, IsVersion2, IsVersion3}
+use Rattle.cred_rules.specs.Attribute.{SpellsSet, Spells, IsCanonical}
+use Rattle.cred_rules.specs.Bits.{has_bit}
 use Rattle.cred_filecap.proofs.SetLemmas.{high-canonical}
 use Rattle.cred_filecap.proofs.WordLemmas.{word-bytes}
 
@@ -28,14 +30,14 @@ top-byte version on m is =
 low-bit : (version : ℕ) (on : Bool) (m i : ℕ) → IsMagic version on m → i < 24 → bit_at m i ≡ bit_at (if on then 1 else 0) i
 low-bit version on m i is low = ap (λ x. bit_at x i) is.value ∙ bit_at_cat_low version 24 (if on then 1 else 0) i low
 
-flag-alone : (on : Bool) → is_bit (if on then 1 else 0) 0 ≡ on
+flag-alone : (on : Bool) → has_bit (if on then 1 else 0) 0 ≡ on
 flag-alone true = refl
 flag-alone false = refl
 
-effective : (version : ℕ) (on : Bool) (m : ℕ) → IsMagic version on m → on ≡ is_bit m 0
+effective : (version : ℕ) (on : Bool) (m : ℕ) → IsMagic version on m → on ≡ has_bit m 0
 effective version on m is = sym (ap (λ d. d == 1) (low-bit version on m 0 is (omega arith)) ∙ flag-alone on)
 
-no-flag : (version : ℕ) (on : Bool) (m i : ℕ) → IsMagic version on m → 0 < i → i < 24 → is_bit m i ≡ false
+no-flag : (version : ℕ) (on : Bool) (m i : ℕ) → IsMagic version on m → 0 < i → i < 24 → has_bit m i ≡ false
 no-flag version on m i is other low =
     ap (λ d. d == 1) (low-bit version on m i is low ∙ bit_at_above (if on then 1 else 0) 1 i (flag-small on) (omega arith))
 
@@ -84,7 +86,7 @@ has-root m pl il ph ih r fits = word-bytes r fits
 spells-by : (bytes : List ℕ) (a : Attribute) (m pl il ph ih : ℕ) → AreWords a m pl il ph ih → HasWords bytes m pl il ph ih → IsVersion2 bytes a ⊎ IsVersion3 bytes a → Spells bytes a
 spells-by bytes a m pl il ph ih are has version = record {
   version = version;
-  effective = effective a.version a.effective m are.magic ∙ ap (λ x. is_bit x 0) (sym has.magic);
+  effective = effective a.version a.effective m are.magic ∙ ap (λ x. has_bit x 0) (sym has.magic);
   perm = rw (has.perm_low, has.perm_high) are.perm;
   inh = rw (has.inh_low, has.inh_high) are.inh;
 }
@@ -115,7 +117,7 @@ pub canonical : (a : Attribute) (m pl il ph ih : ℕ) (rest : List ℕ) → AreW
 canonical a m pl il ph ih rest are =
     let has = has-words a m pl il ph ih rest are in
     record {
-      flags = λ i from to. ap (λ x. is_bit x i) has.magic ∙ no-flag a.version a.effective m i are.magic from to;
-      perm = λ i from to. ap (λ x. is_bit x i) has.perm_high ∙ high-canonical ph i are.ph_small from;
-      inh = λ i from to. ap (λ x. is_bit x i) has.inh_high ∙ high-canonical ih i are.ih_small from;
+      flags = λ i from to. ap (λ x. has_bit x i) has.magic ∙ no-flag a.version a.effective m i are.magic from to;
+      perm = λ i from to. ap (λ x. has_bit x i) has.perm_high ∙ high-canonical ph i are.ph_small from;
+      inh = λ i from to. ap (λ x. has_bit x i) has.inh_high ∙ high-canonical ih i are.ih_small from;
     }

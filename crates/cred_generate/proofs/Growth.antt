@@ -36,7 +36,7 @@ use Rattle.cred_model.specs.Moves.{◌>>=◌, in_slot, table_full, first_task, c
 use Rattle.cred_model.specs.Moves.{preparing, altered, committed, given_up}
 use Rattle.cred_model.specs.Named.{query_files, change_files}
 use Rattle.cred_model.specs.Script.{Script, info_of, chain_of}
-use Rattle.cred_model.specs.Slots.{room, free, least_free, swept}
+use Rattle.cred_model.specs.Slots.{swept_if_full, free, least_free, swept}
 use Rattle.cred_model.specs.State.{State, SealedCred, Task, Numbered, Prepared, Changed, Broadcast, numbered, number_on, task_of, cast_of, cast_in, begun_by, open_of, hold_of, prepared_of, credential_of, opener_of, held_by}
 use Rattle.cred_model.specs.Step.{done, outcome, by_init, take_hold, by_take, by_take_file, by_release, by_ask, by_signal, by_prepare, by_alter, for_task, try_commit, ends_with, casts_after, committed_by, commit_answer, by_commit, by_abort, for_access, override_held, override_prepared, by_override, by_revert, by_begin, aborted, follow, by_act, by_open, by_close, by_spawn, by_fork, by_exit}
 use Rattle.cred_model.proofs.Numbers.{numbered_is, sealed_cred_of}
@@ -87,7 +87,7 @@ silent_refusal s Invalid = refl
 
 -- ---- a slot
 
-room_creds : (s : State) → (room s).creds ≡ s.creds
+room_creds : (s : State) → (swept_if_full s).creds ≡ s.creds
 room_creds s =
     elim (is_some (least_free s)) as (λ b. (cond b s (swept s)).creds ≡ s.creds) [
       | true ↦ refl
@@ -103,7 +103,7 @@ slot_counts : (s : State) (full : State → Answer × State) (does : State → �
     → ((t : State) → t.creds ≡ s.creds → Counts s (full t)) → ((t : State) (slot : ℕ) → t.creds ≡ s.creds → Counts s (does t slot))
     → Counts s (in_slot s full does)
 slot_counts s full does none each =
-    found_slot s (room s) full does (free s) (none (room s) (room_creds s)) (λ slot. each (room s) slot (room_creds s))
+    found_slot s (swept_if_full s) full does (free s) (none (swept_if_full s) (room_creds s)) (λ slot. each (swept_if_full s) slot (room_creds s))
 
 long : (s t : State) → t.creds ≡ s.creds → length t.creds ≡ length s.creds
 long s t is = ap (λ (creds : List SealedCred). length creds) is

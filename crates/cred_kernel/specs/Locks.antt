@@ -14,7 +14,7 @@ use Rattle.cred_book.specs.Cursor.{Stands}
 use Rattle.cred_kernel.specs.Turns.{Seen, turn_at}
 
 -- the parts of a kernel: the book's script and the roll's identity
-pub record Made : Type 0 where
+pub record KernelParts : Type 0 where
   pub script : Script
   pub roll : TableId
 
@@ -39,7 +39,7 @@ pub record IsMade (book : Recorded) (roll : Rolled) : Type 0 where
   pub rows : roll.rows ≡ replicate (lanes book.script.lines) (home_row fresh)
 
 -- what lies under the lock: the journal and the rows
-pub record Held : Type 0 where
+pub record Contents : Type 0 where
   pub journal : List Entry
   pub rows : List Row
 

@@ -39,8 +39,8 @@ pub record IsTurn
   pub pass_is : its_pass ≡ Some (pass roll lane numbers)
 
 -- all lines of the turn's lane have ended, and none of them is being decided
-abbrev pub HasEnded : Script → Seen → Type 0
-HasEnded script turn =
+abbrev pub LaneHasEnded : Script → Seen → Type 0
+LaneHasEnded script turn =
     (turn.numbers.ended ≡ lines_in script turn.lane) × (turn.numbers.out ≡ None)
 
 -- nothing was entered by the turn, and no line of it is being decided
@@ -68,7 +68,7 @@ abbrev pub AreHome : List Seen → Type 0
 AreHome turns = (k : ℕ) → k < length turns → (turn_at turns k).numbers.out ≡ None
 
 abbrev pub HaveEnded : Script → List Seen → Type 0
-HaveEnded script turns = (k : ℕ) → k < length turns → HasEnded script (turn_at turns k)
+HaveEnded script turns = (k : ℕ) → k < length turns → LaneHasEnded script (turn_at turns k)
 
 -- the journal has as many entries of each lane as the lane's turn has entered
 abbrev pub AreCounted : Script → List Entry → List Seen → Type 0

@@ -19,9 +19,9 @@ pub(crate) struct Locked<K: Name> {
 }
 
 impl<K: Name> Model for Locked<K> {
-    ghost use Rattle.cred_kernel.specs.Locks.{Held, IsLocked};
+    ghost use Rattle.cred_kernel.specs.Locks.{Contents, IsLocked};
 
-    ghost Value = { Held };
+    ghost Value = { Contents };
 
     ghost view = { λ s. record { journal = s.book.journal; rows = s.roll.rows } };
 

@@ -19,9 +19,9 @@ pub struct Parts {
 }
 
 impl Model for Parts {
-    ghost use Rattle.cred_kernel.specs.Locks.{IsMade, Made};
+    ghost use Rattle.cred_kernel.specs.Locks.{IsMade, KernelParts};
 
-    ghost Value = { Made };
+    ghost Value = { KernelParts };
 
     ghost view = { λ p. record { script = p.book.script; roll = p.roll.id } };
 

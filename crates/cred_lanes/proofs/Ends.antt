@@ -6,7 +6,7 @@ use Rattle.std.proofs.lemmas.List.{get_or_at}
 use Rattle.std.proofs.Math.ListN.{get_or-append}
 use Rattle.cred_model.specs.Script.{Script}
 use Rattle.cred_turn.specs.Rows.{fresh}
-use Rattle.cred_kernel.specs.Turns.{Seen, HasEnded, turn_at}
+use Rattle.cred_kernel.specs.Turns.{Seen, LaneHasEnded, turn_at}
 use Rattle.cred_lanes.specs.Works.{AllFinished}
 use mathlib.Core.Logic.{dite}
 use native.Mathlib.Decide.{ℕ_discrete}
@@ -14,7 +14,7 @@ use native.Mathlib.Decide.{ℕ_discrete}
 -- the first turns are those of the first lanes, which have ended
 abbrev pub EndedUpTo : Script → ℕ → List Seen → Type 0
 EndedUpTo script n turns =
-    (k : ℕ) → k < n → ((turn_at turns k).lane ≡ k + 1) × HasEnded script (turn_at turns k)
+    (k : ℕ) → k < n → ((turn_at turns k).lane ≡ k + 1) × LaneHasEnded script (turn_at turns k)
 
 -- one more worker has ended its lane
 pub ended_more : {E : Type 0} (script : Script) (done before after : List (Result Seen E))
@@ -25,7 +25,7 @@ pub ended_more : {E : Type 0} (script : Script) (done before after : List (Resul
 ended_more {E} script done before after x turn turns each split is len up k h =
     let n : ℕ = length before in
     let d : Seen = record { lane = 0; numbers = fresh } in
-    let P : ℕ → Seen → Type 0 = λ j t. (t.lane ≡ j + 1) × HasEnded script t in
+    let P : ℕ → Seen → Type 0 = λ j t. (t.lane ≡ j + 1) × LaneHasEnded script t in
     dite (ℕ_discrete k n)
     (λ (eq : k ≡ n).
     let at : get_or done n x ≡ x =

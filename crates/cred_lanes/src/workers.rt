@@ -2,7 +2,7 @@
 ghost use Rattle.std.specs.Prelude.{◌≡◌, length, IfOk, OnOk, None};
 ghost use Rattle.cred_script.specs.Lanes.{lanes};
 ghost use Rattle.cred_book.specs.declared.step.Step.TheVariants.{Ended};
-ghost use Rattle.cred_kernel.specs.Turns.{AreAll, AreHome, HasEnded, HaveEnded};
+ghost use Rattle.cred_kernel.specs.Turns.{AreAll, AreHome, LaneHasEnded, HaveEnded};
 ghost use Rattle.cred_lanes.specs.Works.{AllFinished, Finished};
 
 use crate::gate::Gate;
@@ -86,7 +86,7 @@ fn advance_some<K: Name>(
     requires { turn.old.numbers.out ≡ None }
     ensures lane { turn.new.lane ≡ turn.old.lane }
     ensures out { OnOk result (turn.new.numbers.out ≡ None) }
-    ensures ended { IfOk result (λ step. step ≡ Ended → HasEnded K.script turn.new) }
+    ensures ended { IfOk result (λ step. step ≡ Ended → LaneHasEnded K.script turn.new) }
 {
     for _ in 0..most {
         if let Step::Ended = kernel.advance(turn)? {

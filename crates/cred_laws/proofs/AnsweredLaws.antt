@@ -1,4 +1,4 @@
--- The next entry has the answer that the kernel gives.
+-- The next entry has the answer that the rules give.
 use Rattle.std.proofs.Common.{◌≡◌, ◌==◌, ◌&&◌, not, ℕ, List, take, slice_get, Option, Some, None, true, false, cond, is_some, refl, subst}
 use Rattle.std.specs.Option.{IfSome, option_map}
 use Rattle.std.proofs.lemmas.Option.{IfSome_then}

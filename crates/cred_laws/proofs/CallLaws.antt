@@ -22,7 +22,7 @@ use Rattle.cred_record.specs.declared.id_call.IdCall.{IdCall}
 use Rattle.cred_record.specs.declared.id_call.IdCall.TheVariants.{SetUid, SetEuid, SetReuid, SetResuid, SetGid, SetEgid, SetRegid, SetResgid, SetGroups}
 use Rattle.cred_record.specs.declared.refusal.Denial.{Denial}
 use Rattle.cred_record.specs.declared.refusal.Denial.TheVariants.{Perm, Invalid}
-use Rattle.cred_record.specs.Credential.{Credential, has_cap}
+use Rattle.cred_record.specs.Credential.{Credential, capable}
 use Rattle.cred_record.specs.File.{File}
 use Rattle.cred_rules.specs.Access.{access_credential}
 use Rattle.cred_rules.specs.Adjust.{is_no_cap, may_capset, may_raise, may_set_bits, after_capset, after_bound_drop, after_amb_raise, after_amb_lower, FLAGS, keeps_lock, after_bits, after_keep_caps, after_no_new_privs, adjust}
@@ -79,7 +79,7 @@ not-false false is = cc
 setgroups-leaves : (c d : Credential) (list : List ℕ) → after_setgroups c list ≡ Ok d → Leaves c d
 unfolding after_setgroups
 setgroups-leaves c d list same =
-    two-tests (Leaves c) (not (has_cap c SETGID)) (nat_lt GROUP_LIMIT (length list)) Perm Invalid (record c { groups = in_order list }) d
+    two-tests (Leaves c) (not (capable c SETGID)) (nat_lt GROUP_LIMIT (length list)) Perm Invalid (record c { groups = in_order list }) d
     (λ _. record { bits = refl; bound = refl; nnp = refl }) same
 
 set_id-leaves : (c d : Credential) (call : IdCall) → set_id c call ≡ Ok d → Leaves c d
@@ -148,7 +148,7 @@ capset-follows c d perm inh eff same =
 bound_drop-follows : (c d : Credential) (n : ℕ) → after_bound_drop c n ≡ Ok d → Follows c d
 unfolding after_bound_drop
 bound_drop-follows c d n same =
-    two-tests (Follows c) (not (has_cap c SETPCAP)) (is_no_cap n) Perm Invalid _ d
+    two-tests (Follows c) (not (capable c SETPCAP)) (is_no_cap n) Perm Invalid _ d
     (λ _. record {
       locked = StaysLocked-itself c.bits;
       bound = meet-left c.bound _;

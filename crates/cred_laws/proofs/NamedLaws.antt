@@ -17,7 +17,7 @@ use Rattle.cred_record.specs.declared.id_call.IdCall.{IdCall}
 use Rattle.cred_record.specs.declared.id_call.IdCall.TheVariants.{SetUid, SetEuid, SetReuid, SetResuid, SetGid, SetEgid, SetRegid, SetResgid, SetGroups}
 use Rattle.cred_record.specs.declared.refusal.Denial.{Denial}
 use Rattle.cred_record.specs.declared.refusal.Denial.TheVariants.{Perm, Invalid}
-use Rattle.cred_record.specs.Credential.{Credential, has_cap}
+use Rattle.cred_record.specs.Credential.{Credential, capable}
 use Rattle.cred_record.specs.File.{File}
 use Rattle.cred_rules.specs.Access.{access_credential}
 use Rattle.cred_rules.specs.Adjust.{is_no_cap, may_capset, may_raise, may_set_bits, after_capset, after_bound_drop, after_amb_raise, after_amb_lower, after_bits, after_keep_caps, after_no_new_privs, adjust}
@@ -66,21 +66,21 @@ setreuid-named able ids new real effective same =
 -- the credential after a call has what the call names
 pub named : (c d : Credential) (call : IdCall) → set_id c call ≡ Ok d → HasNamed call d
 named c d (SetUid a) same =
-    for_users-gives (NamesIds Keep a Keep) c d _ (λ new is. setuid-named (has_cap c SETUID) c.uid new a is) same
+    for_users-gives (NamesIds Keep a Keep) c d _ (λ new is. setuid-named (capable c SETUID) c.uid new a is) same
 named c d (SetEuid a) same =
-    for_users-gives (NamesIds Keep a Keep) c d _ (λ new is. seteuid-named (has_cap c SETUID) c.uid new a is) same
+    for_users-gives (NamesIds Keep a Keep) c d _ (λ new is. seteuid-named (capable c SETUID) c.uid new a is) same
 named c d (SetReuid a b) same =
-    for_users-gives (NamesIds a b Keep) c d _ (λ new is. setreuid-named (has_cap c SETUID) c.uid new a b is) same
+    for_users-gives (NamesIds a b Keep) c d _ (λ new is. setreuid-named (capable c SETUID) c.uid new a b is) same
 named c d (SetResuid a b s) same =
-    for_users-gives (NamesIds a b s) c d _ (λ new is. setresuid-named (has_cap c SETUID) c.uid new a b s is) same
+    for_users-gives (NamesIds a b s) c d _ (λ new is. setresuid-named (capable c SETUID) c.uid new a b s is) same
 named c d (SetGid a) same =
-    for_groups-gives (NamesIds Keep a Keep) c d _ (λ new is. setuid-named (has_cap c SETGID) c.gid new a is) same
+    for_groups-gives (NamesIds Keep a Keep) c d _ (λ new is. setuid-named (capable c SETGID) c.gid new a is) same
 named c d (SetEgid a) same =
-    for_groups-gives (NamesIds Keep a Keep) c d _ (λ new is. seteuid-named (has_cap c SETGID) c.gid new a is) same
+    for_groups-gives (NamesIds Keep a Keep) c d _ (λ new is. seteuid-named (capable c SETGID) c.gid new a is) same
 named c d (SetRegid a b) same =
-    for_groups-gives (NamesIds a b Keep) c d _ (λ new is. setreuid-named (has_cap c SETGID) c.gid new a b is) same
+    for_groups-gives (NamesIds a b Keep) c d _ (λ new is. setreuid-named (capable c SETGID) c.gid new a b is) same
 named c d (SetResgid a b s) same =
-    for_groups-gives (NamesIds a b s) c d _ (λ new is. setresuid-named (has_cap c SETGID) c.gid new a b s is) same
+    for_groups-gives (NamesIds a b s) c d _ (λ new is. setresuid-named (capable c SETGID) c.gid new a b s is) same
 named c d (SetGroups list) same = setgroups-gives (HasNamed (SetGroups list)) c d list refl same
 
 ids_named : (real effective saved : Arg) (old new : Ids4) → three new ≡ three old → NamesIds real effective saved old
@@ -191,7 +191,7 @@ capset-same c d perm inh eff is =
 bound_drop-same : (c d : Credential) (n : ℕ) → after_bound_drop c n ≡ Ok d → AreSame c d
 unfolding after_bound_drop
 bound_drop-same c d n is =
-    two-tests (AreSame c) (not (has_cap c SETPCAP)) (is_no_cap n) Perm Invalid _ d
+    two-tests (AreSame c) (not (capable c SETPCAP)) (is_no_cap n) Perm Invalid _ d
     (λ may. record { users = refl; groups = refl; list = refl }) is
 
 amb_lower-same : (c d : Credential) (n : ℕ) → after_amb_lower c n ≡ Ok d → AreSame c d

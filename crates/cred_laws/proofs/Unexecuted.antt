@@ -27,10 +27,11 @@ use Rattle.cred_model.specs.Named.{change_files}
 use Rattle.cred_model.specs.State.{State, Broadcast, Task, Numbered, numbered, task_of, cast_of, cast_in, begun_by, open_of, hold_of, prepared_of, credential_of, opener_of, held_by}
 use Rattle.cred_model.specs.Casts.{not_busy, others_of, with_cast, waits_no_more}
 use Rattle.cred_model.specs.Ends.{is_thread_of}
-use Rattle.cred_model.specs.Slots.{free, room}
+use Rattle.cred_model.specs.Slots.{free, swept_if_full}
 use Rattle.cred_model.specs.Answers.{refusal, flag, checked, reply, is_ok}
 use Rattle.cred_model.specs.Change.{Made, made_by_rule, made_by_exec, by_rule, by_change}
-use Rattle.cred_model.specs.Moves.{◌>>=◌, none_or, fewer_or, passed, not_overridden, in_slot}
+use Rattle.cred_model.specs.Moves.{◌>>=◌, none_or, fewer_or, unless_refused, not_overridden}
+use Rattle.cred_model.specs.Moves.{in_slot}
 use Rattle.cred_model.specs.Moves.{table_full, first_task, created, preparing, replaced}
 use Rattle.cred_model.specs.Step.{take_hold, for_access, aborted, follow, done, outcome}
 
@@ -75,7 +76,7 @@ own_plain : (t : Task) (f : Unit {0} → Result (Answer × State) Answer) → Pl
 own_plain t f each = test_plain (length t.overrides == 0) _ f refl each
 
 passed_plain : (answer : Answer) (f : Unit {0} → Result (Answer × State) Answer) → is_executed answer ≡ false → Plain (f tt)
-    → Plain (passed answer >>= f)
+    → Plain (unless_refused answer >>= f)
 passed_plain answer f plain each = test_plain (is_ok answer) answer f plain each
 
 -- what is done with what is found, or where nothing is
@@ -99,9 +100,9 @@ slot_plain : (s : State) (full : State → Answer × State) (does : State → �
     → Plain (Ok (in_slot s full does))
 slot_plain s full does none each =
     record {
-      is = elim (free s) as (λ o. is_executed (option_map_or (does (room s)) o (full (room s))).0 ≡ false) [
-        | None ↦ none (room s)
-        | Some slot ↦ each (room s) slot
+      is = elim (free s) as (λ o. is_executed (option_map_or (does (swept_if_full s)) o (full (swept_if_full s))).0 ≡ false) [
+        | None ↦ none (swept_if_full s)
+        | Some slot ↦ each (swept_if_full s) slot
       ];
     }
 

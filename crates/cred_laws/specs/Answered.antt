@@ -1,4 +1,4 @@
--- The entries of a script's journals have the answers that the kernel gives.
+-- The entries of a script's journals have the answers that the rules give.
 use Rattle.std.specs.Prelude.{List}
 use Rattle.cred_event.specs.declared.entry.Entry.{Entry}
 use Rattle.cred_model.specs.Script.{Script}

@@ -15,7 +15,7 @@ use Rattle.cred_record.specs.declared.id_call.IdCall.{IdCall}
 use Rattle.cred_record.specs.declared.id_call.IdCall.TheVariants.{SetUid, SetEuid, SetReuid}
 use Rattle.cred_record.specs.declared.id_call.IdCall.TheVariants.{SetResuid, SetGid, SetEgid}
 use Rattle.cred_record.specs.declared.id_call.IdCall.TheVariants.{SetRegid, SetResgid, SetGroups}
-use Rattle.cred_record.specs.Credential.{Credential, has_cap}
+use Rattle.cred_record.specs.Credential.{Credential, capable}
 use Rattle.cred_rules.specs.SetId.{three}
 use Rattle.cred_event.specs.declared.answer.Answer.{Answer}
 use Rattle.cred_event.specs.declared.answer.Answer.TheVariants.{Began, Acted}
@@ -124,8 +124,8 @@ three_of Group c = three c.gid
 
 -- the credential has the capability of the kind
 abbrev pub is_able : Kind → Credential → Bool
-is_able User c = has_cap c SETUID
-is_able Group c = has_cap c SETGID
+is_able User c = capable c SETUID
+is_able Group c = capable c SETGID
 
 -- The credential has these three ids of the kind, and has or lacks the capability.
 pub record IsAlike (kind : Kind) (ids : List ℕ) (able : Bool) (c : Credential) : Type 0 where

@@ -1,7 +1,7 @@
 //! The laws, of the states that one journal leads through.
 ghost use Rattle.cred_laws.specs.Journals.{JournalsAreLawful};
 
-/// Every journal whose entries have the answers that the kernel gives is lawful: each of its states
+/// Every journal whose entries have the answers that the rules give is lawful: each of its states
 /// is sound, and each prepared credential there is what its change makes of its base. Its entries
 /// seal credentials only in slots that are not in use; what is sealed, what is held, what an open
 /// file was opened by and what is prepared stays. What an entry adds to what a living task is

@@ -1,4 +1,4 @@
-//! Laws of journals: what holds of every journal that a script has, or of every step of the kernel.
+//! Laws of journals: what holds of every journal that a script has, or of every step of a run.
 //!
 //! Each law is the contract of a function with nothing in its body, over the definitions that the
 //! code is proved to follow. So there is nothing to run. The edits here make a law claim too much;

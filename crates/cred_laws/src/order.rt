@@ -3,7 +3,7 @@ ghost use Rattle.cred_laws.specs.Order.{OneSequence, SequenceIsLegal, LegalIsSeq
 ghost use Rattle.cred_laws.specs.Order.{SequenceHasLines};
 
 /// For every script there is at most one journal in which its lines run whole and in the script's
-/// order, with the answers that the kernel gives. So what a run in order enters is decided by the
+/// order, with the answers that the rules give. So what a run in order enters is decided by the
 /// script alone.
 ///
 /// It does not say that there is such a journal: that is what a run shows which comes to its end.

@@ -16,7 +16,7 @@ use cred_plain::labels::prepared_place;
 use cred_record::copy;
 
 impl State {
-    /// A task acts with another credential from now on (`override_creds` in the kernel;
+    /// A task acts with another credential from now on (Linux's `override_creds`;
     /// Documentation/security/credentials.rst): with the one that the label holds, or with what the
     /// task prepared under the label for access(2). Its current credential stays. `NoTask`,
     /// `NoHold` and `TooDeep` leave the state.
@@ -74,8 +74,8 @@ impl State {
         Ok(Answer::Sealed { cred: number, slot })
     }
 
-    /// A task acts again with the credential that it had before its newest override (`revert_creds`
-    /// in the kernel), and that override's credential is given up. `NoTask` and `NotOverridden`
+    /// A task acts again with the credential that it had before its newest override (Linux's
+    /// `revert_creds`), and that override's credential is given up. `NoTask` and `NotOverridden`
     /// leave the state.
     pub(crate) fn revert(&mut self, task: u32) -> Result<Answer, NoMemory>
         requires { IsSound self.old }

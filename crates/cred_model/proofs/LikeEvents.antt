@@ -27,7 +27,8 @@ use Rattle.cred_model.specs.Answers.{checked}
 use Rattle.cred_model.specs.Change.{by_change, by_rule}
 use Rattle.cred_model.specs.Ends.{is_task, is_thread_of, ended}
 use Rattle.cred_model.specs.Casts.{not_busy, others_of, with_cast, waits_no_more, joined, dropped}
-use Rattle.cred_model.specs.Moves.{◌>>=◌, none_or, fewer_or, passed, not_overridden, table_full}
+use Rattle.cred_model.specs.Moves.{◌>>=◌, none_or, fewer_or, unless_refused, not_overridden}
+use Rattle.cred_model.specs.Moves.{table_full}
 use Rattle.cred_model.specs.Moves.{first_task, with_overrides, holding, lent, with_current}
 use Rattle.cred_model.specs.Moves.{given_up, committed, altered, preparing, created, replaced}
 use Rattle.cred_model.specs.Step.{try_commit, done, ends_with, casts_after, commit_answer, aborted, follow, take_hold, for_task, for_access, override_held, override_prepared}
@@ -262,7 +263,7 @@ module _ (script : Script) (s : State) (cs : List SealedCred) (line : ℕ) (like
   open_like hold place asked fd =
       found OfCred _ _ (NoHold hold) _ _ (same_held s cs hold like) (held_by_each s Here hold refs)
       (λ held here. tested (none_or (open_of s fd) _) _ _
-      (λ new. tested (passed (checked held.cred (info_of script (place ∷ [])) asked)) _ _
+      (λ new. tested (unless_refused (checked held.cred (info_of script (place ∷ [])) asked)) _ _
       (λ may. tested (fewer_or (length s.files) OPEN_FILES _) _ _
       (λ few. leaves Done (record s { files = s.files ++ record { fd = fd; opener = held.number; file = place } ∷ [] }) refl
       (each_files refs _ (All-push OfFile s.files _ refs.openers here))))))

@@ -7,7 +7,7 @@ use Rattle.cred_record.specs.Credential.{Credential}
 use Rattle.cred_event.specs.declared.answer.Answer.{Answer}
 use Rattle.cred_event.specs.declared.answer.Answer.TheVariants.{Overridden, TableFull}
 use Rattle.cred_model.specs.State.{State, Task, Prepared, Changed}
-use Rattle.cred_model.specs.Slots.{room, free}
+use Rattle.cred_model.specs.Slots.{swept_if_full, free}
 use Rattle.cred_model.specs.Answers.{is_ok}
 
 -- An event's tests come in order: the first that refuses gives the answer.
@@ -25,8 +25,8 @@ abbrev pub fewer_or : ℕ → ℕ → Answer → Result (Unit {0}) Answer
 fewer_or count limit answer = if nat_lt count limit then Ok tt else Err answer
 
 -- refused with this answer where it is a refusal
-abbrev pub passed : Answer → Result (Unit {0}) Answer
-passed answer = if is_ok answer then Ok tt else Err answer
+abbrev pub unless_refused : Answer → Result (Unit {0}) Answer
+unless_refused answer = if is_ok answer then Ok tt else Err answer
 
 -- refused while the task acts with another credential than its current one
 abbrev pub not_overridden : Task → Result (Unit {0}) Answer
@@ -36,7 +36,7 @@ not_overridden t = if length t.overrides == 0 then Ok tt else Err (Overridden (l
 -- either way.
 abbrev pub in_slot : State → (State → Answer × State) → (State → ℕ → Answer × State)
     → Answer × State
-in_slot s full does = option_map_or (does (room s)) (free s) (full (room s))
+in_slot s full does = option_map_or (does (swept_if_full s)) (free s) (full (swept_if_full s))
 
 -- where no slot is free
 abbrev pub table_full : State → Answer × State

@@ -59,9 +59,9 @@ abbrev pub swept : State → State
 swept s = record s { deferred = [] }
 
 -- Where all slots are live there is a sweep, whether or not it frees one.
-abbrev pub room : State → State
-room s = if is_some (least_free s) then s else swept s
+abbrev pub swept_if_full : State → State
+swept_if_full s = if is_some (least_free s) then s else swept s
 
 -- the slot that a new credential takes, after the sweep if there was one
 abbrev pub free : State → Option ℕ
-free s = least_free (room s)
+free s = least_free (swept_if_full s)

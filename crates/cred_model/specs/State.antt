@@ -1,4 +1,4 @@
--- The state of the kernel (credentials(7); Documentation/security/credentials.rst).
+-- The state of a run (credentials(7); Documentation/security/credentials.rst).
 use Rattle.std.specs.Prelude.{ℕ, ◌==◌, List, [], find, slice_get}
 use Rattle.std.specs.declared.option.Option.{Option}
 use Rattle.std.specs.Option.{option_map, option_and_then, unwrap_or}

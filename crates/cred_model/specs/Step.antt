@@ -41,7 +41,8 @@ use Rattle.cred_model.specs.Casts.{not_busy, others_of, with_cast, waits_no_more
 use Rattle.cred_model.specs.Answers.{checked, reply}
 use Rattle.cred_model.specs.Change.{by_change, by_rule}
 use Rattle.cred_model.specs.Moves.{◌>>=◌, none_or, fewer_or}
-use Rattle.cred_model.specs.Moves.{passed, not_overridden, in_slot, table_full, first_task, created}
+use Rattle.cred_model.specs.Moves.{unless_refused, not_overridden, in_slot, table_full, first_task}
+use Rattle.cred_model.specs.Moves.{created}
 use Rattle.cred_model.specs.Moves.{replaced, with_overrides, holding, preparing, altered, given_up}
 use Rattle.cred_model.specs.Moves.{committed, lent, overridden}
 
@@ -285,7 +286,7 @@ abbrev pub by_open : Script → State → ℕ → ℕ → Want → ℕ → Resul
 by_open script s hold place asked fd = do
   held ← ok_or (held_by s hold) (NoHold hold)
   new ← none_or (open_of s fd) (Exists named.File fd)
-  may ← passed (checked held.cred (info_of script (place ∷ [])) asked)
+  may ← unless_refused (checked held.cred (info_of script (place ∷ [])) asked)
   few ← fewer_or (length s.files) OPEN_FILES (TooMany counted.Files)
   Ok (
     Done,

@@ -21,7 +21,7 @@ use Rattle.cred_cursor.specs.Cursor.{left_at}
 use Rattle.cred_cursor.proofs.Due.{first_due_at, first_due_none}
 use Rattle.cred_book.specs.Cursor.{waiting}
 use Rattle.cred_book.proofs.Measure.{step_falls}
-use Rattle.cred_order.specs.Order.{BeginsSequence, HasEnded, IsPast, NotBegun, StandsAt}
+use Rattle.cred_order.specs.Order.{BeginsSequence, LineHasEnded, IsPast, NotBegun, StandsAt}
 
 -- the line at a place has the next number
 pub line_at-place : (script : Script) (place : ℕ) → line_at script (place + 1) ≡ slice_get script.lines place
@@ -61,7 +61,7 @@ one_more P number before here k lt = elim (cases_lt k number) [
 ]
 
 ended_here : (script : Script) (journal : List Entry) (line : Line) (course : Course) (at : StandsAt script journal line course)
-    → course.stage ≡ None → HasEnded script journal at.place
+    → course.stage ≡ None → LineHasEnded script journal at.place
 ended_here script journal line course at over =
     subst (λ (o : Option Line). IfSome o (λ line. next_event journal (at.place + 1) line.content ≡ None)) (sym at.here)
     (next_is script journal line course at ∙ ap (option_and_then (event_in course.line line.content)) over)
@@ -70,7 +70,7 @@ pub line_past : (script : Script) (journal : List Entry) (line : Line) (course :
     → course.stage ≡ None → IsPast script journal course.line
 line_past script journal line course at over =
     subst (IsPast script journal) (sym at.number) (record {
-      ended = one_more (HasEnded script journal) at.place at.ended (ended_here script journal line course at over);
+      ended = one_more (LineHasEnded script journal) at.place at.ended (ended_here script journal line course at over);
       later = λ k le. at.later k (omega arith);
     })
 

@@ -11,8 +11,8 @@ use Rattle.cred_cursor.specs.Cursor.{LINE_EVENTS}
 use Rattle.cred_book.specs.Cursor.{waiting}
 
 -- the line at this place has ended
-abbrev pub HasEnded : Script → List Entry → ℕ → Type 0
-HasEnded script journal k =
+abbrev pub LineHasEnded : Script → List Entry → ℕ → Type 0
+LineHasEnded script journal k =
     IfSome (slice_get script.lines k) (λ line. next_event journal (k + 1) line.content ≡ None)
 
 -- the line at this place has made no event
@@ -22,7 +22,7 @@ NotBegun script journal k =
 
 -- So many lines have ended, and no later one has begun.
 pub record IsPast (script : Script) (journal : List Entry) (past : ℕ) : Type 0 where
-  pub ended : (k : ℕ) → k < past → HasEnded script journal k
+  pub ended : (k : ℕ) → k < past → LineHasEnded script journal k
   pub later : (k : ℕ) → past ≤ k → NotBegun script journal k
 
 -- The course is that of this line, which has come as far as the course; the lines before it have
@@ -32,7 +32,7 @@ pub record StandsAt (script : Script) (journal : List Entry) (line : Line) (cour
   pub place : ℕ
   pub number : course.line ≡ place + 1
   pub here : slice_get script.lines place ≡ Some line
-  pub ended : (k : ℕ) → k < place → HasEnded script journal k
+  pub ended : (k : ℕ) → k < place → LineHasEnded script journal k
   pub later : (k : ℕ) → place < k → NotBegun script journal k
   pub stands : course ≡ leads (place + 1) line.content (answers_of journal (place + 1))
 

@@ -10,7 +10,7 @@ use Rattle.cred_ids.specs.Limits.{TASKS, DEPTH}
 use Rattle.cred_model.specs.State.{Task}
 use Rattle.cred_model.specs.Ends.{is_task, is_thread_of, survivors}
 use Rattle.cred_procs.specs.declared.processes.Processes.{Processes}
-use Rattle.cred_procs.specs.Kept.{threads_at, IsKept}
+use Rattle.cred_procs.specs.Kept.{threads_at, AreGrouped}
 use Rattle.cred_procs.specs.Tasks.{members, has_process, task_in}
 use Rattle.cred_procs.proofs.Changes.{IsShallow}
 
@@ -74,10 +74,10 @@ module _ (task : ℕ) where
           ∙ sym (ap (λ (b : Bool). numbers (cond b (t ∷ filter (is_thread_of p) ts) (filter (is_thread_of p) ts))) here)
       step false other later rest = with_head (t.process == p) t (filter (is_thread_of p) (survivors (is_task task) ts)) (filter (is_thread_of p) ts) (rest later)
 
-  pub kept_survivors : (ended : Task) (ts : List Task) (before after : Processes) → IsKept ts before → IsDistinct nat_eq (numbers (survivors (is_task task) ts))
+  pub kept_survivors : (ended : Task) (ts : List Task) (before after : Processes) → AreGrouped ts before → IsDistinct nat_eq (numbers (survivors (is_task task) ts))
       → task_in ts task ≡ Some ended
       → ((p : ℕ) → threads_at after p ≡ cond (p == ended.process) (filter is_other (threads_at before p)) (threads_at before p))
-      → IsKept (survivors (is_task task) ts) after
+      → AreGrouped (survivors (is_task task) ts) after
   kept_survivors ended ts before after kept distinct found threads = record {
     sound = record {
       apart = distinct;
@@ -105,10 +105,10 @@ members-added p t ts =
     step false true same = cc
     step false false same = append-nil (members ts p)
 
-pub kept_added : (t : Task) (ts : List Task) (before after : Processes) → IsKept ts before → length ts < TASKS → length t.overrides ≤ DEPTH
+pub kept_added : (t : Task) (ts : List Task) (before after : Processes) → AreGrouped ts before → length ts < TASKS → length t.overrides ≤ DEPTH
     → IsDistinct nat_eq (numbers (ts ++ t ∷ []))
     → ((p : ℕ) → threads_at after p ≡ cond (p == t.process) (threads_at before p ++ t.number ∷ []) (threads_at before p))
-    → IsKept (ts ++ t ∷ []) after
+    → AreGrouped (ts ++ t ∷ []) after
 kept_added t ts before after kept room low distinct threads = record {
   sound = record {
     apart = distinct;

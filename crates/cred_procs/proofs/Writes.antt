@@ -9,7 +9,7 @@ use Rattle.cred_ids.specs.Limits.{DEPTH}
 use Rattle.cred_model.specs.State.{Task}
 use Rattle.cred_procs.specs.declared.processes.Processes.{Processes}
 use Rattle.cred_procs.specs.declared.thread.Thread.{Thread}
-use Rattle.cred_procs.specs.Kept.{task_as, tasks_of, IsKept}
+use Rattle.cred_procs.specs.Kept.{task_as, tasks_of, AreGrouped}
 use Rattle.cred_procs.specs.Tasks.{task_in, overrides_of, with_overrides}
 use Rattle.cred_procs.proofs.Entries.{task_in-tasks_of, set_value-tasks_of, changed}
 use Rattle.cred_procs.proofs.Changes.{LeavesPlace, IsShallow, AreTasks-map, members-map}
@@ -58,15 +58,15 @@ module _ (task : ℕ) (v : Thread) (es : List (ℕ × Thread)) (found : lookup (
     pub written : tasks_of after ≡ map (changed task f) (tasks_of es)
     written = ap tasks_of is ∙ set_value-tasks_of task f v w es unique found to
 
-    pub kept_written : LeavesPlace f → ((t : Task) → IsShallow t → IsShallow (f t)) → (processes : Processes) → IsKept (tasks_of es) processes
-        → IsKept (tasks_of after) processes
+    pub kept_written : LeavesPlace f → ((t : Task) → IsShallow t → IsShallow (f t)) → (processes : Processes) → AreGrouped (tasks_of es) processes
+        → AreGrouped (tasks_of after) processes
     kept_written leaves keeps processes kept =
         let place : LeavesPlace (changed task f)
         = record {
           number = λ t. choose_number f leaves (t.number == task) t;
           process = λ t. choose_process f leaves (t.number == task) t;
         } in
-        subst (λ (ts : List Task). IsKept ts processes) (sym written)
+        subst (λ (ts : List Task). AreGrouped ts processes) (sym written)
         (record {
           sound = AreTasks-map (changed task f) place (λ t low. choose_shallow f keeps (t.number == task) t low) (tasks_of es) kept.sound;
           grouped = λ p. kept.grouped p ∙ sym (members-map (changed task f) place p (tasks_of es));
@@ -84,7 +84,7 @@ module _ (task : ℕ) (v : Thread) (es after : List (ℕ × Thread)) (found : lo
   pub written_overrides : tasks_of after ≡ with_overrides (tasks_of es) task overrides
   written_overrides = written task v es found (λ t. record t { overrides = overrides }) (record v { overrides = stack }) after unique gives is
 
-  pub kept_overrides : length overrides ≤ DEPTH → (processes : Processes) → IsKept (tasks_of es) processes → IsKept (tasks_of after) processes
+  pub kept_overrides : length overrides ≤ DEPTH → (processes : Processes) → AreGrouped (tasks_of es) processes → AreGrouped (tasks_of after) processes
   kept_overrides low =
       kept_written task v es found (λ t. record t { overrides = overrides }) (record v { overrides = stack }) after unique gives is
       (overrides_stay overrides) (λ t _. low)

@@ -24,6 +24,6 @@ threads_at processes process =
     option_map_or (λ threads. threads.items) (get nat_eq processes.threads process) []
 
 -- The threads that are kept of each process are those of the tasks.
-pub record IsKept (tasks : List Task) (processes : Processes) : Type 0 where
+pub record AreGrouped (tasks : List Task) (processes : Processes) : Type 0 where
   pub sound : AreTasks tasks
   pub grouped : (process : ℕ) → threads_at processes process ≡ members tasks process

@@ -50,11 +50,11 @@ impl TaskList {
 
 /// The numbers of credentials. Contracts see their list.
 #[derive(Drop, Debug)]
-pub struct Numbers {
+pub struct CredNumbers {
     numbers: Vec<u64>,
 }
 
-impl Model for Numbers {
+impl Model for CredNumbers {
     ghost use Rattle.std.specs.Prelude.{ℕ, List};
 
     ghost Value = { List ℕ };
@@ -62,25 +62,25 @@ impl Model for Numbers {
     ghost view = { λ l. l.numbers.items };
 }
 
-impl Numbers {
+impl CredNumbers {
     /// The list of these numbers.
     ///
     /// # Errors
     ///
     /// `NoMemory` if an allocation fails.
-    pub fn of(alloc: Global, items: &[u64]) -> Result<Numbers, NoMemory>
+    pub fn of(alloc: Global, items: &[u64]) -> Result<CredNumbers, NoMemory>
         ensures { IfOk result (λ l. l ≡ items.now) }
     {
-        Ok(Numbers {
+        Ok(CredNumbers {
             numbers: Vec::from_slice(alloc, items)?,
         })
     }
 
     /// The list of these numbers, in the memory that they stand in.
-    pub fn from_vec(numbers: Vec<u64>) -> Numbers
+    pub fn from_vec(numbers: Vec<u64>) -> CredNumbers
         ensures { result ≡ numbers.items }
     {
-        Numbers { numbers }
+        CredNumbers { numbers }
     }
 
     /// Its numbers.

@@ -12,7 +12,7 @@ ghost use Rattle.cred_procs.specs.Tasks.{AreTasks, Ends, task_in, acting, those,
 ghost use Rattle.cred_procs.specs.Tasks.{has_process, spawned, forked, overrides_of};
 ghost use Rattle.cred_procs.specs.Tasks.{with_overrides};
 
-use crate::lists::{Numbers, TaskList};
+use crate::lists::{CredNumbers, TaskList};
 use crate::processes::{Processes, take_off};
 use crate::thread::Thread;
 use cred_ids::limits;
@@ -35,13 +35,13 @@ pub struct Procs {
 impl Model for Procs {
     ghost use Rattle.std.specs.Prelude.{List};
     ghost use Rattle.cred_model.specs.State.{Task};
-    ghost use Rattle.cred_procs.specs.Kept.{tasks_of, IsKept};
+    ghost use Rattle.cred_procs.specs.Kept.{tasks_of, AreGrouped};
 
     ghost Value = { List Task };
 
     ghost view = { λ p. tasks_of p.tasks.entries };
 
-    ghost invariant = { λ p. IsKept (tasks_of p.tasks.entries) p.processes };
+    ghost invariant = { λ p. AreGrouped (tasks_of p.tasks.entries) p.processes };
 }
 
 /// The tasks that ended, in the order in which they were created, and the numbers that they
@@ -50,7 +50,7 @@ impl Model for Procs {
 #[derive(Drop, Debug)]
 pub struct Ended {
     pub tasks: TaskList,
-    pub numbers: Numbers,
+    pub numbers: CredNumbers,
 }
 
 impl Procs {
@@ -210,7 +210,7 @@ impl Procs {
         mem::replace(&mut thread.current, number)
     }
 
-    /// A task acts with another credential from now on (`override_creds` in the kernel). `false`
+    /// A task acts with another credential from now on (Linux's `override_creds`). `false`
     /// where it has 8 overrides, and then nothing changes.
     pub fn push_override(&mut self, task: u32, number: u64) -> bool
         requires { IsSome (task_in self.old task) }
@@ -225,7 +225,7 @@ impl Procs {
     }
 
     /// A task goes back to the credential that it acted with before its newest override
-    /// (`revert_creds` in the kernel). Returns the number of that override. `None` where it has no
+    /// (Linux's `revert_creds`). Returns the number of that override. `None` where it has no
     /// override, and then nothing changes.
     pub fn pop_override(&mut self, task: u32) -> Option<u64>
         requires { IsSome (task_in self.old task) }
@@ -245,7 +245,7 @@ impl Procs {
     /// # Errors
     ///
     /// `NoMemory` if an allocation fails: nothing changes.
-    pub fn exit(&mut self, task: u32) -> Result<Numbers, NoMemory>
+    pub fn exit(&mut self, task: u32) -> Result<CredNumbers, NoMemory>
         requires { IsSome (task_in self.old task) }
         ensures numbers { IfOk result (λ numbers. numbers ≡ left_by (is_task task) self.old) }
         ensures tasks { OnOk result (self.new ≡ survivors (is_task task) self.old) }
@@ -312,7 +312,7 @@ impl Procs {
 
     /// The numbers that these tasks refer to, task by task. The tasks come in the order in which
     /// they were created.
-    fn numbers_in(&self, tasks: &[u32]) -> Result<Numbers, NoMemory>
+    fn numbers_in(&self, tasks: &[u32]) -> Result<CredNumbers, NoMemory>
         ensures numbers { IfOk result (λ numbers. (ends : Task → Bool)
             → tasks.now ≡ those ends self.now → numbers ≡ left_by ends self.now) }
         ensures tasks { AreTasks self.now }
@@ -323,7 +323,7 @@ impl Procs {
                 refer(thread, &mut numbers)?;
             }
         }
-        Ok(Numbers::from_vec(numbers))
+        Ok(CredNumbers::from_vec(numbers))
     }
 
     /// These tasks end, which come in the order in which they were created.

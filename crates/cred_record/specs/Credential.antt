@@ -31,8 +31,9 @@ abbrev pub ROOT : ℕ
 ROOT = 0
 
 -- the task has capability n, as a check of its rights asks: it is in the effective set
-abbrev pub has_cap : Credential → ℕ → Bool
-has_cap c n = has c.eff n
+-- (capabilities(7), "Thread capability sets")
+abbrev pub capable : Credential → ℕ → Bool
+capable c n = has c.eff n
 
 -- what a first task has: root's permitted and effective sets are full, any other user's are empty,
 -- and the bounding set is full

@@ -1,7 +1,6 @@
 -- What a task may do to a file and to another task (path_resolution(7), access(2), kill(2),
 -- capabilities(7)), and the credential that access(2) asks by.
 use Rattle.std.specs.Prelude.{ℕ, ◌+◌, Bool, true, false, ◌==◌, ◌&&◌, ◌||◌, not, if◌then◌else◌}
-use Rattle.std.specs.Int.{bit_at}
 use Rattle.std.specs.List.{list_any}
 use Rattle.cred_ids.specs.declared.id.Ids4.{Ids4}
 use Rattle.cred_caps.specs.declared.secure.Flag.TheVariants.{NoSetuidFixup}
@@ -11,8 +10,9 @@ use Rattle.cred_caps.specs.Secure.{is_set}
 use Rattle.cred_record.specs.declared.file.FileKind.{FileKind}
 use Rattle.cred_record.specs.declared.file.FileKind.TheVariants.{Regular, Directory}
 use Rattle.cred_record.specs.declared.want.Want.{Want}
-use Rattle.cred_record.specs.Credential.{Credential, ROOT, has_cap}
+use Rattle.cred_record.specs.Credential.{Credential, ROOT, capable}
 use Rattle.cred_record.specs.File.{File}
+use Rattle.cred_rules.specs.Bits.{has_bit}
 
 -- the place of the execute bit of a class in a mode: the owner's, the group's and the others'. The
 -- class's write bit is the next, its read bit the one after (inode(7), "The file type and mode")
@@ -24,10 +24,6 @@ GROUP = 3
 
 abbrev pub OTHERS : ℕ
 OTHERS = 0
-
--- the bit at this place of the mode is set
-abbrev pub has_bit : ℕ → ℕ → Bool
-has_bit mode n = bit_at mode n == 1
 
 -- what a mode permits the class that has its execute bit at this place
 abbrev pub permits : ℕ → ℕ → Want
@@ -68,7 +64,7 @@ has_execute_bit mode = has_bit mode OWNER || has_bit mode GROUP || has_bit mode 
 
 -- CAP_DAC_OVERRIDE passes what the bits don't permit, but for the execution of a file that nobody
 -- may execute (path_resolution(7), "Bypassing permission checks: superuser and capabilities"; for
--- directories, which may always be searched, the kernel's fs/namei.c)
+-- directories, which may always be searched, Linux's fs/namei.c)
 abbrev pub override_passes : File → Want → Bool
 override_passes f asked = is_directory f.kind || not asked.x || has_execute_bit f.mode
 
@@ -81,13 +77,8 @@ is_read asked = asked.r && not asked.w && not asked.x
 abbrev pub read_search_passes : File → Want → Bool
 read_search_passes f asked = is_read asked || is_directory f.kind && not asked.w
 
--- the task has capability n, as a check of its rights asks: it is in the effective set
--- (capabilities(7), "Thread capability sets")
-abbrev pub capable : Credential → ℕ → Bool
-capable c n = has_cap c n
-
 -- the task may do to the file all that it asks for: the bits permit it, or one of two capabilities
--- passes the whole of it (path_resolution(7); that no two of them share it, the kernel's
+-- passes the whole of it (path_resolution(7); that no two of them share it, Linux's
 -- fs/namei.c)
 abbrev pub may : Credential → File → Want → Bool
 may c f asked =
@@ -100,14 +91,14 @@ abbrev pub owns : ℕ → Ids4 → Bool
 owns n target = (target.real == n) || (target.saved == n)
 
 -- a task may send a signal with CAP_KILL to any other, and else where its real or its effective
--- user id owns the target (kill(2)); within one process (`same`) it always may (the kernel's
+-- user id owns the target (kill(2)); within one process (`same`) it always may (Linux's
 -- kernel/signal.c)
 abbrev pub may_signal : Credential → Credential → Bool → Bool
 may_signal from to same =
     same || capable from KILL || owns from.uid.real to.uid || owns from.uid.effective to.uid
 
 -- the effective set that access(2) asks by: the permitted set for root, and no capability for any
--- other, by the real user id (access(2)); with NO_SETUID_FIXUP the task's own (the kernel's
+-- other, by the real user id (access(2)); with NO_SETUID_FIXUP the task's own (Linux's
 -- fs/open.c)
 abbrev pub access_effective : Credential → Caps
 access_effective c =

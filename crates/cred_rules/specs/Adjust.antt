@@ -15,7 +15,7 @@ use Rattle.cred_record.specs.declared.adj_call.AdjCall.{AdjCall}
 use Rattle.cred_record.specs.declared.adj_call.AdjCall.TheVariants as call
 use Rattle.cred_record.specs.declared.refusal.Denial.{Denial}
 use Rattle.cred_record.specs.declared.refusal.Denial.TheVariants.{Perm, Invalid}
-use Rattle.cred_record.specs.Credential.{Credential, has_cap}
+use Rattle.cred_record.specs.Credential.{Credential, capable}
 
 -- the greatest number of securebits with no bit above the eight
 abbrev pub LAST_BITS : ℕ
@@ -31,7 +31,7 @@ is_no_cap n = nat_lt LAST n
 abbrev pub may_capset : Credential → Caps → Caps → Caps → Bool
 may_capset c perm inh eff =
     is_within inh (union c.inh c.bound) &&
-    (has_cap c SETPCAP || is_within inh (union c.inh c.perm)) &&
+    (capable c SETPCAP || is_within inh (union c.inh c.perm)) &&
     is_within perm c.perm &&
     is_within eff perm
 
@@ -46,7 +46,7 @@ after_capset c perm inh eff =
 -- set changes
 unfoldable pub after_bound_drop : Credential → ℕ → Result Credential Denial
 after_bound_drop c n =
-    if not (has_cap c SETPCAP) then Err Perm
+    if not (capable c SETPCAP) then Err Perm
     else if is_no_cap n then Err Invalid
     else Ok (record c { bound = without c.bound n })
 
@@ -81,7 +81,7 @@ keeps_lock old new f = not (is_locked old f) || is_locked new f && is_same_flag 
 -- with CAP_SETPCAP the securebits may become n, where n has no bit above the eight and keeps what
 -- is locked (capabilities(7), "The securebits flags")
 abbrev pub may_set_bits : Credential → ℕ → Bool
-may_set_bits c n = has_cap c SETPCAP && nat_le n LAST_BITS && list_all (keeps_lock c.bits n) FLAGS
+may_set_bits c n = capable c SETPCAP && nat_le n LAST_BITS && list_all (keeps_lock c.bits n) FLAGS
 
 -- prctl(2), PR_SET_SECUREBITS: the securebits become n, where they may
 unfoldable pub after_bits : Credential → ℕ → Result Credential Denial

@@ -6,10 +6,10 @@
 use Rattle.std.specs.Prelude.{◌≡◌, ◌⊎◌, ℕ, ◌+◌, ◌*◌, ◌%◌, ◌^◌, ◌<◌, ◌==◌, ◌&&◌, ◌||◌, not, nat_lt}
 use Rattle.std.specs.Prelude.{Bool, false, IsTrue, List, Option, Some, None, length, slice_index}
 use Rattle.std.specs.Prelude.{if◌then◌else◌}
-use Rattle.std.specs.Int.{bit_at}
 use Rattle.std.specs.List.{list_any}
 use Rattle.cred_caps.specs.Caps.{Caps, IsCap, IsCaps, full, has, meet}
 use Rattle.cred_caps.specs.Numbers.{LAST}
+use Rattle.cred_rules.specs.Bits.{has_bit}
 
 -- what an attribute says: its version, the file's permitted and inheritable sets and effective
 -- flag, and the root id of the user namespace in which the file has them (capabilities(7), "File
@@ -30,10 +30,6 @@ word_at bytes i =
     256 * slice_index bytes (i + 1) +
     256 ^ 2 * slice_index bytes (i + 2) +
     256 ^ 3 * slice_index bytes (i + 3)
-
--- bit i of a word is set
-abbrev pub is_bit : ℕ → ℕ → Bool
-is_bit word i = bit_at word i == 1
 
 -- the first word has the revision and the flags (`magic_etc`)
 abbrev pub magic : List ℕ → ℕ
@@ -81,15 +77,15 @@ pub record IsVersion3 (bytes : List ℕ) (a : Attribute) : Type 0 where
 -- a low and a high word spell a set: the capabilities below 32 by the bits of the low word, those
 -- from 32 to the last one by the bits of the high word
 pub record SpellsSet (low high : ℕ) (s : Caps) : Type 0 where
-  pub below : (n : ℕ) → n < 32 → has s n ≡ is_bit low n
-  pub above : (n : ℕ) → IsCap (32 + n) → has s (32 + n) ≡ is_bit high n
+  pub below : (n : ℕ) → n < 32 → has s n ≡ has_bit low n
+  pub above : (n : ℕ) → IsCap (32 + n) → has s (32 + n) ≡ has_bit high n
   pub others : IsCaps s
 
 -- the bytes spell the attribute: they are of its version, bit 0 of the first word is its effective
 -- flag (VFS_CAP_FLAGS_EFFECTIVE), and each of its sets stands in two words
 pub record Spells (bytes : List ℕ) (a : Attribute) : Type 0 where
   pub version : IsVersion2 bytes a ⊎ IsVersion3 bytes a
-  pub effective : a.effective ≡ is_bit (magic bytes) 0
+  pub effective : a.effective ≡ has_bit (magic bytes) 0
   pub perm : SpellsSet (perm_low bytes) (perm_high bytes) a.perm
   pub inh : SpellsSet (inh_low bytes) (inh_high bytes) a.inh
 
@@ -104,7 +100,7 @@ said bytes version root = record {
   version = version;
   perm = set_in (perm_low bytes) (perm_high bytes);
   inh = set_in (inh_low bytes) (inh_high bytes);
-  effective = is_bit (magic bytes) 0;
+  effective = has_bit (magic bytes) 0;
   root = root;
 }
 
@@ -123,9 +119,9 @@ attribute_of bytes =
 -- every bit that spells nothing is zero: in the first word those between the effective flag and the
 -- revision, and in the high words those above the last capability
 pub record IsCanonical (bytes : List ℕ) : Type 0 where
-  pub flags : (i : ℕ) → 0 < i → i < 24 → is_bit (magic bytes) i ≡ false
-  pub perm : (i : ℕ) → LAST < 32 + i → i < 32 → is_bit (perm_high bytes) i ≡ false
-  pub inh : (i : ℕ) → LAST < 32 + i → i < 32 → is_bit (inh_high bytes) i ≡ false
+  pub flags : (i : ℕ) → 0 < i → i < 24 → has_bit (magic bytes) i ≡ false
+  pub perm : (i : ℕ) → LAST < 32 + i → i < 32 → has_bit (perm_high bytes) i ≡ false
+  pub inh : (i : ℕ) → LAST < 32 + i → i < 32 → has_bit (inh_high bytes) i ≡ false
 
 -- ---- bytes that spell nothing
 

@@ -12,8 +12,9 @@ use Rattle.cred_record.specs.declared.gains.Gains.{Gains}
 use Rattle.cred_record.specs.declared.want.Want.{Want}
 use Rattle.cred_record.specs.Credential.{Credential, ROOT}
 use Rattle.cred_record.specs.File.{File}
-use Rattle.cred_rules.specs.Access.{GROUP, has_bit, is_directory, may}
+use Rattle.cred_rules.specs.Access.{GROUP, is_directory, may}
 use Rattle.cred_rules.specs.Attribute.{Attribute, attribute_of, counts}
+use Rattle.cred_rules.specs.Bits.{has_bit}
 
 -- the credential after an execve, and what its permitted set gained, by where that came from
 pub record Executed : Type 0 where

@@ -27,7 +27,7 @@ enters_root old new = not (old.effective == ROOT) && (new.effective == ROOT)
 abbrev pub clears_permitted : Credential → Ids4 → Bool
 clears_permitted c new = loses_root c.uid new && not (is_set c.bits KeepCaps)
 
--- these user ids, and the sets as the kernel fixes them: losing root clears the permitted and the
+-- these user ids, and the sets as Linux fixes them: losing root clears the permitted and the
 -- effective set unless KEEP_CAPS is set, and the ambient set in any case; an effective id that
 -- leaves root clears the effective set, and one that becomes root makes it the permitted set
 abbrev pub fixed : Credential → Ids4 → Credential

@@ -1,6 +1,7 @@
 pub mod Access
 pub mod Adjust
 pub mod Attribute
+pub mod Bits
 pub mod Exec
 pub mod Fix
 pub mod SetFs

@@ -12,7 +12,7 @@ use Rattle.cred_caps.specs.Caps.{Caps, union, meet, less, caps_of}
 use Rattle.cred_caps.specs.Numbers.{CHOWN, DAC_OVERRIDE, DAC_READ_SEARCH, FOWNER, FSETID, SETGID}
 use Rattle.cred_caps.specs.Numbers.{SETUID, LINUX_IMMUTABLE, MKNOD, MAC_OVERRIDE}
 use Rattle.cred_caps.specs.Secure.{is_set}
-use Rattle.cred_record.specs.Credential.{Credential, ROOT, has_cap}
+use Rattle.cred_record.specs.Credential.{Credential, ROOT, capable}
 
 -- the eight capabilities that act on files
 abbrev pub FILE_CAPS : Caps
@@ -56,8 +56,8 @@ with_fs_user c n =
 
 -- the credential after setfsuid(2) or setfsgid(2), which are never refused
 abbrev pub set_fs : Credential → Kind → Arg → Credential
-set_fs c User a = with_fs_user c (fs_after (has_cap c SETUID) c.uid a)
-set_fs c Group a = record c { gid = record c.gid { fs = fs_after (has_cap c SETGID) c.gid a } }
+set_fs c User a = with_fs_user c (fs_after (capable c SETUID) c.uid a)
+set_fs c Group a = record c { gid = record c.gid { fs = fs_after (capable c SETGID) c.gid a } }
 
 -- what they answer: the filesystem id before the call
 abbrev pub old_fs : Credential → Kind → ℕ

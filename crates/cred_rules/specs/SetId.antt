@@ -17,7 +17,7 @@ use Rattle.cred_record.specs.declared.id_call.IdCall.TheVariants.{SetResuid, Set
 use Rattle.cred_record.specs.declared.id_call.IdCall.TheVariants.{SetRegid, SetResgid, SetGroups}
 use Rattle.cred_record.specs.declared.refusal.Denial.{Denial}
 use Rattle.cred_record.specs.declared.refusal.Denial.TheVariants.{Perm, Invalid}
-use Rattle.cred_record.specs.Credential.{Credential, has_cap}
+use Rattle.cred_record.specs.Credential.{Credential, capable}
 use Rattle.cred_rules.specs.Fix.{with_user_ids}
 
 -- the id that is given, or the old one where it is to be kept
@@ -99,18 +99,18 @@ for_groups c (Err e) = Err e
 -- setgroups(2): with CAP_SETGID at most 32 groups, kept in order with their repeats. All ids stay
 unfoldable pub after_setgroups : Credential → List ℕ → Result Credential Denial
 after_setgroups c list =
-    if not (has_cap c SETGID) then Err Perm
+    if not (capable c SETGID) then Err Perm
     else if nat_lt GROUP_LIMIT (length list) then Err Invalid
     else Ok (record c { groups = in_order list })
 
 -- the credential after a call, or why the call is refused
 abbrev pub set_id : Credential → IdCall → Result Credential Denial
-set_id c (SetUid a) = for_users c (after_setuid (has_cap c SETUID) c.uid a)
-set_id c (SetEuid a) = for_users c (after_seteuid (has_cap c SETUID) c.uid a)
-set_id c (SetReuid a b) = for_users c (after_setreuid (has_cap c SETUID) c.uid a b)
-set_id c (SetResuid a b d) = for_users c (after_setresuid (has_cap c SETUID) c.uid a b d)
-set_id c (SetGid a) = for_groups c (after_setuid (has_cap c SETGID) c.gid a)
-set_id c (SetEgid a) = for_groups c (after_seteuid (has_cap c SETGID) c.gid a)
-set_id c (SetRegid a b) = for_groups c (after_setreuid (has_cap c SETGID) c.gid a b)
-set_id c (SetResgid a b d) = for_groups c (after_setresuid (has_cap c SETGID) c.gid a b d)
+set_id c (SetUid a) = for_users c (after_setuid (capable c SETUID) c.uid a)
+set_id c (SetEuid a) = for_users c (after_seteuid (capable c SETUID) c.uid a)
+set_id c (SetReuid a b) = for_users c (after_setreuid (capable c SETUID) c.uid a b)
+set_id c (SetResuid a b d) = for_users c (after_setresuid (capable c SETUID) c.uid a b d)
+set_id c (SetGid a) = for_groups c (after_setuid (capable c SETGID) c.gid a)
+set_id c (SetEgid a) = for_groups c (after_seteuid (capable c SETGID) c.gid a)
+set_id c (SetRegid a b) = for_groups c (after_setreuid (capable c SETGID) c.gid a b)
+set_id c (SetResgid a b d) = for_groups c (after_setresuid (capable c SETGID) c.gid a b d)
 set_id c (SetGroups list) = after_setgroups c list

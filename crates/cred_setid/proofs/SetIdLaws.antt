@@ -18,7 +18,7 @@ use Rattle.cred_record.specs.declared.id_call.IdCall.{IdCall}
 use Rattle.cred_record.specs.declared.id_call.IdCall.TheVariants.{SetUid, SetEuid, SetReuid, SetResuid, SetGid, SetEgid, SetRegid, SetResgid, SetGroups}
 use Rattle.cred_record.specs.declared.refusal.Denial.{Denial}
 use Rattle.cred_record.specs.declared.refusal.Denial.TheVariants.{Perm, Invalid}
-use Rattle.cred_record.specs.Credential.{Credential, has_cap}
+use Rattle.cred_record.specs.Credential.{Credential, capable}
 use Rattle.cred_rules.specs.Fix.{clears_permitted, fixed, with_user_ids}
 use Rattle.cred_rules.specs.SetId.{id_or, is_one_of, is_given, is_other, three, permitted, after_setuid, after_setreuid, after_setresuid, after_seteuid, after_setgroups, for_users, for_groups, set_id}
 use Rattle.cred_setid.specs.Laws.{AreOwn, UserIdsStayOwn, GroupIdsStayOwn, PermittedNeverGrows}
@@ -164,7 +164,7 @@ setgroups-cases P true false new d holds same = let is : new ≡ d = cc in subst
 pub setgroups-gives : (P : Credential → Type 0) (c d : Credential) (list : List ℕ) → P (record c { groups = in_order list }) → after_setgroups c list ≡ Ok d → P d
 unfolding after_setgroups
 setgroups-gives P c d list holds same =
-    setgroups-cases P (has_cap c SETGID) (nat_lt GROUP_LIMIT (length list)) (record c { groups = in_order list }) d holds same
+    setgroups-cases P (capable c SETGID) (nat_lt GROUP_LIMIT (length list)) (record c { groups = in_order list }) d holds same
 
 -- ---- the laws
 

@@ -4,7 +4,7 @@ use Rattle.cred_ids.specs.declared.id.Ids4.{Ids4}
 use Rattle.cred_caps.specs.Caps.{IsWithin}
 use Rattle.cred_caps.specs.Numbers.{SETGID, SETUID}
 use Rattle.cred_record.specs.declared.id_call.IdCall.{IdCall}
-use Rattle.cred_record.specs.Credential.{Credential, has_cap}
+use Rattle.cred_record.specs.Credential.{Credential, capable}
 use Rattle.cred_rules.specs.SetId.{three, set_id}
 
 -- each of the new real, effective and saved ids is one of the old three
@@ -16,13 +16,13 @@ pub record AreOwn (old new : Ids4) : Type 0 where
 -- without CAP_SETUID no call gives a user id that the caller did not have
 abbrev pub UserIdsStayOwn : Type 0
 UserIdsStayOwn =
-    (c d : Credential) (call : IdCall) → has_cap c SETUID ≡ false → set_id c call ≡ Ok d
+    (c d : Credential) (call : IdCall) → capable c SETUID ≡ false → set_id c call ≡ Ok d
     → AreOwn c.uid d.uid
 
 -- without CAP_SETGID no call gives a group id that the caller did not have
 abbrev pub GroupIdsStayOwn : Type 0
 GroupIdsStayOwn =
-    (c d : Credential) (call : IdCall) → has_cap c SETGID ≡ false → set_id c call ≡ Ok d
+    (c d : Credential) (call : IdCall) → capable c SETGID ≡ false → set_id c call ≡ Ok d
     → AreOwn c.gid d.gid
 
 -- no call that sets ids adds to the permitted set, also not for root

@@ -67,12 +67,12 @@ abbrev pub swept : Table → Table
 swept t = record t { deferred = [] }
 
 -- Where all slots are live, a sweep makes room, if there is any to be made.
-abbrev pub room : Table → Table
-room t = record t { deferred = if is_some (least_free t) then t.deferred else [] }
+abbrev pub swept_if_full : Table → Table
+swept_if_full t = record t { deferred = if is_some (least_free t) then t.deferred else [] }
 
 -- the slot that is taken next, in the table with room
 abbrev pub free : Table → Option ℕ
-free t = least_free (room t)
+free t = least_free (swept_if_full t)
 
 -- Two lists have the same numbers, each as often, if each test passes as many of the one as of the
 -- other.

@@ -4,7 +4,8 @@ ghost use Rattle.std.specs.Prelude.{slice_get, slice_set, count_by, ◌==◌, If
 ghost use Rattle.std.specs.Prelude.{IfSome, IfNone, IsTrue};
 ghost use Rattle.cred_ids.specs.Limits.{SLOTS};
 ghost use Rattle.cred_slots.specs.Table.{empty, references_to, uses, stands_in, is_kept};
-ghost use Rattle.cred_slots.specs.Table.{is_live, least_free, swept, room, free, IsSameBag};
+ghost use Rattle.cred_slots.specs.Table.{is_live, least_free, swept, swept_if_full, free};
+ghost use Rattle.cred_slots.specs.Table.{IsSameBag};
 ghost use Rattle.cred_slots.specs.Table.{IsAlone};
 
 use crate::flags::Flags;
@@ -103,9 +104,9 @@ impl Slots {
     #[inline(always)]
     pub fn claim(&mut self) -> Option<u32>
         ensures slot { result ≡ free self.old }
-        ensures none { IfNone result (self.new ≡ room self.old) }
+        ensures none { IfNone result (self.new ≡ swept_if_full self.old) }
         ensures some { IfSome result (λ slot.
-            self.new ≡ record (room self.old) { kept = slice_set self.old.kept slot true }) }
+            self.new ≡ record (swept_if_full self.old) { kept = slice_set self.old.kept slot true }) }
         ensures kept { IfSome result (λ slot. IsTrue (is_kept self.new slot)) }
     {
         let slot = self.make_room()?;
@@ -255,7 +256,7 @@ impl Slots {
     /// Sweeps if all slots are live, and gives the least slot that isn't live then.
     #[inline(always)]
     fn make_room(&mut self) -> Option<u32>
-        ensures room { self.new ≡ room self.old }
+        ensures swept_if_full { self.new ≡ swept_if_full self.old }
         ensures slot { result ≡ least_free self.new }
     {
         match self.least_free() {

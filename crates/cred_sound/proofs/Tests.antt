@@ -11,7 +11,8 @@ use Rattle.cred_model.specs.Slots.{least_free, swept}
 use Rattle.cred_model.specs.Casts.{not_busy}
 use Rattle.cred_model.specs.Answers.{is_ok}
 use Rattle.cred_model.specs.Change.{by_rule}
-use Rattle.cred_model.specs.Moves.{◌>>=◌, none_or, fewer_or, passed, not_overridden, in_slot}
+use Rattle.cred_model.specs.Moves.{◌>>=◌, none_or, fewer_or, unless_refused, not_overridden}
+use Rattle.cred_model.specs.Moves.{in_slot}
 use Rattle.cred_model.specs.Step.{outcome}
 use Rattle.cred_sound.proofs.References.{IsFree, free_slot}
 use Rattle.cred_sound.proofs.Parts.{with_left}
@@ -56,7 +57,7 @@ pub if_fewer : (Q : Answer × State → Type 0) (count limit : ℕ) (answer : An
 if_fewer Q count limit answer f does = if_true Q (nat_lt count limit) answer f does
 
 pub if_passed : (Q : Answer × State → Type 0) (answer : Answer) (f : Unit {0} → Result (Answer × State) Answer)
-    → IfAllowed Q (f tt) → IfAllowed Q (passed answer >>= f)
+    → IfAllowed Q (f tt) → IfAllowed Q (unless_refused answer >>= f)
 if_passed Q answer f does = if_true Q (is_ok answer) answer f does
 
 -- where no broadcast is open

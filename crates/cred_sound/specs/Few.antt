@@ -1,4 +1,4 @@
--- How many tasks live in a state that a kernel comes to.
+-- How many tasks live in a state that a run comes to.
 use Rattle.std.specs.Prelude.{◌≤◌, List, length}
 use Rattle.cred_ids.specs.Limits.{TASKS}
 use Rattle.cred_event.specs.declared.entry.Entry.{Entry}

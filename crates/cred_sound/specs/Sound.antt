@@ -1,4 +1,4 @@
--- What holds in every state that a kernel comes to.
+-- What holds in every state that a run comes to.
 use Rattle.std.specs.Prelude.{◌≡◌, ◌≢◌, List, All, None}
 use Rattle.std.specs.List.{AllPairs}
 use Rattle.cred_event.specs.declared.entry.Entry.{Entry}

@@ -1,4 +1,4 @@
-//! What holds in every state that a kernel comes to, whatever was entered: the references are to
+//! What holds in every state that a run comes to, whatever was entered: the references are to
 //! sealed credentials, in slots of their own, the names are unique, and no more tasks live than
 //! may.
 //!

@@ -130,7 +130,7 @@ module _ {parts : Parts} {store : List (Option Credential)} {t : Table} (is : Is
   s = state_of parts store t
 
   pub begin_full : (line : ℕ) (call : IdCall) → MayBegin s line task old → set_id old.cred call ≡ Ok new → table.free t ≡ None
-      → state_of parts store (table.room t) ≡ state_of parts store after
+      → state_of parts store (table.swept_if_full t) ≡ state_of parts store after
       → IsOutcomeLike (outcome s (by_begin s line task call)) TableFull (state_of parts store after)
   begin_full line call may rule none makes =
       does_same _ _ _

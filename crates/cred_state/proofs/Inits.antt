@@ -26,15 +26,15 @@ pub few_by_test : (n : ℕ) (test : Bool) → test ≡ not (nat_lt n 64) → tes
 few_by_test n test is few = grind (arith, nat_tests)
 
 -- Where a slot is free, one is sealed.
-pub is_sealed : (t after : Table) (found : Option (ℕ × ℕ)) → MatchOption found ((table.free t ≡ None) × (after ≡ table.room t)) (λ sealing. Seals t after sealing.0 sealing.1)
+pub is_sealed : (t after : Table) (found : Option (ℕ × ℕ)) → MatchOption found ((table.free t ≡ None) × (after ≡ table.swept_if_full t)) (λ sealing. Seals t after sealing.0 sealing.1)
     → (table.free t ≡ None → ⊥) → IsSome found
 is_sealed t after None is some = absurd (some is.0)
 is_sealed t after (Some sealing) is some = refl
 
 pub sealed_there : (t after : Table) (found : Option (ℕ × ℕ)) (number slot : ℕ) → found ≡ Some (number, slot)
-    → MatchOption found ((table.free t ≡ None) × (after ≡ table.room t)) (λ sealing. Seals t after sealing.0 sealing.1) → Seals t after number slot
+    → MatchOption found ((table.free t ≡ None) × (after ≡ table.swept_if_full t)) (λ sealing. Seals t after sealing.0 sealing.1) → Seals t after number slot
 sealed_there t after found number slot is seals =
-    subst (λ (o : Option (ℕ × ℕ)). MatchOption o ((table.free t ≡ None) × (after ≡ table.room t)) (λ sealing. Seals t after sealing.0 sealing.1)) is seals
+    subst (λ (o : Option (ℕ × ℕ)). MatchOption o ((table.free t ≡ None) × (after ≡ table.swept_if_full t)) (λ sealing. Seals t after sealing.0 sealing.1)) is seals
 
 -- the task was entered with the number that was sealed after that
 pub started : (tasks after : List Task) (task process next number : ℕ) → after ≡ tasks ++ first_task task process next ∷ [] → next ≡ number
@@ -60,7 +60,7 @@ module _ {parts : Parts} {store : List (Option Credential)} {t : Table} (is : Is
   s = state_of parts store t
 
   pub init_full : not_busy (cast_in s process) ≡ Ok tt → find (λ u. u.number == task) parts.tasks ≡ None → length parts.tasks < 64 → table.free t ≡ None
-      → state_of parts store (table.room t) ≡ state_of parts store after
+      → state_of parts store (table.swept_if_full t) ≡ state_of parts store after
       → IsOutcomeLike (outcome s (by_init s task process user group ns)) TableFull (state_of parts store after)
   init_full idle new few none makes =
       does_same _ _ _ (init_tests s task process user group ns idle new few ∙ in_none is (init_does task process user group ns) after none makes)

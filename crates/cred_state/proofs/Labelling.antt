@@ -37,23 +37,23 @@ pub record Claims (before after : Table) (base slot : ℕ) : Type 0 where
   pub takes : table.free before ≡ Some slot
   pub held : IsSameBag after.held (base ∷ before.held)
   pub sealed : after.sealed ≡ before.sealed
-  pub deferred : after.deferred ≡ (table.room before).deferred
+  pub deferred : after.deferred ≡ (table.swept_if_full before).deferred
   pub kept : after.kept ≡ slice_set before.kept slot true
   pub here : is_kept after slot ≡ true
 
 -- what a claim gives where there was more room to spare, and then a reference is added
 pub claims : (t r claimed after : Table) (found : Option ℕ) (m n base slot : ℕ) → r ≡ record t { spare = m } → Some slot ≡ table.free r → found ≡ table.free r
-    → IfSome found (λ place. claimed ≡ record (table.room r) { kept = slice_set r.kept place true })
+    → IfSome found (λ place. claimed ≡ record (table.swept_if_full r) { kept = slice_set r.kept place true })
     → IfSome found (λ place. is_kept claimed place ≡ true)
     → IsSameBag after.held (base ∷ claimed.held) → after ≡ record claimed { held = after.held; spare = n }
     → Claims t after base slot
 claims t r claimed after found m n base slot spared free is gives keeps held added =
     let takes : table.free t ≡ Some slot = sym (subst (λ (x : Table). Some slot ≡ table.free x) spared free) in
     let same : found ≡ Some slot = is ∙ sym free in
-    let made : claimed ≡ record (table.room r) { kept = slice_set r.kept slot true }
-    = if_some (λ place. claimed ≡ record (table.room r) { kept = slice_set r.kept place true }) found slot same gives in
-    let own : claimed ≡ record (table.room t) { kept = slice_set t.kept slot true; spare = m }
-    = subst (λ (x : Table). claimed ≡ record (table.room x) { kept = slice_set x.kept slot true }) spared made in
+    let made : claimed ≡ record (table.swept_if_full r) { kept = slice_set r.kept slot true }
+    = if_some (λ place. claimed ≡ record (table.swept_if_full r) { kept = slice_set r.kept place true }) found slot same gives in
+    let own : claimed ≡ record (table.swept_if_full t) { kept = slice_set t.kept slot true; spare = m }
+    = subst (λ (x : Table). claimed ≡ record (table.swept_if_full x) { kept = slice_set x.kept slot true }) spared made in
     let kept : is_kept claimed slot ≡ true = if_some (λ place. is_kept claimed place ≡ true) found slot same keeps in
     record {
       takes = takes;
@@ -99,7 +99,7 @@ module _ {parts : Parts} {store : List (Option Credential)} {t : Table} (is : Is
   s = state_of parts store t
 
   pub prepare_full : (after : Table) (label task hold : ℕ) → MayPrepare s label task hold → table.free t ≡ None
-      → state_of parts store (table.room t) ≡ state_of parts store after
+      → state_of parts store (table.swept_if_full t) ≡ state_of parts store after
       → outcome s (by_prepare s label task hold) ≡ (TableFull, state_of parts store after)
   prepare_full after label task hold may none makes =
       prepare_tests s label task hold may ∙ in_none is (prepare_does label task may.base.number) after none makes

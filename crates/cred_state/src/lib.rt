@@ -1,4 +1,4 @@
-//! The state of the kernel: the tasks, the open broadcasts, the open files, the holds and the
+//! The state of a run: the tasks, the open broadcasts, the open files, the holds and the
 //! prepared labels, each in a table of its own, and the credentials in 256 places, with a table of
 //! slots that counts the references to them. One call makes one event.
 #![tactic(auto)]

@@ -1,4 +1,4 @@
-//! The state of the kernel: the tasks, the open broadcasts, the open files, the holds, the prepared
+//! The state of a run: the tasks, the open broadcasts, the open files, the holds, the prepared
 //! labels, and the credentials in their slots' places, with a table of slots that counts the
 //! references to them.
 ghost use Rattle.std.specs.Prelude.{◌≡◌, ◌||◌, is_some, length, IfOk, OnErr};
@@ -33,7 +33,7 @@ use cred_tables::{Holds, Numbered, Preparing, Store, sealed_at};
 use std::alloc::Global;
 use std::marker::Model;
 
-/// The state of the kernel. Contracts see under each sealed number what stands in its slot's place:
+/// The state of a run. Contracts see under each sealed number what stands in its slot's place:
 /// where nothing refers to the number any more, that may be a later credential.
 #[derive(Drop, Debug)]
 pub struct State {

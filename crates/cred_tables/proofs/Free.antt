@@ -57,25 +57,25 @@ room_by s true = refl
 room_by s false = refl
 
 -- the state with room has the deferred numbers of the table with room
-pub room-same : (s : State) (t : Table) → IsTable s t → model.room s ≡ record s { deferred = (table.room t).deferred }
+pub room-same : (s : State) (t : Table) → IsTable s t → model.swept_if_full s ≡ record s { deferred = (table.swept_if_full t).deferred }
 room-same s t is =
     room_by s (is_some (model.least_free s))
     ∙ ap (λ (o : Option ℕ). record s { deferred = cond (is_some o) s.deferred [] }) (sym (least_free-same s t is))
     ∙ ap (λ (ds : List ℕ). record s { deferred = cond (is_some (table.least_free t)) ds [] }) is.deferred
 
-pub room-table : (s : State) (t : Table) → IsTable s t → IsTable (model.room s) (table.room t)
+pub room-table : (s : State) (t : Table) → IsTable s t → IsTable (model.swept_if_full s) (table.swept_if_full t)
 room-table s t is =
-    subst (λ (r : State). IsTable r (table.room t)) (sym (room-same s t is))
+    subst (λ (r : State). IsTable r (table.swept_if_full t)) (sym (room-same s t is))
     (record { counted = record { counts = is.counted.counts; keeps = is.counted.keeps }; slots = is.slots; deferred = refl })
 
 pub free-same : (s : State) (t : Table) → IsTable s t → table.free t ≡ model.free s
-free-same s t is = least_free-same (model.room s) (table.room t) (room-table s t is)
+free-same s t is = least_free-same (model.swept_if_full s) (table.swept_if_full t) (room-table s t is)
 
 -- where no slot is free, the room that is made is a sweep's
-pub full_swept : (t : Table) → table.free t ≡ None → table.room t ≡ swept t
+pub full_swept : (t : Table) → table.free t ≡ None → table.swept_if_full t ≡ swept t
 full_swept t none = by (is_some (table.least_free t)) refl
   where
-    by : (test : Bool) → is_some (table.least_free t) ≡ test → table.room t ≡ swept t
+    by : (test : Bool) → is_some (table.least_free t) ≡ test → table.swept_if_full t ≡ swept t
     by false is = room-full t is
     by true is =
         let full : table.least_free t ≡ None = sym (ap table.least_free (room-free t is)) ∙ none in

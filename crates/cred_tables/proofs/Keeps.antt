@@ -4,7 +4,7 @@ use Rattle.std.specs.List.{AllPairs, list_any}
 use Rattle.std.proofs.lemmas.Bool.{cases_eq, eq-eqb}
 use Rattle.std.proofs.lemmas.Bool.Decides.{nat_tests}
 use Rattle.std.proofs.lemmas.List.Folds.{list_any-append, list_any_none}
-use Rattle.cred_slots.specs.Table.{Table, is_kept, is_live, room, free}
+use Rattle.cred_slots.specs.Table.{Table, is_kept, is_live, swept_if_full, free}
 use Rattle.cred_model.proofs.Lists.{others_differ}
 
 -- ---- a free slot
@@ -26,7 +26,7 @@ neither false false free = refl
 -- a free slot is kept by none
 pub free-not_kept : (t : Table) (slot : ℕ) → free t ≡ Some slot → is_kept t slot ≡ false
 free-not_kept t slot takes =
-    neither _ (is_kept t slot) (passes (λ place. not (is_live (room t) place)) _ slot takes)
+    neither _ (is_kept t slot) (passes (λ place. not (is_live (swept_if_full t) place)) _ slot takes)
 
 -- ---- one slot more
 

@@ -44,20 +44,20 @@ referred_to t r m n is some = subst (λ (x : Table). 0 < table.references_to x n
 
 -- ---- a slot is taken, or none is free
 
-pub takes_slot : (s r : State) (does : State → ℕ → Answer × State) (slot : ℕ) → model.free s ≡ Some slot → model.room s ≡ r
+pub takes_slot : (s r : State) (does : State → ℕ → Answer × State) (slot : ℕ) → model.free s ≡ Some slot → model.swept_if_full s ≡ r
     → in_slot s table_full does ≡ does r slot
 takes_slot s r does slot takes makes =
-    ap (λ o. option_map_or (does (model.room s)) o (table_full (model.room s))) takes ∙ ap (λ (x : State). does x slot) makes
+    ap (λ o. option_map_or (does (model.swept_if_full s)) o (table_full (model.swept_if_full s))) takes ∙ ap (λ (x : State). does x slot) makes
 
-finds_full : (s r : State) (does : State → ℕ → Answer × State) → model.free s ≡ None → model.room s ≡ r
+finds_full : (s r : State) (does : State → ℕ → Answer × State) → model.free s ≡ None → model.swept_if_full s ≡ r
     → in_slot s table_full does ≡ (TableFull, r)
 finds_full s r does full makes =
-    ap (λ o. option_map_or (does (model.room s)) o (table_full (model.room s))) full ∙ ap (λ (x : State). (TableFull, x)) makes
+    ap (λ o. option_map_or (does (model.swept_if_full s)) o (table_full (model.swept_if_full s))) full ∙ ap (λ (x : State). (TableFull, x)) makes
 
 module _ {parts : Parts} {store : List (Option Credential)} {t : Table} (is : IsKept parts store t) where
   -- the state with the room that the table makes
   abbrev pub roomy : State
-  roomy = state_of parts store (table.room t)
+  roomy = state_of parts store (table.swept_if_full t)
 
   pub in_free : (does : State → ℕ → Answer × State) (slot : ℕ) → table.free t ≡ Some slot
       → in_slot (state_of parts store t) table_full does ≡ does roomy slot
@@ -70,7 +70,7 @@ module _ {parts : Parts} {store : List (Option Credential)} {t : Table} (is : Is
       → in_slot (state_of parts store t) full does ≡ does roomy slot
   in_free_or full does slot takes =
       let s = state_of parts store t in
-      ap (λ o. option_map_or (does (model.room s)) o (full (model.room s))) (sym (free-same s t (is_table is)) ∙ takes)
+      ap (λ o. option_map_or (does (model.swept_if_full s)) o (full (model.swept_if_full s))) (sym (free-same s t (is_table is)) ∙ takes)
       ∙ ap (λ (x : State). does x slot) (room-same s t (is_table is))
 
   -- where no slot is free, a sweep was made
@@ -78,7 +78,7 @@ module _ {parts : Parts} {store : List (Option Credential)} {t : Table} (is : Is
       → in_slot (state_of parts store t) full does ≡ full (state_of parts store (table.swept t))
   in_none_or full does none =
       let s = state_of parts store t in
-      ap (λ o. option_map_or (does (model.room s)) o (full (model.room s))) (sym (free-same s t (is_table is)) ∙ none)
+      ap (λ o. option_map_or (does (model.swept_if_full s)) o (full (model.swept_if_full s))) (sym (free-same s t (is_table is)) ∙ none)
       ∙ ap full (room-same s t (is_table is) ∙ ap (λ (x : Table). state_of parts store x) (full_swept t none))
 
   pub in_none : (does : State → ℕ → Answer × State) (after : Table) → table.free t ≡ None
@@ -100,10 +100,10 @@ module _ {parts : Parts} {store : List (Option Credential)} {t : Table} (is : Is
 
 -- the room that was made is that of the table without the spare
 pub roomy_spare : (parts : Parts) (store : List (Option Credential)) (t r after : Table) (m : ℕ)
-    → r ≡ record t { spare = m } → after ≡ table.room r
-    → state_of parts store (table.room t) ≡ state_of parts store after
+    → r ≡ record t { spare = m } → after ≡ table.swept_if_full r
+    → state_of parts store (table.swept_if_full t) ≡ state_of parts store after
 roomy_spare parts store t r after m is made =
-    sym (ap (λ (x : Table). state_of parts store x) (subst (λ (x : Table). after ≡ table.room x) is made))
+    sym (ap (λ (x : Table). state_of parts store x) (subst (λ (x : Table). after ≡ table.swept_if_full x) is made))
 
 -- the same slots are kept
 pub keeps_same : (t after : Table) (slots : List ℕ) → ((slot : ℕ) → is_kept t slot ≡ is_among slots slot) → after.kept ≡ t.kept

@@ -1,4 +1,4 @@
--- How the kernel's state is kept: the tasks, the open broadcasts, the open files, the holds and the
+-- How the state of a run is kept: the tasks, the open broadcasts, the open files, the holds and the
 -- prepared labels as they are, the credentials in their slots' places, and a table of slots that
 -- counts references.
 use Rattle.std.specs.Prelude.{◌≡◌, ℕ, ◌<◌, ◌≤◌, ◌==◌, List, ◌∷◌, [], ◌++◌, count_by, length, map}
@@ -14,7 +14,7 @@ use Rattle.cred_event.specs.declared.event.Change.{Change}
 use Rattle.cred_event.specs.declared.event.Change.TheVariants.{Exec}
 use Rattle.cred_model.specs.Casts.{dropped}
 use Rattle.cred_model.specs.Slots.{in_use, kept}
-use Rattle.cred_slots.specs.Table.{Table, IsSameBag, IsAlone, is_kept, room, free}
+use Rattle.cred_slots.specs.Table.{Table, IsSameBag, IsAlone, is_kept, swept_if_full, free}
 use Rattle.cred_tables.specs.declared.table.Numbered as table
 
 -- what stands for the credential of a place that has none
@@ -109,7 +109,7 @@ pub record Seals (before after : Table) (number slot : ℕ) : Type 0 where
   pub counted : number ≡ length before.sealed
   pub held : IsSameBag after.held (number ∷ before.held)
   pub sealed : after.sealed ≡ before.sealed ++ slot ∷ []
-  pub deferred : after.deferred ≡ (room before).deferred
+  pub deferred : after.deferred ≡ (swept_if_full before).deferred
   pub kept : after.kept ≡ before.kept
 
 -- The next number was sealed in a slot that was kept for it, and one reference to its base was

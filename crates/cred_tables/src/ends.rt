@@ -8,7 +8,7 @@ ghost use Rattle.cred_tables.specs.Kept.{casts_left};
 use cred_cast::Casts;
 use cred_event::{Answer, Change};
 use cred_ids::NoMemory;
-use cred_procs::{Ended, Numbers, Procs, TaskList};
+use cred_procs::{Ended, CredNumbers, Procs, TaskList};
 use cred_record::Gains;
 use std::alloc::Global;
 
@@ -33,7 +33,7 @@ pub fn end_with(
         Change::Exec { .. } => tasks.dethread(task),
         _ => Ok(Ended {
             tasks: TaskList::from_vec(Vec::new(alloc)),
-            numbers: Numbers::from_vec(Vec::new(alloc)),
+            numbers: CredNumbers::from_vec(Vec::new(alloc)),
         }),
     }
 }

@@ -1,4 +1,4 @@
-//! The tables that the kernel's state is made of, beside those of tasks, broadcasts and open files:
+//! The tables that the state of a run is made of, beside those of tasks, broadcasts and open files:
 //! the holds, the prepared labels, and the sealed credentials in the places of their slots. Where
 //! one call changes several of them, or tasks and broadcasts together, it stands here too.
 #![tactic(auto)]

@@ -2,7 +2,7 @@
 ghost use Rattle.std.specs.Prelude.{◌≡◌, ◌<◌, ◌==◌, ◌++◌, IsTrue, MatchOption, None, count_by};
 ghost use Rattle.std.specs.Prelude.{length, slice_set};
 ghost use Rattle.cred_ids.specs.Limits.{SLOTS};
-ghost use Rattle.cred_slots.specs.Table.{IsSameBag, is_kept, room, free};
+ghost use Rattle.cred_slots.specs.Table.{IsSameBag, is_kept, swept_if_full, free};
 ghost use Rattle.cred_tables.specs.Begin.{table_at};
 ghost use Rattle.cred_tables.specs.Kept.{AreHeld, Seals, SealsKept};
 
@@ -18,7 +18,7 @@ use cred_slots::Slots;
 pub fn seal_next(slots: &mut Slots) -> Option<(u64, u32)>
     requires { 0 < slots.old.spare }
     ensures { MatchOption result
-        ((free slots.old ≡ None) × (slots.new ≡ room slots.old))
+        ((free slots.old ≡ None) × (slots.new ≡ swept_if_full slots.old))
         (λ sealing. Seals slots.old slots.new sealing.0 sealing.1) }
 {
     let slot = slots.claim()?;

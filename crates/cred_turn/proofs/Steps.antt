@@ -11,22 +11,23 @@ use Rattle.cred_turn.specs.declared.view.Lent.{Lent}
 use Rattle.cred_turn.specs.declared.view.View.{View}
 use Rattle.cred_turn.specs.declared.view.View.TheVariants.{Roll, Pass, Spent}
 use Rattle.cred_turn.specs.Rows.{home_row, lent_row, HasRow, row_of, with_row}
-use Rattle.cred_turn.specs.Rule.{lent, passes, IsNoRoll, IsOfRow, Apart, Keeps, IsKept, opened, lending, pass_of, returned, Learned}
+use Rattle.cred_turn.specs.Rule.{lent, passes, IsNoRoll, IsOfRow, Apart, Keeps, PassRuleHolds}
+use Rattle.cred_turn.specs.Rule.{opened, lending, pass_of, returned, Learned}
 use Rattle.cred_turn.proofs.Lists.{all_snoc, all_set, all_then, all_both, passes-snoc, Other, apart_snoc, spent_all, spent_apart, home_is_nobodys, row_stays, row_is_lent}
 
 abbrev pub Held : Type 0
 Held = View × List (ℕ × Unit {0})
 
 abbrev pub Kept : State (Unit {0}) View → Type 0
-Kept s = IsKept s.words s.views
+Kept s = PassRuleHolds s.words s.views
 
 -- The rule holds when the table is made
 
-pub opens : (lanes : ℕ) → IsKept (0 ∷ []) (opened lanes ∷ [])
+pub opens : (lanes : ℕ) → PassRuleHolds (0 ∷ []) (opened lanes ∷ [])
 opens lanes = (_, None, [], record { word = refl; views_are = refl; one_roll = tt; of_rows = tt; apart = tt })
 
 -- The parts of the rule at a seat that has the roll's view
-others_kept : (words : List ℕ) (views : List View) (rows : List Row) (kept : Option Lent) → get_elem? views 0 ≡ some (Roll rows kept) → IsKept words views → (others : List View) × Keeps words views rows kept others
+others_kept : (words : List ℕ) (views : List View) (rows : List Row) (kept : Option Lent) → get_elem? views 0 ≡ some (Roll rows kept) → PassRuleHolds words views → (others : List View) × Keeps words views rows kept others
 others_kept words views rows kept at (rows', kept', others, k) =
     let whole : Roll rows' kept' ≡ Roll rows kept = some-injective _ _ (ap (λ (vs : List View). get_elem? vs 0) (sym k.views_are) ∙ at) in
     let same : rows' ≡ rows = cc in

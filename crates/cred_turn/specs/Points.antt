@@ -1,7 +1,7 @@
 -- The rule of the passes, as what the table holds between any two steps.
 use Rattle.std.specs.Prelude.{◌≡◌, ℕ, List, [], ◌∷◌, Option, Some, None, slice_get}
 use Rattle.cred_turn.specs.Rows.{lent_row, HasRow, row_of}
-use Rattle.cred_turn.specs.Rule.{IsKept}
+use Rattle.cred_turn.specs.Rule.{PassRuleHolds}
 use Rattle.cred_turn.specs.declared.view.Row.{Row}
 use Rattle.cred_turn.specs.declared.view.Lent.{Lent}
 use Rattle.cred_turn.specs.declared.view.View.{View}
@@ -41,4 +41,4 @@ pub record HasPoints (words : List ℕ) (views : List View) : Type 0 where
 
 -- where the rule holds, so do the points
 abbrev pub RuleHasPoints : Type 0
-RuleHasPoints = (words : List ℕ) (views : List View) → IsKept words views → HasPoints words views
+RuleHasPoints = (words : List ℕ) (views : List View) → PassRuleHolds words views → HasPoints words views

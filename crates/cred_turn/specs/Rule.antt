@@ -51,8 +51,8 @@ pub record Keeps
   pub apart : Apart (passes (aside kept ∷ others))
 
 -- the rule: there are rows, a pass kept aside or none, and other views with which it holds
-abbrev pub IsKept : List ℕ → List View → Type 0
-IsKept words views =
+abbrev pub PassRuleHolds : List ℕ → List View → Type 0
+PassRuleHolds words views =
     (rows : List Row) × (kept : Option Lent) × (others : List View) ×
     Keeps words views rows kept others
 

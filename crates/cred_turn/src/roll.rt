@@ -4,7 +4,7 @@ ghost use Rattle.cred_turn.specs.Rows.{fresh, home_row, lent_row, HasRow, row_of
 ghost use Rattle.cred_turn.specs.Seen.{pass};
 
 use crate::numbers::Numbers;
-use crate::rule::{Learns, Lends, Order, Passes, Returns};
+use crate::rule::{Learns, Lends, Order, PassRule, Returns};
 use crate::view::View;
 use atomic_table::{Seat, Table};
 use cred_ids::NoMemory;
@@ -15,7 +15,7 @@ use std::marker::{Brand, Model};
 /// rows stand in the proofs alone. Contracts see its identity and its rows.
 #[derive(Drop)]
 pub struct Roll {
-    table: Table<(), View, u32, Passes, Global>,
+    table: Table<(), View, u32, PassRule, Global>,
     seat: Seat<(), View>,
 }
 

@@ -4,12 +4,12 @@ use atomic_table::{Join, Play, Split, TableRule};
 use std::marker::{Brand, PhantomData};
 
 /// The rule. The table is told the number of lanes when it is made.
-pub struct Passes;
+pub struct PassRule;
 
-impl TableRule<(), View, u32> for Passes {
-    ghost use Rattle.cred_turn.specs.Rule.{IsKept, opened};
+impl TableRule<(), View, u32> for PassRule {
+    ghost use Rattle.cred_turn.specs.Rule.{PassRuleHolds, opened};
 
-    ghost holds = { λ _ s. IsKept s.words s.views };
+    ghost holds = { λ _ s. PassRuleHolds s.words s.views };
 
     ghost first = { opened };
 }

@@ -7,7 +7,7 @@ use Rattle.cred_ids.specs.Limits.{SLOTS}
 use Rattle.cred_record.specs.declared.layout.TheConstants.{WORDS}
 use Rattle.cred_words.specs.Size.{width, count, total, place}
 use Rattle.cred_words.specs.declared.view.Slot.{Slot}
-use Rattle.cred_words.specs.Words.{slot_of, Stands, IsKept, opened}
+use Rattle.cred_words.specs.Words.{slot_of, Stands, WordRuleHolds, opened}
 use Rattle.cred_words.proofs.Lists.{place_within}
 
 pub width_is : width ≡ WORDS
@@ -30,7 +30,7 @@ get_replicate (suc n) (suc k) x y e = let r = get_replicate n k x y e in let b =
 blank : ℕ → Slot
 blank n = slot_of (replicate n 0) false
 
-pub opens : IsKept (replicate total 0) (opened ∷ [])
+pub opens : WordRuleHolds (replicate total 0) (opened ∷ [])
 opens = (
   replicate count (slot_of (replicate width 0) false),
   0,

@@ -17,17 +17,21 @@ use Rattle.cred_words.specs.declared.view.Ledger.{Ledger}
 use Rattle.cred_words.specs.declared.view.View.{View}
 use Rattle.cred_words.specs.declared.view.View.TheVariants.{Master, Lent, Spent}
 use Rattle.cred_words.specs.Lists.{Has}
-use Rattle.cred_words.specs.Words.{slot_of, ledger, token, entry_of, put_words, out_of, aside, IsNoMaster, Apart, OwnTickets, Stands, FitsAs, EntryFits, NoWriterOn, Keeps, IsKept, words_at, lent_token, after_lend, lending, lends, returned, without, slots_back, after_back, Learned, ReadAt, PutAt}
+use Rattle.cred_words.specs.Words.{slot_of, ledger, token, entry_of, put_words, out_of, aside}
+use Rattle.cred_words.specs.Words.{IsNoMaster, Apart, OwnTickets, Stands, FitsAs, EntryFits}
+use Rattle.cred_words.specs.Words.{NoWriterOn, Keeps, WordRuleHolds, words_at, lent_token}
+use Rattle.cred_words.specs.Words.{after_lend, lending, lends, returned, without, slots_back}
+use Rattle.cred_words.specs.Words.{after_back, Learned, ReadAt, PutAt}
 use Rattle.cred_words.proofs.Lists.{all_snoc, all_set, all_then, all_both, get_set_here, get_set_else, get_set, words_at-get, Ticket, out_of-snoc, own_snoc, one_of, spent_all, spent_own, swap_all, swap_own, has_all, apart_of, same_ticket, without_all, without_apart, has_without, without_others, without-taken, all_with, same_word, stands_other, stands_here}
 
 abbrev pub Held : Type 0
 Held = View × List (ℕ × Unit {0})
 
 abbrev pub Kept : State (Unit {0}) View → Type 0
-Kept s = IsKept s.words s.views
+Kept s = WordRuleHolds s.words s.views
 
 -- The parts of the rule at a seat that has the master's view
-others_kept : (words : List ℕ) (views : List View) (d : Ledger) → get_elem? views 0 ≡ some (Master d) → IsKept words views → (others : List View) × Keeps words views d.slots d.next d.entries d.kept others
+others_kept : (words : List ℕ) (views : List View) (d : Ledger) → get_elem? views 0 ≡ some (Master d) → WordRuleHolds words views → (others : List View) × Keeps words views d.slots d.next d.entries d.kept others
 others_kept words views d at (slots, next, entries, kept, others, k) =
     let whole : Master (ledger slots next entries kept) ≡ Master d = some-injective _ _ (ap (λ (vs : List View). get_elem? vs 0) (sym k.views_are) ∙ at) in
     let same : ledger slots next entries kept ≡ d = cc in
@@ -45,7 +49,7 @@ record Behind (words : List ℕ) (views : List View) (id : ℕ) (t : Token) : Ty
   here : get_elem? others j ≡ some (Lent t)
   keeps : Keeps words views slots next entries kept others
 
-behind : (words : List ℕ) (views : List View) (id : ℕ) (t : Token) → get_elem? views id ≡ some (Lent t) → IsKept words views → Behind words views id t
+behind : (words : List ℕ) (views : List View) (id : ℕ) (t : Token) → get_elem? views id ≡ some (Lent t) → WordRuleHolds words views → Behind words views id t
 behind words views zero t at (slots, next, entries, kept, others, k) =
     let whole : Master (ledger slots next entries kept) ≡ Lent t = some-injective _ _ (ap (λ (vs : List View). get_elem? vs 0) (sym k.views_are) ∙ at) in absurd (cc)
 behind words views (suc j) t at (slots, next, entries, kept, others, k) =
@@ -282,7 +286,7 @@ reads id t word n s h homes at range =
       Lent t,
       keeps,
       tt,
-      subst (λ ws. IsKept ws (slice_set s.views id (Lent t))) (sym (set-get_or s.words word 0)) (subst (IsKept s.words) (sym (set_again s.views id (Lent t) at)) h),
+      subst (λ ws. WordRuleHolds ws (slice_set s.views id (Lent t))) (sym (set-get_or s.words word 0)) (subst (WordRuleHolds s.words) (sym (set_again s.views id (Lent t) at)) h),
       (refl, (λ i small is. ap (slice_index s.words) is ∙ stands.each i small), refl),
     )
 

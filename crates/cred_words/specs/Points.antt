@@ -5,7 +5,7 @@ use Rattle.std.specs.Prelude.{slice_index}
 use Rattle.cred_record.specs.Credential.{Credential}
 use Rattle.cred_record.specs.Words.{IsCredential, words_of}
 use Rattle.cred_words.specs.Lists.{Has}
-use Rattle.cred_words.specs.Words.{out_of, aside, Stands, IsKept}
+use Rattle.cred_words.specs.Words.{out_of, aside, Stands, WordRuleHolds}
 use Rattle.cred_words.specs.declared.view.Slot.{Slot}
 use Rattle.cred_words.specs.declared.view.Token.{Token}
 use Rattle.cred_words.specs.declared.view.Ledger.{Ledger}
@@ -90,5 +90,5 @@ pub record HasPoints (words : List ℕ) (views : List View) (d : Ledger) : Type 
 -- where the rule holds, so do the points
 abbrev pub RuleHasPoints : Type 0
 RuleHasPoints =
-    (words : List ℕ) (views : List View) → IsKept words views →
+    (words : List ℕ) (views : List View) → WordRuleHolds words views →
     (d : Ledger) × HasPoints words views d

@@ -121,8 +121,8 @@ pub record Keeps
       (s : ℕ) (x : Slot) → slice_get slots s ≡ Some x → x.sealed ≡ true → are_words x.words ≡ true
 
 -- the rule: there are a master's parts and other views with which it holds
-abbrev pub IsKept : List ℕ → List View → Type 0
-IsKept words views =
+abbrev pub WordRuleHolds : List ℕ → List View → Type 0
+WordRuleHolds words views =
     (slots : List Slot) × (next : ℕ) × (entries : List Token) × (kept : Option Token) ×
     (others : List View) × Keeps words views slots next entries kept others
 

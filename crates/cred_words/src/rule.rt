@@ -7,9 +7,9 @@ use std::marker::{Brand, PhantomData};
 pub struct Words;
 
 impl TableRule<(), View, ()> for Words {
-    ghost use Rattle.cred_words.specs.Words.{IsKept, opened};
+    ghost use Rattle.cred_words.specs.Words.{WordRuleHolds, opened};
 
-    ghost holds = { λ _ s. IsKept s.words s.views };
+    ghost holds = { λ _ s. WordRuleHolds s.words s.views };
 
     ghost first = { λ _. opened };
 }

@@ -14,7 +14,7 @@ use cred_ids::NoMemory;
 use cred_tables::{Numbered, seal_kept};
 
 impl State {
-    /// A task acts with another credential from now on (`override_creds` in the kernel;
+    /// A task acts with another credential from now on (Linux's `override_creds`;
     /// Documentation/security/credentials.rst): with the one that the label holds, or with what the
     /// task prepared under the label for access(2). Its current credential stays. `NoTask`,
     /// `NoHold` and `TooDeep` leave the state.
@@ -69,8 +69,8 @@ impl State {
         })
     }
 
-    /// A task acts again with the credential that it had before its newest override (`revert_creds`
-    /// in the kernel), and that override's credential is given up. `NoTask` and `NotOverridden`
+    /// A task acts again with the credential that it had before its newest override (Linux's
+    /// `revert_creds`), and that override's credential is given up. `NoTask` and `NotOverridden`
     /// leave the state.
     pub fn revert(&mut self, task: u32) -> Answer
         requires { IsSound self.old }

@@ -16,12 +16,12 @@ returns-in_default-2-clause-ok c =
 pub step-requires-clause-sound : goal.step-requires-clause-sound
 step-requires-clause-sound c = run_is_sound c.args.script.now c.args.self.now c.requires
 
-pub pass-requires : goal.pass-requires
-pass-requires c = lane_has_place c.args.self.now.cursors c.args.lane c.in-Some.course (sym c.due.ensures ∙ c.in-Some.is)
+pub move_on-requires : goal.move_on-requires
+move_on-requires c = lane_has_place c.args.self.now.cursors c.args.lane c.in-Some.course (sym c.due.ensures ∙ c.in-Some.is)
 
 pub returns-clause-ok : goal.returns-clause-ok
 returns-clause-ok c =
     let run : Run = c.args.self.now in
     goes_on_by c.args.script.now c.args.lane run _ c.in-Some.course c.in-Some-2.event c.line-line.result c.in_ok-answer.answer c.cursor_after-cursor.result
     (sym c.due.ensures ∙ c.in-Some.is) (sym c.in_ok-event.ensures.event ∙ c.in-Some-2.is) c.line-line.ensures.value
-    c.in_ok-answer.ensures.ok c.cursor_after-cursor.ensures c.pass.ensures
+    c.in_ok-answer.ensures.ok c.cursor_after-cursor.ensures c.move_on.ensures

@@ -4,7 +4,7 @@ use Rattle.cred_event.specs.declared.answer.Answer.{Answer}
 use Rattle.cred_event.specs.declared.entry.Entry.{Entry}
 use Rattle.cred_model.specs.Course as model
 use Rattle.cred_script.specs.Grammar.{line_at}
-use Rattle.cred_cursor.specs.Cursor.{PassesTo}
+use Rattle.cred_cursor.specs.Cursor.{MovesOnTo}
 use Rattle.cred_book.specs.Book.{Recorded, answer_of}
 use Rattle.cred_book.proofs.Entered.{follows_sound, replays, enters}
 use Rattle.cred_book.proofs.book.Book.enter.Goals as goal
@@ -41,9 +41,9 @@ returns-clause-passes c =
     let answer : c.in_ok-answer.answer ≡ answer_of book c.args.course.line c.args.event
     = sym made.answers ∙ ap (λ (n : ℕ). answer_of book n c.args.event) number in
     let passes = subst
-    (λ (a : Answer). IfSome (line_at b.script c.args.course.line) (λ line. PassesTo b.script c.args.lane (model.after line.content c.args.course a) c.cursor_after-cursor.result))
+    (λ (a : Answer). IfSome (line_at b.script c.args.course.line) (λ line. MovesOnTo b.script c.args.lane (model.after line.content c.args.course a) c.cursor_after-cursor.result))
     answer c.cursor_after-cursor.ensures in
     subst
     (λ (r : Recorded). IfSome (line_at r.script c.args.course.line)
-    (λ line. PassesTo r.script c.args.lane (model.after line.content c.args.course (answer_of r c.args.course.line c.args.event)) c.cursor_after-cursor.result))
+    (λ line. MovesOnTo r.script c.args.lane (model.after line.content c.args.course (answer_of r c.args.course.line c.args.event)) c.cursor_after-cursor.result))
     c.self.view_is passes

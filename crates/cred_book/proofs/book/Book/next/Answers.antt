@@ -11,7 +11,7 @@ use Rattle.cred_cursor.specs.Cursor.{IsOfLine}
 use Rattle.cred_cursor.specs.Cursors.{due_of}
 use Rattle.cred_cursor.proofs.Turns.{lane_has_place}
 use Rattle.cred_book.specs.Book.{Recorded, with_event}
-use Rattle.cred_book.specs.Cursor.{passed}
+use Rattle.cred_book.specs.Cursor.{moved_on}
 use Rattle.cred_book.proofs.Cursors.{Moves, moves, due_counts, due_found, due_goes_on, due_makes, due_of_line, makes_more, none_counted, none_made}
 use Rattle.cred_book.proofs.book.Book.next.Goals as goal
 
@@ -70,8 +70,8 @@ returns-in_default-2 c =
     ∙ due_makes book c.args.lane course c.requires here in
     cc
 
-pub pass-requires : goal.pass-requires
-pass-requires c =
+pub move_on-requires : goal.move_on-requires
+move_on-requires c =
     let book : Recorded = c.args.self.now in
     let course : Course = c.in-Some.course in
     let here : due_of book.cursors c.args.lane ≡ Some course
@@ -90,16 +90,16 @@ returns c =
     let course : Course = c.in-Some.course in
     let lane = c.args.lane in
     let to : Option Course = c.in_ok-cursor.cursor in
-    let after : Recorded = c.pass.new.self in
+    let after : Recorded = c.move_on.new.self in
     let here : due_of book.cursors lane ≡ Some course
     = due_found _ book lane _ _ c.self.view_is c.due.ensures c.in-Some.is in
     let script : c.self.inside.script ≡ book.script = ap (λ (b : Recorded). b.script) c.self.view_is in
     let has : option_and_then (λ (l : Line). event_at l.content course) (line_at book.script course.line) ≡ Some c.in-Some-2.event
     = ap (λ (s : Script). option_and_then (λ (l : Line). event_at l.content course) (line_at s course.line)) (sym script)
     ∙ sym c.in_ok-event.ensures.event ∙ c.in-Some-2.is in
-    let same : passed (with_event book course.line c.in-Some-2.event) lane course.line to ≡ after
-    = sym (c.pass.ensures ∙ ap (λ (b : Recorded). passed b lane c.line.result to) c.in_ok-cursor.ensures.entered
-    ∙ ap (λ n. passed (with_event book course.line c.in-Some-2.event) lane n to) c.line.ensures.value) in
+    let same : moved_on (with_event book course.line c.in-Some-2.event) lane course.line to ≡ after
+    = sym (c.move_on.ensures ∙ ap (λ (b : Recorded). moved_on b lane c.line.result to) c.in_ok-cursor.ensures.entered
+    ∙ ap (λ n. moved_on (with_event book course.line c.in-Some-2.event) lane n to) c.line.ensures.value) in
     let m : Moves book after lane
     = subst (λ b. Moves book b lane) same (moves book lane course c.in-Some-2.event to c.requires here has c.in_ok-cursor.ensures.passes) in
     record {

@@ -1,11 +1,11 @@
 use Rattle.std.proofs.Common.{ap, ◌∙◌}
-use Rattle.cred_kernel.specs.Locks.{Made}
+use Rattle.cred_kernel.specs.Locks.{KernelParts}
 use Rattle.cred_kernel.proofs.kernel.Kernel.new.Goals as goal
 
 pub invariant_of-locked : goal.invariant_of-locked
 invariant_of-locked g c = record {
-  script_is = ap (λ (m : Made). m.script) c.parts.view_is ∙ c.requires.script;
-  roll_is = c.lend_all.ensures.roll ∙ ap (λ (m : Made). m.roll) c.parts.view_is ∙ c.requires.roll;
+  script_is = ap (λ (m : KernelParts). m.script) c.parts.view_is ∙ c.requires.script;
+  roll_is = c.lend_all.ensures.roll ∙ ap (λ (m : KernelParts). m.roll) c.parts.view_is ∙ c.requires.roll;
   stands = c.parts.invariant.ready.stands;
   set_up = c.parts.invariant.ready.set_up;
   lent = c.in-Ok.ensures.rows;

@@ -6,7 +6,7 @@ use Rattle.std.proofs.lemmas.Bool.{ltb-true}
 use Rattle.cred_ids.specs.Limits.{DEPTH}
 use Rattle.cred_procs.specs.declared.processes.Processes.{Processes}
 use Rattle.cred_procs.specs.declared.thread.Thread.{Thread}
-use Rattle.cred_procs.specs.Kept.{tasks_of, IsKept}
+use Rattle.cred_procs.specs.Kept.{tasks_of, AreGrouped}
 use Rattle.cred_procs.specs.Tasks.{with_overrides}
 use Rattle.cred_procs.proofs.Writes.{is_there, overrides_is, written_overrides, kept_overrides, unwritten}
 use Rattle.cred_procs.proofs.procs.Procs.push_override.Goals as goal
@@ -24,12 +24,12 @@ module _ (task number : ℕ) (v : Thread) (es after : List (ℕ × Thread)) (fou
   pushed false to = ap tasks_of (unwritten task v es after found stack to is)
 
   kept : (room : Bool) → room ≡ nat_lt (length v.overrides) DEPTH → stack ≡ cond room (number ∷ v.overrides) v.overrides
-      → (processes : Processes) → IsKept (tasks_of es) processes → IsKept (tasks_of after) processes
+      → (processes : Processes) → AreGrouped (tasks_of es) processes → AreGrouped (tasks_of after) processes
   kept true room to =
       let below = ltb-true (length v.overrides) DEPTH (sym room) in
       kept_overrides task v es after found unique stack (number ∷ v.overrides) to is (omega (arith, below))
   kept false room to =
-      λ processes before. subst (λ (now : List (ℕ × Thread)). IsKept (tasks_of now) processes) (sym (unwritten task v es after found stack to is)) before
+      λ processes before. subst (λ (now : List (ℕ × Thread)). AreGrouped (tasks_of now) processes) (sym (unwritten task v es after found stack to is)) before
 
 pub invariant_of-self : goal.invariant_of-self
 invariant_of-self c =

@@ -5,7 +5,7 @@ use Rattle.std.specs.Option.{option_map}
 use Rattle.cred_model.specs.State.{Task}
 use Rattle.cred_model.specs.Ends.{is_task, survivors}
 use Rattle.cred_procs.specs.declared.thread.Thread.{Thread}
-use Rattle.cred_procs.specs.Kept.{task_as, tasks_of, IsKept}
+use Rattle.cred_procs.specs.Kept.{task_as, tasks_of, AreGrouped}
 use Rattle.cred_procs.proofs.Entries.{numbers-tasks_of, task_in-tasks_of, remove_entry-tasks_of}
 use Rattle.cred_procs.proofs.Ends.{kept_survivors}
 use Rattle.cred_procs.proofs.procs.Procs.remove.Goals as goal
@@ -23,7 +23,7 @@ invariant_of-self c =
     let apart : IsDistinct nat_eq (map (λ t. t.number) (survivors (is_task c.args.task) (tasks_of es)))
     = subst (IsDistinct nat_eq) (sym (numbers-tasks_of after) ∙ ap (λ (ts : List Task). map (λ t. t.number) ts) is) c.shift_remove.ensures.unique in
     let found = task_in-tasks_of c.args.task es ∙ ap (option_map (task_as c.args.task)) (sym c.shift_remove.ensures.value ∙ c.in-Some.is) in
-    subst (λ (ts : List Task). IsKept ts c.remove.new.self) (sym is)
+    subst (λ (ts : List Task). AreGrouped ts c.remove.new.self) (sym is)
     (kept_survivors c.args.task (task_as c.args.task c.in-Some.thread) (tasks_of es) c.self.inside.processes c.remove.new.self c.self.invariant apart found c.remove.ensures)
 
 pub returns-in-Some : goal.returns-in-Some

@@ -8,7 +8,7 @@ use Rattle.indexmap.proofs.CallerLemmas.{insert_entry-new}
 use Rattle.cred_model.specs.State.{Task}
 use Rattle.cred_model.specs.Moves.{first_task}
 use Rattle.cred_procs.specs.declared.thread.Thread.{Thread}
-use Rattle.cred_procs.specs.Kept.{task_as, tasks_of, IsKept}
+use Rattle.cred_procs.specs.Kept.{task_as, tasks_of, AreGrouped}
 use Rattle.cred_procs.specs.Tasks.{task_in}
 use Rattle.cred_procs.proofs.Entries.{absent-tasks_of, numbers-tasks_of}
 use Rattle.cred_procs.proofs.Ends.{kept_added}
@@ -41,7 +41,7 @@ invariant_of-self-2 c =
     ∙ ap (λ (u : Task). tasks_of es ++ u ∷ []) (first c.args.task c.args.process c.args.number c.new.result c.new.ensures) in
     let apart : IsDistinct nat_eq (map (λ t. t.number) (tasks_of es ++ t ∷ []))
     = subst (IsDistinct nat_eq) (sym (numbers-tasks_of after) ∙ ap (λ (ts : List Task). map (λ t. t.number) ts) is) c.insert.ensures.unique in
-    subst (λ (ts : List Task). IsKept ts c.add.new.self) (sym is)
+    subst (λ (ts : List Task). AreGrouped ts c.add.new.self) (sym is)
     (kept_added t (tasks_of es) c.self.inside.processes c.add.new.self c.self.invariant room (omega arith) apart c.in_ok-add.ensures.ok)
 
 pub returns-clause-ok : goal.returns-clause-ok

@@ -3,8 +3,8 @@ use Rattle.std.proofs.lemmas.List.{set-get_or}
 use Rattle.cred_model.specs.Course.{Course}
 use Rattle.cred_book.specs.Book.{Recorded}
 use Rattle.cred_book.specs.Counts.{count_of}
-use Rattle.cred_book.specs.Cursor.{has_left, passed}
-use Rattle.cred_book.proofs.book.Book.pass.Goals as goal
+use Rattle.cred_book.specs.Cursor.{has_left, moved_on}
+use Rattle.cred_book.proofs.book.Book.move_on.Goals as goal
 
 -- a number that nothing is added to stays
 number_stays : (ended : List ℕ) (lane : ℕ) (test : Bool) → test ≡ false → set ended lane (get_or ended lane 0 + count_of test) ≡ ended
@@ -18,6 +18,6 @@ returns-else-has_ended c =
     let not : has_left c.args.cursor c.args.line ≡ false = sym c.has_left-has_ended.ensures ∙ c.if-has_ended.false in
     let seen : List (Option Course) → List ℕ → Recorded
     = λ cursors ended. record { script = b.script; journal = b.journal.items; cursors = cursors; ended = ended } in
-    ap (λ cursors. seen cursors b.ended.items) c.pass.ensures
+    ap (λ cursors. seen cursors b.ended.items) c.move_on.ensures
     ∙ ap (seen (set b.cursors c.args.lane c.args.cursor)) (sym (number_stays b.ended.items c.args.lane (has_left c.args.cursor c.args.line) not))
-    ∙ ap (λ (r : Recorded). passed r c.args.lane c.args.line c.args.cursor) c.self.view_is
+    ∙ ap (λ (r : Recorded). moved_on r c.args.lane c.args.line c.args.cursor) c.self.view_is
