@@ -4,7 +4,7 @@
     bench/compare.py PLAIN [RUNS [SEED]]
 
 PLAIN is plain.rs, built. Each script is a walk through the grammar, some with bad lines. A script on
-which the two differ is printed, and the status is then 1. No part of the gate.
+which the two differ is printed, and the status is then 1. No part of the checks.
 """
 import pathlib
 import random

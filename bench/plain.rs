@@ -1,6 +1,6 @@
 //! A plain, unverified program that does what `credtrace run` does: std alone, no proof, no journal
 //! kept. It is the yardstick of `bench/run.sh`, and a second reading of the manual pages to compare
-//! reports with. No part of the product or of the gate.
+//! reports with. No part of the product or of the checks.
 //!
 //! Build it with `rustc --edition 2021 -O bench/plain.rs`.
 use std::collections::HashMap;

@@ -9,7 +9,7 @@
 # writes as many bytes and digits (writes.rs); there the mark is 2, and 10 MB. Its report is audited,
 # which is held against the run that made it: the mark is 2 there too.
 #
-# It needs rustc and GNU time. No part of the gate.
+# It needs rustc and GNU time. No part of the checks.
 set -eu
 top=$(cd "$(dirname "$0")/.." && pwd)
 runs=20
