@@ -6,8 +6,8 @@ use Rattle.cred_record.specs.Words.{unpaired}
 use Rattle.cred_record.proofs.WordLemmas.{group-at, groups-sorted, groups-few, length-unpaired}
 use Rattle.cred_record.proofs.reading.groups_in.Goals as goal
 
-pub returns-then-count-gt-LIMIT-clause-none : goal.returns-then-count-gt-LIMIT-clause-none
-returns-then-count-gt-LIMIT-clause-none c is = let few = groups-few _ is in let many = c.if-count-gt-LIMIT.true in omega arith
+pub returns-then-count-gt-GROUP_LIMIT-clause-none : goal.returns-then-count-gt-GROUP_LIMIT-clause-none
+returns-then-count-gt-GROUP_LIMIT-clause-none c is = let few = groups-few _ is in let many = c.if-count-gt-GROUP_LIMIT.true in omega arith
 
 pub returns-in_default-clause-none : goal.returns-in_default-clause-none
 returns-in_default-clause-none c is =
@@ -19,7 +19,7 @@ returns-in_default-clause-none c is =
 pub loop-place-preserved : goal.loop-place-preserved
 loop-place-preserved c =
     let ns = unpaired (drop GROUPS c.args.words.now) in
-    let few = c.if-count-gt-LIMIT.false in
+    let few = c.if-count-gt-GROUP_LIMIT.false in
     let below = c.loop-place-test.true in
     let wide = length-unpaired (drop GROUPS c.args.words.now) in
     let rest = length-drop GROUPS c.args.words.now in
