@@ -115,9 +115,9 @@ gains_by : (script : Script) (journal : List Entry) (k task : ℕ) (before after
     → IfSome o (λ entry. entry.answer ≡ (step script (state_at script journal k) entry.line entry.event).0)
     → current_of (state_at script journal k) task ≡ Some before
     → current_of (state_at script journal (k + 1)) task ≡ Some after
-    → IfSome o (λ entry. permitted.GainsAsAnswered entry.answer before after)
+    → IfSome o (λ entry. permitted.GainsBy entry.answer before after)
 gains_by script journal k task before after (Some entry) is answered was now =
-    subst (λ answer. permitted.GainsAsAnswered answer before after) (sym answered)
+    subst (λ answer. permitted.GainsBy answer before after) (sym answered)
     (permitted_gains script (state_at script journal k) entry.line entry.event task before after (always_sound script journal k) (always_made script journal k) was
     (ap (λ (s : State). current_of s task) (sym (step_at script journal k entry is)) ∙ now))
 gains_by script journal k task before after None is answered was now = tt

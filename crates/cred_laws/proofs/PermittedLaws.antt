@@ -27,7 +27,7 @@ use Rattle.cred_sound.proofs.Survivors.{find_survivor, find_no_survivor}
 use Rattle.cred_sound.proofs.Parts.{sealed_cred, Cause, Creation, CredsChange, TasksChange, SameCreds, Seals, ByBegin, ByAct, ByCommit, BySpawn, ByFork, SameTasks, Creates, Shares, Renews, Overrides, Fewer}
 use Rattle.cred_sound.proofs.Events.{changes}
 use Rattle.cred_laws.specs.Made.{IsMadeOf, IsMade, AreMade}
-use Rattle.cred_laws.specs.Permitted.{GainsAsAnswered, PermittedGains, IsCreatedWith}
+use Rattle.cred_laws.specs.Permitted.{GainsBy, PermittedGains, IsCreatedWith}
 use Rattle.cred_laws.specs.Permitted.{NewTasksAreCreated}
 use Rattle.cred_laws.proofs.ChangeLaws.{change_gains}
 use Rattle.cred_laws.proofs.OverrideLaws.{leaves_current}
@@ -39,7 +39,7 @@ current_in tasks creds task = option_and_then (λ (t : Task). numbered creds t.c
 -- ---- a task that lived
 
 unchanged : (t : State) (task : ℕ) (answer : Answer) (before after : Numbered) → current_of t task ≡ Some before
-    → current_of t task ≡ Some after → GainsAsAnswered answer before after
+    → current_of t task ≡ Some after → GainsBy answer before after
 unchanged t task answer before after stays now =
     let both : Some before ≡ Some after = sym stays ∙ now in
     let same : after ≡ before = cc in
@@ -129,7 +129,7 @@ updated_gains : (s : State) (acting task slot : ℕ) (owner : Task) (before afte
     → ((old : Numbered) → current_of s acting ≡ Some old → less c.perm old.cred.perm ≡ gained answer)
     → current_of s task ≡ Some before → numbered s.creds t.current ≡ Some before
     → numbered (s.creds ++ sealed_cred c slot ∷ []) (cond b (record t { current = length s.creds }) t).current ≡ Some after
-    → GainsAsAnswered answer before after
+    → GainsBy answer before after
 updated_gains s acting task slot owner before after c answer t true test number acts gains is at now =
     let actor : acting ≡ task = grind (arith, nat_tests) in
     let last = numbered_last s.creds (sealed_cred c slot) in
@@ -161,7 +161,7 @@ owner_current s acting owner old found current =
 
 gains_by : (script : Script) (s : State) (event : Event) (left : List ℕ) (made : Answer × State) (task : ℕ) (before after : Numbered)
     → IsSound s → AreMade script s → CredsChange s event left made.1 → TasksChange s event made → current_of s task ≡ Some before
-    → current_of made.1 task ≡ Some after → GainsAsAnswered made.0 before after
+    → current_of made.1 task ≡ Some after → GainsBy made.0 before after
 gains_by script s event left made task before after sound are creds (SameTasks same casts) is now =
     unchanged made.1 task made.0 before after
     (ap (λ tasks. current_in tasks made.1.creds task) same ∙ still_with s event left made.1 task before creds is) now

@@ -17,7 +17,7 @@ use Rattle.cred_laws.specs.Slots.{IsUnused}
 use Rattle.cred_laws.specs.Held.{prepared_as, ends}
 use Rattle.cred_laws.specs.Made.{AreMade}
 use Rattle.cred_laws.specs.Execve.{IsExecve}
-use Rattle.cred_laws.specs.Permitted.{GainsAsAnswered, IsCreatedWith}
+use Rattle.cred_laws.specs.Permitted.{GainsBy, IsCreatedWith}
 use Rattle.cred_laws.specs.Broadcast.{HasNamed, AllHave, Completes, kind_of, three_of, IsAlike}
 use Rattle.cred_laws.specs.Broadcast.{stepping}
 
@@ -83,7 +83,7 @@ GainsAsAnswered script journal =
     (k task : ℕ) (before after : Numbered)
     → current_of (state_at script journal k) task ≡ Some before
     → current_of (state_at script journal (k + 1)) task ≡ Some after
-    → IfSome (slice_get journal k) (λ entry. GainsAsAnswered entry.answer before after)
+    → IfSome (slice_get journal k) (λ entry. GainsBy entry.answer before after)
 
 -- An entry which answers that an execve is completed commits what the rule of execve makes of the
 -- task's credential and of the file, with the gains that it answers.

@@ -15,7 +15,7 @@ use Rattle.cred_laws.specs.Made.{AreMade}
 -- From a task's current credential before an event that answers so to the one after it: where that
 -- is another one, it permits nothing more than the old one but what the answer says was gained.
 -- Where it has the number of the old one, it is the old one, in its slot.
-pub record GainsAsAnswered (answer : Answer) (before after : Numbered) : Type 0 where
+pub record GainsBy (answer : Answer) (before after : Numbered) : Type 0 where
   pub same : after.number ≡ before.number → after ≡ before
   pub other : after.number ≢ before.number
       → less after.cred.perm before.cred.perm ≡ gained answer
@@ -27,7 +27,7 @@ PermittedGains =
     (script : Script) (s : State) (line : ℕ) (event : Event) (task : ℕ) (before after : Numbered)
     → IsSound s → AreMade script s → current_of s task ≡ Some before
     → current_of (step script s line event).1 task ≡ Some after
-    → GainsAsAnswered (step script s line event).0 before after
+    → GainsBy (step script s line event).0 before after
 
 -- In this state the event creates the task, with this current credential: a first task has a new
 -- one, that of the ids and the namespace which the event names, and a thread or a child shares that
