@@ -13,7 +13,7 @@ ghost use Rattle.cred_script.specs.Read.{seen};
 ghost use Rattle.cred_script.specs.Sound.{AreApart, IsSound};
 
 use cred_event::Content;
-use cred_forms::{FILES, Files};
+use cred_forms::Files;
 use cred_ids::Id;
 use cred_names::Namespaces;
 use cred_record::FileInfo;
