@@ -21,7 +21,7 @@ use Rattle.cred_audit.proofs.Prefixes.{so_far_prefix, comes_behind, longer_begin
 
 -- ---- texts
 
-text_append : (script : Script) (a b : List Entry) → text script (a ++ b) ≡ text script a ++ text script b
+pub text_append : (script : Script) (a b : List Entry) → text script (a ++ b) ≡ text script a ++ text script b
 text_append script a b = flat_map-append (entry_text script) a b
 
 text_push : (script : Script) (journal : List Entry) (entry : Entry)
@@ -30,7 +30,7 @@ text_push script journal entry =
     text_append script journal (entry ∷ []) ∙ ap (λ bs. text script journal ++ bs) (append-nil (entry_text script entry))
 
 -- no text of an entry is empty
-entry_text-some : (script : Script) (entry : Entry) → 0 < length (entry_text script entry)
+pub entry_text-some : (script : Script) (entry : Entry) → 0 < length (entry_text script entry)
 entry_text-some script entry =
     let line_text = decimal entry.line ++ codes " " ++ event_text script entry.event ++ codes " -> " ++ answer_text entry.answer in
     let long : length (entry_text script entry) ≡ length line_text + length (codes "\n") = length-append line_text (codes "\n") in

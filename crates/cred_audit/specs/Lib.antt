@@ -1,3 +1,4 @@
+pub mod One
 pub mod Report
 pub mod Next
 pub mod Run

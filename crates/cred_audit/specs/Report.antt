@@ -4,6 +4,7 @@ use Rattle.cred_event.specs.declared.entry.Entry.{Entry}
 use Rattle.cred_model.specs.Script.{Script}
 use Rattle.cred_model.specs.Journal.{SoFar, IsLegal}
 use Rattle.cred_report.specs.Text.{text}
+use Rattle.cred_audit.specs.One.{IsOnly}
 use Rattle.cred_audit.specs.declared.verdict.Verdict.{Verdict}
 use Rattle.cred_audit.specs.declared.verdict.Verdict.TheVariants.{Legal, NotLegal}
 
@@ -12,6 +13,11 @@ pub record IsReport (script : Script) (bytes : List ℕ) : Type 0 where
   pub journal : List Entry
   pub legal : IsLegal script journal
   pub is : bytes ≡ text script journal
+
+-- They are the text of that journal, and of no other journal so far of the script.
+pub record IsOneReport (script : Script) (bytes : List ℕ) : Type 0 where
+  pub report : IsReport script bytes
+  pub only : IsOnly script report.journal
 
 -- The bytes begin with the text of so many entries, which are the script's so far.
 pub record Begins (script : Script) (bytes : List ℕ) (count : ℕ) : Type 0 where
@@ -32,5 +38,5 @@ pub record IsFault (script : Script) (bytes : List ℕ) (entry : ℕ) : Type 0 w
 
 -- what is said of the bytes is true
 abbrev pub IsVerdict : Script → List ℕ → Verdict → Type 0
-IsVerdict script bytes Legal = IsReport script bytes
+IsVerdict script bytes Legal = IsOneReport script bytes
 IsVerdict script bytes (NotLegal entry) = IsFault script bytes entry

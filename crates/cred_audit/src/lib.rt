@@ -6,7 +6,9 @@
 #![tactic(auto)]
 
 mod lane;
+mod laws;
 mod run;
 mod verdict;
 
+pub use laws::one_journal;
 pub use verdict::{Verdict, audit};

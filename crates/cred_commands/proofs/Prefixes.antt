@@ -16,6 +16,7 @@ use Rattle.cred_commands.specs.Ends.{IsScript, Reports, finished}
 use Rattle.cred_commands.specs.declared.status.Status.TheVariants as status
 use Rattle.cred_report.specs.Text.{text}
 use Rattle.cred_report.proofs.Journals.{text_at, take_past}
+use Rattle.cred_audit.proofs.One.{one_journal}
 
 -- a whole text is one of its prefixes
 pub whole : (a b : Option (List ℕ)) (bytes : List ℕ) → Appends a b bytes → AppendsPrefix a b bytes
@@ -84,6 +85,7 @@ reported These before after input script journal is one legal all = record {
   journal = journal;
   one = one;
   legal = legal;
+  only = one_journal script journal is.few legal.so_far;
   lawful = lawful script journal (so_far_is_answered script journal legal.so_far);
   written = all;
 }

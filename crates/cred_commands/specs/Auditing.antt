@@ -3,13 +3,13 @@ use Rattle.std.specs.Prelude.{◌≡◌, ◌≢◌, ◌≤◌, ◌<◌, ◌⊎�
 use Rattle.std.specs.Prelude.{Ok, Err, Some, MatchOption, ⊤}
 use Rattle.std.specs.declared.option.Option.{Option}
 use Rattle.std.specs.Io.KnownBytes.{Appends}
+use Rattle.cred_ids.specs.Limits.{AUDIT_LIMIT}
 use Rattle.cred_io.specs.Ends.{ReadsMoreThan, AppendsPrefix}
 use Rattle.cred_model.specs.Script.{Script}
 use Rattle.cred_spelling.specs.declared.reason.Reason.{Reason}
 use Rattle.cred_script.specs.Lines.{lines_of}
 use Rattle.cred_script.specs.Grammar.{script_of}
-use Rattle.cred_audit.specs.Report.{IsReport, IsFault}
-use Rattle.cred_ids.specs.Limits.{AUDIT_LIMIT}
+use Rattle.cred_audit.specs.Report.{IsOneReport, IsFault}
 use Rattle.cred_commands.specs.declared.status.Status.{Status}
 use Rattle.cred_commands.specs.declared.status.Status.TheVariants as status
 use Rattle.cred_commands.specs.Ends.{IsWhole, IsWithin, IsTooLarge, ReadsInput, ReadsAbove}
@@ -49,13 +49,13 @@ abbrev pub no_report_text : List ℕ → List ℕ
 no_report_text input = codes "bad " ++ decimal (length (lines_of input) + 1) ++ codes " report\n"
 
 -- What is said of the bytes of a script and of those of a report, with this status. Done: the
--- first are a script, and the others are the text of one of the journals that it may have.
--- NotLegal: they aren't, and it is at this entry that they go wrong. Bad: the first are no script,
--- whatever the others are, and this is its first bad line with the reason.
+-- first are a script, and the others are the text of one of the journals that it may have, and of
+-- no other. NotLegal: they aren't, and it is at this entry that they go wrong. Bad: the first are
+-- no script, whatever the others are, and this is its first bad line with the reason.
 abbrev pub Judges : List ℕ → List ℕ → Status → List ℕ → Type 0
 Judges bytes report status.Done text =
     (script : Script) × (script_of bytes ≡ Ok script)
-    × IsReport script report × (text ≡ legal_text)
+    × IsOneReport script report × (text ≡ legal_text)
 Judges bytes report status.NotLegal text =
     (script : Script) × (entry : ℕ) × (script_of bytes ≡ Ok script)
     × IsFault script report entry × (text ≡ not_legal_text entry)

@@ -15,6 +15,7 @@ use Rattle.cred_spelling.specs.declared.reason.Reason.{Reason}
 use Rattle.cred_script.specs.Lines.{lines_of}
 use Rattle.cred_script.specs.Grammar.{script_of}
 use Rattle.cred_report.specs.Text.{text}
+use Rattle.cred_audit.specs.One.{IsOnly}
 use Rattle.cred_commands.specs.declared.status.Status.{Status}
 use Rattle.cred_commands.specs.declared.status.Status.TheVariants as status
 use Rattle.cred_commands.specs.Texts.{bad_text}
@@ -58,10 +59,10 @@ ReadsTooMuch before after =
     ⊎ ReadsAbove (λ input. LINE_LIMIT < length (lines_of input)) before after
 
 -- The input is a script, and the text of a journal of it was written that is one of these: the one
--- in which its lines run whole and in order, or any that it may have. The laws hold of it: no slot
--- in use is rewritten, a hold and an open file keep their credentials, each execve is the manual's,
--- no permitted set grows but by what its entry says was gained, and a call that is completed is
--- every thread's.
+-- in which its lines run whole and in order, or any that it may have. No other journal so far of
+-- the script has that text. The laws hold of it: no slot in use is rewritten, a hold and an open
+-- file keep their credentials, each execve is the manual's, no permitted set grows but by what its
+-- entry says was gained, and a call that is completed is every thread's.
 pub record Reports
     (These : Script → List Entry → Type 0) (before after : Option (List ℕ)) (input : List ℕ)
     : Type 0 where
@@ -70,6 +71,7 @@ pub record Reports
   pub journal : List Entry
   pub one : These script journal
   pub legal : IsLegal script journal
+  pub only : IsOnly script journal
   pub lawful : IsLawful script journal
   pub written : Appends before after (text script journal)
 
@@ -114,9 +116,11 @@ Suits input status.WriteFault = IsWithin input
 Suits input status.Memory = ⊤
 Suits input status.NotLegal = ⊥
 
--- The input is within both limits and is this script. The setup's lines come first.
+-- The input is within both limits and is this script, which has no more lines than it may have.
+-- The setup's lines come first.
 pub record IsScript (input : List ℕ) (script : Script) : Type 0 where
   pub within : IsWithin input
+  pub few : length script.lines ≤ LINE_LIMIT
   pub read : script_of input ≡ Ok script
   pub setup : SetupFirst script
 

@@ -1,5 +1,6 @@
 use Rattle.std.proofs.Common.{sym, ◌∙◌}
-use Rattle.cred_audit.proofs.Reports.{one_more_compared, wrong_entry, stops_early, nothing_left, empty_by_test, some_by_test}
+use Rattle.cred_audit.proofs.One.{one_left}
+use Rattle.cred_audit.proofs.Reports.{one_more_compared, wrong_entry, stops_early, empty_by_test, some_by_test}
 use Rattle.cred_audit.proofs.verdict.compare.Goals as goal
 
 pub returns-in_default : goal.returns-in_default
@@ -19,5 +20,5 @@ returns-else-has_ended c =
 
 pub returns-then-has_ended : goal.returns-then-has_ended
 returns-then-has_ended c =
-    nothing_left c.args.script.now c.args.report.now c.entries.rest.now c.entries.entry c.entries.run c.entries.invariant
+    one_left c.args.script.now c.args.report.now c.entries.rest.now c.entries.entry c.entries.run c.entries.invariant
     (empty_by_test c.entries.rest.now (sym c.is_empty.ensures ∙ c.entries-test.false)) (rw c.if-has_ended.true at c.has_ended.ensures)
