@@ -20,7 +20,6 @@ FILESYSTEM_IDS = "setresuid and setresgid always set the filesystem id to the ne
 SECUREBITS = "a securebit above bit 7 is EPERM"
 UNMAPPED = "any id up to 4294967294 may be set"
 DENIED_GROUPS = "setgroups asks for CAP_SETGID alone"
-VERSION_1 = "version 1 attributes are a bad revision"
 DIRECTORIES = "a check is of the one file: its directories are not searched"
 NOT_MODE = "a check looks at the kind, the owner, the group and the mode"
 CONTINUE = "a signal is allowed by ids, by CAP_KILL or within the process"
@@ -30,12 +29,11 @@ SET_ID = "a set-id bit in force makes a file privileged"
 PLAIN_FILE = "a plain file is not privileged"
 TRACED = "execve is of a program: there are no scripts, and nobody traces the task"
 ALL = (
-    FILESYSTEM_IDS, SECUREBITS, UNMAPPED, DENIED_GROUPS, VERSION_1, DIRECTORIES, NOT_MODE, CONTINUE,
+    FILESYSTEM_IDS, SECUREBITS, UNMAPPED, DENIED_GROUPS, DIRECTORIES, NOT_MODE, CONTINUE,
     NO_NEW_PRIVS_FILE, NO_NEW_PRIVS_IDS, SET_ID, PLAIN_FILE, TRACED,
 )  # fmt: skip
 
 # An attribute of the first version.
-VERSION = re.compile(r" caps (0x)?[0-9a-f]{6}01")
 
 # What a kept row may have changed.
 IDS, CAPS, FILE_IDS = "ids", "caps", "file ids"
@@ -156,8 +154,6 @@ class Explainer:
         if form == "signal":
             continues = line.call is not None and "SIGCONT" in line.call.args
             return row(CONTINUE) if (kernel, told) == ("ok", "eperm") and continues else None
-        if form == "exec" and told == "einval" and VERSION.search(self.files[words[2]]):
-            return row(VERSION_1)
         if form == "exec" and known.no_new_privs and kernel in ("eperm", "einval"):
             return row(NO_NEW_PRIVS_FILE)
         if form in ("exec", "open", "check", "access") and (kernel, told) == ("eacces", "ok"):

@@ -3,18 +3,12 @@ use Rattle.std.proofs.Common.{◌≡◌, ◌==◌, ◌&&◌, ◌⊎◌, inl, inr
 use Rattle.std.specs.Int.{bit_at}
 use Rattle.std.proofs.lemmas.Bool.{eqb-true}
 use Rattle.std.proofs.lemmas.Nat.Bits.{bit_at_cat_low}
-use Rattle.cred_rules.specs.Attribute.{Attribute, Spells, SpellsSet, IsVersion2, IsVersion3, set_in, said, attribute_of, revision_of, root_id}
+use Rattle.cred_rules.specs.Attribute.{Attribute, Spells, SpellsSet, IsVersion1, IsVersion2, IsVersion3, set_in, said, attribute_of, revision_of, root_id}
 use Rattle.cred_filecap.specs.Laws.{AttributeOfIsSpelled}
-use Rattle.cred_filecap.proofs.SetLemmas.{set-spells}
+use Rattle.cred_filecap.proofs.SetLemmas.{low-bits, set-spells}
 use Rattle.cred_filecap.proofs.AttributeLaws.{no_bytes_spell_two}
 
 -- ---- the function gives what is spelled
-
--- the bits of a word are those of its lowest 32
-low-bits : (low n : ℕ) → n < 32 → bit_at (low % 2 ^ 32) n ≡ bit_at low n
-low-bits low n lt =
-    let parts : low ≡ low / 2 ^ 32 * 2 ^ 32 + low % 2 ^ 32 = omega arith in
-    sym (ap (λ x. bit_at x n) parts ∙ bit_at_cat_low (low / 2 ^ 32) 32 (low % 2 ^ 32) n lt)
 
 set_in-spells : (low high : ℕ) → SpellsSet low high (set_in low high)
 set_in-spells low high =
@@ -28,7 +22,7 @@ set_in-spells low high =
 
 said-spells :
     (bytes : List ℕ) (version root : ℕ)
-    → IsVersion2 bytes (said bytes version root) ⊎ IsVersion3 bytes (said bytes version root)
+    → IsVersion1 bytes (said bytes version root) ⊎ (IsVersion2 bytes (said bytes version root) ⊎ IsVersion3 bytes (said bytes version root))
     → Spells bytes (said bytes version root)
 said-spells bytes version root is = record {
   version = is;
@@ -37,20 +31,26 @@ said-spells bytes version root is = record {
   inh = set_in-spells _ _;
 }
 
+said-1 :
+    (bytes : List ℕ) → length bytes ≡ 12 → revision_of bytes ≡ 1 → Spells bytes (said bytes 1 0)
+said-1 bytes size revision =
+    said-spells bytes 1 0
+    (inl (record { size = size; revision = revision; version = refl; root = refl }))
+
 said-2 :
     (bytes : List ℕ) → length bytes ≡ 20 → revision_of bytes ≡ 2 → Spells bytes (said bytes 2 0)
 said-2 bytes size revision =
     said-spells bytes 2 0
-    (inl (record { size = size; revision = revision; version = refl; root = refl }))
+    (inr (inl (record { size = size; revision = revision; version = refl; root = refl })))
 
 said-3 :
     (bytes : List ℕ) → length bytes ≡ 24 → revision_of bytes ≡ 3
     → Spells bytes (said bytes 3 (root_id bytes))
 said-3 bytes size revision =
     said-spells bytes 3 (root_id bytes)
-    (inr (record { size = size; revision = revision; version = refl; root = refl }))
+    (inr (inr (record { size = size; revision = revision; version = refl; root = refl })))
 
--- ---- which of the two versions it gives
+-- ---- which of the versions it gives
 
 both : (a b : Bool) → (a && b) ≡ true → (a ≡ true) × (b ≡ true)
 both true b is = (refl, is)
@@ -65,26 +65,36 @@ tests bytes size revision hold =
     (eqb-true (length bytes) size each.0, eqb-true (revision_of bytes) revision each.1)
 
 chosen :
-    (first second : Bool) (x y a : Attribute)
-    → (if first then Some x else if second then Some y else None) ≡ Some a
-    → ((first ≡ true) × (x ≡ a)) ⊎ ((second ≡ true) × (y ≡ a))
-chosen true second x y a same = inl (refl, cc)
-chosen false true x y a same = inr (refl, cc)
-chosen false false x y a same = cc
+    (first second third : Bool) (x y z a : Attribute)
+    → (if first then Some x else if second then Some y else if third then Some z else None) ≡ Some a
+    → ((first ≡ true) × (x ≡ a)) ⊎ (((second ≡ true) × (y ≡ a)) ⊎ ((third ≡ true) × (z ≡ a)))
+chosen true second third x y z a same = inl (refl, cc)
+chosen false true third x y z a same = inr (inl (refl, cc))
+chosen false false true x y z a same = inr (inr (refl, cc))
+chosen false false false x y z a same = cc
 
 spelled : (bytes : List ℕ) (a : Attribute) → attribute_of bytes ≡ Some a → Spells bytes a
 unfolding attribute_of
 spelled bytes a same =
-    elim (chosen _ _ (said bytes 2 0) (said bytes 3 (root_id bytes)) a same) [
-      | inl two ↦
+    elim (chosen _ _ _ (said bytes 1 0) (said bytes 2 0) (said bytes 3 (root_id bytes)) a same) [
+      | inl one ↦
+          let hold = tests bytes 12 1 one.0 in
+          subst (Spells bytes) one.1 (said-1 bytes hold.0 hold.1)
+      | inr (inl two) ↦
           let hold = tests bytes 20 2 two.0 in
           subst (Spells bytes) two.1 (said-2 bytes hold.0 hold.1)
-      | inr three ↦
+      | inr (inr three) ↦
           let hold = tests bytes 24 3 three.0 in
           subst (Spells bytes) three.1 (said-3 bytes hold.0 hold.1)
     ]
 
 -- ---- what is spelled is what the function gives
+
+given-1 :
+    (bytes : List ℕ) → length bytes ≡ 12 → revision_of bytes ≡ 1
+    → attribute_of bytes ≡ Some (said bytes 1 0)
+unfolding attribute_of
+given-1 bytes size revision = rw (size, revision) refl
 
 given-2 :
     (bytes : List ℕ) → length bytes ≡ 20 → revision_of bytes ≡ 2
@@ -107,9 +117,12 @@ given : (bytes : List ℕ) (a : Attribute) → Spells bytes a → attribute_of b
 given bytes a is =
     elim is.version [
       | inl v ↦
+          same-spelled bytes _ a (given-1 bytes v.size v.revision)
+          (said-1 bytes v.size v.revision) is
+      | inr (inl v) ↦
           same-spelled bytes _ a (given-2 bytes v.size v.revision)
           (said-2 bytes v.size v.revision) is
-      | inr v ↦
+      | inr (inr v) ↦
           same-spelled bytes _ a (given-3 bytes v.size v.revision)
           (said-3 bytes v.size v.revision) is
     ]

@@ -54,10 +54,44 @@ words-spell s caps = record { below = low-word s; above = λ n _. high-word s n;
 pub high-canonical : (w i : ℕ) → w < 2 ^ 9 → 40 < 32 + i → has_bit w i ≡ false
 high-canonical w i small above = ap (λ d. d == 1) (bit_at_above w 9 i small (omega arith))
 
--- ---- two words say one set
+-- ---- a set in one word
 
 no-more : (s n : ℕ) → IsCaps s → 40 < n → has s n ≡ false
 no-more s n caps above = ap (λ d. d == 1) (bit_at_above s 41 n caps (omega arith))
+
+-- the bits of a word are those of its lowest 32
+pub low-bits : (low n : ℕ) → n < 32 → bit_at (low % 2 ^ 32) n ≡ bit_at low n
+low-bits low n lt =
+    let parts : low ≡ low / 2 ^ 32 * 2 ^ 32 + low % 2 ^ 32 = omega arith in
+    sym (ap (λ x. bit_at x n) parts ∙ bit_at_cat_low (low / 2 ^ 32) 32 (low % 2 ^ 32) n lt)
+
+no-bit : (n : ℕ) → has_bit 0 n ≡ false
+no-bit n = ap (λ d. d == 1) (bit_at_above 0 0 n (omega arith) (omega arith))
+
+cut-above : (low s n : ℕ) → SpellsSet low 0 s → 32 ≤ n → has (s % 2 ^ 32) n ≡ has s n
+cut-above low s n is from =
+    let small : s % 2 ^ 32 < 2 ^ 32 = omega arith in
+    let none : has (s % 2 ^ 32) n ≡ false = ap (λ d. d == 1) (bit_at_above (s % 2 ^ 32) 32 n small from) in
+    elim (nat_lt 40 n) as (λ t. nat_lt 40 n ≡ t → has (s % 2 ^ 32) n ≡ has s n) [
+      | true ↦ λ t. let above : 40 < n = ltb-true 40 n t in none ∙ sym (no-more s n is.others above)
+      | false ↦ λ t.
+          let last : n ≤ 40 = ltb-false 40 n t in
+          let cap : IsCap (32 + (n - 32)) = omega arith in
+          let place : 32 + (n - 32) ≡ n = omega arith in
+          none ∙ sym (ap (has s) (sym place) ∙ is.above (n - 32) cap ∙ no-bit (n - 32))
+    ] refl
+
+-- a set whose high word is 0 is below 2 ^ 32
+pub one-word : (low s : ℕ) → SpellsSet low 0 s → s < 2 ^ 32
+one-word low s is =
+    let same : s % 2 ^ 32 ≡ s = same_caps (s % 2 ^ 32) s (λ n.
+        elim (nat_lt n 32) as (λ t. nat_lt n 32 ≡ t → has (s % 2 ^ 32) n ≡ has s n) [
+          | true ↦ λ t. let lt : n < 32 = ltb-true n 32 t in ap (λ d. d == 1) (low-bits s n lt)
+          | false ↦ λ t. let from : 32 ≤ n = ltb-false n 32 t in cut-above low s n is from
+        ] refl) in
+    omega (arith, same)
+
+-- ---- two words say one set
 
 same-above : (low high a b : ℕ) → SpellsSet low high a → SpellsSet low high b → (n : ℕ) → 32 ≤ n → has a n ≡ has b n
 same-above low high a b one other n from =

@@ -6,7 +6,7 @@ use std::marker::Model;
 /// see the record `Attribute` of `specs/Attribute.antt` in `cred_rules`, with the same fields.
 #[derive(Clone, Copy, PartialEq, Eq, Debug)]
 pub struct FileCaps {
-    /// The version, 2 or 3.
+    /// The version: 1, 2 or 3. In version 1 no capability above 31 stands in a set.
     pub version: u8,
     /// The file's permitted set: what execve makes permitted, within the bounding set.
     pub perm: CapSet,
@@ -15,7 +15,7 @@ pub struct FileCaps {
     /// The file's effective flag: whether execve makes effective what it makes permitted.
     pub effective: bool,
     /// The user id, in the initial user namespace, of the root of the namespace in which the file
-    /// has these capabilities. In version 2 it is 0. In version 3 it may be any `u32`, also
+    /// has these capabilities. In versions 1 and 2 it is 0. In version 3 it may be any `u32`, also
     /// 4294967295, which is no user id.
     pub root: u32,
 }
@@ -33,7 +33,7 @@ impl Model for FileCaps {
       root = c.root;
     } };
 
-    ghost invariant = { λ c. IsVersioned c.version c.root };
+    ghost invariant = { λ c. IsVersioned c.version c.root c.perm c.inh };
 
     ghost inverse = { λ a. record {
       version = a.version;

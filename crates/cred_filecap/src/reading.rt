@@ -1,24 +1,29 @@
 //! An attribute read.
-ghost use Rattle.std.specs.Prelude.{◌≡◌, ◌+◌, ◌≤◌, Ok, IfOk, IfErr, length};
+ghost use Rattle.std.specs.Prelude.{◌≡◌, ◌≢◌, ◌+◌, ◌≤◌, Ok, IfOk, IfErr, length};
 ghost use Rattle.cred_filecap.specs.Refusals.{refusal_of};
-ghost use Rattle.cred_rules.specs.Attribute.{Attribute, Spells, SpellsSet, word_at, fault};
+ghost use Rattle.cred_rules.specs.Attribute.{Attribute, Spells, SpellsSet, high_in, word_at, fault};
 
 use crate::caps::FileCaps;
 use crate::refusal::AttrRefusal;
 use crate::sets::{SetWords, set_of};
-use crate::version::{VERSION_3, length_of};
+use crate::version::{VERSION_1, VERSION_3, length_of};
 use crate::words::{INH_HIGH, INH_LOW, MAGIC, PERM_HIGH, PERM_LOW, REVISION, ROOT, word_at};
 use cred_caps::CapSet;
 
-/// The set in the words at two places.
-fn set_at(bytes: &[u8], low: usize, high: usize) -> CapSet
+/// The set in the words at two places, in version 1 in the word at the first.
+fn set_at(bytes: &[u8], version: u8, low: usize, high: usize) -> CapSet
     requires low { low + 4 ≤ length bytes.now }
-    requires high { high + 4 ≤ length bytes.now }
-    ensures { SpellsSet (word_at bytes.now low) (word_at bytes.now high) result }
+    requires high { version ≢ 1 → high + 4 ≤ length bytes.now }
+    ensures { SpellsSet (word_at bytes.now low) (high_in version (word_at bytes.now high)) result }
 {
+    let high = if version == VERSION_1 {
+        0
+    } else {
+        word_at(bytes, high)
+    };
     set_of(SetWords {
         low: word_at(bytes, low),
-        high: word_at(bytes, high),
+        high,
     })
 }
 
@@ -29,8 +34,8 @@ fn set_at(bytes: &[u8], low: usize, high: usize) -> CapSet
 /// # Errors
 ///
 /// - `BadLength` has the number of bytes where it is below 4, or where it is another than the
-///   version's: 20 for revision 2, and 24 for revision 3.
-/// - `BadRevision` has the revision of at least 4 bytes where it is neither 2 nor 3.
+///   version's: 12 for revision 1, 20 for revision 2, and 24 for revision 3.
+/// - `BadRevision` has the revision of at least 4 bytes where it is none of 1, 2 and 3.
 pub fn decode(bytes: &[u8]) -> Result<FileCaps, AttrRefusal>
     ensures value { IfOk result (λ a. Spells bytes.now a) }
 
@@ -53,8 +58,8 @@ pub fn decode(bytes: &[u8]) -> Result<FileCaps, AttrRefusal>
     };
     Ok(FileCaps {
         version: revision,
-        perm: set_at(bytes, PERM_LOW, PERM_HIGH),
-        inh: set_at(bytes, INH_LOW, INH_HIGH),
+        perm: set_at(bytes, revision, PERM_LOW, PERM_HIGH),
+        inh: set_at(bytes, revision, INH_LOW, INH_HIGH),
         effective: word_at(bytes, MAGIC) & 1 == 1,
         root,
     })

@@ -4,15 +4,15 @@ ghost use Rattle.cred_rules.specs.Attribute.{Spells, IsCanonical};
 
 use crate::caps::FileCaps;
 use crate::sets::words_of;
-use crate::version::{LENGTH_2, LENGTH_3, VERSION_2};
+use crate::version::{LENGTH_3, length_of};
 use crate::words::magic;
 use byteorder::{ByteOrder, LittleEndian};
 use cred_ids::NoMemory;
 use cred_record::Attr;
 use std::alloc::Global;
 
-/// The bytes of an attribute, 20 in version 2 and 24 in version 3 (linux/capability.h, `struct
-/// vfs_ns_cap_data`). Every bit that spells nothing is zero. They are the attribute of a file as
+/// The bytes of an attribute, 12 in version 1, 20 in version 2 and 24 in version 3
+/// (linux/capability.h, `struct vfs_ns_cap_data`). Every bit that spells nothing is zero. They are the attribute of a file as
 /// setxattr(2) takes it.
 ///
 /// # Errors
@@ -35,10 +35,6 @@ pub fn encode(alloc: Global, caps: &FileCaps) -> Result<Attr, NoMemory>
     ];
     let mut bytes = [0; LENGTH_3];
     LittleEndian::write_u32_into(&words, &mut bytes);
-    let length = if caps.version == VERSION_2 {
-        LENGTH_2
-    } else {
-        LENGTH_3
-    };
+    let length = length_of(caps.version).unwrap();
     Ok(Attr::of(alloc, &bytes[..length])?)
 }

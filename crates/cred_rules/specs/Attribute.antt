@@ -3,9 +3,9 @@
 -- linux/capability.h, `struct vfs_cap_data` and `struct vfs_ns_cap_data`). What stands between the
 -- two is a relation, which says what each bit means: no way to read bytes, and none to write them.
 -- It is a function too (`attribute_of`), by a law of `cred_filecap`.
-use Rattle.std.specs.Prelude.{◌≡◌, ◌⊎◌, ℕ, ◌+◌, ◌*◌, ◌%◌, ◌^◌, ◌<◌, ◌==◌, ◌&&◌, ◌||◌, not, nat_lt}
+use Rattle.std.specs.Prelude.{◌≡◌, ◌≢◌, ◌⊎◌, ℕ, ◌+◌, ◌*◌, ◌%◌, ◌^◌, ◌<◌, ◌==◌, ◌&&◌, ◌||◌, not}
 use Rattle.std.specs.Prelude.{Bool, false, IsTrue, List, Option, Some, None, length, slice_index}
-use Rattle.std.specs.Prelude.{if◌then◌else◌}
+use Rattle.std.specs.Prelude.{if◌then◌else◌, nat_lt}
 use Rattle.std.specs.List.{list_any}
 use Rattle.cred_caps.specs.Caps.{Caps, IsCap, IsCaps, full, has, meet}
 use Rattle.cred_caps.specs.Numbers.{LAST}
@@ -59,8 +59,15 @@ revision_of bytes = slice_index bytes 3
 
 -- ---- what they spell
 
--- version 2 (VFS_CAP_REVISION_2) has five words. It has no root id, and is taken to have 0, that of
+-- version 1 (VFS_CAP_REVISION_1) has three words. It has no root id, and is taken to have 0, that of
 -- the initial namespace
+pub record IsVersion1 (bytes : List ℕ) (a : Attribute) : Type 0 where
+  pub size : length bytes ≡ 12
+  pub revision : revision_of bytes ≡ 1
+  pub version : a.version ≡ 1
+  pub root : a.root ≡ 0
+
+-- version 2 (VFS_CAP_REVISION_2) has five words, and no root id either
 pub record IsVersion2 (bytes : List ℕ) (a : Attribute) : Type 0 where
   pub size : length bytes ≡ 20
   pub revision : revision_of bytes ≡ 2
@@ -74,6 +81,10 @@ pub record IsVersion3 (bytes : List ℕ) (a : Attribute) : Type 0 where
   pub version : a.version ≡ 3
   pub root : a.root ≡ root_id bytes
 
+-- the high word of a set in this version: version 1 has none, and so no capability above 31
+abbrev pub high_in : ℕ → ℕ → ℕ
+high_in version word = if version == 1 then 0 else word
+
 -- a low and a high word spell a set: the capabilities below 32 by the bits of the low word, those
 -- from 32 to the last one by the bits of the high word
 pub record SpellsSet (low high : ℕ) (s : Caps) : Type 0 where
@@ -82,12 +93,12 @@ pub record SpellsSet (low high : ℕ) (s : Caps) : Type 0 where
   pub others : IsCaps s
 
 -- the bytes spell the attribute: they are of its version, bit 0 of the first word is its effective
--- flag (VFS_CAP_FLAGS_EFFECTIVE), and each of its sets stands in two words
+-- flag (VFS_CAP_FLAGS_EFFECTIVE), and each of its sets stands in two words, in version 1 in one
 pub record Spells (bytes : List ℕ) (a : Attribute) : Type 0 where
-  pub version : IsVersion2 bytes a ⊎ IsVersion3 bytes a
+  pub version : IsVersion1 bytes a ⊎ (IsVersion2 bytes a ⊎ IsVersion3 bytes a)
   pub effective : a.effective ≡ has_bit (magic bytes) 0
-  pub perm : SpellsSet (perm_low bytes) (perm_high bytes) a.perm
-  pub inh : SpellsSet (inh_low bytes) (inh_high bytes) a.inh
+  pub perm : SpellsSet (perm_low bytes) (high_in a.version (perm_high bytes)) a.perm
+  pub inh : SpellsSet (inh_low bytes) (high_in a.version (inh_high bytes)) a.inh
 
 -- the set that two words spell, as a number: the high word's bits above the low word's, and no bit
 -- above the last capability
@@ -98,8 +109,8 @@ set_in low high = meet (high * 2 ^ 32 + low % 2 ^ 32) full
 abbrev pub said : List ℕ → ℕ → ℕ → Attribute
 said bytes version root = record {
   version = version;
-  perm = set_in (perm_low bytes) (perm_high bytes);
-  inh = set_in (inh_low bytes) (inh_high bytes);
+  perm = set_in (perm_low bytes) (high_in version (perm_high bytes));
+  inh = set_in (inh_low bytes) (high_in version (inh_high bytes));
   effective = has_bit (magic bytes) 0;
   root = root;
 }
@@ -112,12 +123,14 @@ has_form bytes size revision = (length bytes == size) && (revision_of bytes == r
 -- with it
 unfoldable pub attribute_of : List ℕ → Option Attribute
 attribute_of bytes =
-    if has_form bytes 20 2 then Some (said bytes 2 0)
+    if has_form bytes 12 1 then Some (said bytes 1 0)
+    else if has_form bytes 20 2 then Some (said bytes 2 0)
     else if has_form bytes 24 3 then Some (said bytes 3 (root_id bytes))
     else None
 
 -- every bit that spells nothing is zero: in the first word those between the effective flag and the
--- revision, and in the high words those above the last capability
+-- revision, and in the high words those above the last capability. Version 1 has no high words:
+-- what stands there, behind its bytes, is 0
 pub record IsCanonical (bytes : List ℕ) : Type 0 where
   pub flags : (i : ℕ) → 0 < i → i < 24 → has_bit (magic bytes) i ≡ false
   pub perm : (i : ℕ) → LAST < 32 + i → i < 32 → has_bit (perm_high bytes) i ≡ false
@@ -130,9 +143,9 @@ pub data Fault : Type 0 where
   WrongLength : ℕ → Fault
   WrongRevision : ℕ → Fault
 
--- n is a version (VFS_CAP_REVISION_2, VFS_CAP_REVISION_3)
+-- n is a version (VFS_CAP_REVISION_1, VFS_CAP_REVISION_2, VFS_CAP_REVISION_3)
 abbrev pub is_version : ℕ → Bool
-is_version n = (n == 2) || (n == 3)
+is_version n = (n == 1) || (n == 2) || (n == 3)
 
 -- why bytes that spell no attribute do not: they are too few to have a revision; else their
 -- revision is no version; else they are not as many as that version has. execve(2) answers EINVAL
@@ -145,13 +158,21 @@ fault bytes =
 
 -- ---- attributes
 
--- what holds of each attribute: it has a version, and in version 2 the root id 0
-pub record IsVersioned (version root : ℕ) : Type 0 where
+-- what holds of each attribute: it has a version, in versions 1 and 2 the root id 0, and in version
+-- 1 no capability above 31
+pub record IsVersioned (version root : ℕ) (perm inh : Caps) : Type 0 where
   pub known : IsTrue (is_version version)
-  pub initial : version ≡ 2 → root ≡ 0
+  pub initial : version ≢ 3 → root ≡ 0
+  pub low_perm : version ≡ 1 → perm < 2 ^ 32
+  pub low_inh : version ≡ 1 → inh < 2 ^ 32
+
+-- the version names no namespace: its attributes have effect in all (capabilities(7), "File
+-- capability extended attribute versioning")
+abbrev pub counts_everywhere : ℕ → Bool
+counts_everywhere version = (version == 1) || (version == 2)
 
 -- the attribute counts for a task whose user namespace and its ancestors have these root ids: one
--- of version 2 always does, and one of version 3 where its root id is among them (capabilities(7),
--- "Namespaced file capabilities")
+-- of version 1 or 2 always does, and one of version 3 where its root id is among them
+-- (capabilities(7), "Namespaced file capabilities")
 abbrev pub counts : Attribute → List ℕ → Bool
-counts a chain = (a.version == 2) || list_any (λ id. id == a.root) chain
+counts a chain = counts_everywhere a.version || list_any (λ id. id == a.root) chain

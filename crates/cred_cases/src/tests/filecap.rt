@@ -3,6 +3,9 @@
 use cred_filecap::{AttrRefusal, counts, decode, encode};
 use std::test::Fail;
 
+/// In version 1: the permitted set with every bit, and every other one in the inheritable set.
+const OLDEST: [u8; 12] = [0, 0, 0, 1, 0xff, 0xff, 0xff, 0xff, 0xaa, 0xaa, 0xaa, 0xaa];
+
 /// cap_net_raw=ep, in version 2.
 const NET_RAW: [u8; 20] = [
     1, 0, 0, 2, 0, 0x20, 0, 0, 0, 0, 0, 0, 0, 0, 0, 0, 0, 0, 0, 0,
@@ -44,6 +47,7 @@ fn what_is_written_is_what_was_read(rt: HostRuntime) -> Result<(), Fail> {
     inheritable[18] = 0;
     inheritable[19] = 0;
     let cases: &[(&[u8], &[u8])] = &[
+        (&OLDEST, &OLDEST),
         (&NET_RAW, &NET_RAW),
         (&NAMESPACED, &NAMESPACED),
         (&PERMITTED, &permitted),
