@@ -17,8 +17,8 @@ returns-in_default-for_access-clause-ok c =
     (lend_other s c.args.task c.args.label owner.0 owner.1 (rw (← c.self.view_is) at c.requires.unheld) c.in-Some.place p at.0 at.1
     (sym c.in_default-for_access.ensures))
 
-pub returns-then-depth-ge-DEPTH-clause-ok : goal.returns-then-depth-ge-DEPTH-clause-ok
-returns-then-depth-ge-DEPTH-clause-ok c =
+pub returns-then-depth-clause-ok : goal.returns-then-depth-clause-ok
+returns-then-depth-clause-ok c =
     let s = seen_state c.self.inside in
     let p = c.index-own.result.now in
     let at = placed (λ (q : Prepared). q.label == c.args.label) s.prepared _ c.in-Some.place p c.deref.ensures.value c.in-Some.ensures c.index-own.ensures in
@@ -26,7 +26,7 @@ returns-then-depth-ge-DEPTH-clause-ok c =
     (access_deep s c.args.task c.args.label c.unwrap.result.now (found_is (λ t. t.now) c.get.result _ c.unwrap.result c.get.ensures c.unwrap.ensures)
     (rw (← c.self.view_is) at c.requires.unheld) c.in-Some.place p at.0 at.1
     c.in-Some-for_access.last.now (sym c.in-Some-for_access.ensures)
-    (is_deep _ c.depth.result c.depth.ensures c.if-depth-ge-DEPTH.true))
+    (is_deep _ c.depth.result c.depth.ensures c.if-depth.true))
 
 pub returns-clause-ok : goal.returns-clause-ok
 returns-clause-ok c =
@@ -40,7 +40,7 @@ returns-clause-ok c =
     (rw (← c.self.view_is) at c.requires.unheld) c.in-Some.place p at.0 at.1
     c.in-Some-for_access.last.now (sym c.in-Some-for_access.ensures)
     c.next_number-number.result c.own.inside.slot c.own.inside.base _ _ _ _ _ _ _
-    (not_deep _ c.depth.result c.depth.ensures c.if-depth-ge-DEPTH.false)
+    (not_deep _ c.depth.result c.depth.ensures c.if-depth.false)
     c.in_ok-reserve.ensures.list c.next_number-number.ensures
     (ap (λ (q : Prepared). q.slot) c.own.view_is) (ap (λ (q : Prepared). q.base) c.own.view_is)
     (c.in_ok-cred.ensures ∙ ap (λ (l : Changed). l.cred) c.last.view_is)

@@ -12,5 +12,5 @@ returns-clause-ok c =
     rw (← c.self.view_is)
     (lends s c.args.task c.args.label c.in-Some.owner.now lives (seen_numbered c.in-Some-held.field-0)
     (rw (← c.self.view_is) at (sym c.in-Some-held.ensures)) _
-    (not_deep _ c.depth-depth.result c.depth-depth.ensures c.if-depth-ge-DEPTH.false)
+    (not_deep _ c.depth-depth.result c.depth-depth.ensures c.if-depth.false)
     (said_of s.tasks c.args.task _ c.in-Some.owner.now sound.tasks lives c.in_ok-push_override.ensures.ok))
