@@ -1,6 +1,8 @@
 -- The answers that an event may be given are those that are read for it.
 use Rattle.std.proofs.Common.{◌≡◌, ℕ, Bool, true, false, nat_lt, cond, refl}
 use Rattle.cred_caps.specs.Numbers.{LAST}
+use Rattle.cred_record.specs.declared.id_call.IdCall.{IdCall}
+use Rattle.cred_record.specs.declared.adj_call.AdjCall.{AdjCall}
 use Rattle.cred_event.specs.declared.answer.Told.TheVariants.{Ids, Caps, Groups, Bits, Flag}
 use Rattle.cred_event.specs.declared.answer.Answer.{Answer}
 use Rattle.cred_event.specs.declared.answer.Answer.TheVariants.{Done, Sealed, Kept, Was, Executed, Began, Acted, Told}
@@ -13,6 +15,7 @@ use Rattle.cred_event.specs.declared.event.Event.TheVariants as event
 use Rattle.cred_reader.specs.declared.answers.Tells.{Tells}
 use Rattle.cred_reader.specs.declared.answers.Tells.TheVariants as tells
 use Rattle.cred_reader.specs.Answers.{told_by}
+use Rattle.cred_reader.specs.CallRows as call_rows
 use Rattle.cred_reader.specs.Rows as rows
 
 abbrev pub same : Tells → Tells → Bool
@@ -196,13 +199,13 @@ setfs_agrees (Told (Bits bits nnp)) h = absurd (cc)
 setfs_agrees (Told (Flag flag)) h = absurd (cc)
 setfs_agrees answer h = refl
 
-adjust_agrees : (answer : Answer) → rows.adjust_row answer ≡ true → agrees tells.Nothing answer ≡ true
-adjust_agrees (Told (Ids uid gid)) h = absurd (cc)
-adjust_agrees (Told (Caps perm inh eff bound amb)) h = absurd (cc)
-adjust_agrees (Told (Groups groups)) h = absurd (cc)
-adjust_agrees (Told (Bits bits nnp)) h = absurd (cc)
-adjust_agrees (Told (Flag flag)) h = absurd (cc)
-adjust_agrees answer h = refl
+adjust_agrees : (call : AdjCall) (answer : Answer) → call_rows.adjust_row call answer ≡ true → agrees tells.Nothing answer ≡ true
+adjust_agrees call (Told (Ids uid gid)) h = absurd (cc)
+adjust_agrees call (Told (Caps perm inh eff bound amb)) h = absurd (cc)
+adjust_agrees call (Told (Groups groups)) h = absurd (cc)
+adjust_agrees call (Told (Bits bits nnp)) h = absurd (cc)
+adjust_agrees call (Told (Flag flag)) h = absurd (cc)
+adjust_agrees call answer h = refl
 
 exec_agrees : (answer : Answer) → rows.exec_row answer ≡ true → agrees tells.Nothing answer ≡ true
 exec_agrees (Told (Ids uid gid)) h = absurd (cc)
@@ -252,13 +255,13 @@ revert_agrees (Told (Bits bits nnp)) h = absurd (cc)
 revert_agrees (Told (Flag flag)) h = absurd (cc)
 revert_agrees answer h = refl
 
-begin_agrees : (answer : Answer) → rows.begin_row answer ≡ true → agrees tells.Nothing answer ≡ true
-begin_agrees (Told (Ids uid gid)) h = absurd (cc)
-begin_agrees (Told (Caps perm inh eff bound amb)) h = absurd (cc)
-begin_agrees (Told (Groups groups)) h = absurd (cc)
-begin_agrees (Told (Bits bits nnp)) h = absurd (cc)
-begin_agrees (Told (Flag flag)) h = absurd (cc)
-begin_agrees answer h = refl
+begin_agrees : (call : IdCall) (answer : Answer) → call_rows.begin_row call answer ≡ true → agrees tells.Nothing answer ≡ true
+begin_agrees call (Told (Ids uid gid)) h = absurd (cc)
+begin_agrees call (Told (Caps perm inh eff bound amb)) h = absurd (cc)
+begin_agrees call (Told (Groups groups)) h = absurd (cc)
+begin_agrees call (Told (Bits bits nnp)) h = absurd (cc)
+begin_agrees call (Told (Flag flag)) h = absurd (cc)
+begin_agrees call answer h = refl
 
 act_agrees : (answer : Answer) → rows.act_row answer ≡ true → agrees tells.Nothing answer ≡ true
 act_agrees (Told (Ids uid gid)) h = absurd (cc)
@@ -328,7 +331,7 @@ tell_agrees label (query.Check file want) answer h = check_agrees answer h
 
 change_agrees : (change : Change) (answer : Answer) → rows.may_change change answer ≡ true → agrees tells.Nothing answer ≡ true
 change_agrees (change.SetFs kind id) answer h = setfs_agrees answer h
-change_agrees (change.Adjust call) answer h = adjust_agrees answer h
+change_agrees (change.Adjust call) answer h = adjust_agrees call answer h
 change_agrees (change.Exec file) answer h = exec_agrees answer h
 change_agrees change.Access answer h = access_agrees answer h
 
@@ -346,7 +349,7 @@ can_agree (event.Commit label) answer h = commit_agrees answer h
 can_agree (event.Abort label) answer h = abort_agrees answer h
 can_agree (event.Override task label) answer h = override_agrees answer h
 can_agree (event.Revert task) answer h = revert_agrees answer h
-can_agree (event.Begin task call) answer h = begin_agrees answer h
+can_agree (event.Begin task call) answer h = begin_agrees call answer h
 can_agree (event.Act cast) answer h = act_agrees answer h
 can_agree (event.OpenFile hold file want fd) answer h = open_agrees answer h
 can_agree (event.CloseFile fd) answer h = close_agrees answer h

@@ -36,7 +36,7 @@ use Rattle.cred_reader.specs.Kinds as kinds
 use Rattle.cred_reader.proofs.Spelled.{Holds, HoldsSome, OfAll, then_holds, word_holds, one_holds, two_holds, three_holds, five_holds, any_holds}
 use Rattle.cred_reader.proofs.KindsFit.{number_fits, id_fits, arg_fits, set_fits, namespace_fits, want_fits, task_fits, process_fits, label_fits, fd_fits, ids_fit}
 
-bare_holds : {A : Type 0} (P : A → Type 0) (words : List (List ℕ)) (value : A) → P value → Holds P (bare words value)
+pub bare_holds : {A : Type 0} (P : A → Type 0) (words : List (List ℕ)) (value : A) → P value → Holds P (bare words value)
 bare_holds P [] value h = h
 bare_holds P (w ∷ ws) value h = tt
 
@@ -52,14 +52,14 @@ place_fits word = at (spelling.cap_named word) refl
     at None e = tt
     at (Some place) e = let inside = (position-Some (bytes_eq word) cap_names place word e).0 in few_names place inside
 
-or_holds : {A : Type 0} (P : A → Type 0) (a b : Option A) → HoldsSome P a → HoldsSome P b → HoldsSome P (option_or a b)
+pub or_holds : {A : Type 0} (P : A → Type 0) (a b : Option A) → HoldsSome P a → HoldsSome P b → HoldsSome P (option_or a b)
 or_holds P (Some x) b ha hb = ha
 or_holds P None b ha hb = hb
 
-cap_fits : OfAll IsNumber spelling.cap_of
+pub cap_fits : OfAll IsNumber spelling.cap_of
 cap_fits word = or_holds IsNumber (spelling.number_of word) (spelling.cap_named word) (number_fits word) (place_fits word)
 
-call_fits : (kind : IdName) (words : List (List ℕ)) → Holds FitsCall (calls.id_call_of kind words)
+pub call_fits : (kind : IdName) (words : List (List ℕ)) → Holds FitsCall (calls.id_call_of kind words)
 unfolding calls.id_call_of
 call_fits id_name.SetUid words = then_holds IsArg FitsCall (one_of spelling.arg_of words) _ (one_holds IsArg spelling.arg_of arg_fits words) (λ v h. h)
 call_fits id_name.SetEuid words = then_holds IsArg FitsCall (one_of spelling.arg_of words) _ (one_holds IsArg spelling.arg_of arg_fits words) (λ v h. h)
@@ -82,7 +82,7 @@ exec_fits files [] = tt
 exec_fits files (word ∷ []) = then_holds (λ file. Unit {0}) FitsChange (file_at files word) _ (any_holds (file_at files word)) (λ v h. tt)
 exec_fits files (word ∷ other ∷ words) = tt
 
-change_fits : (files : List NamedFile) (kind : ChangeName) (words : List (List ℕ)) → Holds FitsChange (changes.change_of files kind words)
+pub change_fits : (files : List NamedFile) (kind : ChangeName) (words : List (List ℕ)) → Holds FitsChange (changes.change_of files kind words)
 unfolding changes.change_of
 change_fits files (change_name.SetFs kind) words = then_holds IsArg FitsChange (one_of spelling.arg_of words) _ (one_holds IsArg spelling.arg_of arg_fits words) (λ v h. h)
 change_fits files change_name.Capset words = then_holds _ FitsChange (three_of spelling.set_of spelling.set_of spelling.set_of words) _ (three_holds IsCaps IsCaps IsCaps spelling.set_of spelling.set_of spelling.set_of set_fits set_fits set_fits words) (λ v h. h)
@@ -102,7 +102,7 @@ named_change_fits files name words =
     then_holds (λ kind. Unit {0}) FitsChange (ok_or (names.altered_name name) Word) _ (any_holds (ok_or (names.altered_name name) Word)) (λ kind h. change_fits files kind words)
 
 -- what is wanted of a file that a line names
-asked_fits : (files : List NamedFile) (words : List (List ℕ)) → Holds (λ (asked : ℕ × Want). IsWant asked.1) (questions.file_and_want files words)
+pub asked_fits : (files : List NamedFile) (words : List (List ℕ)) → Holds (λ (asked : ℕ × Want). IsWant asked.1) (questions.file_and_want files words)
 unfolding questions.file_and_want
 asked_fits files [] = tt
 asked_fits files (name ∷ []) = tt
@@ -111,7 +111,7 @@ asked_fits files (name ∷ want ∷ []) =
     then_holds IsWant _ (word_of spelling.want_of want) _ (word_holds IsWant spelling.want_of want_fits want) (λ v w. w))
 asked_fits files (name ∷ want ∷ more ∷ words) = tt
 
-query_fits : (files : List NamedFile) (kind : QueryName) (words : List (List ℕ)) → Holds FitsQuery (questions.query_of files kind words)
+pub query_fits : (files : List NamedFile) (kind : QueryName) (words : List (List ℕ)) → Holds FitsQuery (questions.query_of files kind words)
 unfolding questions.query_of
 query_fits files query_name.Ids words = bare_holds FitsQuery words _ tt
 query_fits files query_name.Caps words = bare_holds FitsQuery words _ tt

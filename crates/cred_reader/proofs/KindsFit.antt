@@ -17,19 +17,19 @@ use Rattle.cred_reader.specs.Kinds as kinds
 use Rattle.cred_reader.proofs.Spelled.{Holds, HoldsSome, OfAll, then_holds, word_holds}
 use Rattle.cred_reader.proofs.Words.{both}
 
-if_holds : {A : Type 0} (P : A → Type 0) (t : Bool) (v : A) → (t ≡ true → P v) → HoldsSome P (cond t (Some v) None)
+pub if_holds : {A : Type 0} (P : A → Type 0) (t : Bool) (v : A) → (t ≡ true → P v) → HoldsSome P (cond t (Some v) None)
 if_holds P true v h = h refl
 if_holds P false v h = tt
 
-then_some : {A B : Type 0} (P : A → Type 0) (Q : B → Type 0) (o : Option A) (f : A → Option B) → HoldsSome P o → ((x : A) → P x → HoldsSome Q (f x)) → HoldsSome Q (option_and_then f o)
+pub then_some : {A B : Type 0} (P : A → Type 0) (Q : B → Type 0) (o : Option A) (f : A → Option B) → HoldsSome P o → ((x : A) → P x → HoldsSome Q (f x)) → HoldsSome Q (option_and_then f o)
 then_some P Q (Some x) f h next = next x h
 then_some P Q None f h next = tt
 
-map_some : {A B : Type 0} (P : A → Type 0) (Q : B → Type 0) (o : Option A) (f : A → B) → HoldsSome P o → ((x : A) → P x → Q (f x)) → HoldsSome Q (option_map f o)
+pub map_some : {A B : Type 0} (P : A → Type 0) (Q : B → Type 0) (o : Option A) (f : A → B) → HoldsSome P o → ((x : A) → P x → Q (f x)) → HoldsSome Q (option_map f o)
 map_some P Q (Some x) f h next = next x h
 map_some P Q None f h next = tt
 
-either_holds : {A : Type 0} (P : A → Type 0) (t : Bool) (a b : Option A) → HoldsSome P a → HoldsSome P b → HoldsSome P (cond t a b)
+pub either_holds : {A : Type 0} (P : A → Type 0) (t : Bool) (a b : Option A) → HoldsSome P a → HoldsSome P b → HoldsSome P (cond t a b)
 either_holds P true a b ha hb = ha
 either_holds P false a b ha hb = hb
 
@@ -101,11 +101,11 @@ pub bits_fits : OfAll (λ bits. bits < 2 ^ 8) kinds.bits_of
 bits_fits word = then_some IsNumber (λ bits. bits < 2 ^ 8) (spelling.number_of word) _ (number_fits word) (λ number h. if_holds (λ bits. bits < 2 ^ 8) _ number (λ t. let le = up_to number 255 t in omega arith))
 
 -- it holds of each value of a table
-abbrev RowsHold : {A : Type 0} → (A → Type 0) → List (List ℕ × A) → Type 0
+abbrev pub RowsHold : {A : Type 0} → (A → Type 0) → List (List ℕ × A) → Type 0
 RowsHold P [] = Unit {0}
 RowsHold P (row ∷ rows) = P row.1 × RowsHold P rows
 
-named_fits : {A : Type 0} (P : A → Type 0) (rows : List (List ℕ × A)) → RowsHold P rows → OfAll P (named rows)
+pub named_fits : {A : Type 0} (P : A → Type 0) (rows : List (List ℕ × A)) → RowsHold P rows → OfAll P (named rows)
 named_fits P [] h word = tt
 named_fits P (row ∷ rows) h word = either_holds P (bytes_eq word row.0) (Some row.1) _ h.0 (named_fits P rows h.1 word)
 

@@ -1,3 +1,4 @@
+pub mod CallRows
 pub mod Rows
 pub mod Fits
 pub mod Kinds

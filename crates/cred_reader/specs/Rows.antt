@@ -3,12 +3,11 @@
 use Rattle.std.specs.Prelude.{ℕ, Bool, true, false, nat_lt, IsTrue, if◌then◌else◌}
 use Rattle.cred_caps.specs.Numbers.{LAST}
 use Rattle.cred_event.specs.declared.answer.Named.TheVariants.{Task, Process, Label, File}
-use Rattle.cred_event.specs.declared.answer.Named.TheVariants.{Broadcast}
 use Rattle.cred_event.specs.declared.answer.Counted.TheVariants.{Tasks, Files, Holds, Prepared}
 use Rattle.cred_event.specs.declared.answer.Told.TheVariants.{Ids, Caps, Groups, Bits, Flag}
 use Rattle.cred_event.specs.declared.answer.Answer.{Answer}
 use Rattle.cred_event.specs.declared.answer.Answer.TheVariants.{Done, Sealed, Kept, Was, Executed}
-use Rattle.cred_event.specs.declared.answer.Answer.TheVariants.{Began, Acted, Told, Eperm, Einval}
+use Rattle.cred_event.specs.declared.answer.Answer.TheVariants.{Acted, Told, Eperm, Einval}
 use Rattle.cred_event.specs.declared.answer.Answer.TheVariants.{Eacces, Ebadf, NoTask, NoHold}
 use Rattle.cred_event.specs.declared.answer.Answer.TheVariants.{NoPrepared, NoBroadcast, Busy}
 use Rattle.cred_event.specs.declared.answer.Answer.TheVariants.{Exists, Overridden, NotOverridden}
@@ -20,6 +19,7 @@ use Rattle.cred_event.specs.declared.event.Query.{Query}
 use Rattle.cred_event.specs.declared.event.Query.TheVariants as query
 use Rattle.cred_event.specs.declared.event.Event.{Event}
 use Rattle.cred_event.specs.declared.event.Event.TheVariants as event
+use Rattle.cred_reader.specs.CallRows.{adjust_row, begin_row}
 
 -- a first task
 abbrev pub init_row : Answer → Bool
@@ -124,14 +124,6 @@ setfs_row (NoPrepared label) = true
 setfs_row (Was previous) = true
 setfs_row answer = false
 
--- capset(2) and the calls of prctl(2)
-abbrev pub adjust_row : Answer → Bool
-adjust_row (NoPrepared label) = true
-adjust_row Eperm = true
-adjust_row Einval = true
-adjust_row Done = true
-adjust_row answer = false
-
 -- execve(2)
 abbrev pub exec_row : Answer → Bool
 exec_row (NoPrepared label) = true
@@ -178,18 +170,6 @@ revert_row (NoTask task) = true
 revert_row NotOverridden = true
 revert_row Done = true
 revert_row answer = false
-
--- an id call
-abbrev pub begin_row : Answer → Bool
-begin_row (NoTask task) = true
-begin_row (Busy cast) = true
-begin_row (Exists Broadcast number) = true
-begin_row (Overridden depth) = true
-begin_row Eperm = true
-begin_row Einval = true
-begin_row TableFull = true
-begin_row (Began cred slot left) = true
-begin_row answer = false
 
 -- a thread that follows an id call
 abbrev pub act_row : Answer → Bool
@@ -261,7 +241,7 @@ may_tell (query.Check file want) answer = check_row answer
 -- what a change may be answered
 abbrev pub may_change : Change → Answer → Bool
 may_change (change.SetFs kind id) answer = setfs_row answer
-may_change (change.Adjust call) answer = adjust_row answer
+may_change (change.Adjust call) answer = adjust_row call answer
 may_change (change.Exec file) answer = exec_row answer
 may_change change.Access answer = access_row answer
 
@@ -279,7 +259,7 @@ may (event.Commit label) answer = commit_row answer
 may (event.Abort label) answer = abort_row answer
 may (event.Override task label) answer = override_row answer
 may (event.Revert task) answer = revert_row answer
-may (event.Begin task call) answer = begin_row answer
+may (event.Begin task call) answer = begin_row call answer
 may (event.Act cast) answer = act_row answer
 may (event.OpenFile hold file want fd) answer = open_row answer
 may (event.CloseFile fd) answer = close_row answer

@@ -7,6 +7,7 @@
 #![tactic(auto)]
 
 mod answers;
+mod call_rows;
 mod events;
 mod fits;
 mod kinds;

@@ -2,6 +2,7 @@
 ghost use Rattle.std.specs.Prelude.{◌≡◌};
 ghost use Rattle.cred_reader.specs.Rows as spec;
 
+use crate::call_rows::{adjust_row, begin_row};
 use crate::told_rows::may_tell;
 use cred_event::{Answer, Change, Counted, Event, Named};
 
@@ -97,16 +98,6 @@ fn setfs_row(answer: &Answer) -> bool
     matches!(answer, Answer::NoPrepared(_) | Answer::Was { .. })
 }
 
-/// Capset(2) and the calls of prctl(2).
-fn adjust_row(answer: &Answer) -> bool
-    ensures { result ≡ spec.adjust_row answer.now }
-{
-    matches!(
-        answer,
-        Answer::NoPrepared(_) | Answer::Eperm | Answer::Einval | Answer::Done
-    )
-}
-
 /// Execve(2).
 fn exec_row(answer: &Answer) -> bool
     ensures { result ≡ spec.exec_row answer.now }
@@ -164,26 +155,6 @@ fn revert_row(answer: &Answer) -> bool
     matches!(
         answer,
         Answer::NoTask(_) | Answer::NotOverridden | Answer::Done
-    )
-}
-
-/// An id call.
-fn begin_row(answer: &Answer) -> bool
-    ensures { result ≡ spec.begin_row answer.now }
-{
-    matches!(
-        answer,
-        Answer::NoTask(_)
-            | Answer::Busy(_)
-            | Answer::Exists {
-                what: Named::Broadcast,
-                ..
-            }
-            | Answer::Overridden(_)
-            | Answer::Eperm
-            | Answer::Einval
-            | Answer::TableFull
-            | Answer::Began { .. }
     )
 }
 
@@ -284,7 +255,7 @@ fn may_change(change: Change, answer: &Answer) -> bool
 {
     match change {
         Change::SetFs(_, _) => setfs_row(answer),
-        Change::Adjust(_) => adjust_row(answer),
+        Change::Adjust(call) => adjust_row(call, answer),
         Change::Exec { .. } => exec_row(answer),
         Change::Access => access_row(answer),
     }
@@ -307,7 +278,7 @@ pub(crate) fn can_answer(event: &Event, answer: &Answer) -> bool
         Event::Abort { .. } => abort_row(answer),
         Event::Override { .. } => override_row(answer),
         Event::Revert { .. } => revert_row(answer),
-        Event::Begin { .. } => begin_row(answer),
+        Event::Begin { call, .. } => begin_row(call, answer),
         Event::Act { .. } => act_row(answer),
         Event::OpenFile { .. } => open_row(answer),
         Event::CloseFile { .. } => close_row(answer),

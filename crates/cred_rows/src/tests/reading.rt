@@ -45,7 +45,7 @@ static TEXTS: [&str; 70] = [
     "6 prepare h2 t1 h1 -> too many prepared\n",
     "7 change h2 setfsuid 1000 -> ok was 0\n",
     "7 change h2 setfsgid -1 -> ok was 4294967294\n",
-    "7 change h2 capset 400 0 1ffffffffff -> ok\n",
+    "7 change h2 capset 1ffffffffff 0 400 -> ok\n",
     "7 change h2 capdrop 41 -> einval\n",
     "7 change h2 ambraise 10 -> eperm\n",
     "7 change h2 amblower 10 -> ok\n",
@@ -64,7 +64,7 @@ static TEXTS: [&str; 70] = [
     "10 override t1 h1 -> ok c1 s1\n",
     "11 revert t1 -> not overridden\n",
     "12 begin t1 setuid 1000 -> ok c2 s2 left 0\n",
-    "12 begin t1 seteuid -1 -> eperm\n",
+    "12 begin t1 seteuid -1 -> einval\n",
     "12 begin t1 setreuid 1 -1 -> exists k12\n",
     "12 begin t1 setresuid 1 2 3 -> busy 11\n",
     "12 begin t1 setgid 1 -> ok c2 s2 left 3\n",
@@ -72,7 +72,7 @@ static TEXTS: [&str; 70] = [
     "12 begin t1 setregid 1 2 -> ok c2 s2 left 3\n",
     "12 begin t1 setresgid 1 2 3 -> ok c2 s2 left 3\n",
     "12 begin t1 setgroups -> ok c2 s2 left 0\n",
-    "12 begin t1 setgroups 30 10 20 -> einval\n",
+    "12 begin t1 setgroups 30 10 20 -> eperm\n",
     "13 act 12 -> ok t2 c3 s3 left 1\n",
     "13 act 12 -> aborted t2 eperm\n",
     "13 act 12 -> no broadcast 12\n",
@@ -87,7 +87,7 @@ static TEXTS: [&str; 70] = [
 ];
 
 /// Texts that are those of no entry.
-static NONE: [&str; 28] = [
+static NONE: [&str; 40] = [
     "",
     "\n",
     "17 sweep -> ok",
@@ -114,7 +114,19 @@ static NONE: [&str; 28] = [
     "4 ask h1 bset 41 -> ok 0\n",
     "4 ask h1 check ghost r -> ok\n",
     "7 change h2 setfsuid 1000 -> ok\n",
+    "7 change h2 capset 0 0 0 -> eperm\n",
+    "7 change h2 capset 400 0 1ffffffffff -> ok\n",
+    "7 change h2 capset 400 0 400 -> einval\n",
+    "7 change h2 ambraise 41 -> ok\n",
+    "7 change h2 ambclear -> einval\n",
+    "7 change h2 securebits 256 -> ok\n",
+    "7 change h2 keepcaps 2 -> eperm\n",
+    "7 change h2 nonewprivs 1 -> eperm\n",
     "8 commit h2 -> ok c5 s5 ended 2 gains 400 0 0\n",
+    "12 begin t1 setuid -1 -> ok c2 s2 left 0\n",
+    "12 begin t1 setreuid 1 -1 -> einval\n",
+    "12 begin t1 setresuid -1 -1 -1 -> eperm\n",
+    "12 begin t1 setgroups 30 10 20 -> einval\n",
     "13 act 12 -> aborted t2 late\n",
 ];
 

@@ -1,0 +1,9 @@
+pub mod RuleRows
+pub mod RowLaws
+pub mod FormFits
+pub mod FilesFit
+pub mod ScriptFits
+pub mod EventsFit
+pub mod CredFits
+pub mod ChangeFits
+pub mod Ranges

@@ -1,0 +1,33 @@
+-- The entries of a script's journals fit it.
+use Rattle.std.specs.Prelude.{◌≡◌, ℕ, ◌<◌, ◌≤◌, List, length, slice_get, Ok, IfSome}
+use Rattle.cred_event.specs.declared.entry.Entry.{Entry}
+use Rattle.cred_event.specs.declared.entry.TheConstants.{LINE_LIMIT}
+use Rattle.cred_event.specs.declared.event.Event.{Event}
+use Rattle.cred_model.specs.Script.{Script}
+use Rattle.cred_model.specs.State.{State}
+use Rattle.cred_model.specs.Step.{step}
+use Rattle.cred_model.specs.Journal.{SoFar}
+use Rattle.cred_script.specs.Grammar.{script_of}
+use Rattle.cred_reader.specs.Fits.{IsNumber, FitsEvent, IsOf}
+use Rattle.cred_reader.specs.Rows.{CanAnswer}
+
+-- In every state each event is given one of the answers of its row.
+abbrev pub AnswersAreOfTheirRows : Type 0
+AnswersAreOfTheirRows =
+    (script : Script) (s : State) (line : ℕ) (event : Event)
+    → CanAnswer event (step script s line event).0
+
+-- What is true of an entry's line and event: their numbers are in range, each word is spelled as
+-- the grammar asks, and the files and the namespaces are the script's.
+pub record EventFits (script : Script) (entry : Entry) : Type 0 where
+  pub line : IsNumber entry.line
+  pub event : FitsEvent entry.event
+  pub names : IsOf script entry.event
+
+-- So it is of each entry of a journal so far of the script that a text is, if that has no more lines
+-- than a script may have.
+abbrev pub EventsFit : Type 0
+EventsFit =
+    (bytes : List ℕ) (script : Script) (journal : List Entry)
+    → script_of bytes ≡ Ok script → length script.lines ≤ LINE_LIMIT → SoFar script journal
+    → (k : ℕ) → k < length journal → IfSome (slice_get journal k) (EventFits script)

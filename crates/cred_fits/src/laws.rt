@@ -1,0 +1,15 @@
+//! What is true of each entry.
+ghost use Rattle.cred_fits.specs.Fitting.{AnswersAreOfTheirRows, EventsFit};
+
+/// Whatever the state is, the answer to an event is one that its row has, for the event's own
+/// arguments: setuid(2) of -1 is invalid, and setreuid(2) never is.
+pub fn answers_are_of_their_rows()
+    ensures { AnswersAreOfTheirRows }
+{}
+
+/// Each event of a journal of a script is one that the script's lines make: its numbers are in
+/// range, labels that a line takes for itself among them, its words are spelled as the grammar
+/// asks, and the files and the namespaces that it names are the script's.
+pub fn events_fit()
+    ensures { EventsFit }
+{}
