@@ -4,3 +4,4 @@ pub mod Numerals
 pub mod CapNames
 pub mod Hexadecimals
 pub mod FileNames
+pub mod LineWords

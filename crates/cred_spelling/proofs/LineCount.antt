@@ -1,5 +1,5 @@
 -- How many lines a text has.
-use Rattle.std.proofs.Common.{◌≡◌, ◌≢◌, ℕ, ◌+◌, ◌-◌, ◌<◌, ◌≤◌, Bool, true, false, cond, ◌==◌, List, [], ◌∷◌, length, get_or, refl, arith}
+use Rattle.std.proofs.Common.{◌≡◌, ◌≢◌, ℕ, ◌+◌, ◌-◌, ◌<◌, ◌≤◌, Bool, true, false, cond, ◌==◌, List, [], ◌∷◌, ◌++◌, length, get_or, refl, arith}
 use Rattle.std.specs.List.{onto_first}
 use Rattle.std.proofs.lemmas.Bool.Decides.{nat_tests}
 use Rattle.cred_spelling.specs.Lines.{lines_of, ends}
@@ -43,3 +43,11 @@ lines_open [] some last = absurd (omega arith)
 lines_open (byte ∷ bytes) some last =
     let test : (get_or (byte ∷ bytes) (length bytes) 0 == 10) ≡ false = grind (arith, nat_tests) in
     rw (lines_counted byte bytes) (rw test refl)
+
+pub ends-append : (some more : List ℕ) → ends (some ++ more) ≡ ends some + ends more
+ends-append [] more = omega arith
+ends-append (byte ∷ some) more = either (byte == 10) (ends (some ++ more)) (ends-append some more)
+  where
+    either : (b : Bool) (all : ℕ) → all ≡ ends some + ends more → cond b (1 + all) all ≡ cond b (1 + ends some) (ends some) + ends more
+    either true all is = omega arith
+    either false all is = is

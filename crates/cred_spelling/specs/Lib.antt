@@ -4,3 +4,4 @@ pub mod Table
 pub mod Spellings
 pub mod Names
 pub mod Read
+pub mod LineWords

@@ -9,6 +9,7 @@
 mod bytes;
 mod file_name;
 mod kinds;
+mod line_words;
 mod lines;
 mod long;
 mod names;
@@ -23,6 +24,7 @@ pub use kinds::{
     Cap, Descriptor, Label, LaneNumber, LineNumber, Namespace, NewNamespace, Number, Parent,
     Process, Spelling, Task,
 };
+pub use line_words::split_first_line;
 pub use lines::{first_line, line_count};
 pub use long::long_of;
 pub use names::{

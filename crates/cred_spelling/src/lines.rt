@@ -18,8 +18,28 @@ pub fn line_count(bytes: &[u8]) -> usize
     }
 }
 
+/// How many bytes are looked at together: so few that the LF among them are counted in a byte, and
+/// so the processor compares many at once.
+const TOGETHER: usize = 240;
+
 /// How many LF there are.
 fn end_count(bytes: &[u8]) -> usize
+    ensures count { result ≡ ends bytes.now }
+    ensures few { result ≤ length bytes.now }
+{
+    let mut count = 0;
+    let mut rest = bytes;
+    while rest.len() > TOGETHER {
+        let (together, after) = rest.split_at(TOGETHER);
+        count += usize::from(few_ends(together));
+        rest = after;
+    }
+    count + usize::from(few_ends(rest))
+}
+
+/// How many LF there are among few bytes.
+fn few_ends(bytes: &[u8]) -> u8
+    requires { length bytes.now ≤ 255 }
     ensures count { result ≡ ends bytes.now }
     ensures few { result ≤ length bytes.now }
 {
@@ -52,7 +72,7 @@ pub fn first_line(bytes: &[u8]) -> (&[u8], &[u8], bool)
 }
 
 /// The first line, without its LF, and the bytes after it.
-fn any_line(bytes: &[u8]) -> (&[u8], &[u8])
+pub(crate) fn any_line(bytes: &[u8]) -> (&[u8], &[u8])
     requires { 0 < length bytes.now }
     ensures line { spec.lines_of bytes.now ≡ result.0.now ∷ spec.lines_of result.1.now }
     ensures shorter { length result.1.now < length bytes.now }

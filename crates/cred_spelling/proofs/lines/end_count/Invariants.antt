@@ -1,9 +1,12 @@
-use Rattle.std.proofs.Common.{◌≡◌, ◌+◌, ◌≤◌, drop}
+use Rattle.std.proofs.Common.{◌≡◌, ◌+◌, ◌≤◌, length}
 use Rattle.cred_spelling.specs.Lines.{ends}
 use Rattle.cred_spelling.proofs.lines.end_count.Given as goal
 
-abbrev pub invariant-loop-byte : goal.invariant-loop-byte
-invariant-loop-byte l = record {
-  few : l.count ≤ l.byte-index;
-  rest : l.count + ends (drop l.byte-index l.bytes) ≡ ends l.bytes;
+abbrev pub invariant-loop-rest : goal.invariant-loop-rest
+invariant-loop-rest l = record {
+  few : l.count + length l.rest ≤ length l.bytes;
+  all : l.count + ends l.rest ≡ ends l.bytes;
 }
+
+abbrev pub decreases-loop-rest : goal.decreases-loop-rest
+decreases-loop-rest l = length l.rest
