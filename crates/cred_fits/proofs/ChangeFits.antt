@@ -15,7 +15,7 @@ use Rattle.cred_caps.specs.Caps.{Caps, IsCaps, empty, full, union, meet, less, w
 use Rattle.cred_caps.specs.Numbers.{LAST, SETPCAP}
 use Rattle.cred_caps.specs.Secure.{is_set, is_locked, with_flag}
 use Rattle.cred_caps.proofs.CapsLemmas.{IsCaps-union, IsCaps-one}
-use Rattle.cred_record.specs.Credential.{Credential, ROOT, has_cap, first_credential}
+use Rattle.cred_record.specs.Credential.{Credential, ROOT, capable, first_credential}
 use Rattle.cred_record.specs.File.{File}
 use Rattle.cred_record.specs.declared.gains.Gains.{Gains}
 use Rattle.cred_record.specs.declared.adj_call.AdjCall.{AdjCall}
@@ -94,7 +94,7 @@ capset_fits c perm inh eff old p i e =
 bound_drop_fits : (c : Credential) (n : ℕ) → FitsCred c → Holds FitsCred (after_bound_drop c n)
 unfolding after_bound_drop
 bound_drop_fits c n old =
-    tested (not (has_cap c SETPCAP)) Perm _ (tested (is_no_cap n) Invalid _
+    tested (not (capable c SETPCAP)) Perm _ (tested (is_no_cap n) Invalid _
     (adjusted c _ old refl refl refl old.perm old.inh old.eff (fewer c.bound (2 ^ n) old.bound) old.amb old.bits))
 
 amb_raise_fits : (c : Credential) (n : ℕ) → FitsCred c → Holds FitsCred (after_amb_raise c n)

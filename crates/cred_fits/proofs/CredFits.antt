@@ -9,14 +9,14 @@ use Rattle.cred_ids.specs.declared.arg.Arg.{Arg}
 use Rattle.cred_ids.specs.declared.arg.Arg.TheVariants.{Keep, Set}
 use Rattle.cred_ids.specs.Id.{IsId}
 use Rattle.cred_ids.specs.Ids4.{all_four}
-use Rattle.cred_ids.specs.Groups.{LIMIT}
 use Rattle.cred_ids.specs.Ordered.{in_order}
+use Rattle.cred_ids.specs.Limits.{GROUP_LIMIT}
 use Rattle.cred_caps.specs.declared.secure.Flag.TheVariants.{NoSetuidFixup, KeepCaps}
 use Rattle.cred_caps.specs.Caps.{Caps, IsCaps, empty, union, meet, less}
 use Rattle.cred_caps.specs.Numbers.{SETGID, SETUID}
 use Rattle.cred_caps.specs.Secure.{is_set}
 use Rattle.cred_caps.proofs.CapsLemmas.{IsCaps-union}
-use Rattle.cred_record.specs.Credential.{Credential, ROOT, has_cap}
+use Rattle.cred_record.specs.Credential.{Credential, ROOT, capable}
 use Rattle.cred_record.specs.declared.id_call.IdCall.{IdCall}
 use Rattle.cred_record.specs.declared.id_call.IdCall.TheVariants as call
 use Rattle.cred_record.specs.declared.refusal.Denial.{Denial}
@@ -145,7 +145,7 @@ groups c (Err denial) old h = tt
 
 setgroups_fits : (c : Credential) (list : List ℕ) → FitsCred c → All IsId list → Holds FitsCred (after_setgroups c list)
 unfolding after_setgroups
-setgroups_fits c list old h = by (not (has_cap c SETGID)) (nat_lt LIMIT (length list))
+setgroups_fits c list old h = by (not (capable c SETGID)) (nat_lt GROUP_LIMIT (length list))
   where
     made : FitsCred (record c { groups = in_order list })
     made = record {
@@ -166,14 +166,14 @@ setgroups_fits c list old h = by (not (has_cap c SETGID)) (nat_lt LIMIT (length 
     by false false = made
 
 pub call_made_fits : (c : Credential) (call : IdCall) → FitsCred c → FitsCall call → Holds FitsCred (set_id c call)
-call_made_fits c (call.SetUid a) old h = users c _ old (setuid_fits (has_cap c SETUID) c.uid a old.uid h)
-call_made_fits c (call.SetEuid a) old h = users c _ old (seteuid_fits (has_cap c SETUID) c.uid a old.uid h)
-call_made_fits c (call.SetReuid a b) old h = users c _ old (setreuid_fits (has_cap c SETUID) c.uid a b old.uid h.0 h.1)
-call_made_fits c (call.SetResuid a b d) old h = users c _ old (setresuid_fits (has_cap c SETUID) c.uid a b d old.uid h.0 h.1 h.2)
-call_made_fits c (call.SetGid a) old h = groups c _ old (setuid_fits (has_cap c SETGID) c.gid a old.gid h)
-call_made_fits c (call.SetEgid a) old h = groups c _ old (seteuid_fits (has_cap c SETGID) c.gid a old.gid h)
-call_made_fits c (call.SetRegid a b) old h = groups c _ old (setreuid_fits (has_cap c SETGID) c.gid a b old.gid h.0 h.1)
-call_made_fits c (call.SetResgid a b d) old h = groups c _ old (setresuid_fits (has_cap c SETGID) c.gid a b d old.gid h.0 h.1 h.2)
+call_made_fits c (call.SetUid a) old h = users c _ old (setuid_fits (capable c SETUID) c.uid a old.uid h)
+call_made_fits c (call.SetEuid a) old h = users c _ old (seteuid_fits (capable c SETUID) c.uid a old.uid h)
+call_made_fits c (call.SetReuid a b) old h = users c _ old (setreuid_fits (capable c SETUID) c.uid a b old.uid h.0 h.1)
+call_made_fits c (call.SetResuid a b d) old h = users c _ old (setresuid_fits (capable c SETUID) c.uid a b d old.uid h.0 h.1 h.2)
+call_made_fits c (call.SetGid a) old h = groups c _ old (setuid_fits (capable c SETGID) c.gid a old.gid h)
+call_made_fits c (call.SetEgid a) old h = groups c _ old (seteuid_fits (capable c SETGID) c.gid a old.gid h)
+call_made_fits c (call.SetRegid a b) old h = groups c _ old (setreuid_fits (capable c SETGID) c.gid a b old.gid h.0 h.1)
+call_made_fits c (call.SetResgid a b d) old h = groups c _ old (setresuid_fits (capable c SETGID) c.gid a b d old.gid h.0 h.1 h.2)
 call_made_fits c (call.SetGroups list) old h = setgroups_fits c list old h
 
 -- ---- filesystem ids
@@ -190,9 +190,9 @@ fs_effective_fits c old new h =
 
 pub set_fs_fits : (c : Credential) (kind : Kind) (a : Arg) → FitsCred c → IsArg a → FitsCred (set_fs c kind a)
 set_fs_fits c User a old h =
-    let n = fs_after (has_cap c SETUID) c.uid a in
+    let n = fs_after (capable c SETUID) c.uid a in
     record {
-      uid = (old.uid.0, old.uid.1, old.uid.2, fs_fits (has_cap c SETUID) c.uid a old.uid h);
+      uid = (old.uid.0, old.uid.1, old.uid.2, fs_fits (capable c SETUID) c.uid a old.uid h);
       gid = old.gid;
       groups = old.groups;
       perm = old.perm;
@@ -204,7 +204,7 @@ set_fs_fits c User a old h =
     }
 set_fs_fits c Group a old h = record {
   uid = old.uid;
-  gid = (old.gid.0, old.gid.1, old.gid.2, fs_fits (has_cap c SETGID) c.gid a old.gid h);
+  gid = (old.gid.0, old.gid.1, old.gid.2, fs_fits (capable c SETGID) c.gid a old.gid h);
   groups = old.groups;
   perm = old.perm;
   inh = old.inh;

@@ -5,13 +5,13 @@ use Rattle.std.specs.List.{All}
 use Rattle.std.specs.Option.{IfSome, option_map, option_map_or, option_and_then}
 use Rattle.std.proofs.lemmas.List.Elements.{All-head, All-tail, All-weaker}
 use Rattle.std.proofs.lemmas.Option.{IfSome_then}
+use Rattle.cred_ids.specs.Limits.{LINE_LIMIT}
 use Rattle.cred_event.specs.declared.content.Content.{Content}
 use Rattle.cred_event.specs.declared.content.Content.TheVariants.{Nothing, One, Id, Question, Open, Fcap, Signal, Change, Access}
 use Rattle.cred_event.specs.declared.content.Stage.{Stage}
 use Rattle.cred_event.specs.declared.content.Stage.TheVariants as stage
 use Rattle.cred_event.specs.declared.answer.Answer.{Answer}
 use Rattle.cred_event.specs.declared.entry.Entry.{Entry}
-use Rattle.cred_event.specs.declared.entry.TheConstants.{LINE_LIMIT}
 use Rattle.cred_event.specs.declared.event.Event.{Event}
 use Rattle.cred_model.specs.Script.{Script, Line}
 use Rattle.cred_model.specs.Course.{Course, start, event_in, event_at, after, leads}

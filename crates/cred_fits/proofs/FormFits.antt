@@ -1,6 +1,7 @@
 -- What a line of a script is parsed as has numbers and words that fit.
 use Rattle.std.proofs.Common.{◌≡◌, ℕ, ◌==◌, true, Bool, false, nat_le, nat_lt, cond, Option, Some, None, List, [], ◌∷◌, Result, Ok, Err, ok_or, refl}
 use Rattle.std.specs.Prelude.{IsTrue, ⊤}
+use Rattle.cred_ids.specs.Limits.{LAST_NUMBER, LINE_LIMIT}
 use Rattle.cred_ids.specs.Id.{IsId}
 use Rattle.cred_record.specs.declared.want.Want.{Want}
 use Rattle.cred_event.specs.declared.content.Content.{Content}
@@ -48,19 +49,19 @@ numbered_fits letter least most [] = tt
 numbered_fits letter least most (first ∷ digits) = either_holds IsNumber (first == letter) _ None (within_fits least most digits) tt
 
 task_fits : OfAll IsNumber spelling.task_of
-task_fits word = numbered_fits _ 1 spelling.LAST_NUMBER word
+task_fits word = numbered_fits _ 1 LAST_NUMBER word
 
 process_fits : OfAll IsNumber spelling.process_of
-process_fits word = numbered_fits _ 1 spelling.LAST_NUMBER word
+process_fits word = numbered_fits _ 1 LAST_NUMBER word
 
 label_fits : OfAll IsNumber spelling.label_of
-label_fits word = numbered_fits _ 1 spelling.LAST_NUMBER word
+label_fits word = numbered_fits _ 1 LAST_NUMBER word
 
 fd_fits : OfAll IsNumber spelling.descriptor_of
-fd_fits word = numbered_fits _ 1 spelling.LAST_NUMBER word
+fd_fits word = numbered_fits _ 1 LAST_NUMBER word
 
 line_fits : OfAll IsNumber spelling.line_number_of
-line_fits word = within_fits 1 spelling.LAST_LINE word
+line_fits word = within_fits 1 LINE_LIMIT word
 
 -- ---- events
 

@@ -5,12 +5,12 @@ use Rattle.std.specs.Option.{IfSome, option_and_then}
 use Rattle.std.proofs.lemmas.Bool.Decides.{nat_tests}
 use Rattle.std.proofs.lemmas.List.Elements.{All-nil, All-push, All-weaker}
 use Rattle.std.proofs.lemmas.Option.{slice_get_within}
+use Rattle.cred_ids.specs.Limits.{DEPTH, SLOTS}
 use Rattle.cred_record.specs.declared.gains.Gains.{Gains}
 use Rattle.cred_event.specs.declared.answer.Answer.{Answer}
 use Rattle.cred_event.specs.declared.answer.Answer.TheVariants as answer
 use Rattle.cred_model.specs.Casts.{not_busy}
-use Rattle.cred_model.specs.Moves.{DEPTH, ◌>>=◌, fewer_or, not_overridden}
-use Rattle.cred_model.specs.Slots.{SLOTS}
+use Rattle.cred_model.specs.Moves.{◌>>=◌, fewer_or, not_overridden}
 use Rattle.cred_model.specs.State.{State, SealedCred, Task, Broadcast, Prepared, Changed, Numbered, numbered}
 use Rattle.cred_model.specs.Step.{outcome}
 use Rattle.cred_model.proofs.Lists.{All-at, find_each}

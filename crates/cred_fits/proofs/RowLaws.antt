@@ -2,6 +2,7 @@
 use Rattle.std.proofs.Common.{◌≡◌, ℕ, ◌-◌, ◌==◌, nat_lt, Bool, true, false, cond, List, [], ◌∷◌, length, slice_get, not, Option, Some, None, Result, Ok, Err, refl, ap}
 use Rattle.std.specs.List.{find, position, count_by}
 use Rattle.std.specs.Option.{option_map_or, option_and_then}
+use Rattle.cred_ids.specs.Limits.{TASKS, OPEN_FILES, HOLDS, PREPARED, DEPTH}
 use Rattle.cred_caps.specs.Numbers.{LAST}
 use Rattle.cred_caps.specs.Caps.{Caps, has}
 use Rattle.cred_record.specs.Credential.{Credential, first_credential}
@@ -33,10 +34,11 @@ use Rattle.cred_model.specs.Answers.{is_ok, flag, checked, reply}
 use Rattle.cred_model.specs.Change.{Made, by_rule, made_by_rule, executed, made_by_exec, by_change}
 use Rattle.cred_model.specs.Casts.{others_of, with_cast, waits_no_more}
 use Rattle.cred_model.specs.Ends.{ended, is_thread_of}
-use Rattle.cred_model.specs.Moves.{TASKS, FILES, HOLDS, PREPARED, DEPTH, ◌>>=◌, in_slot, table_full, first_task, created, replaced, preparing, altered, committed, given_up}
+use Rattle.cred_model.specs.Moves.{◌>>=◌, in_slot, table_full, first_task, created, replaced}
+use Rattle.cred_model.specs.Moves.{preparing, altered, committed, given_up}
 use Rattle.cred_model.specs.Named.{query_files, change_files}
 use Rattle.cred_model.specs.Script.{Script, info_of, chain_of}
-use Rattle.cred_model.specs.Slots.{room, free}
+use Rattle.cred_model.specs.Slots.{swept_if_full, free}
 use Rattle.cred_model.specs.State.{State, Task, Numbered, Prepared, Changed, Broadcast, numbered, task_of, cast_of, cast_in, begun_by, open_of, hold_of, prepared_of, credential_of, opener_of, held_by}
 use Rattle.cred_model.specs.Step.{done, outcome, by_init, take_hold, by_take, by_take_file, by_release, by_ask, by_signal, by_prepare, by_alter, for_task, try_commit, ends_with, casts_after, committed_by, commit_answer, by_commit, by_abort, for_access, override_held, override_prepared, by_override, by_revert, by_begin, aborted, follow, by_act, by_open, by_close, by_spawn, by_fork, by_exit}
 use Rattle.cred_laws.proofs.Cases.{some_case, none_case, test_case, own_case, idle_case, rule_case}
@@ -58,7 +60,7 @@ found_slot row t full does (Some slot) none each = each slot
 
 slot_tells : (row : Answer → Bool) (s : State) (full : State → Answer × State) (does : State → ℕ → Answer × State)
     → ((t : State) → row (full t).0 ≡ true) → ((t : State) (slot : ℕ) → row (does t slot).0 ≡ true) → row (in_slot s full does).0 ≡ true
-slot_tells row s full does none each = found_slot row (room s) full does (free s) (none (room s)) (each (room s))
+slot_tells row s full does none each = found_slot row (swept_if_full s) full does (free s) (none (swept_if_full s)) (each (swept_if_full s))
 
 -- ---- the events
 
@@ -332,7 +334,7 @@ of_open script s hold place asked fd =
     none_case Q (open_of s fd) _ _ refl (λ new.
     let file = info_of script (place ∷ []) in
     test_case Q (is_ok (checked held.cred file asked)) _ _ (may_open held.cred file asked)
-    (test_case Q (nat_lt (length s.files) FILES) _ _ refl refl)))
+    (test_case Q (nat_lt (length s.files) OPEN_FILES) _ _ refl refl)))
 
 of_close : (s : State) (fd : ℕ) → Tells rows.close_row s (by_close s fd)
 of_close s fd =

@@ -6,12 +6,12 @@ use Rattle.std.proofs.lemmas.Nat.{and_le_l}
 use Rattle.cred_ids.specs.declared.id.Ids4.{Ids4}
 use Rattle.cred_ids.specs.declared.arg.Arg.{Arg}
 use Rattle.cred_ids.specs.declared.arg.Arg.TheVariants.{Keep, Set}
-use Rattle.cred_ids.specs.Groups.{LIMIT}
+use Rattle.cred_ids.specs.Limits.{GROUP_LIMIT}
 use Rattle.cred_caps.specs.declared.secure.Flag.TheVariants.{KeepCaps}
 use Rattle.cred_caps.specs.Caps.{Caps, meet, union, is_within}
 use Rattle.cred_caps.specs.Numbers.{SETGID, SETPCAP, SETUID}
 use Rattle.cred_caps.specs.Secure.{is_locked}
-use Rattle.cred_record.specs.Credential.{Credential, has_cap}
+use Rattle.cred_record.specs.Credential.{Credential, capable}
 use Rattle.cred_record.specs.declared.adj_call.AdjCall.{AdjCall}
 use Rattle.cred_record.specs.declared.adj_call.AdjCall.TheVariants as adj
 use Rattle.cred_record.specs.declared.id_call.IdCall.{IdCall}
@@ -60,9 +60,9 @@ unfolding after_seteuid
 of_seteuid able ids Keep = refl
 of_seteuid able ids (Set n) = of_setresuid able ids Keep (Set n) Keep
 
-of_setgroups : (c : Credential) (groups : List ℕ) → Answers true (nat_lt LIMIT (length groups)) (after_setgroups c groups)
+of_setgroups : (c : Credential) (groups : List ℕ) → Answers true (nat_lt GROUP_LIMIT (length groups)) (after_setgroups c groups)
 unfolding after_setgroups
-of_setgroups c groups = by (has_cap c SETGID) (nat_lt LIMIT (length groups)) _
+of_setgroups c groups = by (capable c SETGID) (nat_lt GROUP_LIMIT (length groups)) _
   where
     by : (able many : Bool) (made : Credential) → Answers true many (let r : Result Credential Denial = cond (not able) (Err Perm) (cond many (Err Invalid) (Ok made)) in r)
     by true true made = refl
@@ -80,14 +80,14 @@ groups denied invalid c (Err Perm) h = h
 groups denied invalid c (Err Invalid) h = h
 
 pub of_call : (c : Credential) (call : IdCall) → Answers (may_be_denied call) (is_invalid call) (set_id c call)
-of_call c (call.SetUid a) = users _ _ c _ (of_setuid (has_cap c SETUID) c.uid a)
-of_call c (call.SetEuid a) = users _ _ c _ (of_seteuid (has_cap c SETUID) c.uid a)
-of_call c (call.SetReuid a b) = users _ _ c _ (of_setreuid (has_cap c SETUID) c.uid a b)
-of_call c (call.SetResuid a b d) = users _ _ c _ (of_setresuid (has_cap c SETUID) c.uid a b d)
-of_call c (call.SetGid a) = groups _ _ c _ (of_setuid (has_cap c SETGID) c.gid a)
-of_call c (call.SetEgid a) = groups _ _ c _ (of_seteuid (has_cap c SETGID) c.gid a)
-of_call c (call.SetRegid a b) = groups _ _ c _ (of_setreuid (has_cap c SETGID) c.gid a b)
-of_call c (call.SetResgid a b d) = groups _ _ c _ (of_setresuid (has_cap c SETGID) c.gid a b d)
+of_call c (call.SetUid a) = users _ _ c _ (of_setuid (capable c SETUID) c.uid a)
+of_call c (call.SetEuid a) = users _ _ c _ (of_seteuid (capable c SETUID) c.uid a)
+of_call c (call.SetReuid a b) = users _ _ c _ (of_setreuid (capable c SETUID) c.uid a b)
+of_call c (call.SetResuid a b d) = users _ _ c _ (of_setresuid (capable c SETUID) c.uid a b d)
+of_call c (call.SetGid a) = groups _ _ c _ (of_setuid (capable c SETGID) c.gid a)
+of_call c (call.SetEgid a) = groups _ _ c _ (of_seteuid (capable c SETGID) c.gid a)
+of_call c (call.SetRegid a b) = groups _ _ c _ (of_setreuid (capable c SETGID) c.gid a b)
+of_call c (call.SetResgid a b d) = groups _ _ c _ (of_setresuid (capable c SETGID) c.gid a b d)
 of_call c (call.SetGroups list) = of_setgroups c list
 
 -- ---- changes of sets and securebits
@@ -117,7 +117,7 @@ all_pass has true true true false h k l m = absurd (cc)
 
 of_empty : (c : Credential) → may_capset c 0 0 0 ≡ true
 of_empty c =
-    all_pass (has_cap c SETPCAP) _ _ _ _ (none_within (union c.inh c.bound)) (none_within (union c.inh c.perm)) (none_within c.perm) (none_within 0)
+    all_pass (capable c SETPCAP) _ _ _ _ (none_within (union c.inh c.bound)) (none_within (union c.inh c.perm)) (none_within c.perm) (none_within 0)
 
 of_zero : (n : ℕ) → (n == 0) ≡ true → n ≡ 0
 of_zero n h = grind (arith, nat_tests)
@@ -147,7 +147,7 @@ of_capset c perm inh eff = by (may_capset c perm inh eff) refl (not ((perm == 0)
 
 of_bound_drop : (c : Credential) (n : ℕ) → Changes (not (is_no_cap n)) true (is_no_cap n) (after_bound_drop c n)
 unfolding after_bound_drop
-of_bound_drop c n = by (has_cap c SETPCAP) (is_no_cap n) _
+of_bound_drop c n = by (capable c SETPCAP) (is_no_cap n) _
   where
     by : (able wrong : Bool) (made : Credential) → Changes (not wrong) true wrong (let r : Result Credential Denial = cond (not able) (Err Perm) (cond wrong (Err Invalid) (Ok made)) in r)
     by true true made = refl
@@ -195,7 +195,7 @@ unfolding after_bits
 of_bits c n = by (may_set_bits c n) refl _
   where
     by : (may : Bool) → may_set_bits c n ≡ may → (made : Credential) → Changes (nat_le n LAST_BITS) true false (let r : Result Credential Denial = cond (not may) (Err Perm) (Ok made) in r)
-    by true is made = middle (has_cap c SETPCAP) (nat_le n LAST_BITS) (list_all (keeps_lock c.bits n) FLAGS) is
+    by true is made = middle (capable c SETPCAP) (nat_le n LAST_BITS) (list_all (keeps_lock c.bits n) FLAGS) is
     by false is made = refl
 
 pub of_adjust : (c : Credential) (call : AdjCall) → Changes (may_be_done call) (may_be_refused call) (is_wrong call) (adjust c call)

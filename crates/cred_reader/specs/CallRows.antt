@@ -1,7 +1,7 @@
 -- Which answers an id call and a change of sets or securebits may be given, by their arguments:
 -- what their rules answer to some caller, and what to none.
 use Rattle.std.specs.Prelude.{ℕ, Bool, true, false, ◌==◌, ◌&&◌, ◌||◌, not, nat_le, nat_lt, length}
-use Rattle.cred_ids.specs.Groups.{LIMIT}
+use Rattle.cred_ids.specs.Limits.{GROUP_LIMIT}
 use Rattle.cred_caps.specs.Caps.{empty, is_within}
 use Rattle.cred_record.specs.declared.id_call.IdCall.{IdCall}
 use Rattle.cred_record.specs.declared.id_call.IdCall.TheVariants.{SetUid, SetEuid, SetReuid}
@@ -30,7 +30,7 @@ is_invalid (SetGid id) = not (is_given id)
 is_invalid (SetEgid id) = not (is_given id)
 is_invalid (SetRegid real effective) = false
 is_invalid (SetResgid real effective saved) = false
-is_invalid (SetGroups groups) = nat_lt LIMIT (length groups)
+is_invalid (SetGroups groups) = nat_lt GROUP_LIMIT (length groups)
 
 -- Some caller may not make the call: it gives an id, or it is setgroups(2), which asks for the
 -- capability whatever the groups are.
