@@ -1,5 +1,5 @@
 //! What is true of each entry.
-ghost use Rattle.cred_fits.specs.Fitting.{AnswersAreOfTheirRows, EventsFit};
+ghost use Rattle.cred_fits.specs.Fitting.{AnswersAreOfTheirRows, EntriesFit, EventsFit};
 
 /// Whatever the state is, the answer to an event is one that its row has, for the event's own
 /// arguments: setuid(2) of -1 is invalid, and setreuid(2) never is.
@@ -12,4 +12,10 @@ pub fn answers_are_of_their_rows()
 /// asks, and the files and the namespaces that it names are the script's.
 pub fn events_fit()
     ensures { EventsFit }
+{}
+
+/// Each entry of a journal of a script fits the script, so that it is what its text is read back
+/// as: its event does, its answer is of the event's row, and the answer's numbers are in range.
+pub fn entries_fit()
+    ensures { EntriesFit }
 {}
