@@ -24,6 +24,7 @@ use Rattle.cred_fits.proofs.EventsFit.{events_fit}
 use Rattle.cred_fits.proofs.Ranges.{FitsSealed, FitsTask, FitsCast, FitsPrepared, IsInRange, Good, some_fits}
 use Rattle.cred_fits.proofs.RowLaws.{answers_are_of_their_rows}
 use Rattle.cred_fits.proofs.ScriptFits.{script_fits}
+use Rattle.cred_fits.proofs.Spent.{few_sealed, short}
 use Rattle.cred_fits.proofs.StateFits.{IsKnown}
 use Rattle.cred_fits.proofs.TaskFits.{step_fits}
 
@@ -41,13 +42,18 @@ record IsGiven (script : Script) (journal : List Entry) : Type 0 where
   read : script_of bytes ≡ Ok script
   few : length script.lines ≤ LINE_LIMIT
   so_far : SoFar script journal
-  creds : (k : ℕ) → IsLong (length (state_at script journal k).creds)
 
-known_by : (script : Script) (journal : List Entry) (k : ℕ) → IsGiven script journal → IsInRange (state_at script journal k) → IsKnown (state_at script journal k)
-known_by script journal k given range = record {
+-- fewer credentials are sealed than 64 bits count
+creds_few : (script : Script) (journal : List Entry) (k : ℕ) → IsGiven script journal → k ≤ length journal → IsLong (length (state_at script journal k).creds)
+creds_few script journal k given le =
+    let few = given.few in omega (arith, few, le, few_sealed script journal k le, short script journal given.so_far)
+
+known_by : (script : Script) (journal : List Entry) (k : ℕ) → IsGiven script journal → k ≤ length journal → IsInRange (state_at script journal k)
+    → IsKnown (state_at script journal k)
+known_by script journal k given le range = record {
   sound = sound_after script (take k journal);
   range = range;
-  creds = given.creds k;
+  creds = creds_few script journal k given le;
   tasks = few_after script (take k journal);
 }
 
@@ -62,7 +68,7 @@ stepped : (script : Script) (journal : List Entry) (k : ℕ) (entry : Entry) →
 stepped script journal k entry given range lt is =
     let fits = event_at script journal k entry given lt is in
     step_fits script (state_at script journal k) entry.line entry.event (script_fits given.bytes script given.read).infos
-    (known_by script journal k given range) fits.line fits.event
+    (known_by script journal k given (omega (arith, lt)) range) fits.line fits.event
 
 range_at : (script : Script) (journal : List Entry) (k : ℕ) → IsGiven script journal → k ≤ length journal → IsInRange (state_at script journal k)
 range_at script journal zero given le = opening_range
@@ -94,7 +100,7 @@ entry_at script journal k entry given lt is =
     }
 
 pub entries_fit : EntriesFit
-entries_fit bytes script journal read few so_far creds k lt =
+entries_fit bytes script journal read few so_far k lt =
     let at = slice_get_at journal k lt in
     subst (λ o. IfSome o (Fits script)) (sym at.1)
-    (entry_at script journal k at.0 (record { bytes = bytes; read = read; few = few; so_far = so_far; creds = creds }) lt at.1)
+    (entry_at script journal k at.0 (record { bytes = bytes; read = read; few = few; so_far = so_far }) lt at.1)

@@ -10,3 +10,4 @@ pub mod Ranges
 pub mod StateFits
 pub mod TaskFits
 pub mod EntriesFit
+pub mod Spent
