@@ -7,3 +7,7 @@ pub mod EventsFit
 pub mod CredFits
 pub mod ChangeFits
 pub mod Ranges
+pub mod StateFits
+pub mod TaskFits
+pub mod EntriesFit
+pub mod Spent

@@ -1,5 +1,5 @@
 -- The entries of a script's journals fit it.
-use Rattle.std.specs.Prelude.{◌≡◌, ℕ, ◌<◌, ◌≤◌, List, length, slice_get, Ok, IfSome}
+use Rattle.std.specs.Prelude.{◌≡◌, ℕ, ◌*◌, ◌<◌, ◌≤◌, List, length, slice_get, Ok, IfSome}
 use Rattle.cred_ids.specs.Limits.{LINE_LIMIT}
 use Rattle.cred_event.specs.declared.entry.Entry.{Entry}
 use Rattle.cred_event.specs.declared.event.Event.{Event}
@@ -8,7 +8,7 @@ use Rattle.cred_model.specs.State.{State}
 use Rattle.cred_model.specs.Step.{step}
 use Rattle.cred_model.specs.Journal.{SoFar}
 use Rattle.cred_script.specs.Grammar.{script_of}
-use Rattle.cred_reader.specs.Fits.{IsNumber, FitsEvent, IsOf}
+use Rattle.cred_reader.specs.Fits.{IsNumber, FitsEvent, IsOf, Fits}
 use Rattle.cred_reader.specs.Rows.{CanAnswer}
 
 -- In every state each event is given one of the answers of its row.
@@ -31,3 +31,20 @@ EventsFit =
     (bytes : List ℕ) (script : Script) (journal : List Entry)
     → script_of bytes ≡ Ok script → length script.lines ≤ LINE_LIMIT → SoFar script journal
     → (k : ℕ) → k < length journal → IfSome (slice_get journal k) (EventFits script)
+
+-- Each entry of such a journal fits the script.
+abbrev pub EntriesFit : Type 0
+EntriesFit =
+    (bytes : List ℕ) (script : Script) (journal : List Entry)
+    → script_of bytes ≡ Ok script → length script.lines ≤ LINE_LIMIT → SoFar script journal
+    → (k : ℕ) → k < length journal → IfSome (slice_get journal k) (Fits script)
+
+-- how many entries the journal of a script may have for each of its lines
+abbrev pub MOST_A_LINE : ℕ
+MOST_A_LINE = 150
+
+-- A journal so far has no more entries than so many for each line of its script.
+abbrev pub JournalsAreShort : Type 0
+JournalsAreShort =
+    (script : Script) (journal : List Entry)
+    → SoFar script journal → length journal ≤ MOST_A_LINE * length script.lines

@@ -1,5 +1,6 @@
 //! What is true of each entry.
-ghost use Rattle.cred_fits.specs.Fitting.{AnswersAreOfTheirRows, EventsFit};
+ghost use Rattle.cred_fits.specs.Fitting.{AnswersAreOfTheirRows, EntriesFit, EventsFit};
+ghost use Rattle.cred_fits.specs.Fitting.{JournalsAreShort};
 
 /// Whatever the state is, the answer to an event is one that its row has, for the event's own
 /// arguments: setuid(2) of -1 is invalid, and setreuid(2) never is.
@@ -12,4 +13,17 @@ pub fn answers_are_of_their_rows()
 /// asks, and the files and the namespaces that it names are the script's.
 pub fn events_fit()
     ensures { EventsFit }
+{}
+
+/// Each entry of a journal of a script fits the script, so that it is what its text is read back
+/// as: its event does, its answer is of the event's row, and the answer's numbers are in range.
+pub fn entries_fit()
+    ensures { EntriesFit }
+{}
+
+/// A journal of a script has no more entries than 150 for each line, however its lanes are mixed:
+/// a line has eight tries at most, and each thread that an id call lets wait, or that is created
+/// beside such a one, follows once.
+pub fn journals_are_short()
+    ensures { JournalsAreShort }
 {}

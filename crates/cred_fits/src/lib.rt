@@ -6,4 +6,4 @@
 
 mod laws;
 
-pub use laws::{answers_are_of_their_rows, events_fit};
+pub use laws::{answers_are_of_their_rows, entries_fit, events_fit, journals_are_short};

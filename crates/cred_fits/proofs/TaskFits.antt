@@ -1,0 +1,324 @@
+-- The numbers of answers are in range: overrides, id calls, files and tasks; and every event.
+use Rattle.std.proofs.Common.{◌≡◌, ◌&&◌, ℕ, ◌+◌, ◌-◌, ◌<◌, ◌≤◌, ◌^◌, ◌==◌, not, nat_lt, Bool, true, false, cond, List, [], ◌∷◌, ◌++◌, length, map, slice_get, drop, Option, Some, None, Result, Ok, Err, ok_or, refl, sym, ap, ◌∙◌, subst, arith}
+use Rattle.std.specs.Prelude.{⊤}
+use Rattle.std.specs.List.{All, Contains, AllPairs, find, position, remove, count_by, filter}
+use Rattle.std.specs.Option.{IfSome, option_map_or, option_and_then}
+use Rattle.std.proofs.lemmas.List.{length-drop, length-map}
+use Rattle.std.proofs.lemmas.List.Elements.{All-nil, All-cons, All-push, All-map, All-weaker, All-contains, All-append}
+use Rattle.std.proofs.lemmas.List.Sums.{count_by-le-length, length-filter}
+use Rattle.cred_record.specs.Credential.{Credential, first_credential}
+use Rattle.cred_record.specs.File.{File}
+use Rattle.cred_record.specs.declared.gains.Gains.{Gains}
+use Rattle.cred_record.specs.declared.id_call.IdCall.{IdCall}
+use Rattle.cred_record.specs.declared.refusal.Denial.{Denial}
+use Rattle.cred_record.specs.declared.refusal.Denial.TheVariants.{Perm, Invalid}
+use Rattle.cred_record.specs.declared.want.Want.{Want}
+use Rattle.cred_rules.specs.Access.{may}
+use Rattle.cred_rules.specs.Adjust.{read_in}
+use Rattle.cred_rules.specs.SetId.{set_id}
+use Rattle.cred_event.specs.declared.answer.Answer.{Answer}
+use Rattle.cred_event.specs.declared.answer.Answer.TheVariants as answer
+use Rattle.cred_event.specs.declared.answer.AbortCause.TheVariants as cause
+use Rattle.cred_event.specs.declared.event.Change.{Change}
+use Rattle.cred_event.specs.declared.event.Change.TheVariants as change
+use Rattle.cred_event.specs.declared.event.Event.{Event}
+use Rattle.cred_event.specs.declared.event.Event.TheVariants as event
+use Rattle.cred_event.specs.declared.event.Query.{Query}
+use Rattle.cred_event.specs.declared.event.Query.TheVariants as query
+use Rattle.cred_event.specs.declared.event.Side.{Side}
+use Rattle.cred_model.specs.Answers.{is_ok, flag, checked, reply}
+use Rattle.cred_model.specs.Casts.{others_of, with_cast, waits_no_more, joined, with_child, without, dropped, is_open, waits_in}
+use Rattle.cred_model.specs.Change.{Made, by_rule, by_change}
+use Rattle.cred_model.specs.Ends.{ended, is_thread_of, is_beside, survivors, is_task}
+use Rattle.cred_model.specs.Moves.{TASKS, FILES, HOLDS, PREPARED, DEPTH, ◌>>=◌, in_slot, table_full, first_task, created, replaced, preparing, altered, committed, given_up, with_current, updated, with_overrides, overriding, with_change, changed}
+use Rattle.cred_model.specs.Named.{query_files, change_files}
+use Rattle.cred_model.specs.Script.{Script, info_of, chain_of}
+use Rattle.cred_model.specs.Slots.{SLOTS}
+use Rattle.cred_model.specs.State.{State, SealedCred, Task, Numbered, Prepared, Changed, Broadcast, numbered, number_on, task_of, cast_of, cast_in, begun_by, open_of, hold_of, prepared_of, credential_of, opener_of, held_by}
+use Rattle.cred_model.specs.Step.{done, outcome, step, by_init, take_hold, by_take, by_take_file, by_release, by_ask, by_signal, by_prepare, by_alter, for_task, try_commit, ends_with, casts_after, committed_by, commit_answer, is_access, by_commit, by_abort, for_access, override_held, override_prepared, by_override, by_revert, by_begin, aborted, follow, by_act, by_open, by_close, by_spawn, by_fork, by_exit}
+use Rattle.cred_model.proofs.Lists.{All-at, All-remove, find_each, slice_get_at}
+use Rattle.cred_model.proofs.Numbers.{updated_as, overriding_as, changed_as}
+use Rattle.cred_model.proofs.Rising.{All-in_order, All-passed, length-in_order}
+use Rattle.cred_model.proofs.Waiting.{greatest_bounds}
+use Rattle.cred_laws.proofs.Cases.{some_case, none_case, test_case}
+use Rattle.cred_sound.specs.Casts.{IsUnderWay}
+use Rattle.cred_sound.specs.Sound.{IsSound}
+use Rattle.cred_sound.proofs.References.{owner_stands, base_stands}
+use Rattle.cred_sound.proofs.Tests.{in_slots}
+use Rattle.cred_sound.proofs.Parts.{with_left}
+use Rattle.cred_reader.specs.Fits.{IsNumber, IsLong, FitsCall, FitsChange, FitsEvent, FitsGains, FitsAnswer}
+use Rattle.cred_reader.proofs.Spelled.{Holds}
+use Rattle.cred_fits.specs.Content.{FitsFile}
+use Rattle.cred_fits.proofs.CredFits.{FitsCred, call_made_fits}
+use Rattle.cred_fits.proofs.ChangeFits.{FitsMade, first_fits, change_made_fits}
+use Rattle.cred_fits.proofs.Ranges.{FitsSealed, FitsTask, FitsCast, FitsChanged, FitsPrepared, AreInRange, IsInRange, Good, Gives, some_fits, IsFound, is_found, found_by, idle, own, fewer}
+use Rattle.cred_fits.proofs.StateFits.{IsKnown, slot_number, with_cred, current_fits, overrides_fit, survivors_fit, dropped_fit, left_fit, joined_fit, prepared_at, owner_fits, found_answer, without_label, of_init, of_take, of_take_file, of_release, of_ask, of_signal, of_prepare, of_alter, of_commit, of_check}
+
+-- ---- what is given up, and what overrides
+
+of_abort : (s : State) (label : ℕ) → IsKnown s → IsNumber label → Gives s (by_abort s label)
+of_abort s label known l =
+    some_case (Gives s) (position (λ p. p.label == label) s.prepared) _ _ (l, known.range) (λ place at.
+    some_case (Gives s) (slice_get s.prepared place) _ _ (l, known.range) (λ p is. (tt, without_label s place known.range)))
+
+access_fits : (task : ℕ) (p : Prepared) (last : Changed) → IfSome p.changed FitsChanged → for_access task p ≡ Some last → FitsChanged last
+access_fits task p last fits is = by p.changed fits is
+  where
+    taken : (b : Bool) (c : Changed) → FitsChanged c → cond b (Some c) None ≡ Some last → FitsChanged last
+    taken true c h is = let same : c ≡ last = cc in subst FitsChanged same h
+    taken false c h is = absurd (cc)
+
+    by : (o : Option Changed) → IfSome o FitsChanged → option_and_then (λ last. cond ((p.task == task) && is_access last.change) (Some last) None) o ≡ Some last → FitsChanged last
+    by None h is = absurd (cc)
+    by (Some c) h is = taken ((p.task == task) && is_access c.change) c h is
+
+overridden_by : (s : State) (owner : Task) (label : ℕ) (found : Option Numbered) → IsKnown s → IsNumber label → FitsTask owner
+    → ((c : Numbered) → found ≡ Some c → IsFound s c) → Gives s (option_map_or (override_held s owner) found (override_prepared s owner label))
+overridden_by s owner label (Some held) known l fits stands =
+    let range = known.range in
+    fewer s (length owner.overrides) DEPTH answer.TooDeep _ tt range (λ few. (
+      found_answer s held known (stands held refl),
+      record {
+        creds = range.creds;
+        tasks = overrides_fit s.tasks owner.number (held.number ∷ owner.overrides) (omega (arith, few)) range.tasks;
+        casts = range.casts;
+        prepared = range.prepared;
+      },
+    ))
+overridden_by s owner label None known l fits stands =
+    let range = known.range in
+    some_case (Gives s) (position (λ p. p.label == label) s.prepared) _ _ (l, range) (λ place at.
+    some_case (Gives s) (slice_get s.prepared place) _ _ (l, range) (λ p is.
+    let own = prepared_at s place p range is in
+    some_case (Gives s) (for_access owner.number p) _ _ (l, range) (λ last made.
+    fewer s (length owner.overrides) DEPTH answer.TooDeep _ tt range (λ few. (
+      (known.creds, slot_number p.slot own.1),
+      record {
+        creds = with_cred s.creds last.cred p.slot range.creds (access_fits owner.number p last own.2 made).0 own.1;
+        tasks = overrides_fit s.tasks owner.number (length s.creds ∷ owner.overrides) (omega (arith, few)) range.tasks;
+        casts = range.casts;
+        prepared = All-remove FitsPrepared s.prepared place range.prepared;
+      },
+    )))))
+
+of_override : (s : State) (task label : ℕ) → IsKnown s → IsNumber task → IsNumber label → Gives s (by_override s task label)
+of_override s task label known t l =
+    some_case (Gives s) (task_of s task) _ _ (t, known.range) (λ owner is.
+    overridden_by s owner label (held_by s label) known l (owner_fits s task owner known.range is)
+    (λ c at. found_by s (λ h. h.number) (hold_of s label) c known.range.creds at))
+
+of_revert : (s : State) (task : ℕ) → IsKnown s → IsNumber task → Gives s (by_revert s task)
+of_revert s task known t =
+    let range = known.range in
+    some_case (Gives s) (task_of s task) _ _ (t, range) (λ owner is.
+    some_case (Gives s) (slice_get owner.overrides 0) _ _ (tt, range) (λ newest at. (
+      tt,
+      record {
+        creds = range.creds;
+        tasks =
+            overrides_fit s.tasks task (drop 1 owner.overrides)
+            (let few = (owner_fits s task owner range is).1 in omega (arith, few, length-drop 1 owner.overrides)) range.tasks;
+        casts = range.casts;
+        prepared = range.prepared;
+      },
+    )))
+
+-- ---- id calls
+
+-- the other threads of a process
+others_few : (owner : Task) (tasks : List Task) → length (others_of owner tasks) ≤ length tasks
+others_few owner tasks =
+    let beside = filter (is_beside owner) tasks in
+    let sorted = length-in_order (map (λ t. t.number) beside) in
+    let mapped = length-map beside (λ (t : Task). t.number) in
+    omega (arith, sorted, mapped, length-filter (is_beside owner) tasks, count_by-le-length (is_beside owner) tasks)
+
+others_fit : (owner : Task) (tasks : List Task) → All FitsTask tasks → All IsNumber (others_of owner tasks)
+others_fit owner tasks all =
+    All-in_order IsNumber _ (All-map IsNumber (λ (t : Task). t.number) (filter (is_beside owner) tasks)
+    (All-passed (is_beside owner) FitsTask (λ t. IsNumber t.number) tasks (λ t test h. h.0) all))
+
+cast_more : (casts : List Broadcast) (cast : Broadcast) → All FitsCast casts → FitsCast cast → All FitsCast (with_cast casts cast)
+cast_more casts cast all fits =
+    All-append FitsCast casts (filter is_open (cast ∷ [])) all
+    (All-passed is_open FitsCast FitsCast (cast ∷ []) (λ b test h. h) (All-cons FitsCast cast [] fits (All-nil FitsCast)))
+
+by_rule_gives : (s : State) (r : Result Credential Denial) (f : Credential → Result (Answer × State) Answer) → IsInRange s → Holds FitsCred r
+    → ((c : Credential) → FitsCred c → Gives s (f c)) → Gives s (by_rule r >>= f)
+by_rule_gives s (Ok c) f range h each = each c h
+by_rule_gives s (Err Perm) f range h each = (tt, range)
+by_rule_gives s (Err Invalid) f range h each = (tt, range)
+
+of_begin : (s : State) (line task : ℕ) (call : IdCall) → IsKnown s → IsNumber line → IsNumber task → FitsCall call → Gives s (by_begin s line task call)
+of_begin s line task call known n t fits =
+    let range = known.range in
+    some_case (Gives s) (task_of s task) _ _ (t, range) (λ owner is.
+    some_case (Gives s) (numbered s.creds owner.current) _ _ (t, range) (λ old at.
+    let found = is_found s owner.current old range.creds at in
+    idle s (cast_in s owner.process) _ (find_each FitsCast (λ b. b.process == owner.process) s.casts range.casts) range
+    (none_case (Gives s) (cast_of s line) _ _ (n, range) (λ new.
+    own s owner _ (owner_fits s task owner range is) range
+    (by_rule_gives s (set_id old.cred call) _ range (call_made_fits old.cred call found.cred fits) (λ made h.
+    let others = others_of owner s.tasks in
+    let cast : Broadcast = record { number = line; process = owner.process; caller = task; call = call; waiting = others } in
+    in_slots Good s table_full
+    (λ t slot. (answer.Began (length t.creds) slot (length others), record (replaced t task old.number made slot) { casts = with_cast t.casts cast }))
+    (λ left less. (tt, range))
+    (λ left slot less free. (
+      (known.creds, slot_number slot free.below, (let few = known.tasks in omega (arith, few, others_few owner s.tasks))),
+      record {
+        creds = with_cred s.creds made slot range.creds h free.below;
+        tasks = current_fits s.tasks task (length s.creds) range.tasks;
+        casts = cast_more s.casts cast range.casts (n, fits, others_fit owner s.tasks range.tasks);
+        prepared = range.prepared;
+      },
+    ))))))))
+
+-- how many wait: each has a number of its own
+waiting_few : (xs : List ℕ) → AllPairs (λ a b. a < b) xs → All IsNumber xs → IsNumber (length xs - 1)
+waiting_few [] rising all = omega arith
+waiting_few (x ∷ xs) rising all =
+    let long : length (x ∷ xs) - 1 < length (x ∷ xs) = omega arith in
+    let last = slice_get_at (x ∷ xs) (length (x ∷ xs) - 1) long in
+    let most = greatest_bounds (x ∷ xs) last.0 rising (omega arith) last.1 in
+    let small = All-at IsNumber (x ∷ xs) (length (x ∷ xs) - 1) last.0 last.1 all in
+    omega (arith, most, small)
+
+aborted_range : (cast : Broadcast) (s : State) → IsInRange s → IsInRange (aborted cast s)
+aborted_range cast s range = record {
+  creds = range.creds;
+  tasks = survivors_fit (is_thread_of cast.process) s.tasks range.tasks;
+  casts = dropped_fit cast.process s.casts range.casts;
+  prepared = range.prepared;
+}
+
+followed : (s : State) (cast : Broadcast) (task old : ℕ) (r : Result Credential Denial) → IsKnown s → IsNumber task
+    → IsNumber (length cast.waiting - 1) → Holds FitsCred r → Good (follow s cast task old (by_rule r))
+followed s cast task old (Err Perm) known t few h = (t, aborted_range cast s known.range)
+followed s cast task old (Err Invalid) known t few h = (t, aborted_range cast s known.range)
+followed s cast task old (Ok made) known t few h =
+    let range = known.range in
+    in_slots Good s
+    (λ t. (answer.Aborted task cause.Full, aborted cast t))
+    (λ t slot. (answer.Acted task (length t.creds) slot (length cast.waiting - 1), record (replaced t task old made slot) { casts = waits_no_more task t.casts }))
+    (λ left less. (t, aborted_range cast (with_left s left) range))
+    (λ left slot less free. (
+      (t, known.creds, slot_number slot free.below, few),
+      record {
+        creds = with_cred s.creds made slot range.creds h free.below;
+        tasks = current_fits s.tasks task (length s.creds) range.tasks;
+        casts = left_fit task s.casts range.casts;
+        prepared = range.prepared;
+      },
+    ))
+
+of_act : (s : State) (number : ℕ) → IsKnown s → IsNumber number → Gives s (by_act s number)
+of_act s number known n =
+    let range = known.range in
+    some_case (Gives s) (cast_of s number) _ _ (n, range) (λ cast is.
+    let fits = some_fits FitsCast (cast_of s number) cast (find_each FitsCast (λ b. b.number == number) s.casts range.casts) is in
+    let way = some_fits (IsUnderWay s.tasks) (cast_of s number) cast (find_each (IsUnderWay s.tasks) (λ b. b.number == number) s.casts known.sound.under_way) is in
+    some_case (Gives s) (slice_get cast.waiting 0) _ _ (n, range) (λ task at.
+    some_case (Gives s) (task_of s task) _ _ (n, range) (λ owner found.
+    some_case (Gives s) (numbered s.creds owner.current) _ _ (n, range) (λ old there.
+    let cred = is_found s owner.current old range.creds there in
+    followed s cast task old.number (set_id old.cred cast.call) known (All-at IsNumber cast.waiting 0 task at fits.2)
+    (waiting_few cast.waiting way.rising fits.2) (call_made_fits old.cred cast.call cred.cred fits.1)))))
+
+-- ---- files and tasks
+
+of_open : (script : Script) (s : State) (hold place : ℕ) (asked : Want) (fd : ℕ) → IsKnown s → IsNumber hold → IsNumber fd
+    → Gives s (by_open script s hold place asked fd)
+of_open script s hold place asked fd known h f =
+    let range = known.range in
+    some_case (Gives s) (held_by s hold) _ _ (h, range) (λ held is.
+    none_case (Gives s) (open_of s fd) _ _ (f, range) (λ new.
+    let file = info_of script (place ∷ []) in
+    test_case (Gives s) (is_ok (checked held.cred file asked)) _ _ (of_check held.cred file asked, range)
+    (test_case (Gives s) (nat_lt (length s.files) FILES) _ _ (tt, range) (tt, range))))
+
+of_close : (s : State) (fd : ℕ) → IsKnown s → Gives s (by_close s fd)
+of_close s fd known =
+    some_case (Gives s) (position (λ f. f.fd == fd) s.files) _ _ (tt, known.range) (λ place at.
+    some_case (Gives s) (slice_get s.files place) _ _ (tt, known.range) (λ file is. (tt, known.range)))
+
+one_task : (tasks : List Task) (number process current : ℕ) → All FitsTask tasks → IsNumber number
+    → All FitsTask (tasks ++ first_task number process current ∷ [])
+one_task tasks number process current all n = All-push FitsTask tasks _ all (n, omega arith)
+
+of_spawn : (s : State) (task child : ℕ) → IsKnown s → IsNumber task → IsNumber child → Gives s (by_spawn s task child)
+of_spawn s task child known t c =
+    let range = known.range in
+    some_case (Gives s) (task_of s task) _ _ (t, range) (λ owner is.
+    some_case (Gives s) (numbered s.creds owner.current) _ _ (t, range) (λ parent at.
+    idle s (begun_by s task) _ (find_each FitsCast (λ b. b.caller == task) s.casts range.casts) range
+    (none_case (Gives s) (task_of s child) _ _ (c, range) (λ new.
+    own s owner _ (owner_fits s task owner range is) range
+    (test_case (Gives s) (nat_lt (length s.tasks) TASKS) _ _ (tt, range) (
+      found_answer s parent known (is_found s owner.current parent range.creds at),
+      record {
+        creds = range.creds;
+        tasks = one_task s.tasks child owner.process parent.number range.tasks c;
+        casts = joined_fit task child s.casts c range.casts;
+        prepared = range.prepared;
+      },
+    ))))))
+
+of_fork : (s : State) (task child process : ℕ) → IsKnown s → IsNumber task → IsNumber child → IsNumber process → Gives s (by_fork s task child process)
+of_fork s task child process known t c p =
+    let range = known.range in
+    some_case (Gives s) (task_of s task) _ _ (t, range) (λ owner is.
+    some_case (Gives s) (numbered s.creds owner.current) _ _ (t, range) (λ parent at.
+    idle s (begun_by s task) _ (find_each FitsCast (λ b. b.caller == task) s.casts range.casts) range
+    (none_case (Gives s) (task_of s child) _ _ (c, range) (λ new.
+    none_case (Gives s) (find (is_thread_of process) s.tasks) _ _ (p, range) (λ unused.
+    own s owner _ (owner_fits s task owner range is) range
+    (test_case (Gives s) (nat_lt (length s.tasks) TASKS) _ _ (tt, range) (
+      found_answer s parent known (is_found s owner.current parent range.creds at),
+      record {
+        creds = range.creds;
+        tasks = one_task s.tasks child process parent.number range.tasks c;
+        casts = range.casts;
+        prepared = range.prepared;
+      },
+    )))))))
+
+of_exit : (s : State) (task : ℕ) → IsKnown s → IsNumber task → Gives s (by_exit s task)
+of_exit s task known t =
+    let range = known.range in
+    some_case (Gives s) (task_of s task) _ _ (t, range) (λ owner is.
+    idle s (begun_by s task) _ (find_each FitsCast (λ b. b.caller == task) s.casts range.casts) range
+    (own s owner _ (owner_fits s task owner range is) range (
+      tt,
+      record {
+        creds = range.creds;
+        tasks = survivors_fit (is_task task) s.tasks range.tasks;
+        casts = left_fit task s.casts range.casts;
+        prepared = range.prepared;
+      },
+    )))
+
+-- ---- every event
+
+pub step_fits : (script : Script) (s : State) (line : ℕ) (event : Event) → All (λ file. FitsFile file.info) script.files → IsKnown s → IsNumber line
+    → FitsEvent event → Good (step script s line event)
+step_fits script s line (event.Init task process user group ns) files known n fits = of_init s task process user group ns known fits
+step_fits script s line (event.Take label task side) files known n fits = of_take s label task side known fits.0 fits.1
+step_fits script s line (event.TakeFile label fd) files known n fits = of_take_file s label fd known fits.0
+step_fits script s line (event.Release label) files known n fits = of_release s label known fits
+step_fits script s line (event.Ask label query) files known n fits = of_ask script s label query known fits.0
+step_fits script s line (event.Signal from hold to target) files known n fits = of_signal s from hold to target known fits
+step_fits script s line (event.Prepare label task hold) files known n fits = of_prepare s label task hold known fits
+step_fits script s line (event.Alter label to) files known n fits = of_alter script s label to files known fits.0 fits.1
+step_fits script s line (event.Commit label) files known n fits = of_commit s label known fits
+step_fits script s line (event.Abort label) files known n fits = of_abort s label known fits
+step_fits script s line (event.Override task label) files known n fits = of_override s task label known fits.0 fits.1
+step_fits script s line (event.Revert task) files known n fits = of_revert s task known fits
+step_fits script s line (event.Begin task call) files known n fits = of_begin s line task call known n fits.0 fits.1
+step_fits script s line (event.Act number) files known n fits = of_act s number known fits
+step_fits script s line (event.OpenFile hold place asked fd) files known n fits = of_open script s hold place asked fd known fits.0 fits.2
+step_fits script s line (event.CloseFile fd) files known n fits = of_close s fd known
+step_fits script s line (event.Spawn task child) files known n fits = of_spawn s task child known fits.0 fits.1
+step_fits script s line (event.Fork task child process) files known n fits = of_fork s task child process known fits.0 fits.1 fits.2
+step_fits script s line (event.Exit task) files known n fits = of_exit s task known fits
+step_fits script s line event.Sweep files known n fits = (tt, known.range)
