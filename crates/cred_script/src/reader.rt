@@ -10,7 +10,7 @@ ghost use Rattle.cred_script.specs.Read.{Gives};
 use crate::reading::Reading;
 use crate::refusal::ScriptRefusal;
 use crate::script::Script;
-use cred_spelling::first_line;
+use cred_spelling::split_first_line;
 use std::alloc::Global;
 
 /// The script that these bytes are. `line_count` says whether they are few enough lines.
@@ -40,8 +40,8 @@ fn read_lines(alloc: Global, bytes: &[u8]) -> Result<Script, ScriptRefusal>
     let mut words = Vec::new(alloc);
     let mut rest = bytes;
     while !rest.is_empty() {
-        let (text, after, printable) = first_line(rest);
-        reading.add_numbered(alloc, &mut words, text, printable)?;
+        let (text, after, printable) = split_first_line(&mut words, rest)?;
+        reading.add_numbered(alloc, text, &words, printable)?;
         rest = after;
     }
     Ok(reading.into_script())

@@ -1,10 +1,10 @@
 //! What was read of a script, and one more line of it.
-ghost use Rattle.std.specs.Prelude.{◌≡◌, ◌<◌, ◌≤◌, ◌+◌, IfErr, OnOk, length};
-ghost use Rattle.cred_ids.specs.Limits.{LINE_LIMIT};
-ghost use Rattle.cred_ids.specs.Limits.{LAST_LANE};
+ghost use Rattle.std.specs.Prelude.{◌≡◌, ◌<◌, ◌≤◌, ◌+◌, IfErr, OnOk, length, true};
+ghost use Rattle.cred_ids.specs.Limits.{LAST_LANE, LINE_LIMIT};
 ghost use Rattle.cred_model.specs.Script.{SetupFirst};
 ghost use Rattle.cred_spelling.specs.Lines.{is_printable};
 ghost use Rattle.cred_spelling.specs.Read.{Says, nows};
+ghost use Rattle.cred_spelling.specs.Words.{words_of};
 ghost use Rattle.cred_forms.specs.Read.{GivesLine};
 ghost use Rattle.cred_script.specs.Grammar as grammar;
 ghost use Rattle.cred_script.specs.Grammar.{at_line};
@@ -19,7 +19,7 @@ use crate::uses::{has_files, has_namespaces};
 use cred_event::Content;
 use cred_forms::{Files, LineRefusal, Parsed, parse_form};
 use cred_names::{Lanes, Namespaces};
-use cred_spelling::{Reason, form_of, is_comment, split_into};
+use cred_spelling::{Reason, form_of, is_comment};
 use std::alloc::Global;
 use std::marker::Model;
 
@@ -84,22 +84,23 @@ impl Reading {
         }
     }
 
-    /// One more line, of which it was tested whether each byte is printable. A bad one is reported
-    /// by its number. The list of words is one that an earlier line left, to be used again.
-    pub(crate) fn add_numbered<'b>(
+    /// One more line, of which it was tested whether each byte is printable, and which was split if
+    /// so. A bad one is reported by its number.
+    pub(crate) fn add_numbered(
         &mut self,
         alloc: Global,
-        words: &mut Vec<&'b [u8]>,
-        text: &'b [u8],
+        text: &[u8],
+        words: &[&[u8]],
         printable: bool,
     ) -> Result<(), ScriptRefusal>
         requires few { length self.old.lines < LINE_LIMIT }
         requires test { printable ≡ is_printable text.now }
+        requires split { printable ≡ true → nows words.now ≡ words_of text.now }
         ensures { Gives (λ _. self.new) result
             (at_line (length self.old.lines + 1) (grammar.add_line self.old text.now)) }
     {
         let number = self.lines.len() as u32 + 1;
-        match self.add_line(alloc, words, text, printable) {
+        match self.add_line(alloc, text, words, printable) {
             Ok(()) => Ok(()),
             Err(LineRefusal::Bad(reason)) => Err(ScriptRefusal::Bad {
                 line: number,
@@ -111,18 +112,19 @@ impl Reading {
 
     /// One more line.
     #[tactic(auto, unfolding(crate::specs::Grammar::add_line))]
-    fn add_line<'b>(
+    fn add_line(
         &mut self,
         alloc: Global,
-        words: &mut Vec<&'b [u8]>,
-        text: &'b [u8],
+        text: &[u8],
+        words: &[&[u8]],
         printable: bool,
     ) -> Result<(), LineRefusal>
         requires few { length self.old.lines < LINE_LIMIT }
         requires test { printable ≡ is_printable text.now }
+        requires split { printable ≡ true → nows words.now ≡ words_of text.now }
         ensures { GivesLine (λ _. self.new) result (grammar.add_line self.old text.now) }
     {
-        let line = self.parse_line(alloc, words, text, printable)?;
+        let line = self.parse_line(alloc, text, words, printable)?;
         self.keep(alloc, line)
     }
 
@@ -193,21 +195,22 @@ impl Reading {
     }
 
     /// A line, parsed.
-    fn parse_line<'b>(
+    fn parse_line(
         &self,
         alloc: Global,
-        words: &mut Vec<&'b [u8]>,
-        text: &'b [u8],
+        text: &[u8],
+        words: &[&[u8]],
         printable: bool,
     ) -> Result<Parsed, LineRefusal>
-        requires { printable ≡ is_printable text.now }
+        requires test { printable ≡ is_printable text.now }
+        requires split { printable ≡ true → nows words.now ≡ words_of text.now }
         ensures { GivesLine (λ line. line) result (grammar.parse_line self.now text.now) }
     {
-        if !printable {
-            return Err(LineRefusal::Bad(Reason::Byte));
+        if printable {
+            self.parse_words(alloc, words)
+        } else {
+            Err(LineRefusal::Bad(Reason::Byte))
         }
-        split_into(words, text)?;
-        self.parse_words(alloc, words)
     }
 
     /// A line without words, and a comment, declare nothing and hold nothing.

@@ -1,5 +1,8 @@
 //! Why a text is no script.
+ghost use Rattle.std.specs.Prelude.{◌≡◌};
+ghost use Rattle.cred_script.specs.declared.refusal.ScriptRefusal.TheVariants as script;
 
+use cred_ids::NoMemory;
 use cred_spelling::Reason;
 
 /// Why no script was read.
@@ -9,4 +12,12 @@ pub enum ScriptRefusal {
     Bad { line: u32, reason: Reason },
     /// Memory ran out.
     Memory,
+}
+
+impl From<NoMemory> for ScriptRefusal {
+    ghost from_gives = { λ _ e. e ≡ script.Memory };
+
+    fn from(_: NoMemory) -> Self {
+        ScriptRefusal::Memory
+    }
 }

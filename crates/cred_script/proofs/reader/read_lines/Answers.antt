@@ -6,7 +6,7 @@ pub loop-rest-preserved : goal.loop-rest-preserved
 loop-rest-preserved c = record {
   counted =
       let more = longer _ _ _ (at_ok _ _ _ c.in_ok-add_numbered.ensures) in
-      let line = ap length c.first_line-printable.ensures.line in
+      let line = ap length c.in_ok-text.ensures.line in
       omega arith;
-  given = read_one _ _ _ _ _ c.in_ok-add_numbered.ensures c.first_line-printable.ensures.line ∙ c.loop-rest.invariant.given;
+  given = read_one _ _ _ _ _ c.in_ok-add_numbered.ensures c.in_ok-text.ensures.line ∙ c.loop-rest.invariant.given;
 }
