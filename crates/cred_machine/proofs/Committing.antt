@@ -1,5 +1,5 @@
 -- What a commit leads to, by the parts of the state after it, or how it is refused.
-use Rattle.std.proofs.Common.{◌≡◌, ◌≢◌, ℕ, ◌<◌, ◌==◌, List, [], ◌∷◌, ◌++◌, count_by, get_or, length, position, remove, slice_get, Some, Result, Ok, Err, append_assoc, refl, sym, ap, ◌∙◌, subst}
+use Rattle.std.proofs.Common.{◌≡◌, ◌≢◌, ℕ, ◌<◌, ◌==◌, List, [], ◌∷◌, ◌++◌, count_by, get_or, length, position, remove, slice_get, Some, Result, Ok, Err, refl, sym, ap, ◌∙◌, subst}
 use Rattle.std.specs.Option.{option_and_then}
 use Rattle.std.specs.Result.{IfOk}
 use Rattle.std.proofs.lemmas.Result.{IfOk-weaker}
@@ -119,14 +119,6 @@ module _ (s : State) (place : ℕ) (p : Prepared) (owner : Task) (last : Changed
       (settled s place p owner last (current p owner last is) own
       ∙ ap (λ (r : State). (committed_by last.change last.gains (length s.creds) p.slot (count_by (ends_by now) s.tasks), r)) (sym parts)
       ∙ ap (λ (a : Answer). (a, with_parts tasks casts prepared late creds)) (sym said))
-
--- what those that end leave, and then two numbers more
-pub gathered : (none left first more all : List ℕ) (x y : ℕ) → none ≡ [] → first ≡ none ++ left → more ≡ first ++ x ∷ [] → all ≡ more ++ y ∷ []
-    → all ≡ left ++ x ∷ y ∷ []
-gathered none left first more all x y empty one two three =
-    three
-    ∙ ap (λ (ns : List ℕ). ns ++ y ∷ []) (two ∙ ap (λ (ns : List ℕ). ns ++ x ∷ []) (one ∙ ap (λ (ns : List ℕ). ns ++ left) empty))
-    ∙ append_assoc left (x ∷ []) (y ∷ [])
 
 -- ---- the tests of a commit
 

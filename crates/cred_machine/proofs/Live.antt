@@ -1,5 +1,5 @@
 -- Which slots are live after a thread's step, by those that were before it.
-use Rattle.std.proofs.Common.{◌≡◌, ◌≢◌, ℕ, zero, suc, ◌-◌, ◌<◌, ◌==◌, ◌||◌, not, Bool, true, false, cond, List, [], ◌∷◌, ◌++◌, find, length, map, is_some, slice_get, Option, Some, None, Result, Ok, Err, ok_or, refl, sym, ap, ◌∙◌, subst, arith}
+use Rattle.std.proofs.Common.{◌≡◌, ◌≢◌, ℕ, zero, suc, ◌-◌, ◌<◌, ◌==◌, ◌||◌, not, Bool, true, false, cond, if◌then◌else◌, MatchBool, List, [], ◌∷◌, ◌++◌, find, length, map, is_some, slice_get, Option, Some, None, Result, Ok, Err, ok_or, refl, sym, ap, ◌∙◌, subst, arith}
 use Rattle.std.specs.List.{All, AllPairs, concat, flat_map, list_any}
 use Rattle.std.specs.Option.{IfSome, option_map, option_map_or}
 use Rattle.std.proofs.lemmas.Bool.Decides.{nat_tests}
@@ -284,3 +284,17 @@ live_like a b like k =
 pub known_like : (known : Option (List Bool)) (a b : State) → IsLike a b → IfSome known (λ marks. AreLive marks b) → IfSome known (λ marks. AreLive marks a)
 known_like None a b like live = tt
 known_like (Some marks) a b like live = λ k h. live k h ∙ sym (live_like a b like k)
+
+-- where nothing changed, what an event says of the live slots still holds
+pub known_still : (acts : Bool) (before now : Option (List Bool)) (s after : State) → MatchBool acts (IfSome now (λ marks. AreLive marks after)) (now ≡ before)
+    → after ≡ s → IfSome before (λ marks. AreLive marks s) → IfSome now (λ marks. AreLive marks after)
+known_still true before now s after known same live = known
+known_still false before now s after kept same live =
+    subst (λ (o : Option (List Bool)). IfSome o (λ marks. AreLive marks after)) (sym kept)
+    (subst (λ (t : State). IfSome before (λ marks. AreLive marks t)) (sym same) live)
+
+-- where only a thread's step says it
+pub known_kept : (acts : Bool) (before told now : Option (List Bool)) (s : State) → MatchBool acts (IfSome told (λ marks. AreLive marks s)) (told ≡ before)
+    → now ≡ (if acts then told else None) → IfSome now (λ marks. AreLive marks s)
+known_kept true before told now s known is = subst (λ (o : Option (List Bool)). IfSome o (λ marks. AreLive marks s)) (sym is) known
+known_kept false before told now s kept is = subst (λ (o : Option (List Bool)). IfSome o (λ marks. AreLive marks s)) (sym is) tt

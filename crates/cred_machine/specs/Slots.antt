@@ -6,6 +6,8 @@ use Rattle.std.specs.List.{list_any}
 use Rattle.cred_ids.specs.Limits.{SLOTS}
 use Rattle.cred_event.specs.declared.answer.Answer.{Answer}
 use Rattle.cred_event.specs.declared.answer.Answer.TheVariants.{Acted}
+use Rattle.cred_event.specs.declared.event.Event.{Event}
+use Rattle.cred_event.specs.declared.event.Event.TheVariants.{Act}
 use Rattle.cred_model.specs.State.{State, SealedCred}
 use Rattle.cred_model.specs.Slots.{is_live, stands_in}
 use Rattle.cred_machine.specs.Kept.{KeepsReferred}
@@ -33,6 +35,11 @@ AreLive marks s = (slot : ℕ) → slot < SLOTS → is_marked marks slot ≡ is_
 pub record IsTidy (live : Option (List Bool)) (s : State) : Type 0 where
   pub known : IfSome live (λ marks. AreLive marks s)
   pub kept : KeepsReferred s
+
+-- the event is a thread's step
+abbrev pub is_act : Event → Bool
+is_act (Act cast) = true
+is_act event = false
 
 -- A step that answered so took its slot: the marks after it have that one too.
 pub record TakesSlot (before : List Bool) (answer : Answer) (after : List Bool) : Type 0 where

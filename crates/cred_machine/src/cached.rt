@@ -1,12 +1,13 @@
 //! The state between events, and one event.
-ghost use Rattle.std.specs.Prelude.{◌≡◌, false, length, IfOk, IfSome, None, OnErr};
+ghost use Rattle.std.specs.Prelude.{◌≡◌, false, length, IfOk, IfSome, MatchBool, None};
+ghost use Rattle.std.specs.Prelude.{if◌then◌else◌, OnErr};
 ghost use Rattle.cred_model.specs.Like.{Gives, GivesLike};
 ghost use Rattle.cred_model.specs.Named.{IsEventOf};
 ghost use Rattle.cred_model.specs.State.{opening};
 ghost use Rattle.cred_model.specs.Step.{by_act, done};
 ghost use Rattle.cred_sound.specs.Sound.{IsSound};
 ghost use Rattle.cred_machine.specs.Kept.{KeepsReferred, may_have_swept};
-ghost use Rattle.cred_machine.specs.Slots.{AreLive, TakesSlot};
+ghost use Rattle.cred_machine.specs.Slots.{AreLive, TakesSlot, is_act};
 
 use crate::slots::Marks;
 use crate::state::State;
@@ -22,7 +23,7 @@ use std::marker::Model;
 /// A thread's step in a broadcast takes a slot, and gives none back unless there is a sweep. So the
 /// next step of a thread needs no look through all that refers, and only after another event, or
 /// after a sweep, there is one.
-#[derive(Drop, Debug)]
+#[derive(Drop)]
 pub struct CachedState {
     state: State,
     live: Option<Marks>,
@@ -70,6 +71,7 @@ impl CachedState {
     {
         let before = self.state.given_up();
         let answer = self.state.make(&mut self.live, script, line, event)?;
+        keep_after_act(&mut self.live, event);
         let swept = may_have_swept(before, &answer, self.state.given_up());
         self.state.forget_if(swept);
         Ok(answer)
@@ -77,7 +79,8 @@ impl CachedState {
 }
 
 impl State {
-    /// Makes one event, and forgets nothing. Which slots are live may be known.
+    /// Makes one event, and forgets nothing. Which slots are live may be known: a thread's step
+    /// says which are after it, and no other event does.
     fn make(
         &mut self,
         live: &mut Option<Marks>,
@@ -89,11 +92,10 @@ impl State {
         requires known { IfSome live.old (λ marks. AreLive marks self.old) }
         ensures ok { IfOk result (λ answer.
             Gives self.old (done script.now self.old line event.now) answer self.new) }
-        ensures live { IfSome live.new (λ marks. AreLive marks self.new) }
+        ensures live { MatchBool (is_act event.now)
+            (IfSome live.new (λ marks. AreLive marks self.new)) (live.new ≡ live.old) }
         ensures err { OnErr result (self.new ≡ self.old) }
     {
-        // Which slots are live after an event isn't known, unless `act_knowing` says so.
-        let known = live.take();
         match event {
             Event::Init {
                 task,
@@ -119,7 +121,7 @@ impl State {
             Event::Override { task, label } => self.override_with(*task, *label),
             Event::Revert { task } => self.revert(*task),
             Event::Begin { task, call } => self.begin(line, *task, call),
-            Event::Act { cast } => self.act_knowing(known, live, *cast),
+            Event::Act { cast } => self.act_knowing(live, *cast),
             Event::OpenFile {
                 hold,
                 file,
@@ -141,27 +143,31 @@ impl State {
         }
     }
 
-    /// A thread that waits in the broadcast makes its step. Which slots were live may be known, and
-    /// which are after it.
-    fn act_knowing(
-        &mut self,
-        known: Option<Marks>,
-        live: &mut Option<Marks>,
-        cast: u32,
-    ) -> Result<Answer, NoMemory>
+    /// A thread that waits in the broadcast makes its step. Which slots are live may be known
+    /// before it and after it.
+    fn act_knowing(&mut self, live: &mut Option<Marks>, cast: u32) -> Result<Answer, NoMemory>
         requires sound { IsSound self.old }
-        requires known { IfSome known (λ marks. AreLive marks self.old) }
-        requires none { live.old ≡ None }
+        requires known { IfSome live.old (λ marks. AreLive marks self.old) }
         ensures ok { IfOk result (λ answer.
             Gives self.old (by_act self.old cast) answer self.new) }
         ensures live { IfSome live.new (λ marks. AreLive marks self.new) }
         ensures err { OnErr result (self.new ≡ self.old) }
     {
-        let mut marks = live_slots(self, known)?;
+        let mut marks = live_slots(self, live.take())?;
         let room = self.room_in(&mut marks)?;
         let answer = self.act(cast, room)?;
         *live = live_after(marks, &answer, room.swept);
         Ok(answer)
+    }
+}
+
+/// Only after a thread's step it is known which slots are live.
+fn keep_after_act(live: &mut Option<Marks>, event: &Event)
+    ensures { live.new ≡ (if is_act event.now then live.old else None) }
+{
+    match event {
+        Event::Act { .. } => {}
+        _ => *live = None,
     }
 }
 

@@ -8,9 +8,9 @@ ghost use Rattle.cred_model.specs.Slots.{free, least_free};
 ghost use Rattle.cred_model.specs.Moves.{in_slot, replaced, table_full};
 ghost use Rattle.cred_model.specs.Step.{aborted, by_act, by_begin};
 ghost use Rattle.cred_sound.specs.Sound.{IsSound};
-ghost use Rattle.cred_machine.specs.Room.{at_abort, begun, swept_if};
+ghost use Rattle.cred_machine.specs.Room.{at_abort, begun, cast_of_call, swept_if};
 
-use crate::slots::{Room, defer};
+use crate::slots::{Room, defer_left, make_room};
 use crate::state::{State, overridden};
 use cred_event::{AbortCause, Answer, Named};
 use cred_ids::NoMemory;
@@ -53,15 +53,32 @@ impl State {
             Err(Refusal::Invalid) => return Ok(Answer::Einval),
             Err(Refusal::Memory) => return Err(NoMemory),
         };
-        let (number, waiting) = (old.number, self.tasks.others(process, task)?);
-        let cast = Cast {
+        let number = old.number;
+        let cast = self.cast_of_call(line, process, task, call)?;
+        self.open(cast, number, cred)
+    }
+
+    /// The broadcast of a call that a task makes in this line: the other threads of its process
+    /// wait in it.
+    fn cast_of_call(
+        &self,
+        line: u32,
+        process: u32,
+        task: u32,
+        call: &IdCall,
+    ) -> Result<Cast, NoMemory>
+        ensures cast { IfOk result
+            (λ cast. cast ≡ cast_of_call self.now line process task call.now) }
+        ensures few { IfOk result (λ cast. length cast.waiting ≤ TASKS) }
+    {
+        let waiting = self.tasks.others(process, task)?;
+        Ok(Cast {
             number: line,
             process,
             caller: task,
             call: call.copy()?,
             waiting,
-        };
-        self.open(cast, number, cred)
+        })
     }
 
     /// The caller of a broadcast has made this credential of its current one, of this number. That
@@ -152,8 +169,7 @@ impl State {
             (self.new ≡ replaced (swept_if swept self.old) task old cred slot) }
         ensures err { OnErr result (self.new ≡ self.old) }
     {
-        self.creds.reserve()?;
-        defer(&mut self.deferred, swept, &[old])?;
+        make_room(&mut self.creds, &mut self.deferred, swept, &[old])?;
         let number = self.creds.seal(cred, slot);
         self.tasks.set_current(task, number);
         Ok(number)
@@ -175,9 +191,7 @@ impl State {
     {
         let swept = matches!(cause, AbortCause::Full);
         let ending = Ending::Process(process);
-        let mut numbers = Vec::new(self.alloc);
-        self.tasks.append_left(ending, &mut numbers)?;
-        defer(&mut self.deferred, swept, &numbers)?;
+        defer_left(&mut self.deferred, swept, &self.tasks, ending)?;
         self.tasks.end(ending);
         drop_cast(&mut self.casts, process);
         Ok(Answer::Aborted { task, cause })

@@ -1,16 +1,18 @@
 //! The events on holds and prepared labels.
-ghost use Rattle.std.specs.Prelude.{◌≡◌, ◌<◌, length, slice_get, IfOk, IfSome, OnOk, OnErr};
+ghost use Rattle.std.specs.Prelude.{◌≡◌, ◌<◌, ◌++◌, ◌∷◌, [], length, slice_get, IfOk, IfSome};
+ghost use Rattle.std.specs.Prelude.{OnOk, OnErr};
 ghost use Rattle.cred_model.specs.Like.{Gives};
 ghost use Rattle.cred_model.specs.Step.{by_abort, by_alter, by_ask, by_commit, by_prepare};
 ghost use Rattle.cred_model.specs.Step.{by_release, by_signal, by_take, take_hold};
 ghost use Rattle.cred_model.specs.Step as model;
+ghost use Rattle.cred_model.specs.Ends.{left_by};
 ghost use Rattle.cred_model.specs.Moves.{given_up};
 ghost use Rattle.cred_sound.specs.Sound.{IsSound};
 ghost use Rattle.cred_machine.specs.Labels.{numbered_in, casts_left, CanCommit, Commits};
 ghost use Rattle.cred_machine.specs.Labels.{IsOnCurrent};
-ghost use Rattle.cred_plain.specs.Tasks.{ending_of};
+ghost use Rattle.cred_plain.specs.Tasks.{ending_of, ends_by};
 
-use crate::slots::{Room, defer, sweep_if};
+use crate::slots::{Room, make_room, sweep_if};
 use crate::state::{State, overridden};
 use cred_access::may_signal;
 use cred_decide::{Made, change as change_of, reply};
@@ -20,7 +22,7 @@ use cred_ids::limits;
 use cred_ids::NoMemory;
 use cred_plain::casts::{begun_by, drop_cast};
 use cred_plain::labels::{change_at, hold_of, hold_place, prepared_of, prepared_place};
-use cred_plain::{Cast, Changed, Ending, Hold, Numbered, Prepared};
+use cred_plain::{Cast, Changed, Ending, Hold, Numbered, Prepared, Tasks};
 use cred_record::{Gains, copy};
 use cred_script::Script;
 
@@ -248,21 +250,17 @@ impl State {
         let last = own.changed.as_ref().unwrap();
         let owner = self.tasks.get(own.task).unwrap();
         let (task, process, slot) = (own.task, owner.process, own.slot);
-        let cred = copy(&last.cred)?;
         let ending = ends_with(last.change, process, task);
         let ended = self.tasks.count(ending);
-        let mut numbers = Vec::new(self.alloc);
-        self.tasks.append_left(ending, &mut numbers)?;
-        numbers.push(owner.current)?;
-        numbers.push(own.base)?;
-        self.creds.reserve()?;
-        defer(&mut self.deferred, false, &numbers)?;
+        let numbers = left_by_commit(&self.tasks, ending, owner.current, own.base)?;
+        let cred = copy(&last.cred)?;
+        make_room(&mut self.creds, &mut self.deferred, false, &numbers)?;
         self.tasks.end(ending);
         drop_with(&mut self.casts, last.change, process);
         let number = self.creds.seal(cred, slot);
         self.tasks.set_current(task, number);
         let answer = committed_by(last.change, &last.gains, number, slot, ended);
-        self.prepared.remove(place);
+        drop(self.prepared.remove(place));
         Ok(answer)
     }
 
@@ -289,7 +287,7 @@ impl State {
     {
         let base = self.prepared[place].base;
         self.deferred.push(base)?;
-        self.prepared.remove(place);
+        drop(self.prepared.remove(place));
         Ok(())
     }
 }
@@ -303,6 +301,22 @@ fn ends_with(change: Change, process: u32, task: u32) -> Ending
         Change::Exec { .. } => Ending::Others { process, task },
         _ => Ending::Nobody,
     }
+}
+
+/// The numbers that a commit gives up: those that the tasks refer to which end with it, that of its
+/// task's current credential, and that of its base.
+fn left_by_commit(
+    tasks: &Tasks,
+    ending: Ending,
+    current: u64,
+    base: u64,
+) -> Result<Vec<u64>, NoMemory>
+    ensures { IfOk result (λ numbers.
+        numbers.items ≡ left_by (ends_by ending) tasks.now ++ current ∷ base ∷ []) }
+{
+    let mut numbers = tasks.left(ending)?;
+    numbers.extend_from_slice(&[current, base])?;
+    Ok(numbers)
 }
 
 /// The process's broadcast is dropped where one of its threads commits an execve (execve(2)).

@@ -6,7 +6,6 @@ ghost use Rattle.cred_model.specs.Like.{Gives};
 ghost use Rattle.cred_model.specs.Step.{by_override, by_revert};
 ghost use Rattle.cred_sound.specs.Sound.{IsSound};
 
-use crate::slots::defer;
 use crate::state::State;
 use cred_event::Answer;
 use cred_ids::limits;
@@ -62,14 +61,14 @@ impl State {
             return Ok(Answer::TooDeep);
         }
         let (base, slot) = (own.base, own.slot);
-        let cred = copy(&last.cred)?;
         self.creds.reserve()?;
         self.deferred.reserve(1)?;
+        let cred = copy(&last.cred)?;
         let number = self.creds.next_number();
         self.tasks.push_override(task, number)?;
         // There is room.
-        defer(&mut self.deferred, false, &[base])?;
-        self.prepared.remove(place);
+        self.deferred.push(base).unwrap();
+        drop(self.prepared.remove(place));
         self.creds.seal(cred, slot);
         Ok(Answer::Sealed { cred: number, slot })
     }

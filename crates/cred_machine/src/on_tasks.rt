@@ -4,7 +4,7 @@ ghost use Rattle.cred_model.specs.Like.{Gives};
 ghost use Rattle.cred_model.specs.Step.{by_exit, by_fork, by_init, by_spawn};
 ghost use Rattle.cred_sound.specs.Sound.{IsSound};
 
-use crate::slots::{Room, defer, sweep_if};
+use crate::slots::{Room, defer_left, sweep_if};
 use crate::state::{State, overridden};
 use cred_event::{Answer, Counted, Named};
 use cred_ids::{Id, NoMemory};
@@ -39,12 +39,12 @@ impl State {
         if self.tasks.full() {
             return Ok(Answer::TooMany(Counted::Tasks));
         }
-        let cred = first(self.alloc, user, group, ns)?;
         let Room { slot, swept } = self.room()?;
         let Some(slot) = slot else {
             return Ok(self.table_full());
         };
         self.creds.reserve()?;
+        let cred = first(self.alloc, user, group, ns)?;
         let next = self.creds.next_number();
         self.tasks
             .push(Task::first(self.alloc, number, process, next))?;
@@ -148,9 +148,7 @@ impl State {
             return Ok(Answer::Overridden(depth));
         }
         let ending = Ending::Task(task);
-        let mut numbers = Vec::new(self.alloc);
-        self.tasks.append_left(ending, &mut numbers)?;
-        defer(&mut self.deferred, false, &numbers)?;
+        defer_left(&mut self.deferred, false, &self.tasks, ending)?;
         self.tasks.end(ending);
         leave(&mut self.casts, task);
         Ok(Answer::Done)

@@ -5,15 +5,17 @@ ghost use Rattle.std.specs.Prelude.{IfOk, IsOk, OnOk, OnErr, vec_capacity, vec_l
 ghost use Rattle.std.specs.List.{flat_map, list_any};
 ghost use Rattle.cred_ids.specs.Limits.{SLOTS};
 ghost use Rattle.cred_event.specs.declared.answer.Answer.TheVariants.{TableFull};
+ghost use Rattle.cred_model.specs.Ends.{left_by};
 ghost use Rattle.cred_model.specs.Slots as model;
 ghost use Rattle.cred_model.specs.Slots.{least_free, free, in_use, stands_in};
+ghost use Rattle.cred_plain.specs.Tasks.{ends_by};
 ghost use Rattle.cred_machine.specs.Slots.{AreLive, is_live_by, is_marked};
 
 use crate::state::State;
 use cred_event::Answer;
 use cred_ids::limits;
 use cred_ids::NoMemory;
-use cred_plain::{Creds, Hold, OpenFile, Prepared, Task};
+use cred_plain::{Creds, Ending, Hold, OpenFile, Prepared, Task, Tasks};
 use std::alloc::Global;
 use std::marker::Model;
 
@@ -21,7 +23,7 @@ use std::marker::Model;
 const SLOTS: u32 = limits::SLOTS as u32;
 
 /// The slots that something stands in or that are kept, as 256 marks.
-#[derive(Drop, Debug)]
+#[derive(Drop)]
 pub struct Marks {
     marks: Vec<bool>,
     /// All slots below this one are marked.
@@ -132,12 +134,19 @@ impl State {
         ensures { IfOk result (λ numbers. numbers.items ≡ in_use self.now) }
     {
         let mut numbers = Vec::with_capacity(self.alloc, self.tasks.items().len())?;
-        add_current(self.tasks.items(), &mut numbers)?;
-        add_overrides(self.tasks.items(), &mut numbers)?;
-        add_openers(&self.files, &mut numbers)?;
-        add_held(&self.holds, &mut numbers)?;
-        add_bases(&self.prepared, &mut numbers)?;
+        self.add_in_use(&mut numbers)?;
         Ok(numbers)
+    }
+
+    /// Appends them to these.
+    fn add_in_use(&self, numbers: &mut Vec<u64>) -> Result<(), NoMemory>
+        ensures { OnOk result (numbers.new.items ≡ numbers.old.items ++ in_use self.now) }
+    {
+        add_current(self.tasks.items(), numbers)?;
+        add_overrides(self.tasks.items(), numbers)?;
+        add_openers(&self.files, numbers)?;
+        add_held(&self.holds, numbers)?;
+        add_bases(&self.prepared, numbers)
     }
 
     /// Which slots are live, by a look through all that refers.
@@ -311,4 +320,38 @@ pub fn defer(late: &mut Vec<u64>, swept: bool, numbers: &[u64]) -> Result<(), No
     sweep_if(late, swept);
     late.extend_from_slice(numbers)?;
     Ok(())
+}
+
+/// References to what those tasks refer to which end are given up, after a sweep if there is one.
+/// If an allocation fails, nothing changes.
+pub fn defer_left(
+    late: &mut Vec<u64>,
+    swept: bool,
+    tasks: &Tasks,
+    ending: Ending,
+) -> Result<(), NoMemory>
+    ensures ok { OnOk result (late.new.items
+        ≡ (if swept then [] else late.old.items) ++ left_by (ends_by ending) tasks.now) }
+    ensures err { OnErr result (late.new.items ≡ late.old.items) }
+{
+    let numbers = tasks.left(ending)?;
+    defer(late, swept, &numbers)
+}
+
+/// There is room for one credential more, and references to these numbers are given up, after a
+/// sweep if there is one. If an allocation fails, neither list changes.
+pub fn make_room(
+    creds: &mut Creds,
+    late: &mut Vec<u64>,
+    swept: bool,
+    numbers: &[u64],
+) -> Result<(), NoMemory>
+    ensures list { creds.new.list ≡ creds.old.list }
+    ensures room { OnOk result (creds.new.roomy ≡ true) }
+    ensures ok { OnOk result
+        (late.new.items ≡ (if swept then [] else late.old.items) ++ numbers.now) }
+    ensures err { OnErr result (late.new.items ≡ late.old.items) }
+{
+    creds.reserve()?;
+    defer(late, swept, numbers)
 }

@@ -19,7 +19,7 @@ use std::marker::Model;
 
 /// The live tasks, the open broadcasts, the open files, the holds, the prepared labels, the numbers
 /// that were given up since the last sweep, and the credentials by their numbers.
-#[derive(Drop, Debug)]
+#[derive(Drop)]
 pub struct State {
     pub(crate) tasks: Tasks,
     pub(crate) casts: Vec<Cast>,

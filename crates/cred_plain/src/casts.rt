@@ -15,7 +15,7 @@ use std::marker::Model;
 
 /// A call that every thread of a process makes, one after another: the line that began it, the
 /// process, the thread that made it first, and those that still have to make it, in rising order.
-#[derive(Drop, Debug)]
+#[derive(Drop)]
 pub struct Cast {
     pub number: u32,
     pub process: u32,

@@ -14,7 +14,7 @@ use std::alloc::Global;
 use std::marker::Model;
 
 /// A credential under its number.
-#[derive(Drop, Debug)]
+#[derive(Drop)]
 pub struct Stored {
     pub number: u64,
     pub cred: Cred,
@@ -40,7 +40,7 @@ pub struct Numbered<'a> {
 /// number that was ever sealed. Contracts see what is stored, and the list of the sealed
 /// credentials with their slots: there, under a number whose credential was forgotten, stands one
 /// that is the same for all of those.
-#[derive(Drop, Debug)]
+#[derive(Drop)]
 pub struct Creds {
     stored: Vec<Stored>,
     slots: Vec<u32>,

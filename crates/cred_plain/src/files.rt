@@ -6,7 +6,7 @@ use std::marker::Model;
 
 /// An open file has a descriptor, the number of the credential that it was opened by, and its place
 /// among the script's files.
-#[derive(Drop, Debug)]
+#[derive(Drop)]
 pub struct OpenFile {
     pub fd: u32,
     pub opener: u64,

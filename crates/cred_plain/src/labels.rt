@@ -10,7 +10,7 @@ use cred_record::{Cred, Gains};
 use std::marker::Model;
 
 /// A hold keeps the number of a credential under a label.
-#[derive(Drop, Debug)]
+#[derive(Drop)]
 pub struct Hold {
     pub label: u32,
     pub number: u64,
@@ -25,7 +25,7 @@ impl Model for Hold {
 }
 
 /// The last change of a prepared credential, what it made of the base, and what that one gains.
-#[derive(Drop, Debug)]
+#[derive(Drop)]
 pub struct Changed {
     pub change: Change,
     pub cred: Cred,
@@ -42,7 +42,7 @@ impl Model for Changed {
 
 /// A label that prepares a credential: the task that it is for, the number of the credential that
 /// it is based on, the slot that is kept for it, and what the base has become, once it was changed.
-#[derive(Drop, Debug)]
+#[derive(Drop)]
 pub struct Prepared {
     pub label: u32,
     pub task: u32,

@@ -17,7 +17,7 @@ use std::marker::Model;
 
 /// A task has the number of its current credential, and those of the credentials that it acts with
 /// in its place, the newest first.
-#[derive(Drop, Debug)]
+#[derive(Drop)]
 pub struct Task {
     pub number: u32,
     pub process: u32,
@@ -43,7 +43,7 @@ impl Model for Task {
 }
 
 /// Which tasks end with an event.
-#[derive(Clone, Copy, Debug)]
+#[derive(Clone, Copy)]
 pub enum Ending {
     Nobody,
     /// The task of this number.
@@ -156,7 +156,7 @@ impl Task {
 }
 
 /// The live tasks, at most 64, in the order in which they were created.
-#[derive(Drop, Debug)]
+#[derive(Drop)]
 pub struct Tasks {
     list: Vec<Task>,
     alloc: Global,
@@ -317,16 +317,17 @@ impl Tasks {
         count(&self.list, ending)
     }
 
-    /// Appends the numbers that those tasks refer to which end.
+    /// The numbers that those tasks refer to which end.
     ///
     /// # Errors
     ///
-    /// `NoMemory` if an allocation fails: then some of them may have been appended.
-    pub fn append_left(&self, ending: Ending, numbers: &mut Vec<u64>) -> Result<(), NoMemory>
-        ensures { OnOk result (numbers.new.items
-            ≡ numbers.old.items ++ left_by (ends_by ending) self.now) }
+    /// `NoMemory` if the allocation of the list fails.
+    pub fn left(&self, ending: Ending) -> Result<Vec<u64>, NoMemory>
+        ensures { IfOk result (λ numbers. numbers.items ≡ left_by (ends_by ending) self.now) }
     {
-        add_left(&self.list, ending, numbers)
+        let mut numbers = Vec::new(self.alloc);
+        add_left(&self.list, ending, &mut numbers)?;
+        Ok(numbers)
     }
 
     /// Tasks end.

@@ -1,4 +1,4 @@
-use Rattle.std.proofs.Common.{◌≡◌, ℕ, List, [], if◌then◌else◌, refl, ap, ◌∙◌}
+use Rattle.std.proofs.Common.{◌≡◌, ℕ, List, [], if◌then◌else◌, refl, ap}
 use Rattle.cred_machine.specs.Room.{at_abort}
 use Rattle.cred_machine.proofs.Leads.{process_ended}
 use Rattle.cred_machine.proofs.Seen.{seen_state}
@@ -15,13 +15,10 @@ returns-clause-state c =
       | in_default w ↦ rw (w.in_default.is, w.matches-is) refl
     ] in
     rw (← c.self.view_is)
-    (process_ended s c.args.process _ _ _ _ c.match-matches.matches c.end.ensures c.drop_cast.ensures c.in_ok-defer.ensures.ok
-    (c.deref.ensures.value ∙ c.in_ok-append_left.ensures ∙ rw c.new-numbers.ensures.items refl) c.args.cause swept)
+    (process_ended s c.args.process _ _ _ _ c.match-matches.matches c.end.ensures c.drop_cast.ensures c.in_ok-defer_left.ensures.ok
+    refl c.args.cause swept)
 
-pub returns-in_err-append_left-clause-err : goal.returns-in_err-append_left-clause-err
-returns-in_err-append_left-clause-err c = on_err _ refl
-
-pub returns-in_err-defer-clause-err : goal.returns-in_err-defer-clause-err
-returns-in_err-defer-clause-err c =
+pub returns-in_err-defer_left-clause-err : goal.returns-in_err-defer_left-clause-err
+returns-in_err-defer_left-clause-err c =
     let s = seen_state c.self.inside in
-    rw (← c.self.view_is) (on_err _ (ap (λ (l : List ℕ). record s { deferred = l }) c.in_err-defer.ensures.err))
+    rw (← c.self.view_is) (on_err _ (ap (λ (l : List ℕ). record s { deferred = l }) c.in_err-defer_left.ensures.err))

@@ -1,6 +1,5 @@
-use Rattle.std.proofs.Common.{ℕ, List, ◌++◌, sym, ap, ◌∙◌}
+use Rattle.std.proofs.Common.{refl, sym}
 use Rattle.cred_event.specs.declared.answer.Answer.TheVariants.{Busy}
-use Rattle.cred_model.specs.Ends.{is_task, left_by}
 use Rattle.cred_machine.proofs.Refusals.{exit_busy}
 use Rattle.cred_machine.proofs.Leads.{busy_at, exit_leads}
 use Rattle.cred_machine.proofs.Seen.{seen_state}
@@ -17,4 +16,4 @@ returns-clause-ok c =
     let s = seen_state c.self.inside in
     rw (← c.self.view_is)
     (exit_leads s c.args.task c.in-Some.owner.now _ _ _ _ (sym c.in-Some.ensures) (busy_at s _ c.args.task _ c.deref.ensures.value c.in_default-begun_by.ensures) c.in_default-overridden.ensures
-    c.end.ensures c.leave.ensures c.in_ok-defer.ensures.ok (c.deref-2.ensures.value ∙ c.in_ok-append_left.ensures ∙ ap (λ (ms : List ℕ). ms ++ left_by (is_task c.args.task) s.tasks) c.new-numbers.ensures.items))
+    c.end.ensures c.leave.ensures c.in_ok-defer_left.ensures.ok refl)

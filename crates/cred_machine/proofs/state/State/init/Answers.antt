@@ -20,7 +20,9 @@ returns-clause-ok c =
     c.sweep_if.ensures.items)
 
 pub returns-in_err-cred-clause-err : goal.returns-in_err-cred-clause-err
-returns-in_err-cred-clause-err c = on_err _ refl
+returns-in_err-cred-clause-err c =
+    let s = seen_state c.self.inside in
+    rw (← c.self.view_is) (on_err _ (ap (λ (l : List SealedCred). record s { creds = l }) c.in_ok-reserve.ensures.list))
 
 pub returns-in_err-slot-clause-err : goal.returns-in_err-slot-clause-err
 returns-in_err-slot-clause-err c = on_err _ refl

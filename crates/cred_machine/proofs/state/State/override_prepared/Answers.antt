@@ -1,4 +1,4 @@
-use Rattle.std.proofs.Common.{◌==◌, sym, ap, ◌∙◌, List, refl}
+use Rattle.std.proofs.Common.{ℕ, ◌==◌, sym, ap, ◌∙◌, List}
 use Rattle.cred_model.specs.State.{Changed, Prepared, SealedCred}
 use Rattle.cred_plain.proofs.Places.{found_is}
 use Rattle.cred_machine.proofs.Refusals.{some_of}
@@ -45,12 +45,17 @@ returns-clause-ok c =
     (ap (λ (q : Prepared). q.slot) c.own.view_is) (ap (λ (q : Prepared). q.base) c.own.view_is)
     (c.in_ok-cred.ensures ∙ ap (λ (l : Changed). l.cred) c.last.view_is)
     (said_of s.tasks c.args.task _ c.unwrap.result.now sound.tasks lives c.in_ok-push_override.ensures.ok)
-    c.seal.ensures.sealed c.in_ok-reserve-2.ensures.items c.in_ok-defer.ensures.ok c.remove.ensures.items)
-
-pub returns-in_err-cred-clause-err : goal.returns-in_err-cred-clause-err
-returns-in_err-cred-clause-err c = on_err _ refl
+    c.seal.ensures.sealed c.in_ok-reserve-2.ensures.items (rw c.unwrap-2.ensures at c.push.ensures.items) c.remove.ensures.items)
 
 pub returns-in_err-reserve-clause-err : goal.returns-in_err-reserve-clause-err
 returns-in_err-reserve-clause-err c =
     let s = seen_state c.self.inside in
     rw (← c.self.view_is) (on_err _ (ap (λ (l : List SealedCred). record s { creds = l }) c.in_err-reserve.ensures.list))
+
+pub returns-in_err-cred-clause-err : goal.returns-in_err-cred-clause-err
+returns-in_err-cred-clause-err c =
+    let s = seen_state c.self.inside in
+    rw (← c.self.view_is)
+    (on_err _
+    (ap (λ (l : List ℕ). record s { deferred = l; creds = c.reserve.new.self.list }) c.in_ok-reserve-2.ensures.items
+    ∙ ap (λ (l : List SealedCred). record s { creds = l }) c.in_ok-reserve.ensures.list))

@@ -4,15 +4,10 @@ use Rattle.cred_machine.proofs.Seen.{seen_state}
 use Rattle.cred_machine.proofs.Unchanged.{on_err}
 use Rattle.cred_machine.proofs.state.State.replace.Goals as goal
 
-pub returns-in_err-reserve-clause-err : goal.returns-in_err-reserve-clause-err
-returns-in_err-reserve-clause-err c =
-    let s = seen_state c.self.inside in
-    rw (← c.self.view_is) (on_err _ (ap (λ (l : List SealedCred). record s { creds = l }) c.in_err-reserve.ensures.list))
-
-pub returns-in_err-defer-clause-err : goal.returns-in_err-defer-clause-err
-returns-in_err-defer-clause-err c =
+pub returns-in_err-make_room-clause-err : goal.returns-in_err-make_room-clause-err
+returns-in_err-make_room-clause-err c =
     let s = seen_state c.self.inside in
     rw (← c.self.view_is)
     (on_err _
-    (ap (λ (l : List ℕ). record s { deferred = l; creds = c.reserve.new.self.list }) c.in_err-defer.ensures.err
-    ∙ ap (λ (l : List SealedCred). record s { creds = l }) c.in_ok-reserve.ensures.list))
+    (ap (λ (l : List ℕ). record s { deferred = l; creds = c.make_room.new.creds.list }) c.in_err-make_room.ensures.err
+    ∙ ap (λ (l : List SealedCred). record s { creds = l }) c.in_err-make_room.ensures.list))

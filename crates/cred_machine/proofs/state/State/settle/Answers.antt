@@ -2,7 +2,7 @@ use Rattle.std.proofs.Common.{◌≡◌, ℕ, List, Some, refl, ap, ◌∙◌}
 use Rattle.cred_model.specs.State.{Changed, SealedCred}
 use Rattle.cred_machine.specs.Labels.{CanCommit, IsChanged}
 use Rattle.cred_plain.proofs.Places.{found_is}
-use Rattle.cred_machine.proofs.Committing.{commits, gathered, read_is}
+use Rattle.cred_machine.proofs.Committing.{commits, read_is}
 use Rattle.cred_machine.proofs.Seen.{seen_prepared, seen_state, seen_task}
 use Rattle.cred_machine.proofs.Unchanged.{on_err}
 use Rattle.cred_machine.proofs.state.State.settle.Goals as goal
@@ -21,33 +21,21 @@ returns-clause-ok c =
     let is : IsChanged s c.args.place own owner last = record { there = read.there; changed = changed; lives = read.lives } in
     rw (← c.self.view_is)
     (commits s c.args.place own owner last is c.ends_with-ending.result c.committed_by-answer.result c.seal-number.result c.count-ended.result _ _ _ _ _ _ _ _ _
-    (rw (← c.self.view_is) at c.requires.current) c.ends_with-ending.ensures c.seal-number.ensures.number c.in_ok-reserve.ensures.list c.count-ended.ensures
+    (rw (← c.self.view_is) at c.requires.current) c.ends_with-ending.ensures c.seal-number.ensures.number c.in_ok-make_room.ensures.list c.count-ended.ensures
     c.committed_by-answer.ensures c.set_current.ensures c.end.ensures c.drop_with.ensures c.remove.ensures.items
-    (c.deref.ensures.value
-    ∙ gathered _ _ _ _ _ owner.current own.base c.new-numbers.ensures.items c.in_ok-append_left.ensures c.in_ok-push.ensures.items c.in_ok-push-2.ensures.items)
-    c.in_ok-defer.ensures.ok c.in_ok-cred.ensures c.seal-number.ensures.sealed)
+    (c.deref.ensures.value ∙ c.in_ok-numbers.ensures)
+    c.in_ok-make_room.ensures.ok c.in_ok-cred.ensures c.seal-number.ensures.sealed)
+
+pub returns-in_err-numbers-clause-err : goal.returns-in_err-numbers-clause-err
+returns-in_err-numbers-clause-err c = on_err _ refl
 
 pub returns-in_err-cred-clause-err : goal.returns-in_err-cred-clause-err
 returns-in_err-cred-clause-err c = on_err _ refl
 
-pub returns-in_err-append_left-clause-err : goal.returns-in_err-append_left-clause-err
-returns-in_err-append_left-clause-err c = on_err _ refl
-
-pub returns-in_err-push-clause-err : goal.returns-in_err-push-clause-err
-returns-in_err-push-clause-err c = on_err _ refl
-
-pub returns-in_err-push-2-clause-err : goal.returns-in_err-push-2-clause-err
-returns-in_err-push-2-clause-err c = on_err _ refl
-
-pub returns-in_err-reserve-clause-err : goal.returns-in_err-reserve-clause-err
-returns-in_err-reserve-clause-err c =
-    let s = seen_state c.self.inside in
-    rw (← c.self.view_is) (on_err _ (ap (λ (l : List SealedCred). record s { creds = l }) c.in_err-reserve.ensures.list))
-
-pub returns-in_err-defer-clause-err : goal.returns-in_err-defer-clause-err
-returns-in_err-defer-clause-err c =
+pub returns-in_err-make_room-clause-err : goal.returns-in_err-make_room-clause-err
+returns-in_err-make_room-clause-err c =
     let s = seen_state c.self.inside in
     rw (← c.self.view_is)
     (on_err _
-    (ap (λ (l : List ℕ). record s { deferred = l; creds = c.reserve.new.self.list }) c.in_err-defer.ensures.err
-    ∙ ap (λ (l : List SealedCred). record s { creds = l }) c.in_ok-reserve.ensures.list))
+    (ap (λ (l : List ℕ). record s { deferred = l; creds = c.make_room.new.creds.list }) c.in_err-make_room.ensures.err
+    ∙ ap (λ (l : List SealedCred). record s { creds = l }) c.in_err-make_room.ensures.list))
