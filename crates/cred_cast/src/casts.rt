@@ -35,22 +35,19 @@ impl Model for Casts {
 }
 
 impl Casts {
-    /// No broadcast.
-    ///
-    /// # Errors
-    ///
-    /// `NoMemory` if an allocation fails.
-    pub fn new(alloc: Global) -> Result<Casts, NoMemory>
-        ensures { IfOk result (λ casts. casts ≡ []) }
+    /// No broadcast. No memory is taken.
+    pub fn new(alloc: Global) -> Casts
+        ensures { result ≡ [] }
     {
-        Ok(Casts {
+        Casts {
             casts: Vec::new(alloc),
             alloc,
-        })
+        }
     }
 
     /// A broadcast is begun: its caller has made the call, and these other threads of the process
-    /// wait for their step. Where there is none, it is completed and isn't open.
+    /// wait for their step. Where there is none, it is completed and isn't open, and the call is
+    /// not copied.
     ///
     /// # Errors
     ///
@@ -60,7 +57,7 @@ impl Casts {
         number: u32,
         process: u32,
         caller: u32,
-        call: IdCall,
+        call: &IdCall,
         waiting: &[u32],
     ) -> Result<(), NoMemory>
         requires new { cast_under self.old number ≡ None }
@@ -71,7 +68,7 @@ impl Casts {
           number = number;
           process = process;
           caller = caller;
-          call = call;
+          call = call.now;
           waiting = in_order waiting.now;
         })) }
         ensures err { OnErr result (self.new ≡ self.old) }
@@ -80,6 +77,7 @@ impl Casts {
             return Ok(());
         }
         let waiting = falling(self.alloc, waiting)?;
+        let call = call.copy()?;
         self.casts.push(Cast {
             number,
             process,

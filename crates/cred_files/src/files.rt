@@ -32,17 +32,13 @@ impl Model for Files {
 }
 
 impl Files {
-    /// No file.
-    ///
-    /// # Errors
-    ///
-    /// `NoMemory` if an allocation fails.
-    pub fn new(alloc: Global) -> Result<Files, NoMemory>
-        ensures { IfOk result (λ files. files ≡ []) }
+    /// No file. No memory is taken.
+    pub fn new(alloc: Global) -> Files
+        ensures { result ≡ [] }
     {
-        Ok(Files {
+        Files {
             files: IndexMap::new(alloc),
-        })
+        }
     }
 
     /// Whether a file is open at a descriptor.

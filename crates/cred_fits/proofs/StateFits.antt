@@ -1,4 +1,4 @@
--- The numbers of answers are in range, in every state that a kernel comes to.
+-- The numbers of answers are in range, in every state that a run comes to.
 use Rattle.std.proofs.Common.{◌≡◌, ℕ, ◌+◌, ◌-◌, ◌<◌, ◌≤◌, ◌^◌, ◌==◌, not, nat_lt, Bool, true, false, cond, List, [], ◌∷◌, ◌++◌, length, map, slice_get, drop, Option, Some, None, Result, Ok, Err, ok_or, refl, sym, ap, ◌∙◌, subst, arith}
 use Rattle.std.specs.Prelude.{⊤}
 use Rattle.std.specs.List.{All, Contains, AllPairs, find, position, remove, count_by, filter}
@@ -7,6 +7,7 @@ use Rattle.std.proofs.lemmas.List.{length-drop, length-map}
 use Rattle.std.proofs.lemmas.List.Elements.{All-nil, All-cons, All-push, All-map, All-weaker, All-contains, All-append}
 use Rattle.std.proofs.lemmas.List.Sums.{count_by-le-length, length-filter}
 use Rattle.cred_ids.specs.Ordered.{in_order}
+use Rattle.cred_ids.specs.Limits.{TASKS, OPEN_FILES, HOLDS, PREPARED, DEPTH, SLOTS}
 use Rattle.cred_record.specs.Credential.{Credential, first_credential}
 use Rattle.cred_record.specs.File.{File}
 use Rattle.cred_record.specs.declared.gains.Gains.{Gains}
@@ -31,10 +32,12 @@ use Rattle.cred_model.specs.Answers.{is_ok, flag, checked, reply}
 use Rattle.cred_model.specs.Casts.{others_of, with_cast, waits_no_more, joined, with_child, without, dropped, is_open, waits_in}
 use Rattle.cred_model.specs.Change.{Made, by_rule, by_change}
 use Rattle.cred_model.specs.Ends.{ended, is_thread_of, is_beside, survivors, is_task}
-use Rattle.cred_model.specs.Moves.{TASKS, FILES, HOLDS, PREPARED, DEPTH, ◌>>=◌, in_slot, table_full, first_task, created, replaced, preparing, altered, committed, given_up, with_current, updated, with_overrides, overriding, with_change, changed}
+use Rattle.cred_model.specs.Moves.{◌>>=◌, in_slot, table_full, first_task, created, replaced}
+use Rattle.cred_model.specs.Moves.{preparing, altered, committed, given_up, with_current, updated}
+use Rattle.cred_model.specs.Moves.{with_overrides, overriding, with_change, changed}
 use Rattle.cred_model.specs.Named.{query_files, change_files}
 use Rattle.cred_model.specs.Script.{Script, NamedFile, info_of, chain_of}
-use Rattle.cred_model.specs.Slots.{SLOTS, refs}
+use Rattle.cred_model.specs.Slots.{refs}
 use Rattle.cred_model.specs.State.{State, SealedCred, Task, Numbered, Prepared, Changed, Broadcast, numbered, number_on, task_of, cast_of, cast_in, begun_by, open_of, hold_of, prepared_of, credential_of, opener_of, held_by}
 use Rattle.cred_model.specs.Step.{done, outcome, step, by_init, take_hold, by_take, by_take_file, by_release, by_ask, by_signal, by_prepare, by_alter, is_access, for_task, try_commit, ends_with, casts_after, committed_by, commit_answer, by_commit, by_abort, for_access, override_held, override_prepared, by_override, by_revert, by_begin, aborted, follow, by_act, by_open, by_close, by_spawn, by_fork, by_exit}
 use Rattle.cred_model.proofs.Lists.{All-at, All-kept, All-remove, find_each, get_each}

@@ -6,6 +6,7 @@ use Rattle.std.specs.Option.{IfSome, option_map_or, option_and_then}
 use Rattle.std.proofs.lemmas.List.{length-drop, length-map}
 use Rattle.std.proofs.lemmas.List.Elements.{All-nil, All-cons, All-push, All-map, All-weaker, All-contains, All-append}
 use Rattle.std.proofs.lemmas.List.Sums.{count_by-le-length, length-filter}
+use Rattle.cred_ids.specs.Limits.{TASKS, OPEN_FILES, HOLDS, PREPARED, DEPTH, SLOTS}
 use Rattle.cred_record.specs.Credential.{Credential, first_credential}
 use Rattle.cred_record.specs.File.{File}
 use Rattle.cred_record.specs.declared.gains.Gains.{Gains}
@@ -30,10 +31,11 @@ use Rattle.cred_model.specs.Answers.{is_ok, flag, checked, reply}
 use Rattle.cred_model.specs.Casts.{others_of, with_cast, waits_no_more, joined, with_child, without, dropped, is_open, waits_in}
 use Rattle.cred_model.specs.Change.{Made, by_rule, by_change}
 use Rattle.cred_model.specs.Ends.{ended, is_thread_of, is_beside, survivors, is_task}
-use Rattle.cred_model.specs.Moves.{TASKS, FILES, HOLDS, PREPARED, DEPTH, ◌>>=◌, in_slot, table_full, first_task, created, replaced, preparing, altered, committed, given_up, with_current, updated, with_overrides, overriding, with_change, changed}
+use Rattle.cred_model.specs.Moves.{◌>>=◌, in_slot, table_full, first_task, created, replaced}
+use Rattle.cred_model.specs.Moves.{preparing, altered, committed, given_up, with_current, updated}
+use Rattle.cred_model.specs.Moves.{with_overrides, overriding, with_change, changed}
 use Rattle.cred_model.specs.Named.{query_files, change_files}
 use Rattle.cred_model.specs.Script.{Script, info_of, chain_of}
-use Rattle.cred_model.specs.Slots.{SLOTS}
 use Rattle.cred_model.specs.State.{State, SealedCred, Task, Numbered, Prepared, Changed, Broadcast, numbered, number_on, task_of, cast_of, cast_in, begun_by, open_of, hold_of, prepared_of, credential_of, opener_of, held_by}
 use Rattle.cred_model.specs.Step.{done, outcome, step, by_init, take_hold, by_take, by_take_file, by_release, by_ask, by_signal, by_prepare, by_alter, for_task, try_commit, ends_with, casts_after, committed_by, commit_answer, is_access, by_commit, by_abort, for_access, override_held, override_prepared, by_override, by_revert, by_begin, aborted, follow, by_act, by_open, by_close, by_spawn, by_fork, by_exit}
 use Rattle.cred_model.proofs.Lists.{All-at, All-remove, find_each, slice_get_at}
@@ -235,7 +237,7 @@ of_open script s hold place asked fd known h f =
     none_case (Gives s) (open_of s fd) _ _ (f, range) (λ new.
     let file = info_of script (place ∷ []) in
     test_case (Gives s) (is_ok (checked held.cred file asked)) _ _ (of_check held.cred file asked, range)
-    (test_case (Gives s) (nat_lt (length s.files) FILES) _ _ (tt, range) (tt, range))))
+    (test_case (Gives s) (nat_lt (length s.files) OPEN_FILES) _ _ (tt, range) (tt, range))))
 
 of_close : (s : State) (fd : ℕ) → IsKnown s → Gives s (by_close s fd)
 of_close s fd known =

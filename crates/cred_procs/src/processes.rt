@@ -1,6 +1,6 @@
 //! The threads of each process.
 ghost use Rattle.std.specs.Prelude.{◌≡◌, ℕ, ◌==◌, not, filter, [], ◌∷◌, ◌++◌, if◌then◌else◌, OnOk};
-ghost use Rattle.std.specs.Prelude.{OnErr};
+ghost use Rattle.std.specs.Prelude.{IfOk, OnErr};
 ghost use Rattle.cred_procs.specs.Kept.{threads_at};
 
 use cred_ids::NoMemory;
@@ -75,8 +75,20 @@ impl Processes {
     }
 }
 
+/// These tasks without one. Where none is left no memory is taken.
+pub fn without(alloc: Global, tasks: &[u32], task: u32) -> Result<Vec<u32>, NoMemory>
+    ensures { IfOk result (λ others. others.items ≡ filter (λ n. not (n == task)) tasks.now) }
+{
+    if tasks.iter().all(|other| *other == task) {
+        return Ok(Vec::new(alloc));
+    }
+    let mut others = Vec::from_slice(alloc, tasks)?;
+    take_off(&mut others, task);
+    Ok(others)
+}
+
 /// The list is without a task.
-pub fn take_off(tasks: &mut Vec<u32>, task: u32)
+fn take_off(tasks: &mut Vec<u32>, task: u32)
     ensures { tasks.new.items ≡ filter (λ n. not (n == task)) tasks.old.items }
 {
     tasks.retain(|other| *other != task);

@@ -13,7 +13,7 @@ ghost use Rattle.cred_procs.specs.Tasks.{has_process, spawned, forked, overrides
 ghost use Rattle.cred_procs.specs.Tasks.{with_overrides};
 
 use crate::lists::{CredNumbers, TaskList};
-use crate::processes::{Processes, take_off};
+use crate::processes::{Processes, without};
 use crate::thread::Thread;
 use cred_ids::limits;
 use cred_ids::NoMemory;
@@ -54,19 +54,15 @@ pub struct Ended {
 }
 
 impl Procs {
-    /// No task.
-    ///
-    /// # Errors
-    ///
-    /// `NoMemory` if an allocation fails.
-    pub fn new(alloc: Global) -> Result<Procs, NoMemory>
-        ensures { IfOk result (λ procs. procs ≡ []) }
+    /// No task. No memory is taken.
+    pub fn new(alloc: Global) -> Procs
+        ensures { result ≡ [] }
     {
-        Ok(Procs {
+        Procs {
             tasks: IndexMap::new(alloc),
             processes: Processes::new(alloc),
             alloc,
-        })
+        }
     }
 
     /// Whether the task is alive.
@@ -267,7 +263,9 @@ impl Procs {
             Ends (is_beside owner) self.old self.new ended.tasks ended.numbers)) }
         ensures err { OnErr result (self.new ≡ self.old) }
     {
-        let others = self.others(task)?;
+        // It is there: the task is alive.
+        let process = self.process_of(task).unwrap();
+        let others = self.others(process, task)?;
         self.end(others)
     }
 
@@ -292,21 +290,19 @@ impl Procs {
         self.tasks.get(&task)
     }
 
-    /// The other threads of a task's process, in the order in which they were created.
+    /// The other threads of a task's process, which is this one, in the order in which they were
+    /// created.
     ///
     /// # Errors
     ///
     /// `NoMemory` if an allocation fails.
-    pub fn others(&self, task: u32) -> Result<TaskList, NoMemory>
-        requires { IsSome (task_in self.now task) }
+    pub fn others(&self, process: u32, task: u32) -> Result<TaskList, NoMemory>
+        requires { option_map (λ t. t.process) (task_in self.now task) ≡ Some process }
         ensures others { IfOk result (λ tasks. IfSome (task_in self.now task) (λ owner.
             tasks ≡ those (is_beside owner) self.now)) }
         ensures tasks { AreTasks self.now }
     {
-        // It is there: the task is alive.
-        let process = self.process_of(task).unwrap();
-        let mut others = Vec::from_slice(self.alloc, self.processes.threads(process))?;
-        take_off(&mut others, task);
+        let others = without(self.alloc, self.processes.threads(process), task)?;
         Ok(TaskList::from_vec(others))
     }
 

@@ -5,7 +5,8 @@ ghost use Rattle.cred_reader.specs.CallRows as spec;
 
 use cred_caps::Cap;
 use cred_event::{Answer, Named};
-use cred_ids::{Arg, Groups};
+use cred_ids::limits;
+use cred_ids::Arg;
 use cred_record::{AdjCall, IdCall};
 
 /// Whether an id is given.
@@ -27,7 +28,7 @@ fn is_invalid(call: &IdCall) -> bool
         | IdCall::SetResuid(_, _, _)
         | IdCall::SetRegid(_, _)
         | IdCall::SetResgid(_, _, _) => false,
-        IdCall::SetGroups(groups) => groups.items().len() > Groups::LIMIT,
+        IdCall::SetGroups(groups) => groups.items().len() > limits::GROUP_LIMIT,
     }
 }
 

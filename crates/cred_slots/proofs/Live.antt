@@ -1,15 +1,16 @@
 -- Which slots are live, by the flags.
-use Rattle.std.proofs.Common.{◌≡◌, ◌≢◌, ◌⊎◌, ℕ, zero, suc, ◌+◌, ◌<◌, ◌≤◌, ◌==◌, ◌||◌, Bool, true, false, not, cond, List, [], length, get_or, map, find, refl, sym, ap, ◌∙◌, subst, inl, inr, arith, nat_lt, Option, Some, slice_get}
+use Rattle.std.proofs.Common.{◌≡◌, ◌≢◌, ◌⊎◌, ℕ, zero, suc, ◌+◌, ◌<◌, ◌≤◌, ◌==◌, ◌||◌, Bool, true, false, not, cond, List, [], length, get_or, map, find, refl, sym, ap, ◌∙◌, subst, inl, inr, arith, nat_lt, Option, None, Some, is_some, slice_get}
 use Rattle.std.specs.List.{count_by, list_any, range_with_len}
 use Rattle.std.proofs.lemmas.List.FromFn.{get_or-map-range_with_len}
 use Rattle.std.proofs.lemmas.List.Folds.{list_any-append}
 use Rattle.std.proofs.lemmas.Bool.{cases_lt}
 use Rattle.std.proofs.lemmas.Bool.Decides.{nat_tests}
 use Rattle.cred_slots.specs.declared.row.Row.{Row}
-use Rattle.cred_slots.specs.Table.{Table, slots, stands_in, is_live, least_free}
+use Rattle.cred_slots.specs.Table.{Table, slots, stands_in, is_live, least_free, swept, free}
 use Rattle.cred_slots.specs.Flags.{in_either, first_unset}
 use Rattle.cred_slots.specs.Rows.{row_at, repeated, held_in, held_count, late_count, IsSound}
 use Rattle.cred_slots.proofs.Counting.{weight, any-count, count-repeated, sum_only}
+use Rattle.cred_slots.proofs.Tables.{room-free, room-full}
 
 -- Two tests that agree below the end find the same.
 pub find-same : (p q : ℕ → Bool) (a n : ℕ) → ((k : ℕ) → a ≤ k → k < a + n → p k ≡ q k) → find p (range_with_len a n) ≡ find q (range_with_len a n)
@@ -161,3 +162,64 @@ least-is {rows = rows} {sealed = sealed} {deferred = deferred} {kept = kept} {us
     let dead : not ((nat_lt 0 (row_at rows slot).held || nat_lt 0 (row_at rows slot).late) || get_or kept slot false) ≡ true =
     rw (← u, ← l, ← list_any-append test (held_in rows) deferred) found.1 in
     (within, none_counted (row_at rows slot).held (row_at rows slot).late (get_or kept slot false) dead)
+
+-- ---- the slot that is taken next
+
+none_is : (b : Bool) (a : ℕ) (rest : Option ℕ) → cond b (Some a) rest ≡ None → (b ≡ false) × (rest ≡ None)
+none_is true a rest e = cc
+none_is false a rest e = (refl, e)
+
+find-fails : (test : ℕ → Bool) (a n s : ℕ) → find test (range_with_len a n) ≡ None → a ≤ s → s < a + n → test s ≡ false
+find-fails test a zero s none low high = absurd (omega arith)
+find-fails test a (suc n) s none low high =
+    let each = none_is (test a) a (find test (range_with_len (a + 1) n)) none in
+    elim (cases_lt a s) [
+      | inl lt ↦ find-fails test (a + 1) n s each.1 (omega arith) (omega arith)
+      | inr ge ↦ let same : a ≡ s = omega arith in subst (λ (k : ℕ). test k ≡ false) same each.0
+    ]
+
+-- It is free at once, and then nothing was given up in it, or all slots are live until a sweep, and
+-- then something was.
+pub record IsNext (t : Table) (late slot : ℕ) : Type 0 where
+  pub within : slot < 256
+  pub at_once : late ≡ 0 → least_free t ≡ Some slot
+  pub all_live : 0 < late → (least_free t ≡ None) × (least_free (swept t) ≡ Some slot)
+
+pub next-is : {rows : List Row} {sealed deferred : List ℕ} {kept used late : List Bool} {held spare sealable referable : ℕ}
+    → IsSound rows sealed deferred kept used late held spare sealable referable
+    → (slot : ℕ) → free (seen rows sealed deferred kept spare) ≡ Some slot
+    → IsNext (seen rows sealed deferred kept spare) (row_at rows slot).late slot
+unfolding slots
+next-is {rows = rows} {sealed = sealed} {deferred = deferred} {kept = kept} {used = used} {late = late} {spare = spare} s slot takes =
+    by_least (least_free (seen rows sealed deferred kept spare)) refl
+  where
+    by_least : (o : Option ℕ) → least_free (seen rows sealed deferred kept spare) ≡ o → IsNext (seen rows sealed deferred kept spare) (row_at rows slot).late slot
+    by_least (Some n) at =
+        let t = seen rows sealed deferred kept spare in
+        let here : least_free t ≡ Some slot = sym (ap least_free (room-free t (ap is_some at))) ∙ takes in
+        let is = least-is s slot here in
+        record {
+          within = is.0;
+          at_once = λ none. here;
+          all_live = λ some. absurd (omega (arith, some, is.1));
+        }
+    by_least None at =
+        let t = seen rows sealed deferred kept spare in
+        let test : ℕ → Bool = stands_in sealed slot in
+        let later : least_free (swept t) ≡ Some slot = sym (ap least_free (room-full t (ap is_some at))) ∙ takes in
+        let found = find-passes (λ k. not (is_live (swept t) k)) 0 256 slot later in
+        let within : slot < 256 = omega (arith, found.0) in
+        let live : not (is_live t slot) ≡ false = find-fails (λ k. not (is_live t k)) 0 256 slot at (omega arith) within in
+        let given_up : list_any test deferred ≡ nat_lt 0 (row_at rows slot).late = any-count test deferred ∙ ap (nat_lt 0) (late-in_slot s slot within) in
+        record {
+          within = within;
+          at_once = λ none.
+              let nothing : list_any test deferred ≡ false = given_up ∙ ap (nat_lt 0) none in
+              let same : is_live t slot ≡ is_live (swept t) slot =
+              ap (λ (b : Bool). b || get_or kept slot false)
+              (list_any-append test (held_in rows) deferred ∙ ap (λ (b : Bool). list_any test (held_in rows) || b) nothing
+              ∙ sym (list_any-append test (held_in rows) [])) in
+              let dead : not (is_live t slot) ≡ true = ap not same ∙ found.1 in
+              absurd (let wrong : false ≡ true = sym live ∙ dead in cc);
+          all_live = λ some. (at, later);
+        }

@@ -1,7 +1,7 @@
 //! The table of slots.
 ghost use Rattle.std.specs.Prelude.{◌≡◌, ℕ, ◌<◌, ◌+◌, ◌-◌, ◌++◌, [], ◌∷◌, length, max, false, true};
 ghost use Rattle.std.specs.Prelude.{slice_get, slice_set, count_by, ◌==◌, IfOk, OnOk, OnErr};
-ghost use Rattle.std.specs.Prelude.{IfSome, IfNone, IsTrue};
+ghost use Rattle.std.specs.Prelude.{IsTrue};
 ghost use Rattle.cred_ids.specs.Limits.{SLOTS};
 ghost use Rattle.cred_slots.specs.Table.{empty, references_to, uses, stands_in, is_kept};
 ghost use Rattle.cred_slots.specs.Table.{is_live, least_free, swept, swept_if_full, free};
@@ -82,7 +82,7 @@ impl Slots {
         })
     }
 
-    /// The slot that `claim` would give.
+    /// The least slot that isn't live, or that isn't once what was given up no longer counts.
     pub fn free_slot(&self) -> Option<u32>
         ensures { result ≡ free self.now }
     {
@@ -99,19 +99,16 @@ impl Slots {
         self.sealed.len() as u64
     }
 
-    /// Keeps the least slot that isn't live, and gives it. If all are live, a sweep comes first,
-    /// which stands even where all are live after it.
+    /// Keeps the slot that `free_slot` gives. If all are live, a sweep comes first.
     #[inline(always)]
-    pub fn claim(&mut self) -> Option<u32>
-        ensures slot { result ≡ free self.old }
-        ensures none { IfNone result (self.new ≡ swept_if_full self.old) }
-        ensures some { IfSome result (λ slot.
-            self.new ≡ record (swept_if_full self.old) { kept = slice_set self.old.kept slot true }) }
-        ensures kept { IfSome result (λ slot. IsTrue (is_kept self.new slot)) }
+    pub fn claim(&mut self, slot: u32)
+        requires { free self.old ≡ Some slot }
+        ensures table { self.new
+            ≡ record (swept_if_full self.old) { kept = slice_set self.old.kept slot true } }
+        ensures kept { IsTrue (is_kept self.new slot) }
     {
-        let slot = self.make_room()?;
+        self.make_room(slot);
         self.keep(slot);
-        Some(slot)
     }
 
     /// The slot is no longer kept.
@@ -253,18 +250,17 @@ impl Slots {
         self.kept.union(&self.used).first_unset()
     }
 
-    /// Sweeps if all slots are live, and gives the least slot that isn't live then.
+    /// Sweeps if all slots are live. The slot is the one that is taken then: all are live just where
+    /// something that was given up is counted in it.
     #[inline(always)]
-    fn make_room(&mut self) -> Option<u32>
-        ensures swept_if_full { self.new ≡ swept_if_full self.old }
-        ensures slot { result ≡ least_free self.new }
+    fn make_room(&mut self, slot: u32)
+        requires { free self.old ≡ Some slot }
+        ensures room { self.new ≡ swept_if_full self.old }
+        ensures slot { least_free self.new ≡ Some slot }
     {
-        match self.least_free() {
-            Some(slot) => Some(slot),
-            None => {
-                self.sweep();
-                self.least_free()
-            }
+        let late = self.rows[slot as usize].late;
+        if late > 0 {
+            self.sweep();
         }
     }
 

@@ -1,13 +1,10 @@
 -- A task makes an id call, and the other threads of its process wait.
-use Rattle.std.proofs.Common.{◌≡◌, ◌≢◌, ◌==◌, ◌<◌, ◌≤◌, ◌^◌, ℕ, Bool, true, not, filter, find, is_some, List, [], ◌∷◌, ◌++◌, length, slice_set, Option, None, Some, Ok, Err, refl, sym, ap, ◌∙◌, subst, arith}
+use Rattle.std.proofs.Common.{◌≡◌, ◌≢◌, ◌==◌, ℕ, true, filter, find, is_some, List, [], ◌∷◌, ◌++◌, length, slice_set, Option, None, Some, Ok, Err, refl, sym, ap, ◌∙◌, subst}
 use Rattle.std.specs.List.{All, AllPairs}
 use Rattle.std.specs.Option.{option_and_then}
-use Rattle.std.proofs.lemmas.List.{length-map}
 use Rattle.std.proofs.lemmas.List.Elements.{All-map}
-use Rattle.std.proofs.lemmas.List.Filters.{length-filter_both}
 use Rattle.std.proofs.lemmas.List.Kept.{AllPairs-filter}
-use Rattle.cred_ids.specs.Ordered.{in_order}
-use Rattle.cred_ids.specs.Limits.{TASKS, SLOTS}
+use Rattle.cred_ids.specs.Limits.{SLOTS}
 use Rattle.cred_record.specs.Credential.{Credential}
 use Rattle.cred_record.specs.declared.id_call.IdCall.{IdCall}
 use Rattle.cred_record.specs.declared.refusal.Denial.{Denial}
@@ -34,7 +31,7 @@ use Rattle.cred_cast.proofs.Conditions.{idle_waits_nowhere}
 use Rattle.cred_procs.specs.Tasks.{those}
 use Rattle.cred_slots.specs.Table.{Table, IsSameBag, IsAlone}
 use Rattle.cred_slots.specs.Table as table
-use Rattle.cred_tables.specs.Begin.{MayBegin, cast_begun}
+use Rattle.cred_tables.specs.Begin.{MayBegin, MayWait, cast_begun}
 use Rattle.cred_tables.specs.Kept.{Parts, AreFilled, state_of, IsKept, Seals}
 use Rattle.cred_tables.proofs.Bags.{bag-other}
 use Rattle.cred_state.proofs.Broadcasts.{kept_casts, like_casts}
@@ -48,19 +45,6 @@ begin_does task old new cast s slot =
     (Began (length s.creds) slot (length cast.waiting), record (replaced s task old new slot) { casts = with_cast s.casts cast })
 
 -- ---- the others, who wait
-
--- the broadcast that was entered is that of the call
-pub begun_casts : (casts now : List Broadcast) (tasks : List Task) (line task : ℕ) (owner : Task) {process : ℕ} {call copied : IdCall} {waiting : List ℕ}
-    → process ≡ owner.process → copied ≡ call → waiting ≡ those (is_beside owner) tasks
-    → now ≡ with_cast casts (record { number = line; process = process; caller = task; call = copied; waiting = in_order waiting })
-    → now ≡ with_cast casts (cast_begun line task call owner tasks)
-begun_casts casts now tasks line task owner {call = call} {copied = copied} {waiting = waiting} of same these is =
-    let cast : ℕ → IdCall → List ℕ → Broadcast
-    = λ p k ns. record { number = line; process = p; caller = task; call = k; waiting = in_order ns } in
-    is
-    ∙ ap (λ (p : ℕ). with_cast casts (cast p copied waiting)) of
-    ∙ ap (λ (k : IdCall). with_cast casts (cast owner.process k waiting)) same
-    ∙ ap (λ (ns : List ℕ). with_cast casts (cast owner.process call ns)) these
 
 module _ (s : State) (owner : Task) (sound : IsSound s) where
   -- no two of the others are one
@@ -82,12 +66,16 @@ module _ (s : State) (owner : Task) (sound : IsSound s) where
       (λ t beside found. idle_waits_nowhere s owner.process t.number sound idle (in_process t beside found))
       (finds_itself (λ (t : Task). t.number) s.tasks sound.tasks))
 
--- They are few.
-pub few_those : (passes : Task → Bool) (tasks : List Task) → length tasks ≤ TASKS → length (those passes tasks) < 2 ^ 32
-few_those passes tasks few =
-    let all = length-filter_both passes (λ t. not (passes t)) (λ t. refl) tasks in
-    let same = length-map (filter passes tasks) (λ (t : Task). t.number) in
-    omega (arith, few, all, same)
+-- the broadcast may be begun
+pub may_wait : (s : State) (line task : ℕ) (old : Numbered) → MayBegin s line task old → IsSound s → MayWait s.tasks s.casts line task
+may_wait s line task old may sound = record {
+  owner = may.owner;
+  lives = may.lives;
+  new = may.new;
+  idle = may.idle;
+  once = others_apart s may.owner sound;
+  nowhere = others_nowhere s may.owner sound may.idle;
+}
 
 -- ---- the call
 

@@ -1,6 +1,5 @@
 -- A first task is created.
 use Rattle.std.proofs.Common.{◌≡◌, ℕ, ◌<◌, Bool, true, false, not, ◌==◌, nat_lt, List, [], ◌∷◌, ◌++◌, find, length, slice_set, Option, None, Some, Ok, refl, sym, ap, ◌∙◌, subst, arith}
-use Rattle.std.specs.Option.{IsSome, MatchOption}
 use Rattle.std.proofs.lemmas.Bool.Decides.{nat_tests}
 use Rattle.cred_ids.specs.Limits.{SLOTS}
 use Rattle.cred_record.specs.Credential.{Credential, first_credential}
@@ -24,17 +23,6 @@ use Rattle.cred_tables.proofs.Stored.{does_made, length-creds_in, filled-put, st
 
 pub few_by_test : (n : ℕ) (test : Bool) → test ≡ not (nat_lt n 64) → test ≡ false → n < 64
 few_by_test n test is few = grind (arith, nat_tests)
-
--- Where a slot is free, one is sealed.
-pub is_sealed : (t after : Table) (found : Option (ℕ × ℕ)) → MatchOption found ((table.free t ≡ None) × (after ≡ table.swept_if_full t)) (λ sealing. Seals t after sealing.0 sealing.1)
-    → (table.free t ≡ None → ⊥) → IsSome found
-is_sealed t after None is some = absurd (some is.0)
-is_sealed t after (Some sealing) is some = refl
-
-pub sealed_there : (t after : Table) (found : Option (ℕ × ℕ)) (number slot : ℕ) → found ≡ Some (number, slot)
-    → MatchOption found ((table.free t ≡ None) × (after ≡ table.swept_if_full t)) (λ sealing. Seals t after sealing.0 sealing.1) → Seals t after number slot
-sealed_there t after found number slot is seals =
-    subst (λ (o : Option (ℕ × ℕ)). MatchOption o ((table.free t ≡ None) × (after ≡ table.swept_if_full t)) (λ sealing. Seals t after sealing.0 sealing.1)) is seals
 
 -- the task was entered with the number that was sealed after that
 pub started : (tasks after : List Task) (task process next number : ℕ) → after ≡ tasks ++ first_task task process next ∷ [] → next ≡ number

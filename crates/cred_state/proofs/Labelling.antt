@@ -1,7 +1,7 @@
 -- A label begins to prepare, changes what it prepares, and gives it up.
 use Rattle.std.proofs.Common.{◌≡◌, ◌≢◌, ℕ, ◌<◌, Bool, true, false, ◌==◌, ◌||◌, nat_lt, List, [], ◌∷◌, ◌++◌, find, map, position, remove, suc, take, drop, count_by, slice_get, slice_set, slice_index_or, length, Option, None, Some, Ok, is_some, refl, sym, ap, ◌∙◌, subst, arith}
 use Rattle.std.specs.List.{AllPairs}
-use Rattle.std.specs.Option.{option_map, IfSome}
+use Rattle.std.specs.Option.{option_map}
 use Rattle.std.proofs.lemmas.Bool.Decides.{nat_tests}
 use Rattle.std.proofs.lemmas.List.{take-map, drop-map, map-append}
 use Rattle.std.proofs.lemmas.Option.{slice_get-map}
@@ -18,7 +18,6 @@ use Rattle.cred_slots.specs.Table.{Table, IsSameBag, is_kept}
 use Rattle.cred_slots.specs.Table as table
 use Rattle.cred_tables.specs.Kept.{AreFilled, Parts, state_of, IsCounted, IsKept}
 use Rattle.cred_tables.proofs.Bags.{bag-more, bag-less, bag-has, bag-at}
-use Rattle.cred_model.proofs.Places.{if_some}
 use Rattle.cred_tables.proofs.Keeps.{is_among, keeps-push, keeps-remove, among-at}
 use Rattle.cred_tables.proofs.Sealing.{in_free, in_none, over_later}
 use Rattle.cred_tables.proofs.InUse.{in_use-label, in_use-unlabel, in_use-altered, kept-altered}
@@ -42,19 +41,14 @@ pub record Claims (before after : Table) (base slot : ℕ) : Type 0 where
   pub here : is_kept after slot ≡ true
 
 -- what a claim gives where there was more room to spare, and then a reference is added
-pub claims : (t r claimed after : Table) (found : Option ℕ) (m n base slot : ℕ) → r ≡ record t { spare = m } → Some slot ≡ table.free r → found ≡ table.free r
-    → IfSome found (λ place. claimed ≡ record (table.swept_if_full r) { kept = slice_set r.kept place true })
-    → IfSome found (λ place. is_kept claimed place ≡ true)
+pub claims : (t r claimed after : Table) (m n base slot : ℕ) → r ≡ record t { spare = m } → Some slot ≡ table.free r
+    → claimed ≡ record (table.swept_if_full r) { kept = slice_set r.kept slot true } → is_kept claimed slot ≡ true
     → IsSameBag after.held (base ∷ claimed.held) → after ≡ record claimed { held = after.held; spare = n }
     → Claims t after base slot
-claims t r claimed after found m n base slot spared free is gives keeps held added =
+claims t r claimed after m n base slot spared free gives kept held added =
     let takes : table.free t ≡ Some slot = sym (subst (λ (x : Table). Some slot ≡ table.free x) spared free) in
-    let same : found ≡ Some slot = is ∙ sym free in
-    let made : claimed ≡ record (table.swept_if_full r) { kept = slice_set r.kept slot true }
-    = if_some (λ place. claimed ≡ record (table.swept_if_full r) { kept = slice_set r.kept place true }) found slot same gives in
     let own : claimed ≡ record (table.swept_if_full t) { kept = slice_set t.kept slot true; spare = m }
-    = subst (λ (x : Table). claimed ≡ record (table.swept_if_full x) { kept = slice_set x.kept slot true }) spared made in
-    let kept : is_kept claimed slot ≡ true = if_some (λ place. is_kept claimed place ≡ true) found slot same keeps in
+    = subst (λ (x : Table). claimed ≡ record (table.swept_if_full x) { kept = slice_set x.kept slot true }) spared gives in
     record {
       takes = takes;
       held = subst (λ (x : Table). IsSameBag after.held (base ∷ x.held)) own held;

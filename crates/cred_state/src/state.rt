@@ -65,18 +65,20 @@ impl State {
     ///
     /// # Errors
     ///
-    /// `NoMemory` if an allocation of the tasks, the places or the slots fails.
+    /// `NoMemory` if an allocation of the places or of the slots fails.
     pub fn new(alloc: Global) -> Result<State, NoMemory>
         ensures { IfOk result (λ state. state ≡ opening) }
     {
+        let store = Store::new(alloc)?;
+        let slots = Slots::new(alloc)?;
         Ok(State {
-            tasks: Procs::new(alloc)?,
-            casts: Casts::new(alloc)?,
-            files: Files::new(alloc)?,
+            tasks: Procs::new(alloc),
+            casts: Casts::new(alloc),
+            files: Files::new(alloc),
             holds: Holds::new(alloc),
             prepared: Preparing::new(alloc),
-            store: Store::new(alloc)?,
-            slots: Slots::new(alloc)?,
+            store,
+            slots,
             alloc,
         })
     }

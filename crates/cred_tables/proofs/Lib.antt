@@ -10,3 +10,4 @@ pub mod Stored
 pub mod Sealing
 pub mod Ending
 pub mod Spawns
+pub mod Begun

@@ -1,13 +1,17 @@
 -- When a task may make an id call that its process's other threads follow (nptl(7)).
-use Rattle.std.specs.Prelude.{◌≡◌, ℕ, List, Ok, Some, None}
+use Rattle.std.specs.Prelude.{◌≡◌, ◌≢◌, ℕ, List, All, Ok, Some, None, length}
+use Rattle.std.specs.List.{AllPairs}
 use Rattle.cred_record.specs.declared.id_call.IdCall.{IdCall}
 use Rattle.cred_event.specs.declared.answer.AbortCause.{AbortCause}
 use Rattle.cred_event.specs.declared.answer.AbortCause.TheVariants.{Perm, Full}
 use Rattle.cred_model.specs.State.{State, Task, Broadcast, Numbered, task_of, current_of, cast_of}
 use Rattle.cred_model.specs.State.{cast_in}
 use Rattle.cred_model.specs.Slots.{swept}
-use Rattle.cred_model.specs.Casts.{others_of}
+use Rattle.cred_model.specs.Casts.{others_of, with_cast}
+use Rattle.cred_model.specs.Ends.{is_beside}
 use Rattle.cred_model.specs.Moves.{not_overridden}
+use Rattle.cred_cast.specs.Casts.{WaitsNowhere, cast_under, cast_within}
+use Rattle.cred_procs.specs.Tasks.{task_in, those}
 use Rattle.cred_slots.specs.Table.{Table}
 use Rattle.cred_slots.specs.Table as table
 
@@ -40,3 +44,18 @@ cast_begun line task call owner tasks = record {
   call = call;
   waiting = others_of owner tasks;
 }
+
+-- The broadcast of a task's call may be begun: the other threads of its process wait nowhere, none
+-- is open in its process, and none has the line's number.
+pub record MayWait (tasks : List Task) (casts : List Broadcast) (line task : ℕ) : Type 0 where
+  pub owner : Task
+  pub lives : task_in tasks task ≡ Some owner
+  pub new : cast_under casts line ≡ None
+  pub idle : cast_within casts owner.process ≡ None
+  pub once : AllPairs (λ a b. a ≢ b) (those (is_beside owner) tasks)
+  pub nowhere : All (WaitsNowhere casts) (those (is_beside owner) tasks)
+
+-- The broadcast was begun, in which so many wait. Where nobody does it isn't open.
+pub record HasBegun (before after : List Broadcast) (cast : Broadcast) (left : ℕ) : Type 0 where
+  pub casts : after ≡ with_cast before cast
+  pub waiting : left ≡ length cast.waiting

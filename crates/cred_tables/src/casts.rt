@@ -1,14 +1,42 @@
 //! What happens to the tasks and the open broadcasts together.
-ghost use Rattle.std.specs.Prelude.{◌≡◌, ◌<◌, All, length, None, OnOk, OnErr};
+ghost use Rattle.std.specs.Prelude.{◌≡◌, ◌<◌, length, None, IfOk, IfSome, OnOk, OnErr};
 ghost use Rattle.std.specs.Option.{IsSome};
 ghost use Rattle.cred_ids.specs.Limits.{TASKS};
 ghost use Rattle.cred_model.specs.Casts.{joined};
 ghost use Rattle.cred_cast.specs.Casts.{WaitsNowhere};
 ghost use Rattle.cred_procs.specs.Tasks.{spawned, task_in};
+ghost use Rattle.cred_tables.specs.Begin.{HasBegun, MayWait, cast_begun};
 
 use cred_cast::Casts;
 use cred_ids::NoMemory;
 use cred_procs::Procs;
+use cred_record::IdCall;
+
+/// A task has made an id call: the other threads of its process wait for their step. Gives how many
+/// they are. Where it has none, the broadcast is completed at once.
+///
+/// # Errors
+///
+/// `NoMemory` if an allocation of a list or of the call's copy fails: the broadcasts are as they
+/// were.
+pub fn begin_in(
+    tasks: &Procs,
+    casts: &mut Casts,
+    line: u32,
+    task: u32,
+    call: &IdCall,
+) -> Result<u32, NoMemory>
+    requires { MayWait tasks.now casts.old line task }
+    ensures ok { IfOk result (λ left. IfSome (task_in tasks.now task) (λ owner.
+        HasBegun casts.old casts.new (cast_begun line task call.now owner tasks.now) left)) }
+    ensures err { OnErr result (casts.new ≡ casts.old) }
+{
+    // It is there: the task is alive.
+    let process = tasks.process_of(task).unwrap();
+    let others = tasks.others(process, task)?;
+    casts.begin(line, process, task, call, others.items())?;
+    Ok(others.items().len() as u32)
+}
 
 /// A task creates a thread of its process, which waits where its creator waits.
 ///

@@ -12,7 +12,7 @@ mod seal;
 mod store;
 mod table;
 
-pub use casts::spawn_in;
+pub use casts::{begin_in, spawn_in};
 pub use ends::{committed_by, drop_cast, end_with};
 pub use holds::Holds;
 pub use prepared::{Changed, Ended, Preparation, Preparing, Ready};

@@ -1,8 +1,8 @@
 //! Taking a slot for a new credential, and giving up references.
-ghost use Rattle.std.specs.Prelude.{◌≡◌, ◌<◌, ◌==◌, ◌++◌, IsTrue, MatchOption, None, count_by};
+ghost use Rattle.std.specs.Prelude.{◌≡◌, ◌<◌, ◌==◌, ◌++◌, IsTrue, Some, count_by};
 ghost use Rattle.std.specs.Prelude.{length, slice_set};
 ghost use Rattle.cred_ids.specs.Limits.{SLOTS};
-ghost use Rattle.cred_slots.specs.Table.{IsSameBag, is_kept, swept_if_full, free};
+ghost use Rattle.cred_slots.specs.Table.{IsSameBag, is_kept, free};
 ghost use Rattle.cred_tables.specs.Begin.{table_at};
 ghost use Rattle.cred_tables.specs.Kept.{AreHeld, Seals, SealsKept};
 
@@ -12,18 +12,16 @@ use cred_event::AbortCause;
 use cred_record::Cred;
 use cred_slots::Slots;
 
-/// Seals the next number in the free slot, after a sweep where one is needed. Where all slots are
-/// live even then, the sweep stands, and there is none.
+/// Seals the next number in the slot that is taken next, after a sweep where one is needed, and
+/// gives the number.
 #[inline(always)]
-pub fn seal_next(slots: &mut Slots) -> Option<(u64, u32)>
-    requires { 0 < slots.old.spare }
-    ensures { MatchOption result
-        ((free slots.old ≡ None) × (slots.new ≡ swept_if_full slots.old))
-        (λ sealing. Seals slots.old slots.new sealing.0 sealing.1) }
+pub fn seal_next(slots: &mut Slots, slot: u32) -> u64
+    requires free { free slots.old ≡ Some slot }
+    requires spare { 0 < slots.old.spare }
+    ensures { Seals slots.old slots.new result slot }
 {
-    let slot = slots.claim()?;
-    let number = slots.seal(slot);
-    Some((number, slot))
+    slots.claim(slot);
+    slots.seal(slot)
 }
 
 /// Seals a credential under the next number, in the slot that was kept for it, and gives up the

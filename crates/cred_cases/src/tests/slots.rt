@@ -14,9 +14,10 @@ fn seal_one(slots: &mut Slots) -> Result<(u64, u32), Fail>
     ensures { IfOk result (λ made. IsSameBag slots.new.held (made.0 ∷ slots.old.held)) }
 {
     slots.reserve()?;
-    let Some(slot) = slots.claim() else {
+    let Some(slot) = slots.free_slot() else {
         return Err(Fail::from("no slot is free"));
     };
+    slots.claim(slot);
     Ok((slots.seal(slot), slot))
 }
 

@@ -18,7 +18,7 @@ use cred_event::{AbortCause, Answer, Named};
 use cred_ids::NoMemory;
 use cred_record::{IdCall, Refusal};
 use cred_setid::apply;
-use cred_tables::{Numbered, drop_all, seal_next, sweep_at};
+use cred_tables::{Numbered, begin_in, drop_all, seal_next, sweep_at};
 
 impl State {
     /// A task makes an id call. The other threads of its process then wait for their step; where it
@@ -47,25 +47,20 @@ impl State {
             Err(Refusal::Memory) => return Err(NoMemory),
         };
         self.slots.reserve()?;
-        let others = self.tasks.others(task)?;
-        if self.slots.free_slot().is_none() {
+        let Some(slot) = self.slots.free_slot() else {
             self.slots.sweep();
             return Ok(Answer::TableFull);
-        }
-        // It is there: the task is alive.
-        let process = self.tasks.process_of(task).unwrap();
+        };
         // The others wait before the credential is sealed, since that may want memory.
-        self.casts
-            .begin(line, process, task, call.copy()?, others.items())?;
-        // A slot is free.
-        let (number, slot) = seal_next(&mut self.slots).unwrap();
+        let left = begin_in(&self.tasks, &mut self.casts, line, task, call)?;
+        let number = seal_next(&mut self.slots, slot);
         self.store.put(slot, cred);
         self.tasks.set_current(task, number);
         self.slots.drop_later(old);
         Ok(Answer::Began {
             cred: number,
             slot,
-            left: others.items().len() as u32,
+            left,
         })
     }
 
@@ -99,11 +94,10 @@ impl State {
             Err(Refusal::Memory) => return Err(NoMemory),
         };
         self.slots.reserve()?;
-        if self.slots.free_slot().is_none() {
+        let Some(slot) = self.slots.free_slot() else {
             return self.end_process_of(task, AbortCause::Full);
-        }
-        // A slot is free.
-        let (new, slot) = seal_next(&mut self.slots).unwrap();
+        };
+        let new = seal_next(&mut self.slots, slot);
         self.store.put(slot, cred);
         self.tasks.set_current(task, new);
         self.slots.drop_later(replaced);

@@ -66,7 +66,7 @@ impl State {
                 changed: None,
             },
         )?;
-        self.slots.claim();
+        self.slots.claim(slot);
         self.slots.add(base);
         Ok(Answer::Kept { slot })
     }

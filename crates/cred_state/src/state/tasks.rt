@@ -44,15 +44,14 @@ impl State {
         }
         let cred = first(self.alloc, user, group, ns)?;
         self.slots.reserve()?;
-        if self.slots.free_slot().is_none() {
+        let Some(slot) = self.slots.free_slot() else {
             self.slots.sweep();
             return Ok(Answer::TableFull);
-        }
+        };
         // The task is entered before its credential is sealed, since that may want memory.
         let next = self.slots.next_number();
         self.tasks.start(number, process, next)?;
-        // A slot is free.
-        let (current, slot) = seal_next(&mut self.slots).unwrap();
+        let current = seal_next(&mut self.slots, slot);
         self.store.put(slot, cred);
         Ok(Answer::Sealed {
             cred: current,

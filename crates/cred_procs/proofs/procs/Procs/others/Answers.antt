@@ -24,10 +24,9 @@ by_process task process ts tasks (Some owner) at is these =
 pub returns-clause-others : goal.returns-clause-others
 returns-clause-others c =
     let ts = tasks_of c.self.inside.tasks.entries in
-    let process = c.unwrap-process.result in
-    let is : option_map (λ t. t.process) (task_in c.args.self.now c.args.task) ≡ Some process = sym c.process_of.ensures ∙ c.unwrap-process.ensures in
-    let of = rw (← c.self.view_is) at is in
+    let process = c.args.process in
+    let of = rw (← c.self.view_is) at c.requires in
     rw (← c.self.view_is)
     (by_process c.args.task process ts _ (task_in ts c.args.task) refl of
-    (c.from_vec.ensures ∙ c.take_off.ensures
-    ∙ ap (filter (is_other c.args.task)) (c.in_ok-others.ensures.items ∙ c.threads.ensures ∙ c.self.invariant.grouped process)))
+    (c.from_vec.ensures ∙ c.in_ok-others.ensures
+    ∙ ap (filter (is_other c.args.task)) (c.threads.ensures ∙ c.self.invariant.grouped process)))

@@ -1,4 +1,4 @@
-use Rattle.std.proofs.Common.{◌≡◌, Ok, inl, inr, refl, sym, ◌∙◌}
+use Rattle.std.proofs.Common.{◌≡◌, Ok, inl, inr, refl, sym}
 use Rattle.cred_rules.specs.SetId.{set_id}
 use Rattle.cred_cast.proofs.Conditions.{least_waits}
 use Rattle.cred_event.specs.declared.answer.AbortCause.TheVariants.{Perm, Full}
@@ -6,8 +6,7 @@ use Rattle.cred_model.specs.State.{cast_of}
 use Rattle.cred_tables.specs.Kept.{parts_of, state_of}
 use Rattle.cred_state.proofs.Acts.{next_is, next-lives, act_none, act_without, some_mapped, mapped_is, aborts_so, act_refused, denied, same_spare, act_full, act_kept, act_sealed}
 use Rattle.cred_tables.proofs.Bags.{bag-keeps}
-use Rattle.cred_state.proofs.Inits.{is_sealed, sealed_there}
-use Rattle.cred_model.proofs.Places.{if_some, none_by_other, some_by_test}
+use Rattle.cred_model.proofs.Places.{if_some}
 use Rattle.cred_tables.proofs.Sealing.{current-held, drops, none_spare, seals_spare}
 use Rattle.cred_state.proofs.Made.{rule_made}
 use Rattle.cred_state.proofs.Reserved.{kept_spare}
@@ -33,10 +32,8 @@ unwrap-call-requires c =
     let next = next_is (state_of (parts_of t.tasks t.casts t.files t.holds t.prepared) t.store t.slots) c.args.number c.in-Some.task sound c.in-Some.ensures.next in
     some_mapped _ _ c.call.result _ next.cast c.call.ensures next.found
 
-pub unwrap-new-requires : goal.unwrap-new-requires
-unwrap-new-requires c =
-    is_sealed c.reserve.new.self c.seal_next.new.slots c.seal_next.result c.seal_next.ensures
-    (λ none. some_by_test c.free_slot.result c.is_none.result c.is_none.ensures c.if-is_none.false (c.free_slot.ensures ∙ none))
+pub seal_next-new-requires-clause-free : goal.seal_next-new-requires-clause-free
+seal_next-new-requires-clause-free c = sym c.in-Some-free_slot.ensures
 
 pub set_current-requires : goal.set_current-requires
 set_current-requires c =
@@ -47,8 +44,7 @@ set_current-requires c =
 pub drop_later-requires : goal.drop_later-requires
 drop_later-requires c =
     let has = rw (← c.self.view_is) at c.in-Some-current.ensures in
-    let sealed = sealed_there c.reserve.new.self c.seal_next.new.slots c.seal_next.result _ _ c.unwrap-new.ensures c.seal_next.ensures in
-    let seals = seals_spare {t = c.self.inside.slots} c.in_ok-reserve.ensures.ok sealed in
+    let seals = seals_spare {t = c.self.inside.slots} c.in_ok-reserve.ensures.ok c.seal_next-new.ensures in
     bag-keeps c.in-Some-current.now.number seals.held (current-held c.self.invariant c.in-Some.task _ (sym has))
 
 pub acted-left-requires : goal.acted-left-requires
@@ -66,10 +62,9 @@ invariant_of-self-2 c =
     let next = next_is (state_of (parts_of t.tasks t.casts t.files t.holds t.prepared) t.store t.slots) c.args.number c.in-Some.task sound c.in-Some.ensures.next in
     let call : c.unwrap-call.result.now ≡ next.cast.call = mapped_is _ _ c.call.result _ c.unwrap-call.result next.cast c.call.ensures c.unwrap-call.ensures next.found in
     let rule : set_id c.in-Some-current.now.cred.now c.unwrap-call.result.now ≡ Ok c.in-Ok.cred = rule_made _ c.in-Ok.cred c.in-Ok.ensures in
-    let sealed = sealed_there c.reserve.new.self c.seal_next.new.slots c.seal_next.result _ _ c.unwrap-new.ensures c.seal_next.ensures in
     rw (c.set_current.ensures.tasks, c.put.ensures.set, c.acted-left.ensures.casts)
     (act_kept c.self.invariant c.args.number c.in-Some.task next _ (sym has) c.in-Ok.cred (rw (← call) rule) c.put.ensures.long
-    (seals_spare c.in_ok-reserve.ensures.ok sealed) sound.tasks (drops c.drop_later.ensures.held c.drop_later.ensures.table))
+    (seals_spare c.in_ok-reserve.ensures.ok c.seal_next-new.ensures) sound.tasks (drops c.drop_later.ensures.held c.drop_later.ensures.table))
 
 pub returns-clause-ok : goal.returns-clause-ok
 returns-clause-ok c =
@@ -79,11 +74,10 @@ returns-clause-ok c =
     let next = next_is (state_of (parts_of t.tasks t.casts t.files t.holds t.prepared) t.store t.slots) c.args.number c.in-Some.task sound c.in-Some.ensures.next in
     let call : c.unwrap-call.result.now ≡ next.cast.call = mapped_is _ _ c.call.result _ c.unwrap-call.result next.cast c.call.ensures c.unwrap-call.ensures next.found in
     let rule : set_id c.in-Some-current.now.cred.now c.unwrap-call.result.now ≡ Ok c.in-Ok.cred = rule_made _ c.in-Ok.cred c.in-Ok.ensures in
-    let sealed = sealed_there c.reserve.new.self c.seal_next.new.slots c.seal_next.result _ _ c.unwrap-new.ensures c.seal_next.ensures in
     let left = if_some _ (cast_of (state_of (parts_of t.tasks t.casts t.files t.holds t.prepared) t.store t.slots) c.args.number) next.cast next.found c.acted-left.ensures.left in
     rw (← c.self.view_is, c.set_current.ensures.tasks, c.put.ensures.set, c.acted-left.ensures.casts)
     (act_sealed c.self.invariant c.args.number c.in-Some.task next _ (sym has) c.in-Ok.cred (rw (← call) rule) c.put.ensures.long
-    (seals_spare c.in_ok-reserve.ensures.ok sealed) sound.tasks (drops c.drop_later.ensures.held c.drop_later.ensures.table) c.acted-left.result left)
+    (seals_spare c.in_ok-reserve.ensures.ok c.seal_next-new.ensures) sound.tasks (drops c.drop_later.ensures.held c.drop_later.ensures.table) c.acted-left.result left)
 
 pub end_process_of-requires : goal.end_process_of-requires
 end_process_of-requires c =
@@ -120,8 +114,8 @@ returns-in-Err-Invalid-clause-ok c =
     (aborts_so s s c.args.number c.in-Some.task Perm ended.new.self next ended.result refl ended.ensures.answer (rw (← c.self.view_is) at ended.ensures.state)
     (act_refused s c.args.number c.in-Some.task next _ (sym has) no.0 (rw (← call) no.1)))
 
-pub returns-then-is_none-clause-ok : goal.returns-then-is_none-clause-ok
-returns-then-is_none-clause-ok c =
+pub returns-in_default-free_slot-clause-ok : goal.returns-in_default-free_slot-clause-ok
+returns-in_default-free_slot-clause-ok c =
     let t = c.self.inside in
     let parts = parts_of t.tasks t.casts t.files t.holds t.prepared in
     let s = state_of parts t.store t.slots in
@@ -130,8 +124,8 @@ returns-then-is_none-clause-ok c =
     let next = next_is s c.args.number c.in-Some.task sound c.in-Some.ensures.next in
     let call : c.unwrap-call.result.now ≡ next.cast.call = mapped_is _ _ c.call.result _ c.unwrap-call.result next.cast c.call.ensures c.unwrap-call.ensures next.found in
     let rule : set_id c.in-Some-current.now.cred.now c.unwrap-call.result.now ≡ Ok c.in-Ok.cred = rule_made _ c.in-Ok.cred c.in-Ok.ensures in
-    let none = sym c.free_slot.ensures ∙ none_by_other c.free_slot.result c.is_none.result c.is_none.ensures c.if-is_none.true in
-    let ended = c.end_process_of-then-is_none in
+    let none = sym c.in_default-free_slot.ensures in
+    let ended = c.end_process_of-in_default-free_slot in
     rw (← c.self.view_is)
     (aborts_so s (state_of parts t.store c.reserve.new.self) c.args.number c.in-Some.task Full ended.new.self next ended.result
     (same_spare parts t.store t.slots c.in_ok-reserve.ensures.ok) ended.ensures.answer ended.ensures.state
@@ -141,5 +135,5 @@ returns-then-is_none-clause-ok c =
 pub invariant_of-self : goal.invariant_of-self
 invariant_of-self c = rw c.in_err-reserve.ensures.err c.self.invariant
 
-pub invariant_of-self-then-is_none : goal.invariant_of-self-then-is_none
-invariant_of-self-then-is_none c = kept_spare c.self.invariant c.in_ok-reserve.ensures.ok
+pub invariant_of-self-in_default-free_slot : goal.invariant_of-self-in_default-free_slot
+invariant_of-self-in_default-free_slot c = kept_spare c.self.invariant c.in_ok-reserve.ensures.ok

@@ -2,59 +2,57 @@ use Rattle.std.proofs.Common.{◌≡◌, length, slice_set, Some, sym, ap, ◌�
 use Rattle.cred_record.specs.Credential.{Credential, first_credential}
 use Rattle.cred_tables.specs.Kept.{parts_of}
 use Rattle.cred_tables.proofs.Free.{full_swept}
-use Rattle.cred_state.proofs.Inits.{init_full, init_kept, init_sealed, few_by_test, is_sealed, sealed_there, started}
-use Rattle.cred_model.proofs.Places.{none_by_test, none_by_other, some_by_test}
+use Rattle.cred_state.proofs.Inits.{init_full, init_kept, init_sealed, few_by_test, started}
+use Rattle.cred_model.proofs.Places.{none_by_test}
 use Rattle.cred_tables.proofs.Sealing.{none_spare, roomy_spare, seals_spare}
 use Rattle.cred_state.proofs.Reserved.{kept_spare, kept_swept}
 use Rattle.cred_state.proofs.state.State.init.Goals as goal
 
-pub returns-then-is_none-clause-ok : goal.returns-then-is_none-clause-ok
-returns-then-is_none-clause-ok c =
+pub returns-in_default-free_slot-clause-ok : goal.returns-in_default-free_slot-clause-ok
+returns-in_default-free_slot-clause-ok c =
     let t = c.self.inside in
     let idle = rw (← c.self.view_is) at c.in_default.ensures in
     let new = none_by_test _ c.alive.result c.alive.ensures c.if-alive.false in
     let few = few_by_test (length t.tasks) c.full.result c.full.ensures.full c.if-full.false in
-    let none = sym c.free_slot.ensures ∙ none_by_other c.free_slot.result c.is_none.result c.is_none.ensures c.if-is_none.true in
+    let none = sym c.in_default-free_slot.ensures in
     rw (← c.self.view_is)
     (init_full c.self.invariant c.sweep.new.self c.args.number c.args.process c.args.user c.args.group c.args.ns idle new few
     (none_spare t.slots c.in_ok-reserve.ensures.ok none)
     (roomy_spare (parts_of t.tasks t.casts t.files t.holds t.prepared) t.store t.slots _ _ _ c.in_ok-reserve.ensures.ok (c.sweep.ensures ∙ sym (full_swept c.reserve.new.self none))))
 
-pub unwrap-current-requires : goal.unwrap-current-requires
-unwrap-current-requires c =
-    is_sealed c.reserve.new.self c.seal_next.new.slots c.seal_next.result c.seal_next.ensures
-    (λ none. some_by_test c.free_slot.result c.is_none.result c.is_none.ensures c.if-is_none.false (c.free_slot.ensures ∙ none))
+pub seal_next-current-requires-clause-free : goal.seal_next-current-requires-clause-free
+seal_next-current-requires-clause-free c = sym c.in-Some-free_slot.ensures
 
 pub invariant_of-self-2 : goal.invariant_of-self-2
 invariant_of-self-2 c =
     let t = c.self.inside in
-    let seals = sealed_there c.reserve.new.self c.seal_next.new.slots c.seal_next.result _ _ c.unwrap-current.ensures c.seal_next.ensures in
+    let seals = c.seal_next-current.ensures in
     let tasks = started t.tasks c.start.new.self c.args.number c.args.process _ _ c.in_ok-start.ensures.ok (c.next_number-next.ensures ∙ sym seals.counted) in
-    let store : c.put.new.self ≡ slice_set t.store c.unwrap-current.result.1 (Some (first_credential c.args.user c.args.group c.args.ns))
-    = c.put.ensures.set ∙ ap (λ (x : Credential). slice_set t.store c.unwrap-current.result.1 (Some x)) c.in_ok-cred.ensures in
+    let store : c.put.new.self ≡ slice_set t.store c.in-Some-free_slot.slot (Some (first_credential c.args.user c.args.group c.args.ns))
+    = c.put.ensures.set ∙ ap (λ (x : Credential). slice_set t.store c.in-Some-free_slot.slot (Some x)) c.in_ok-cred.ensures in
     rw (tasks, store)
-    (init_kept c.self.invariant c.seal_next.new.slots c.args.number c.args.process c.args.user c.args.group c.args.ns
+    (init_kept c.self.invariant c.seal_next-current.new.slots c.args.number c.args.process c.args.user c.args.group c.args.ns
     c.put.ensures.long (seals_spare c.in_ok-reserve.ensures.ok seals))
 
 pub returns-clause-ok : goal.returns-clause-ok
 returns-clause-ok c =
     let t = c.self.inside in
-    let seals = sealed_there c.reserve.new.self c.seal_next.new.slots c.seal_next.result _ _ c.unwrap-current.ensures c.seal_next.ensures in
+    let seals = c.seal_next-current.ensures in
     let tasks = started t.tasks c.start.new.self c.args.number c.args.process _ _ c.in_ok-start.ensures.ok (c.next_number-next.ensures ∙ sym seals.counted) in
-    let store : c.put.new.self ≡ slice_set t.store c.unwrap-current.result.1 (Some (first_credential c.args.user c.args.group c.args.ns))
-    = c.put.ensures.set ∙ ap (λ (x : Credential). slice_set t.store c.unwrap-current.result.1 (Some x)) c.in_ok-cred.ensures in
+    let store : c.put.new.self ≡ slice_set t.store c.in-Some-free_slot.slot (Some (first_credential c.args.user c.args.group c.args.ns))
+    = c.put.ensures.set ∙ ap (λ (x : Credential). slice_set t.store c.in-Some-free_slot.slot (Some x)) c.in_ok-cred.ensures in
     let idle = rw (← c.self.view_is) at c.in_default.ensures in
     let new = none_by_test _ c.alive.result c.alive.ensures c.if-alive.false in
     let few = few_by_test (length t.tasks) c.full.result c.full.ensures.full c.if-full.false in
     rw (← c.self.view_is, tasks, store)
-    (init_sealed c.self.invariant c.seal_next.new.slots c.args.number c.args.process c.args.user c.args.group c.args.ns
+    (init_sealed c.self.invariant c.seal_next-current.new.slots c.args.number c.args.process c.args.user c.args.group c.args.ns
     c.put.ensures.long (seals_spare c.in_ok-reserve.ensures.ok seals) idle new few)
 
 pub invariant_of-self : goal.invariant_of-self
 invariant_of-self c = rw c.in_err-reserve.ensures.err c.self.invariant
 
-pub invariant_of-self-then-is_none : goal.invariant_of-self-then-is_none
-invariant_of-self-then-is_none c = kept_swept (kept_spare c.self.invariant c.in_ok-reserve.ensures.ok) c.sweep.ensures
+pub invariant_of-self-in_default-free_slot : goal.invariant_of-self-in_default-free_slot
+invariant_of-self-in_default-free_slot c = kept_swept (kept_spare c.self.invariant c.in_ok-reserve.ensures.ok) c.sweep.ensures
 
 pub invariant_of-self-in_err-start : goal.invariant_of-self-in_err-start
 invariant_of-self-in_err-start c = rw c.in_err-start.ensures.err (kept_spare c.self.invariant c.in_ok-reserve.ensures.ok)

@@ -24,7 +24,7 @@ unfolding empty
 nothing-state_of store = refl
 
 pub invariant_of-result : goal.invariant_of-result
-invariant_of-result c = rw (c.in_ok-new.ensures, c.in_ok-new-2.ensures, c.in_ok-new-3.ensures, c.new-4.ensures, c.new-5.ensures, c.in_ok-new-5.ensures) (nothing-kept c.in_ok-new-4.field-0)
+invariant_of-result c = rw (c.new-3.ensures, c.new-4.ensures, c.new-5.ensures, c.new-6.ensures, c.new-7.ensures, c.in_ok-slots.ensures) (nothing-kept c.in_ok-store.store)
 
 pub returns : goal.returns
-returns c = rw (c.in_ok-new.ensures, c.in_ok-new-2.ensures, c.in_ok-new-3.ensures, c.new-4.ensures, c.new-5.ensures, c.in_ok-new-5.ensures) (nothing-state_of c.in_ok-new-4.field-0)
+returns c = rw (c.new-3.ensures, c.new-4.ensures, c.new-5.ensures, c.new-6.ensures, c.new-7.ensures, c.in_ok-slots.ensures) (nothing-state_of c.in_ok-store.store)

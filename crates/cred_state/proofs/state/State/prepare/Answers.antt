@@ -5,7 +5,6 @@ use Rattle.cred_slots.proofs.Tables.{held_is_referred}
 use Rattle.cred_tables.specs.Kept.{parts_of}
 use Rattle.cred_tables.proofs.Free.{full_swept}
 use Rattle.cred_state.proofs.Holding.{hold-held_found}
-use Rattle.cred_model.proofs.Places.{if_some}
 use Rattle.cred_state.proofs.Labelling.{claims, present, held_hold, neither_found, prepare_full, prepare_kept, prepare_done}
 use Rattle.cred_tables.proofs.Sealing.{none_spare, roomy_spare}
 use Rattle.cred_state.proofs.Reserved.{kept_spare, kept_swept}
@@ -28,12 +27,14 @@ returns-in_default-free_slot-clause-ok c =
     (roomy_spare (parts_of t.tasks t.casts t.files t.holds t.prepared) t.store t.slots _ _ _ c.in_ok-reserve.ensures.ok
     (c.sweep.ensures ∙ sym (full_swept c.reserve.new.self none))))
 
+pub claim-requires : goal.claim-requires
+claim-requires c = sym c.in-Some-free_slot.ensures
+
 pub add-requires-clause-referred : goal.add-requires-clause-referred
 add-requires-clause-referred c =
     let t = c.self.inside in
     let base = held_hold _ c.in-Some-get.base c.in-Some-get.ensures in
-    let claimed = if_some _ c.claim.result c.in-Some-free_slot.slot (c.claim.ensures.slot ∙ sym c.in-Some-free_slot.ensures) c.claim.ensures.some in
-    let held : c.claim.new.self.held ≡ t.slots.held = ap (λ (x : Table). x.held) claimed ∙ ap (λ (x : Table). x.held) c.in_ok-reserve.ensures.ok in
+    let held : c.claim.new.self.held ≡ t.slots.held = ap (λ (x : Table). x.held) c.claim.ensures.table ∙ ap (λ (x : Table). x.held) c.in_ok-reserve.ensures.ok in
     held_is_referred c.claim.new.self c.in-Some-get.base
     (rw (held, ← base.2) (hold-held_found c.self.invariant c.args.hold base.0 base.1))
 
@@ -41,8 +42,8 @@ pub invariant_of-self-2 : goal.invariant_of-self-2
 invariant_of-self-2 c =
     let t = c.self.inside in
     let slot = c.in-Some-free_slot.slot in
-    let claim = claims t.slots c.reserve.new.self c.claim.new.self c.add.new.self c.claim.result _ _ c.in-Some-get.base slot c.in_ok-reserve.ensures.ok
-    c.in-Some-free_slot.ensures c.claim.ensures.slot c.claim.ensures.some c.claim.ensures.kept c.add.ensures.held c.add.ensures.table in
+    let claim = claims t.slots c.reserve.new.self c.claim.new.self c.add.new.self _ _ c.in-Some-get.base slot c.in_ok-reserve.ensures.ok
+    c.in-Some-free_slot.ensures c.claim.ensures.table c.claim.ensures.kept c.add.ensures.held c.add.ensures.table in
     rw c.in_ok-prepare.ensures.ok
     (prepare_kept c.self.invariant c.add.new.self
     (record { label = c.args.label; task = c.args.task; base = c.in-Some-get.base; slot = slot; changed = None }) claim)
@@ -57,8 +58,8 @@ returns-clause-ok c =
     let idle = rw (← c.self.view_is) at c.in_default.ensures in
     let labels = rw (← c.self.view_is) at c.has_label.ensures in
     let new = neither_found _ _ c.has_label.result labels c.if-has_label.false in
-    let claim = claims t.slots c.reserve.new.self c.claim.new.self c.add.new.self c.claim.result _ _ c.in-Some-get.base slot c.in_ok-reserve.ensures.ok
-    c.in-Some-free_slot.ensures c.claim.ensures.slot c.claim.ensures.some c.claim.ensures.kept c.add.ensures.held c.add.ensures.table in
+    let claim = claims t.slots c.reserve.new.self c.claim.new.self c.add.new.self _ _ c.in-Some-get.base slot c.in_ok-reserve.ensures.ok
+    c.in-Some-free_slot.ensures c.claim.ensures.table c.claim.ensures.kept c.add.ensures.held c.add.ensures.table in
     rw (← c.self.view_is, c.in_ok-prepare.ensures.ok, ← base.2)
     (prepare_done c.self.invariant c.add.new.self c.args.label c.args.task c.args.hold slot
     (record { owner = owner.0; lives = owner.1; idle = idle; base = base.0; has = base.1; new = new.0; unprepared = new.1; few = few })
