@@ -10,7 +10,7 @@ use cred_script::Script;
 use std::alloc::Global;
 
 /// How far a script has run: the state, and the cursors of its lanes.
-#[derive(Drop, Debug)]
+#[derive(Drop)]
 pub struct Run {
     state: CachedState,
     cursors: Cursors,

@@ -35,7 +35,9 @@ pub fn audit(alloc: Global, script: &Script, report: &[u8]) -> Result<Verdict, N
 {
     let mut run = Run::new(alloc, script)?;
     let mut pen = Pen::new(alloc);
-    compare(&mut run, &mut pen, script, report)
+    let verdict = compare(&mut run, &mut pen, script, report);
+    drop(run);
+    verdict
 }
 
 /// The verdict on a report, by a run of the script that has made no event yet.
@@ -82,7 +84,7 @@ fn behind_next<'b>(
     let Some(next) = run.next(script, lane)? else {
         return Ok(None);
     };
-    behind(pen, script, bytes, next)
+    behind(pen, script, bytes, &next)
 }
 
 /// What follows the text of the entry, with which the bytes are to begin; none where they do not.
@@ -90,13 +92,13 @@ fn behind<'b>(
     pen: &mut Pen,
     script: &Script,
     bytes: &'b [u8],
-    entry: Entry,
+    entry: &Entry,
 ) -> Result<Option<&'b [u8]>, NoMemory>
     ensures { IfOk result (λ found. MatchOption found
-        ((rest : List ℕ) → bytes.now ≢ entry_text script.now entry ++ rest)
-        (λ rest. bytes.now ≡ entry_text script.now entry ++ rest.now)) }
+        ((rest : List ℕ) → bytes.now ≢ entry_text script.now entry.now ++ rest)
+        (λ rest. bytes.now ≡ entry_text script.now entry.now ++ rest.now)) }
 {
     pen.clear();
-    prepend(pen, script, &entry)?;
+    prepend(pen, script, entry)?;
     Ok(bytes.strip_prefix(pen.items()))
 }

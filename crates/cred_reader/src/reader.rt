@@ -1,6 +1,6 @@
 //! Entries.
 ghost use Rattle.std.specs.Prelude.{◌≡◌, ◌<◌, ◌+◌, IfOk, IfSome, Some, drop, length, position};
-ghost use Rattle.std.specs.Prelude.{take};
+ghost use Rattle.std.specs.Prelude.{take, true};
 ghost use Rattle.cred_event.specs.declared.entry.Entry.{Entry as SeenEntry};
 ghost use Rattle.cred_spelling.specs.Read.{nows};
 ghost use Rattle.cred_forms.specs.Read.{GivesLine};
@@ -62,15 +62,36 @@ fn confirmed(
     ensures each_value { IsSound script.now entry → entry_text script.now entry ≡ line.now
         → IfOk result (λ found. found ≡ Some entry) }
 {
+    match is_confirmed(alloc, script, line, &entry) {
+        Ok(true) => Ok(Some(entry)),
+        Ok(false) => {
+            drop(entry);
+            Ok(None)
+        }
+        Err(NoMemory) => {
+            drop(entry);
+            Err(NoMemory)
+        }
+    }
+}
+
+/// Whether the entry is one of the script's and the line is its text.
+fn is_confirmed(
+    alloc: Global,
+    script: &Script,
+    line: &[u8],
+    entry: &Entry,
+) -> Result<bool, NoMemory>
+    ensures sound { IfOk result (λ confirmed. confirmed ≡ true
+        → (entry_text script.now entry.now ≡ line.now) × IsSound script.now entry.now) }
+    ensures each { IsSound script.now entry.now → entry_text script.now entry.now ≡ line.now
+        → IfOk result (λ confirmed. confirmed ≡ true) }
+{
     if !is_of(script, &entry.event) || !can_answer(&entry.event, &entry.answer) {
-        return Ok(None);
+        return Ok(false);
     }
-    let text = print(alloc, script, &entry)?;
-    if text.items() == line {
-        Ok(Some(entry))
-    } else {
-        Ok(None)
-    }
+    let text = print(alloc, script, entry)?;
+    Ok(text.items() == line)
 }
 
 /// The number of a line, an event, the arrow and an answer.

@@ -8,7 +8,7 @@ use Rattle.cred_audit.proofs.verdict.behind.Goals as goal
 
 pub returns : goal.returns
 returns c =
-    let own = entry_text c.args.script.now c.args.entry in
+    let own = entry_text c.args.script.now c.args.entry.now in
     let text : c.items.result.now ≡ own
     = c.items.ensures ∙ c.in_ok-prepend.ensures ∙ ap (λ bs. own ++ bs) c.clear.ensures.text ∙ append-nil own in
     subst (λ p. MatchOption c.strip_prefix.result ((rest : List ℕ) → c.args.bytes.now ≢ p ++ rest) (λ x. c.args.bytes.now ≡ p ++ x.now)) text
