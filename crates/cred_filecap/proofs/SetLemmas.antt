@@ -85,10 +85,10 @@ cut-above low s n is from =
 pub one-word : (low s : ℕ) → SpellsSet low 0 s → s < 2 ^ 32
 one-word low s is =
     let same : s % 2 ^ 32 ≡ s = same_caps (s % 2 ^ 32) s (λ n.
-        elim (nat_lt n 32) as (λ t. nat_lt n 32 ≡ t → has (s % 2 ^ 32) n ≡ has s n) [
-          | true ↦ λ t. let lt : n < 32 = ltb-true n 32 t in ap (λ d. d == 1) (low-bits s n lt)
-          | false ↦ λ t. let from : 32 ≤ n = ltb-false n 32 t in cut-above low s n is from
-        ] refl) in
+    elim (nat_lt n 32) as (λ t. nat_lt n 32 ≡ t → has (s % 2 ^ 32) n ≡ has s n) [
+      | true ↦ λ t. let lt : n < 32 = ltb-true n 32 t in ap (λ d. d == 1) (low-bits s n lt)
+      | false ↦ λ t. let from : 32 ≤ n = ltb-false n 32 t in cut-above low s n is from
+    ] refl) in
     omega (arith, same)
 
 -- ---- two words say one set

@@ -73,5 +73,4 @@ pub fn limits_are_the_definitions()
     ensures holds { HOLDS ≡ limits.HOLDS }
     ensures prepared { PREPARED ≡ limits.PREPARED }
     ensures slots { SLOTS ≡ limits.SLOTS }
-{
-}
+{}

@@ -14,8 +14,7 @@ use crate::layout::{
 use crate::valid::is_credential;
 use crate::writing::to_words;
 use cred_caps::{CapSet, SecureBits};
-use cred_ids::limits;
-use cred_ids::{Groups, GroupsRefusal, Id, Ids4, NoMemory};
+use cred_ids::{Groups, GroupsRefusal, Id, Ids4, NoMemory, limits};
 use std::alloc::Global;
 
 /// The low half of a word.
