@@ -10,7 +10,7 @@ use Rattle.cred_model.specs.Script.{Script}
 use Rattle.cred_model.specs.State.{State, opening}
 use Rattle.cred_model.specs.Step.{step}
 use Rattle.cred_model.specs.Journal.{SoFar}
-use Rattle.cred_model.proofs.Lists.{slice_get_at}
+use Rattle.cred_model.proofs.Lists.{All-at, slice_get_at}
 use Rattle.cred_script.specs.Grammar.{script_of}
 use Rattle.cred_laws.specs.Journals.{state_at}
 use Rattle.cred_laws.proofs.AnsweredLaws.{so_far_is_answered}
@@ -19,8 +19,9 @@ use Rattle.cred_sound.proofs.Few.{few_after}
 use Rattle.cred_sound.proofs.Sound.{sound_after}
 use Rattle.cred_reader.specs.Fits.{IsLong, Fits, FitsAnswer}
 use Rattle.cred_reader.specs.Rows.{CanAnswer}
-use Rattle.cred_fits.specs.Fitting.{EventFits, EntriesFit}
-use Rattle.cred_fits.proofs.EventsFit.{events_fit}
+use Rattle.cred_reader.proofs.Lists.{one_list}
+use Rattle.cred_fits.specs.Fitting.{EventFits, EntriesFit, OneFittingList}
+use Rattle.cred_fits.proofs.EventsFit.{each_at, events_fit}
 use Rattle.cred_fits.proofs.Ranges.{FitsSealed, FitsTask, FitsCast, FitsPrepared, IsInRange, Good, some_fits}
 use Rattle.cred_fits.proofs.RowLaws.{answers_are_of_their_rows}
 use Rattle.cred_fits.proofs.ScriptFits.{script_fits}
@@ -60,7 +61,7 @@ known_by script journal k given le range = record {
 event_at : (script : Script) (journal : List Entry) (k : ℕ) (entry : Entry) → IsGiven script journal → k < length journal → slice_get journal k ≡ Some entry
     → EventFits script entry
 event_at script journal k entry given lt is =
-    some_fits (EventFits script) (slice_get journal k) entry (events_fit given.bytes script journal given.read given.few given.so_far k lt) is
+    All-at (EventFits script) journal k entry is (events_fit given.bytes script journal given.read given.few given.so_far)
 
 -- the step of an entry
 stepped : (script : Script) (journal : List Entry) (k : ℕ) (entry : Entry) → IsGiven script journal → IsInRange (state_at script journal k)
@@ -100,7 +101,12 @@ entry_at script journal k entry given lt is =
     }
 
 pub entries_fit : EntriesFit
-entries_fit bytes script journal read few so_far k lt =
+entries_fit bytes script journal read few so_far =
+    each_at (Fits script) journal (λ k lt.
     let at = slice_get_at journal k lt in
     subst (λ o. IfSome o (Fits script)) (sym at.1)
-    (entry_at script journal k at.0 (record { bytes = bytes; read = read; few = few; so_far = so_far }) lt at.1)
+    (entry_at script journal k at.0 (record { bytes = bytes; read = read; few = few; so_far = so_far }) lt at.1))
+
+pub one_fitting_list : OneFittingList
+one_fitting_list bytes script journal read few so_far other fits same =
+    one_list script other journal fits (entries_fit bytes script journal read few so_far) same

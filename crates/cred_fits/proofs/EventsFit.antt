@@ -1,10 +1,10 @@
 -- The events of a script's journals fit it.
-use Rattle.std.proofs.Common.{◌≡◌, ℕ, ◌+◌, ◌-◌, ◌*◌, ◌<◌, ◌≤◌, ◌==◌, ◌&&◌, not, Bool, true, false, cond, is_some, List, [], ◌∷◌, length, take, fold, slice_get, Option, Some, None, refl, sym, ap, ◌∙◌, subst, arith}
+use Rattle.std.proofs.Common.{◌≡◌, ℕ, ◌+◌, ◌-◌, ◌*◌, ◌<◌, ◌≤◌, ◌==◌, ◌&&◌, not, Bool, true, false, cond, is_some, List, [], ◌∷◌, length, take, fold, slice_get, Option, Some, None, Ok, refl, sym, ap, ◌∙◌, subst, arith}
 use Rattle.std.specs.Prelude.{⊤}
 use Rattle.std.specs.List.{All}
 use Rattle.std.specs.Option.{IfSome, option_map, option_map_or, option_and_then}
 use Rattle.std.proofs.lemmas.List.Elements.{All-head, All-tail, All-weaker}
-use Rattle.std.proofs.lemmas.Option.{IfSome_then}
+use Rattle.std.proofs.lemmas.Option.{IfSome_then, get_or_from_slice_get}
 use Rattle.cred_ids.specs.Limits.{LINE_LIMIT}
 use Rattle.cred_event.specs.declared.content.Content.{Content}
 use Rattle.cred_event.specs.declared.content.Content.TheVariants.{Nothing, One, Id, Question, Open, Fcap, Signal, Change, Access}
@@ -18,6 +18,7 @@ use Rattle.cred_model.specs.Course.{Course, start, event_in, event_at, after, le
 use Rattle.cred_model.specs.Journal.{Due, answers_of, next_event, first_due, entry_of, due_in, next, lane_of, SoFar}
 use Rattle.cred_model.specs.Named.{IsContentOf, IsEventOf, event_files}
 use Rattle.cred_model.proofs.Courses.{after_line}
+use Rattle.cred_model.proofs.Lists.{slice_get_at}
 use Rattle.cred_model.proofs.Names.{event_named}
 use Rattle.cred_script.specs.Grammar.{script_of}
 use Rattle.cred_reader.specs.Fits.{IsFile, IsNumber, FitsEvent, IsOf}
@@ -147,10 +148,20 @@ is_of script event read of = record {
   namespaces = of.namespaces;
 }
 
-pub events_fit : EventsFit
-events_fit bytes script journal is few so_far k lt =
+entry_event : (bytes : List ℕ) (script : Script) (journal : List Entry) → script_of bytes ≡ Ok script → length script.lines ≤ LINE_LIMIT
+    → SoFar script journal → (k : ℕ) → k < length journal → IfSome (slice_get journal k) (EventFits script)
+entry_event bytes script journal is few so_far k lt =
     let read = script_fits bytes script is in
     IfSome_then (slice_get journal k) (so_far k lt)
     (λ entry of.
     let due = subst (λ (o : Option Entry). IfSome o (λ e. IsOfScript script e.line e.event)) of.2 (entry_fits script (take k journal) of.0 few read) in
     record { line = due.line; event = due.event; names = is_of script entry.event read due.names })
+
+-- what holds of the element at each place
+pub each_at : {X : Type 0} (P : X → Type 0) (xs : List X) → ((k : ℕ) → k < length xs → IfSome (slice_get xs k) P) → All P xs
+each_at P xs each k d lt =
+    let at = slice_get_at xs k lt in
+    subst P (sym (get_or_from_slice_get xs k at.0 d at.1)) (subst (λ o. IfSome o P) at.1 (each k lt))
+
+pub events_fit : EventsFit
+events_fit bytes script journal is few so_far = each_at (EventFits script) journal (entry_event bytes script journal is few so_far)

@@ -1,5 +1,5 @@
 -- The entries of a script's journals fit it.
-use Rattle.std.specs.Prelude.{◌≡◌, ℕ, ◌*◌, ◌<◌, ◌≤◌, List, length, slice_get, Ok, IfSome}
+use Rattle.std.specs.Prelude.{◌≡◌, ℕ, ◌*◌, ◌≤◌, List, length, All, Ok}
 use Rattle.cred_ids.specs.Limits.{LINE_LIMIT}
 use Rattle.cred_event.specs.declared.entry.Entry.{Entry}
 use Rattle.cred_event.specs.declared.event.Event.{Event}
@@ -8,6 +8,7 @@ use Rattle.cred_model.specs.State.{State}
 use Rattle.cred_model.specs.Step.{step}
 use Rattle.cred_model.specs.Journal.{SoFar}
 use Rattle.cred_script.specs.Grammar.{script_of}
+use Rattle.cred_report.specs.Text.{text}
 use Rattle.cred_reader.specs.Fits.{IsNumber, FitsEvent, IsOf, Fits}
 use Rattle.cred_reader.specs.Rows.{CanAnswer}
 
@@ -30,14 +31,22 @@ abbrev pub EventsFit : Type 0
 EventsFit =
     (bytes : List ℕ) (script : Script) (journal : List Entry)
     → script_of bytes ≡ Ok script → length script.lines ≤ LINE_LIMIT → SoFar script journal
-    → (k : ℕ) → k < length journal → IfSome (slice_get journal k) (EventFits script)
+    → All (EventFits script) journal
 
 -- Each entry of such a journal fits the script.
 abbrev pub EntriesFit : Type 0
 EntriesFit =
     (bytes : List ℕ) (script : Script) (journal : List Entry)
     → script_of bytes ≡ Ok script → length script.lines ≤ LINE_LIMIT → SoFar script journal
-    → (k : ℕ) → k < length journal → IfSome (slice_get journal k) (Fits script)
+    → All (Fits script) journal
+
+-- And it is the one list of fitting entries that has its text.
+abbrev pub OneFittingList : Type 0
+OneFittingList =
+    (bytes : List ℕ) (script : Script) (journal : List Entry)
+    → script_of bytes ≡ Ok script → length script.lines ≤ LINE_LIMIT → SoFar script journal
+    → (other : List Entry) → All (Fits script) other → text script other ≡ text script journal
+    → other ≡ journal
 
 -- how many entries the journal of a script may have for each of its lines
 abbrev pub MOST_A_LINE : ℕ

@@ -1,6 +1,6 @@
 //! What is true of each entry.
 ghost use Rattle.cred_fits.specs.Fitting.{AnswersAreOfTheirRows, EntriesFit, EventsFit};
-ghost use Rattle.cred_fits.specs.Fitting.{JournalsAreShort};
+ghost use Rattle.cred_fits.specs.Fitting.{JournalsAreShort, OneFittingList};
 
 /// Whatever the state is, the answer to an event is one that its row has, for the event's own
 /// arguments: setuid(2) of -1 is invalid, and setreuid(2) never is.
@@ -19,6 +19,12 @@ pub fn events_fit()
 /// as: its event does, its answer is of the event's row, and the answer's numbers are in range.
 pub fn entries_fit()
     ensures { EntriesFit }
+{}
+
+/// A journal of a script is the one list of fitting entries that has its text: what reads the
+/// report back, line by line, reads the journal.
+pub fn one_fitting_list()
+    ensures { OneFittingList }
 {}
 
 /// A journal of a script has no more entries than 150 for each line, however its lanes are mixed:

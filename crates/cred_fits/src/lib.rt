@@ -6,4 +6,6 @@
 
 mod laws;
 
-pub use laws::{answers_are_of_their_rows, entries_fit, events_fit, journals_are_short};
+pub use laws::{
+    answers_are_of_their_rows, entries_fit, events_fit, journals_are_short, one_fitting_list,
+};

@@ -42,6 +42,26 @@ as_words d ev an es vs e v =
     ∙ sym (spaced-append es (codes "->" ∷ vs)) in
     ap (λ (t : List ℕ). t ++ codes "\n") (before_end d ev an ∙ ap (λ (t : List ℕ). d ++ t) words)
 
+-- the words of a fitting entry's text
+pub record IsSpelled (script : Script) (entry : Entry) : Type 0 where
+  pub words : List (List ℕ)
+  pub number : is_whole (decimal entry.line) ≡ true
+  pub whole : list_all is_whole words ≡ true
+  pub is : entry_text script entry ≡ (decimal entry.line ++ spaced words) ++ codes "\n"
+
+pub entry_words : (script : Script) (entry : Entry) → Fits script entry → IsSpelled script entry
+entry_words script entry fits =
+    let eb = event_back script entry.event fits.event fits.sound.names.files in
+    let ab = answer_back (told_by entry.event) entry.answer fits.answer (can_agree entry.event entry.answer fits.sound.row) in
+    let es : List (List ℕ) = eb.first ∷ eb.rest in
+    let vs : List (List ℕ) = ab.first ∷ ab.rest in
+    record {
+      words = behind es vs;
+      number = plain_whole (decimal entry.line) (decimal_plain entry.line (long_number entry.line fits.line));
+      whole = behind_whole es vs eb.plain ab.plain;
+      is = as_words (decimal entry.line) _ _ es vs eb.spaced ab.spaced;
+    }
+
 -- what stands before LF
 body_back : (text : List ℕ) → body_of (text ++ codes "\n") ≡ text
 body_back text =

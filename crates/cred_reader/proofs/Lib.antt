@@ -19,3 +19,4 @@ pub mod AnswersFit
 pub mod EntryFit
 pub mod Arrows
 pub mod Confirmed
+pub mod Lists

@@ -8,9 +8,9 @@ use Rattle.std.proofs.lemmas.List.Splits.{slice_split_none, slice_split_at}
 use Rattle.cred_spelling.specs.Words.{words_of}
 use Rattle.cred_reader.specs.Entry.{is_arrow}
 
--- a byte that is no space
+-- a byte that is no space, and none before it, as LF
 abbrev pub is_inner : ℕ → Bool
-is_inner byte = not (byte == 32)
+is_inner byte = nat_lt 32 byte
 
 -- a word: some bytes that are no spaces
 abbrev pub is_whole : List ℕ → Bool
@@ -40,13 +40,10 @@ inner_no_space : (word : List ℕ) → list_all is_inner word ≡ true → All (
 inner_no_space [] h = λ k d inside. absurd (omega arith)
 inner_no_space (b ∷ bs) h =
     let parts = both (is_inner b) _ h in
-    All-cons (λ byte. (byte == 32) ≡ false) b bs (no (b == 32) parts.0) (inner_no_space bs parts.1)
-  where
-    no : (t : Bool) → not t ≡ true → t ≡ false
-    no true e = absurd (cc)
-    no false e = refl
+    let other : (b == 32) ≡ false = let inner = parts.0 in grind (arith, nat_tests) in
+    All-cons (λ byte. (byte == 32) ≡ false) b bs other (inner_no_space bs parts.1)
 
-whole_inner : (word : List ℕ) → is_whole word ≡ true → list_all is_inner word ≡ true
+pub whole_inner : (word : List ℕ) → is_whole word ≡ true → list_all is_inner word ≡ true
 whole_inner [] h = absurd (cc)
 whole_inner (b ∷ bs) h = h
 

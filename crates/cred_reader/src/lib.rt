@@ -19,6 +19,6 @@ mod rows;
 mod told_rows;
 
 pub use answers::Tells;
-pub use laws::texts_differ;
+pub use laws::{lists_differ, texts_differ};
 pub use names::{EventName, LabelEvent, TaskEvent};
 pub use reader::read;
