@@ -5,7 +5,7 @@ ghost use Rattle.cred_forms.specs.Acting as spec;
 use cred_event::Event;
 
 /// The task that an event names as one that calls, prepares, overrides, reverts or begins.
-pub(crate) fn event_actor(event: &Event) -> Option<u32>
+pub fn event_actor(event: &Event) -> Option<u32>
     ensures { result ≡ spec.event_actor event.now }
 {
     match event {

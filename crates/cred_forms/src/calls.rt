@@ -16,9 +16,18 @@ use cred_spelling::{
 };
 use std::alloc::Global;
 
-/// A call or a question of the task: the line names it after the task.
+/// A call or a question of the task: the line names it after the task. A file that it names is told
+/// by its place, the number of files where none has the name.
+///
+/// # Errors
+///
+/// `LineRefusal::Bad` with `Reason::Word` where a word names no call or spells no argument, and
+/// with `Reason::Count` where the words are more or fewer than the call has; `LineRefusal::Memory`
+/// where there is no memory for a list of groups.
 #[tactic(auto, unfolding(crate::specs::Calls::content_of))]
-pub(crate) fn content_of(
+// So that the content is put into memory once, and not in parts.
+#[inline(never)]
+pub fn content_of(
     alloc: Global,
     files: &Files,
     task: u32,

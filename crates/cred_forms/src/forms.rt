@@ -94,9 +94,18 @@ pub fn parse_form(
     }
 }
 
-/// An event, by its name. `act` has the number of the line that began the broadcast.
+/// An event, by its name. `act` has the number of the line that began the broadcast. A file that it
+/// names is told by its place, the number of files where none has the name.
+///
+/// # Errors
+///
+/// `LineRefusal::Bad` with `Reason::Count` where the words are more or fewer than the event has,
+/// and with `Reason::Word` where a word spells nothing that may stand there; `LineRefusal::Memory`
+/// where there is no memory for a list of groups.
 #[tactic(auto, unfolding(crate::specs::Forms::event_of))]
-fn event_of(
+// As `content_of`.
+#[inline(never)]
+pub fn event_of(
     alloc: Global,
     files: &Files,
     name: EventName,

@@ -18,9 +18,11 @@ mod id_calls;
 mod questions;
 mod refusal;
 
+pub use actor::event_actor;
+pub use calls::content_of;
 pub use changes::change_of;
 pub use files::{Files, ScriptFile};
-pub use forms::{Parsed, parse_form};
+pub use forms::{Parsed, event_of, parse_form};
 pub use id_calls::{id_call_of, ids};
 pub use questions::query_named;
 pub use refusal::LineRefusal;

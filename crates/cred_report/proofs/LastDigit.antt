@@ -1,5 +1,5 @@
 -- A number's last digit behind those that were kept of it.
-use Rattle.std.proofs.Common.{◌≡◌, ℕ, ◌+◌, ◌-◌, ◌/◌, ◌%◌, ◌^◌, ◌<◌, ◌≤◌, List, ◌∷◌, ◌++◌, length, take, drop, set, sym, ap, ◌∙◌, refl, append_assoc, decimal, arith}
+use Rattle.std.proofs.Common.{◌≡◌, ℕ, ◌+◌, ◌-◌, ◌/◌, ◌%◌, ◌^◌, ◌<◌, ◌≤◌, List, [], ◌∷◌, ◌++◌, length, take, drop, set, sym, ap, ◌∙◌, refl, append_assoc, decimal, arith}
 use Rattle.std.proofs.Math.Seq.{drop_at, length-take-le}
 use Rattle.std.proofs.lemmas.List.{drop-drop, drop-append-le, drop-set}
 use Rattle.std.proofs.lemmas.Fmt.{decimal_digit, decimal_step}
@@ -21,6 +21,10 @@ one_digit n end buf small some within =
     let e : end - 1 + 1 ≡ end = omega arith in
     let same : n % 10 ≡ n = omega arith in
     rw (drop-set buf (end - 1) (48 + n % 10) (omega arith), e, same, decimal_digit n small)
+
+-- a number of two digits
+pub two_digits : (n : ℕ) → 10 ≤ n → n < 100 → decimal n ≡ (48 + n / 10) ∷ (48 + n % 10) ∷ []
+two_digits n many small = rw (decimal_step n many (omega arith), decimal_digit (n / 10) (omega arith)) refl
 
 -- the digits of a number before its last one
 pub more_digits : (n tens end r : ℕ) (buf out : List ℕ) → 10 ≤ n → n < 2 ^ 64 → tens ≡ n / 10 → 0 < end → end ≤ length buf

@@ -1,3 +1,4 @@
 pub mod Journals
 mod Digits
 mod LastDigit
+mod Pieces

@@ -101,6 +101,7 @@ fn prepend_executed(out: &mut Pen, cred: u64, slot: u32, ended: u32, gains: Gain
 }
 
 /// Writes the answer to an id call.
+#[inline(always)]
 fn prepend_began(out: &mut Pen, cred: u64, slot: u32, left: u32)
     requires { ANSWER ≤ out.old.room }
     ensures text { out.new.text ≡ answer_text (Answer.Began cred slot left) ++ out.old.text }
@@ -111,6 +112,7 @@ fn prepend_began(out: &mut Pen, cred: u64, slot: u32, left: u32)
 }
 
 /// Writes the answer of a thread that followed a broadcast.
+#[inline(always)]
 fn prepend_acted(out: &mut Pen, task: u32, cred: u64, slot: u32, left: u32)
     requires { ANSWER ≤ out.old.room }
     ensures text { out.new.text ≡ answer_text (Answer.Acted task cred slot left) ++ out.old.text }
@@ -142,6 +144,8 @@ fn prepend_aborted(out: &mut Pen, task: u32, cause: AbortCause)
 }
 
 /// Writes the answer.
+// Called at one place alone, for each entry.
+#[inline(always)]
 pub(crate) fn prepend_answer(out: &mut Pen, answer: &Answer) -> Result<(), NoMemory>
     requires { BEFORE_ANSWER + ANSWER ≤ out.old.room }
     ensures text { OnOk result (out.new.text ≡ answer_text answer.now ++ out.old.text) }

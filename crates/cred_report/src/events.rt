@@ -106,6 +106,17 @@ fn prepend_begin(out: &mut Pen, task: u32, call: &IdCall) -> Result<(), NoMemory
     Ok(())
 }
 
+/// Writes the step of a thread in a call, which is told by its line: mostly that of the entry.
+#[inline(always)]
+fn prepend_act(out: &mut Pen, cast: u32)
+    requires { EVENT ≤ out.old.room }
+    ensures text { out.new.text ≡ (codes "act " ++ decimal cast) ++ out.old.text }
+    ensures room { out.old.room ≤ out.new.room + EVENT }
+{
+    out.line(cast);
+    prepend_word(out, "act ")
+}
+
 /// Writes the opening of a file.
 fn prepend_open(
     out: &mut Pen,
@@ -130,6 +141,8 @@ fn prepend_open(
 }
 
 /// Writes the event.
+// Called at one place alone, for each entry.
+#[inline(always)]
 pub(crate) fn prepend_event(out: &mut Pen, script: &Script, event: &Event) -> Result<(), NoMemory>
     requires { BEFORE_EVENT + EVENT ≤ out.old.room }
     ensures text { OnOk result (out.new.text ≡ event_text script.now event.now ++ out.old.text) }
@@ -160,7 +173,7 @@ pub(crate) fn prepend_event(out: &mut Pen, script: &Script, event: &Event) -> Re
         Event::Override { task, label } => prepend_two(out, ("override t", *task), (" h", *label)),
         Event::Revert { task } => prepend_number(out, "revert t", *task),
         Event::Begin { task, call } => prepend_begin(out, *task, call)?,
-        Event::Act { cast } => prepend_number(out, "act ", *cast),
+        Event::Act { cast } => prepend_act(out, *cast),
         Event::OpenFile {
             hold,
             file,

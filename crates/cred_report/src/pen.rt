@@ -12,9 +12,6 @@ use std::marker::Model;
 /// which `specs/Room.antt` adds up.
 pub(crate) const PARTS: usize = 512;
 
-/// How many bytes a short word has at most.
-const SHORT: usize = 24;
-
 /// A text in a buffer that is filled from its end, so that the digits of a number come out in the
 /// order in which division gives them, and none is moved. Who writes makes room first, once for
 /// many pieces. Contracts see the text, and how many bytes have room before it.
@@ -115,28 +112,49 @@ impl Pen {
         self.at = start;
     }
 
-    /// Writes the word before the text. A short word is copied to an array of its own first, which
-    /// nothing overlaps: so the copy from there takes no test for that. Where the word is known,
-    /// nothing of the first copy is left in the program.
+    /// Writes the word before the text, in pieces of 16, 8, 4, 2 bytes and one.
     #[inline(always)]
     pub(crate) fn word(&mut self, word: &str)
         requires { length word.now ≤ self.old.room }
         ensures text { self.new.text ≡ word.now ++ self.old.text }
         ensures room { self.new.room + length word.now ≡ self.old.room }
     {
-        let len = word.len();
-        if len > SHORT {
-            return self.piece(word.as_bytes());
+        let word = word.as_bytes();
+        if word.len() >= 32 {
+            return self.piece(word);
         }
-        let mut own = [0; SHORT];
-        own[..len].copy_from_slice(word.as_bytes());
-        self.piece(&own[..len]);
+        let word = self.end_of::<16>(word);
+        let word = self.end_of::<8>(word);
+        let word = self.end_of::<4>(word);
+        let word = self.end_of::<2>(word);
+        self.piece(word);
     }
 
-    /// Writes the number before the text, in decimal. Most numbers of a report have one digit,
-    /// which needs no division and no call.
+    /// Writes the last bytes of the word, so many, before the text, if it has as many, and returns
+    /// those before them. They are copied to an array of their own first, which nothing overlaps:
+    /// so the copy from there takes no test for that. Where the word is known, nothing of the first
+    /// copy is left in the program.
     #[inline(always)]
-    #[tactic(auto, using(std::proofs::lemmas::Fmt::decimal_digit))]
+    fn end_of<'w, const N: usize>(&mut self, word: &'w [u8]) -> &'w [u8]
+        requires room { length word.now ≤ self.old.room }
+        requires size { N ≤ 32 }
+        ensures text { result.now ++ self.new.text ≡ word.now ++ self.old.text }
+        ensures room { self.new.room + length word.now ≡ self.old.room + length result.now }
+    {
+        match word.split_last_chunk::<N>() {
+            Some((front, last)) => {
+                let own = *last;
+                self.piece(&own);
+                front
+            }
+            None => word,
+        }
+    }
+
+    /// Writes the number before the text, in decimal. Most numbers of a report have one digit or
+    /// two, which need no call.
+    #[inline(always)]
+    #[tactic(auto, using(std::proofs::lemmas::Fmt::decimal_digit, crate::proofs::LastDigit::two_digits))]
     pub(crate) fn number(&mut self, number: u64)
         requires { NUMBER ≤ self.old.room }
         ensures text { self.new.text ≡ decimal number ++ self.old.text }
@@ -144,6 +162,8 @@ impl Pen {
     {
         if number < 10 {
             self.piece(&[b'0' + number as u8])
+        } else if number < 100 {
+            self.piece(&[b'0' + (number / 10) as u8, b'0' + (number % 10) as u8])
         } else {
             self.digits(number)
         }

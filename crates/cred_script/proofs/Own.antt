@@ -11,6 +11,7 @@ use Rattle.cred_ids.specs.Limits.{LAST_LANE, FILES, LAST_NUMBER}
 use Rattle.cred_event.specs.declared.event.Event.{Event}
 use Rattle.cred_event.specs.declared.event.Side.{Side}
 use Rattle.cred_event.specs.declared.content.Content.{Content}
+use Rattle.cred_event.specs.declared.content.Content.TheVariants.{One}
 use Rattle.cred_model.specs.Script.{NamedFile, Namespace, chain_in}
 use Rattle.cred_model.specs.Named.{files, namespaces, IsContentOf}
 use Rattle.cred_spelling.specs.declared.names.Form.{Form}
@@ -39,11 +40,10 @@ use Rattle.cred_forms.specs.IdCalls.{id_call_of}
 use Rattle.cred_forms.specs.Questions.{query_of, query_named, file_and_want}
 use Rattle.cred_forms.specs.Calls.{open_of, other_of, call_of, content_of}
 use Rattle.cred_forms.specs.Forms.{take_of, take_file_of, ask_of, alter_of, override_of, begin_of, event_of, parse_form}
-use Rattle.cred_script.specs.Grammar.{parse_full, parse_words, parse_line}
 use Rattle.cred_forms.specs.Acting.{event_actor, actor}
 use Rattle.cred_names.specs.Labels.{event_labels, labels}
 use Rattle.cred_script.specs.Reading.{Reading, has_namespaces, has_files, uses_declared, has_names, names_declared, is_apart, in_order, admits}
-use Rattle.cred_script.specs.Sound.{IsParsed}
+use Rattle.cred_script.specs.Sound.{IsHeld, IsOwn, IsParsed}
 
 -- ---- what holds of a value, if there is one, through the steps that lead to it
 
@@ -321,18 +321,22 @@ admitted reading line =
     skip _ (in_order reading line) _ (λ order. after _ _ (names_declared reading line) _ (tested (has_names reading line) Name)
     (λ end names. and_tested (has_names reading line ≡ true) names (is_apart reading line) reason.Lane))
 
-full : (reading : Reading) (first : List ℕ) (words : List (List ℕ)) → Good (IsParsed reading) (parse_full reading first words)
-unfolding parse_full
-full reading first words =
-    skip _ (ok_or (form_of first) Word) _ (λ named. after _ _ (parse_form reading.files named words) _ (own_form reading.files named words)
-    (λ line own. after _ _ (admits reading line) _ (admitted reading line) (λ end tests. record { is = parsed_line reading line own tests })))
+admitted_is : (reading : Reading) (line : Parsed) → admits reading line ≡ Ok tt → (has_names reading line ≡ true) × (is_apart reading line ≡ true)
+admitted_is reading line fits =
+    subst (λ (r : Result (Unit {0}) Reason). IfOk r (λ _. (has_names reading line ≡ true) × (is_apart reading line ≡ true))) fits (admitted reading line).is
 
-words_good : (reading : Reading) (words : List (List ℕ)) → Good (IsParsed reading) (parse_words reading words)
-words_good reading [] = record { is = tt }
-words_good reading (first ∷ words) = one_of_both _ (is_comment first) _ _ (record { is = tt }) (full reading first words)
+-- what a call of the task holds, whatever is declared
+pub call_own : (declared : List NamedFile) (task : ℕ) (words : List (List ℕ)) (content : Content) → content_of declared task words ≡ Ok content → IsOwn (Some task) content
+call_own declared task words content is = subst (λ (r : Result Content Reason). IfOk r (OwnContent (Some task))) is (own_content declared task words).is
 
--- a line that is good is sound
-pub parsed_sound : (reading : Reading) (text : List ℕ) (line : Parsed) → parse_line reading text ≡ Ok line → IsParsed reading line
-parsed_sound reading text line is =
-    let good = one_of_both (IsParsed reading) (is_printable text) (parse_words reading (words_of text)) (Err Byte) (words_good reading (words_of text)) (record { is = tt }) in
-    subst (λ (r : Result Parsed Reason). IfOk r (IsParsed reading)) is good.is
+pub event_own : (declared : List NamedFile) (named : EventName) (words : List (List ℕ)) (event : Event) → event_of declared named words ≡ Ok event → IsOwn (event_actor event) (One event)
+event_own declared named words event is =
+    (subst (λ (r : Result Event Reason). IfOk r OwnEvent) is (own_event declared named words).is, itself (event_actor event))
+
+-- what may stand after what was read is sound
+pub held : (reading : Reading) (by : Option ℕ) (content : Content) → IsOwn by content → admits reading (Holds by content) ≡ Ok tt → IsHeld reading by content
+held reading by content own fits = parsed_line reading (Holds by content) own (admitted_is reading (Holds by content) fits)
+
+pub form_sound : (reading : Reading) (named : Form) (words : List (List ℕ)) (line : Parsed) → parse_form reading.files named words ≡ Ok line → admits reading line ≡ Ok tt → IsParsed reading line
+form_sound reading named words line is fits =
+    parsed_line reading line (subst (λ (r : Result Parsed Reason). IfOk r (OwnLine reading.files)) is (own_form reading.files named words).is) (admitted_is reading line fits)

@@ -6,3 +6,4 @@ pub mod Grammar
 pub mod FirstBad
 pub mod Sound
 pub mod Read
+pub mod Adding

@@ -53,6 +53,12 @@ pub record IsStart (reading : Reading) (content : Content) : Type 0 where
   pub actor : actor content ≡ None
   pub named : IsContentOf (length reading.files) reading.namespaces content
 
+-- What a line holds, before its names are looked up: by this task it acts, or by none.
+abbrev pub IsOwn : Option ℕ → Content → Type 0
+IsOwn by content =
+    All (λ label. label ≤ LAST_NUMBER) (labels content)
+    × IfSome (actor content) (λ task. by ≡ Some task)
+
 -- A line by which this task acts holds this.
 pub record IsHeld (reading : Reading) (by : Option ℕ) (content : Content) : Type 0 where
   pub labels : All (λ label. label ≤ LAST_NUMBER) (labels content)

@@ -1,5 +1,5 @@
 //! What was read of a script, and one more line of it.
-ghost use Rattle.std.specs.Prelude.{◌≡◌, ◌<◌, ◌≤◌, ◌+◌, IfErr, OnOk, length, true};
+ghost use Rattle.std.specs.Prelude.{◌≡◌, ◌<◌, ◌≤◌, ◌+◌, IfErr, OnOk, length, true, Ok};
 ghost use Rattle.cred_ids.specs.Limits.{LAST_LANE, LINE_LIMIT};
 ghost use Rattle.cred_model.specs.Script.{SetupFirst};
 ghost use Rattle.cred_spelling.specs.Lines.{is_printable};
@@ -7,19 +7,24 @@ ghost use Rattle.cred_spelling.specs.Read.{Says, nows};
 ghost use Rattle.cred_spelling.specs.Words.{words_of};
 ghost use Rattle.cred_forms.specs.Read.{GivesLine};
 ghost use Rattle.cred_script.specs.Grammar as grammar;
+ghost use Rattle.cred_script.specs.Adding.{adding, called, fitting, made};
 ghost use Rattle.cred_script.specs.Grammar.{at_line};
+ghost use Rattle.cred_forms.specs.Forms.{parse_form};
 ghost use Rattle.cred_script.specs.Read.{Gives};
 ghost use Rattle.cred_script.specs.Reading as spec;
-ghost use Rattle.cred_script.specs.Sound.{IsHeld, IsNext, IsParsed};
+ghost use Rattle.cred_script.specs.Sound.{IsHeld, IsNext, IsOwn, IsParsed};
+ghost use Rattle.cred_forms.specs.declared.forms.Parsed.TheVariants as parsed;
 ghost use Rattle.cred_event.specs.declared.content.Content.TheVariants.{Nothing};
 
 use crate::refusal::ScriptRefusal;
 use crate::script::{Script, ScriptLine};
 use crate::uses::{has_files, has_namespaces};
 use cred_event::Content;
-use cred_forms::{Files, LineRefusal, Parsed, parse_form};
+use cred_forms::{
+    Files, LineRefusal, Parsed, content_of, event_actor, event_of, parse_form,
+};
 use cred_names::{Lanes, Namespaces};
-use cred_spelling::{Reason, form_of, is_comment};
+use cred_spelling::{EventName, Form, Reason, form_of, is_comment};
 use std::alloc::Global;
 use std::marker::Model;
 
@@ -124,8 +129,102 @@ impl Reading {
         requires split { printable ≡ true → nows words.now ≡ words_of text.now }
         ensures { GivesLine (λ _. self.new) result (grammar.add_line self.old text.now) }
     {
-        let line = self.parse_line(alloc, text, words, printable)?;
+        if printable {
+            self.add_words(alloc, words)
+        } else {
+            Err(LineRefusal::Bad(Reason::Byte))
+        }
+    }
+
+    /// One more line, of these words. One without words, and a comment, declare nothing and hold
+    /// nothing.
+    fn add_words(&mut self, alloc: Global, words: &[&[u8]]) -> Result<(), LineRefusal>
+        requires few { length self.old.lines < LINE_LIMIT }
+        ensures { GivesLine (λ _. self.new) result
+            (adding self.old (grammar.parse_words self.old (nows words.now))) }
+    {
+        match words {
+            [] => self.push(Content::Nothing),
+            [first, rest @ ..] => {
+                if is_comment(first) {
+                    self.push(Content::Nothing)
+                } else {
+                    self.add_full(alloc, first, rest)
+                }
+            }
+        }
+    }
+
+    /// One more line that isn't empty. What it holds goes the shortest way to its place: most lines
+    /// hold something.
+    #[tactic(auto, unfolding(crate::specs::Grammar::parse_full, cred_forms::specs::Forms::parse_form))]
+    fn add_full(&mut self, alloc: Global, first: &[u8], words: &[&[u8]]) -> Result<(), LineRefusal>
+        requires few { length self.old.lines < LINE_LIMIT }
+        ensures { GivesLine (λ _. self.new) result
+            (adding self.old (grammar.parse_full self.old first.now (nows words.now))) }
+    {
+        match form_of(first) {
+            Some(Form::Task(task)) => self.add_call(alloc, task, words),
+            Some(Form::Event(name)) => self.add_event(alloc, name, words),
+            Some(form) => self.declare(alloc, form, words),
+            None => Err(LineRefusal::Bad(Reason::Word)),
+        }
+    }
+
+    /// One more line, of this form.
+    // Few lines declare something.
+    #[cold]
+    #[inline(never)]
+    fn declare(
+        &mut self,
+        alloc: Global,
+        form: Form,
+        words: &[&[u8]],
+    ) -> Result<(), LineRefusal>
+        requires few { length self.old.lines < LINE_LIMIT }
+        ensures { GivesLine (λ _. self.new) result
+            (adding self.old (fitting self.old (parse_form self.old.files form (nows words.now)))) }
+    {
+        let line = parse_form(alloc, &self.files, form, words)?;
+        self.admits(&line)?;
         self.keep(alloc, line)
+    }
+
+    /// One more line, a call or a question of the task.
+    fn add_call(&mut self, alloc: Global, task: u32, words: &[&[u8]]) -> Result<(), LineRefusal>
+        requires few { length self.old.lines < LINE_LIMIT }
+        ensures { GivesLine (λ _. self.new) result
+            (adding self.old (fitting self.old (called self.old.files task (nows words.now)))) }
+    {
+        let content = content_of(alloc, &self.files, task, words)?;
+        self.add_held(Some(task), content)
+    }
+
+    /// One more line, an event of this name.
+    fn add_event(
+        &mut self,
+        alloc: Global,
+        name: EventName,
+        words: &[&[u8]],
+    ) -> Result<(), LineRefusal>
+        requires few { length self.old.lines < LINE_LIMIT }
+        ensures { GivesLine (λ _. self.new) result
+            (adding self.old (fitting self.old (made self.old.files name (nows words.now)))) }
+    {
+        let event = event_of(alloc, &self.files, name, words)?;
+        self.add_held(event_actor(&event), Content::One(event))
+    }
+
+    /// One more line, which holds this, and by which this task acts, if it may stand here.
+    #[inline(never)]
+    fn add_held(&mut self, by: Option<u32>, content: Content) -> Result<(), LineRefusal>
+        requires few { length self.old.lines < LINE_LIMIT }
+        requires own { IsOwn by content }
+        ensures { GivesLine (λ _. self.new) result
+            (adding self.old (fitting self.old (Ok (parsed.Holds by content)))) }
+    {
+        self.may_hold(by, &content)?;
+        self.hold(by, content)
     }
 
     /// The reading, and what this line adds to it.
@@ -170,6 +269,7 @@ impl Reading {
     }
 
     /// One more line, which holds this, and by which this task acts.
+    #[inline(always)]
     fn hold(&mut self, by: Option<u32>, content: Content) -> Result<(), LineRefusal>
         requires few { length self.old.lines < LINE_LIMIT }
         requires sound { IsHeld self.old by content }
@@ -183,6 +283,7 @@ impl Reading {
     }
 
     /// One more line, which holds this.
+    #[inline(always)]
     fn push(&mut self, content: Content) -> Result<(), LineRefusal>
         requires few { length self.old.lines < LINE_LIMIT }
         requires sound { IsNext self.old content }
@@ -192,60 +293,6 @@ impl Reading {
         let lane = self.lanes.current();
         self.lines.push(ScriptLine { lane, content })?;
         Ok(())
-    }
-
-    /// A line, parsed.
-    fn parse_line(
-        &self,
-        alloc: Global,
-        text: &[u8],
-        words: &[&[u8]],
-        printable: bool,
-    ) -> Result<Parsed, LineRefusal>
-        requires test { printable ≡ is_printable text.now }
-        requires split { printable ≡ true → nows words.now ≡ words_of text.now }
-        ensures { GivesLine (λ line. line) result (grammar.parse_line self.now text.now) }
-    {
-        if printable {
-            self.parse_words(alloc, words)
-        } else {
-            Err(LineRefusal::Bad(Reason::Byte))
-        }
-    }
-
-    /// A line without words, and a comment, declare nothing and hold nothing.
-    fn parse_words(&self, alloc: Global, words: &[&[u8]]) -> Result<Parsed, LineRefusal>
-        ensures { GivesLine (λ line. line) result (grammar.parse_words self.now (nows words.now)) }
-    {
-        match words {
-            [] => Ok(Parsed::Empty),
-            [first, rest @ ..] => {
-                if is_comment(first) {
-                    Ok(Parsed::Empty)
-                } else {
-                    self.parse_full(alloc, first, rest)
-                }
-            }
-        }
-    }
-
-    /// A line that isn't empty, by the tests in their order.
-    #[tactic(auto, unfolding(crate::specs::Grammar::parse_full))]
-    fn parse_full(
-        &self,
-        alloc: Global,
-        first: &[u8],
-        words: &[&[u8]],
-    ) -> Result<Parsed, LineRefusal>
-        ensures { GivesLine (λ line. line) result
-            (grammar.parse_full self.now first.now (nows words.now)) }
-    {
-        let Some(form) = form_of(first) else {
-            return Err(LineRefusal::Bad(Reason::Word));
-        };
-        let line = parse_form(alloc, &self.files, form, words)?;
-        self.admits(&line)?;
-        Ok(line)
     }
 
     /// The line may stand here: no declaration stands after a call, an event or a lane line, then
@@ -258,6 +305,20 @@ impl Reading {
         } else if !self.has_names(line) {
             Err(Reason::Name)
         } else if !self.is_apart(line) {
+            Err(Reason::Lane)
+        } else {
+            Ok(())
+        }
+    }
+
+    /// A line that holds this, and by which this task acts, may stand here: the names are asked
+    /// before the lanes.
+    fn may_hold(&self, by: Option<u32>, content: &Content) -> Result<(), Reason>
+        ensures { Says (λ x. x) result (spec.admits self.now (parsed.Holds by content.now)) }
+    {
+        if !has_namespaces(&self.namespaces, content) || !has_files(&self.files, content) {
+            Err(Reason::Name)
+        } else if !self.lanes.may_name(by, content) {
             Err(Reason::Lane)
         } else {
             Ok(())
