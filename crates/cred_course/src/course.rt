@@ -8,8 +8,7 @@ ghost use Rattle.cred_model.specs.Course.{Leads, after, event_at, is_bounded, le
 use crate::events::{event_in, makes_events};
 use crate::stages::{is_stale, next_stage};
 use cred_event::{Answer, Content, Event, Stage};
-use cred_ids::limits;
-use cred_ids::NoMemory;
+use cred_ids::{NoMemory, limits};
 use std::marker::Model;
 
 /// How far a line has come: its number, from 1 to 20,000; the stage that comes next, or none where

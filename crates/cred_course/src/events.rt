@@ -8,8 +8,7 @@ ghost use Rattle.cred_event.specs.declared.event.Side.TheVariants.{Subjective};
 ghost use Rattle.cred_model.specs.Course as spec;
 
 use cred_event::{Change, Content, Event, Query, Side, Stage, copy_event};
-use cred_ids::limits;
-use cred_ids::NoMemory;
+use cred_ids::{NoMemory, limits};
 use cred_record::Want;
 
 /// Whether a line with this content makes events.

@@ -6,8 +6,7 @@ ghost use Rattle.cred_ids.specs.Limits.{OPEN_FILES};
 ghost use Rattle.cred_files.specs.Open.{AreOpen, file_as, file_at, place_of, Closes};
 
 use crate::file::File;
-use cred_ids::limits;
-use cred_ids::NoMemory;
+use cred_ids::{NoMemory, limits};
 use indexmap::IndexMap;
 use std::alloc::Global;
 use std::marker::Model;

@@ -5,8 +5,7 @@ ghost use Rattle.cred_forms.specs.Read.{GivesLine};
 
 use crate::files::{Files, ScriptFile};
 use crate::refusal::LineRefusal;
-use cred_ids::limits;
-use cred_ids::Id;
+use cred_ids::{Id, limits};
 use cred_record::{Attr, FileInfo, FileKind};
 use cred_spelling::{Reason, bytes_of, is, mode_of, name_of, three};
 use std::alloc::Global;

@@ -8,8 +8,7 @@ ghost use Rattle.cred_sound.specs.Sound.{IsSound};
 
 use crate::state::State;
 use cred_event::Answer;
-use cred_ids::limits;
-use cred_ids::NoMemory;
+use cred_ids::{NoMemory, limits};
 use cred_plain::Numbered;
 use cred_plain::labels::prepared_place;
 use cred_record::copy;

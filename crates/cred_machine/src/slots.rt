@@ -13,8 +13,7 @@ ghost use Rattle.cred_machine.specs.Slots.{AreLive, is_live_by, is_marked};
 
 use crate::state::State;
 use cred_event::Answer;
-use cred_ids::limits;
-use cred_ids::NoMemory;
+use cred_ids::{NoMemory, limits};
 use cred_plain::{Creds, Ending, Hold, OpenFile, Prepared, Task, Tasks};
 use std::alloc::Global;
 use std::marker::Model;

@@ -10,8 +10,7 @@ ghost use Rattle.cred_model.specs.Moves.{first_task, updated, with_current};
 ghost use Rattle.cred_model.specs.Moves.{with_overrides};
 ghost use Rattle.cred_plain.specs.Tasks.{ends_by, others_in, OfOneTask};
 
-use cred_ids::limits;
-use cred_ids::NoMemory;
+use cred_ids::{NoMemory, limits};
 use std::alloc::Global;
 use std::marker::Model;
 

@@ -5,8 +5,7 @@ ghost use Rattle.cred_reader.specs.CallRows as spec;
 
 use cred_caps::Cap;
 use cred_event::{Answer, Named};
-use cred_ids::limits;
-use cred_ids::Arg;
+use cred_ids::{Arg, limits};
 use cred_record::{AdjCall, IdCall};
 
 /// Whether an id is given.

@@ -10,8 +10,7 @@ ghost use Rattle.cred_slots.specs.Table.{IsAlone};
 
 use crate::flags::Flags;
 use crate::row::{Row, UNUSED, forget_late};
-use cred_ids::limits;
-use cred_ids::NoMemory;
+use cred_ids::{NoMemory, limits};
 use std::alloc::Global;
 use std::marker::Model;
 

@@ -8,7 +8,7 @@ ghost use Rattle.cred_tables.specs.Kept.{casts_left};
 use cred_cast::Casts;
 use cred_event::{Answer, Change};
 use cred_ids::NoMemory;
-use cred_procs::{Ended, CredNumbers, Procs, TaskList};
+use cred_procs::{CredNumbers, Ended, Procs, TaskList};
 use cred_record::Gains;
 use std::alloc::Global;
 

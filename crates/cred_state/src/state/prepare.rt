@@ -11,8 +11,7 @@ use crate::state::State;
 use cred_decide::{Made, change as change_of};
 use cred_declared::{chain_of, executed_file};
 use cred_event::{Answer, Change, Counted, Named};
-use cred_ids::limits;
-use cred_ids::NoMemory;
+use cred_ids::{NoMemory, limits};
 use cred_script::Script;
 use cred_tables::{
     Changed, Ended, Numbered, Preparation, Ready, committed_by, drop_all, drop_cast, end_with,
