@@ -46,11 +46,11 @@ pub record Moves (before after : Recorded) (lane : ℕ) : Type 0 where
   pub falls : left after < left before
   pub counts : Counts before after lane More
 
-record HasStage (course : Course) : Type 0 where
-  stage : Stage
-  is : course.stage ≡ Some stage
+pub record HasStage (course : Course) : Type 0 where
+  pub stage : Stage
+  pub is : course.stage ≡ Some stage
 
-stage_is : (course : Course) → is_some course.stage ≡ true → HasStage course
+pub stage_is : (course : Course) → is_some course.stage ≡ true → HasStage course
 stage_is course going = by course.stage refl going
   where
     by : (o : Option Stage) → course.stage ≡ o → is_some o ≡ true → HasStage course

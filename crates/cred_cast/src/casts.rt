@@ -100,6 +100,7 @@ impl Casts {
 
     /// A task has made its step: it waits no more. Returns how many still wait in the broadcast;
     /// at 0 it is completed and closed.
+    #[inline(always)]
     pub fn acted(&mut self, number: u32, task: u32) -> u32
         requires { IsSomeAnd (cast_under self.old number) (λ b. waits_in task b ≡ true) }
         ensures left { IfSome (cast_under self.old number) (λ b. result + 1 ≡ length b.waiting) }

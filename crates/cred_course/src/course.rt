@@ -74,6 +74,7 @@ impl Course {
     /// # Errors
     ///
     /// `NoMemory` where the list of a `setgroups` could not be copied; no other event takes memory.
+    #[inline(always)]
     pub fn event(&self, content: &Content) -> Result<Option<Event>, NoMemory>
         requires { Leads content.now self.now }
         ensures event { IfOk result (λ event. event ≡ event_at content.now self.now) }
@@ -83,6 +84,7 @@ impl Course {
         self.event_at(content)
     }
 
+    #[inline(always)]
     fn event_at(&self, content: &Content) -> Result<Option<Event>, NoMemory>
         ensures event { IfOk result (λ event. event ≡ event_at content.now self.now) }
         ensures refusal { OnErr result (IfSome (event_at content.now self.now) BeginsSetGroups) }
@@ -95,6 +97,7 @@ impl Course {
 
     /// Leads the line on by the answer to its event. The content is the line's. Then it has fewer
     /// events left; nothing is said of an id call, which every thread of the process makes.
+    #[inline(always)]
     pub fn took(&mut self, content: &Content, answer: &Answer)
         requires leads { Leads content.now self.old }
         requires goes_on { is_some self.old.stage ≡ true }
@@ -106,6 +109,7 @@ impl Course {
     }
 
     /// How far the line has come after one more answer.
+    #[inline(always)]
     fn after(self, content: &Content, answer: &Answer) -> Course
         ensures { result ≡ after content.now self answer.now }
     {

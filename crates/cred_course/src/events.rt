@@ -19,6 +19,7 @@ pub(crate) fn makes_events(content: &Content) -> bool
 }
 
 /// The event of a stage, or none where a line with this content has no such stage.
+#[inline(always)]
 pub(crate) fn event_in(
     line: u32,
     content: &Content,

@@ -6,6 +6,7 @@ ghost use Rattle.cred_model.specs.Course as spec;
 use cred_event::{Answer, Content, Stage};
 
 /// The stage after an answer, where no commit came too late.
+#[inline(always)]
 pub(crate) fn next_stage(content: &Content, stage: Stage, answer: &Answer) -> Option<Stage>
     ensures { result ≡ spec.next_stage content.now stage answer.now }
 {

@@ -20,13 +20,13 @@ use Rattle.cred_cursor.specs.Cursor.{EndedInLane, NotBegun, IsOver, IsPast, Stan
 use Rattle.cred_cursor.specs.Cursor.{may_wait, may_wait_at, IsOfLine, MovesOnTo, MovesOnFrom, is_of}
 
 -- the line at a place has the next number
-line_at-place : (script : Script) (place : ℕ) → line_at script (place + 1) ≡ slice_get script.lines place
+pub line_at-place : (script : Script) (place : ℕ) → line_at script (place + 1) ≡ slice_get script.lines place
 line_at-place script place =
     let above : (place + 1 == 0) ≡ false = grind (arith, nat_tests) in
     let down : place + 1 - 1 ≡ place = omega arith in
     rw (above, down) refl
 
-slice_get-none : {A : Type 0} (xs : List A) (i : ℕ) → slice_get xs i ≡ None → length xs ≤ i
+pub slice_get-none : {A : Type 0} (xs : List A) (i : ℕ) → slice_get xs i ≡ None → length xs ≤ i
 slice_get-none [] i none = omega arith
 slice_get-none (x ∷ xs) zero none = cc
 slice_get-none (x ∷ xs) (suc i) none = let rest = slice_get-none xs i none in omega arith
@@ -163,8 +163,8 @@ some_of None is = cc
 some_of (Some x) is = refl
 
 -- no more than a whole course is left of a line
-few_left : (line : Line) (number : ℕ) → model.left (start number line.content) ≤ 86
-few_left line number = elim (model.makes_events line.content) as (λ b. model.left (record { line = number; stage = cond b (Some First) None; tries = 1 }) ≤ 86) [
+pub few_left : (content : Content) (number : ℕ) → model.left (start number content) ≤ 86
+few_left content number = elim (model.makes_events content) as (λ b. model.left (record { line = number; stage = cond b (Some First) None; tries = 1 }) ≤ 86) [
   | true ↦ omega arith
   | false ↦ omega arith
 ]
@@ -175,7 +175,7 @@ few_wait (One event) (Some First) = omega arith
 few_wait (Id task call) (Some First) = omega arith
 few_wait content stage = omega arith
 
-few_wait_at : (script : Script) (course : Course) → may_wait_at script course ≤ 64
+pub few_wait_at : (script : Script) (course : Course) → may_wait_at script course ≤ 64
 few_wait_at script course = by (line_at script course.line)
   where
     by : (found : Option Line) → option_map_or (λ line. may_wait line.content course.stage) found 0 ≤ 64
@@ -212,7 +212,7 @@ pub reaches_due : (script : Script) (lane : ℕ) (from number : ℕ) (line : Lin
 reaches_due script lane from number line at following own going =
     let course = start (number + 1) line.content in
     let within = later_line script number line following in
-    let few = few_left line (number + 1) in
+    let few = few_left line.content (number + 1) in
     let wait = few_wait_at script course in
     let on = at.on in
     record {

@@ -25,6 +25,8 @@ use Rattle.cred_sound.proofs.Sound.{like_sound, sound_after}
 use Rattle.cred_script.specs.Grammar.{line_at}
 use Rattle.cred_cursor.specs.Cursor.{LINE_EVENTS, left_at, may_wait, may_wait_at}
 use Rattle.cred_book.specs.Cursor.{waiting, waiting_in}
+use Rattle.cred_cursor.proofs.Courses.{few_left, few_wait_at}
+use Rattle.cred_book.proofs.Cursors.{stage_is}
 use Rattle.cred_book.proofs.Measure.{step_falls}
 use Rattle.cred_order.specs.Order.{HasRun, IsAfter, IsPast, RunsOn, StandsAt, most_left}
 use Rattle.cred_order.proofs.Order.{begins, goes_on, line_is, line_past, next_here, of_line}
@@ -45,26 +47,6 @@ pub record Goes (script : Script) (past : ℕ) (before now : State) (had has : L
   pub line : Line
   pub own : line.content ≡ content
   pub on : (journal : List Entry) → IsAfter script journal past before → IsOn script (journal ++ made) line course now
-
--- no more than a whole course is left of a line
-few_left : (content : Content) (number : ℕ) → model.left (start number content) ≤ 86
-few_left content number = elim (model.makes_events content) as (λ b. model.left (record { line = number; stage = cond b (Some First) None; tries = 1 }) ≤ 86) [
-  | true ↦ omega arith
-  | false ↦ omega arith
-]
-
--- no more tasks than may live wait after its next event
-few_wait : (content : Content) (stage : Option Stage) → may_wait content stage ≤ 64
-few_wait (One event) (Some First) = omega arith
-few_wait (Id task call) (Some First) = omega arith
-few_wait content stage = omega arith
-
-few_wait_at : (script : Script) (course : Course) → may_wait_at script course ≤ 64
-few_wait_at script course = by (line_at script course.line)
-  where
-    by : (found : Option Line) → option_map_or (λ line. may_wait line.content course.stage) found 0 ≤ 64
-    by None = omega arith
-    by (Some line) = few_wait line.content course.stage
 
 -- so a line leaves no more to those behind it than there may be
 few_first : (script : Script) (past : ℕ) (line : Line) (content : Content) → slice_get script.lines past ≡ Some line
@@ -114,17 +96,6 @@ goes_leads script past before now had has content course run goes =
 -- the entry of an event of this line, with its answer
 abbrev entry_with : ℕ → Event → Answer → Entry
 entry_with line event answer = record { line = line; event = event; answer = answer }
-
-record HasStage (course : Course) : Type 0 where
-  stage : Stage
-  is : course.stage ≡ Some stage
-
-stage_is : (course : Course) → is_some course.stage ≡ true → HasStage course
-stage_is course going = by course.stage refl going
-  where
-    by : (o : Option Stage) → course.stage ≡ o → is_some o ≡ true → HasStage course
-    by None is none = cc
-    by (Some stage) is some = record { stage = stage; is = is }
 
 -- what one event does
 record OneMore (script : Script) (journal : List Entry) (line : Line) (course next : Course) (entry : Entry) (before after : State) : Type 0 where

@@ -18,22 +18,11 @@ use Rattle.cred_model.proofs.Journals.{IsInOrder-push}
 use Rattle.cred_model.proofs.Lines.{answers_of-push_same, answers_of-push_other}
 use Rattle.cred_script.specs.Grammar.{line_at}
 use Rattle.cred_cursor.specs.Cursor.{left_at}
+use Rattle.cred_cursor.proofs.Courses.{line_at-place, slice_get-none}
 use Rattle.cred_cursor.proofs.Due.{first_due_at, first_due_none}
 use Rattle.cred_book.specs.Cursor.{waiting}
 use Rattle.cred_book.proofs.Measure.{step_falls}
 use Rattle.cred_order.specs.Order.{BeginsSequence, LineHasEnded, IsPast, NotBegun, StandsAt}
-
--- the line at a place has the next number
-pub line_at-place : (script : Script) (place : ℕ) → line_at script (place + 1) ≡ slice_get script.lines place
-line_at-place script place =
-    let above : (place + 1 == 0) ≡ false = grind (arith, nat_tests) in
-    let down : place + 1 - 1 ≡ place = omega arith in
-    rw (above, down) refl
-
-slice_get-none : {A : Type 0} (xs : List A) (i : ℕ) → slice_get xs i ≡ None → length xs ≤ i
-slice_get-none [] i none = omega arith
-slice_get-none (x ∷ xs) zero none = cc
-slice_get-none (x ∷ xs) (suc i) none = let rest = slice_get-none xs i none in omega arith
 
 -- ---- a course and its line
 

@@ -283,6 +283,7 @@ impl Procs {
     }
 
     /// What is kept of a task. `None` where it isn't alive.
+    #[inline(always)]
     fn thread(&self, task: u32) -> Option<&Thread>
         ensures { option_map (λ t. task_as task t.now) result ≡ task_in self.now task }
     {

@@ -19,6 +19,7 @@ fn has_root(ids: &Ids4) -> bool
 /// # Errors
 ///
 /// `Memory` if the groups could not be copied.
+#[inline(always)]
 #[tactic(auto, unfolding(cred_rules::specs::Fix::with_user_ids))]
 pub fn with_user_ids(cred: &Cred, ids: Ids4) -> Result<Cred, Refusal>
     ensures ok { IfOk result (λ new. new ≡ with_user_ids cred.now ids) }

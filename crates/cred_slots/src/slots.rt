@@ -184,6 +184,7 @@ impl Slots {
     }
 
     /// A reference to the number is given up, and counts until the next sweep.
+    #[inline(always)]
     pub fn drop_later(&mut self, number: u64)
         requires { 0 < count_by (λ n. n == number) self.old.held }
         ensures held { IsSameBag self.old.held (number ∷ self.new.held) }

@@ -7,7 +7,7 @@ use Rattle.cred_model.specs.Script.{Script, Line}
 use Rattle.cred_model.specs.Course.{event_at}
 use Rattle.cred_model.proofs.Names.{event_named}
 use Rattle.cred_script.specs.Grammar.{line_at}
-use Rattle.cred_order.proofs.Order.{line_at-place}
+use Rattle.cred_cursor.proofs.Courses.{line_at-place}
 use Rattle.cred_order.proofs.Goes.{GoesOn, goes_first, goes_sound, goes_by, goes_out}
 use Rattle.cred_order.proofs.line.run_line.Goals as goal
 
