@@ -35,9 +35,7 @@ pub fn audit(alloc: Global, script: &Script, report: &[u8]) -> Result<Verdict, N
 {
     let mut run = Run::new(alloc, script)?;
     let mut pen = Pen::new(alloc);
-    let verdict = compare(&mut run, &mut pen, script, report);
-    drop(run);
-    verdict
+    compare(&mut run, &mut pen, script, report)
 }
 
 /// The verdict on a report, by a run of the script that has made no event yet.

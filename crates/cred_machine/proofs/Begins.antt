@@ -17,7 +17,7 @@ use Rattle.cred_model.specs.Moves.{in_slot, not_overridden, table_full}
 use Rattle.cred_model.specs.Step.{by_begin, outcome}
 use Rattle.cred_model.proofs.Numbers.{owner_number}
 use Rattle.cred_model.proofs.Places.{none_by_test}
-use Rattle.cred_machine.specs.Room.{begun, cast_of_call}
+use Rattle.cred_machine.specs.Room.{begun}
 use Rattle.cred_plain.specs.Tasks.{others_in}
 use Rattle.cred_plain.proofs.Places.{none_is}
 use Rattle.cred_machine.proofs.Events.{CanBegin, begin_tests}
@@ -74,12 +74,16 @@ module _ (s : State) (line task : ℕ) (call : IdCall) (owner : Task) (old : Num
   others_are : (waiting : List ℕ) → waiting ≡ others_in owner.process task s.tasks → waiting ≡ others_of owner s.tasks
   others_are waiting is = is ∙ ap (λ (n : ℕ). others_in owner.process n s.tasks) (sym (owner_number s task owner can.lives))
 
-  pub begins : (made : Credential) (cast : Broadcast) → set_id old.cred call ≡ Ok made → cast ≡ cast_of_call s line owner.process task call
-      → outcome s (by_begin s line task call) ≡ in_slot s table_full (λ r slot. begun r cast old.number made slot)
-  begins made cast rule is =
-      begin_tests s line task call owner old made cast can rule
-      (is
-      ∙ ap (λ (ns : List ℕ). record { number = line; process = owner.process; caller = task; call = call; waiting = ns }) (others_are (others_in owner.process task s.tasks) refl))
+  pub begins : (made : Credential) (copied : IdCall) (waiting : List ℕ) → set_id old.cred call ≡ Ok made → copied ≡ call
+      → waiting ≡ others_in owner.process task s.tasks
+      → outcome s (by_begin s line task call)
+      ≡ in_slot s table_full (λ r slot. begun r
+      (record { number = line; process = owner.process; caller = task; call = copied; waiting = waiting }) old.number made slot)
+  begins made copied waiting rule same these =
+      let cast : IdCall → List ℕ → Broadcast
+      = λ k ns. record { number = line; process = owner.process; caller = task; call = k; waiting = ns } in
+      begin_tests s line task call owner old made (cast copied waiting) can rule
+      (ap (λ (k : IdCall). cast k waiting) same ∙ ap (λ (ns : List ℕ). cast call ns) (others_are waiting these))
 
 -- what is answered, by what answers the same
 pub same_answer : {E : Type 0} (given made : Answer × State) (answered : Result Answer E) (after : State) → given ≡ made

@@ -8,7 +8,7 @@ ghost use Rattle.cred_model.specs.Slots.{free, least_free};
 ghost use Rattle.cred_model.specs.Moves.{in_slot, replaced, table_full};
 ghost use Rattle.cred_model.specs.Step.{aborted, by_act, by_begin};
 ghost use Rattle.cred_sound.specs.Sound.{IsSound};
-ghost use Rattle.cred_machine.specs.Room.{at_abort, begun, cast_of_call, swept_if};
+ghost use Rattle.cred_machine.specs.Room.{at_abort, begun, swept_if};
 
 use crate::slots::{Room, defer_left, make_room};
 use crate::state::{State, overridden};
@@ -53,32 +53,15 @@ impl State {
             Err(Refusal::Invalid) => return Ok(Answer::Einval),
             Err(Refusal::Memory) => return Err(NoMemory),
         };
-        let number = old.number;
-        let cast = self.cast_of_call(line, process, task, call)?;
-        self.open(cast, number, cred)
-    }
-
-    /// The broadcast of a call that a task makes in this line: the other threads of its process
-    /// wait in it.
-    fn cast_of_call(
-        &self,
-        line: u32,
-        process: u32,
-        task: u32,
-        call: &IdCall,
-    ) -> Result<Cast, NoMemory>
-        ensures cast { IfOk result
-            (λ cast. cast ≡ cast_of_call self.now line process task call.now) }
-        ensures few { IfOk result (λ cast. length cast.waiting ≤ TASKS) }
-    {
-        let waiting = self.tasks.others(process, task)?;
-        Ok(Cast {
+        let (number, waiting) = (old.number, self.tasks.others(process, task)?);
+        let cast = Cast {
             number: line,
             process,
             caller: task,
             call: call.copy()?,
             waiting,
-        })
+        };
+        self.open(cast, number, cred)
     }
 
     /// The caller of a broadcast has made this credential of its current one, of this number. That

@@ -1,16 +1,14 @@
 //! The events on holds and prepared labels.
-ghost use Rattle.std.specs.Prelude.{◌≡◌, ◌<◌, ◌++◌, ◌∷◌, [], length, slice_get, IfOk, IfSome};
-ghost use Rattle.std.specs.Prelude.{OnOk, OnErr};
+ghost use Rattle.std.specs.Prelude.{◌≡◌, ◌<◌, length, slice_get, IfOk, IfSome, OnOk, OnErr};
 ghost use Rattle.cred_model.specs.Like.{Gives};
 ghost use Rattle.cred_model.specs.Step.{by_abort, by_alter, by_ask, by_commit, by_prepare};
 ghost use Rattle.cred_model.specs.Step.{by_release, by_signal, by_take, take_hold};
 ghost use Rattle.cred_model.specs.Step as model;
-ghost use Rattle.cred_model.specs.Ends.{left_by};
 ghost use Rattle.cred_model.specs.Moves.{given_up};
 ghost use Rattle.cred_sound.specs.Sound.{IsSound};
 ghost use Rattle.cred_machine.specs.Labels.{numbered_in, casts_left, CanCommit, Commits};
 ghost use Rattle.cred_machine.specs.Labels.{IsOnCurrent};
-ghost use Rattle.cred_plain.specs.Tasks.{ending_of, ends_by};
+ghost use Rattle.cred_plain.specs.Tasks.{ending_of};
 
 use crate::slots::{Room, make_room, sweep_if};
 use crate::state::{State, overridden};
@@ -21,7 +19,7 @@ use cred_event::{Answer, Change, Counted, Named, Query, Side};
 use cred_ids::{NoMemory, limits};
 use cred_plain::casts::{begun_by, drop_cast};
 use cred_plain::labels::{change_at, hold_of, hold_place, prepared_of, prepared_place};
-use cred_plain::{Cast, Changed, Ending, Hold, Numbered, Prepared, Tasks};
+use cred_plain::{Cast, Changed, Ending, Hold, Numbered, Prepared};
 use cred_record::{Gains, copy};
 use cred_script::Script;
 
@@ -251,7 +249,8 @@ impl State {
         let (task, process, slot) = (own.task, owner.process, own.slot);
         let ending = ends_with(last.change, process, task);
         let ended = self.tasks.count(ending);
-        let numbers = left_by_commit(&self.tasks, ending, owner.current, own.base)?;
+        let mut numbers = self.tasks.left(ending)?;
+        numbers.extend_from_slice(&[owner.current, own.base])?;
         let cred = copy(&last.cred)?;
         make_room(&mut self.creds, &mut self.deferred, false, &numbers)?;
         self.tasks.end(ending);
@@ -300,22 +299,6 @@ fn ends_with(change: Change, process: u32, task: u32) -> Ending
         Change::Exec { .. } => Ending::Others { process, task },
         _ => Ending::Nobody,
     }
-}
-
-/// The numbers that a commit gives up: those that the tasks refer to which end with it, that of its
-/// task's current credential, and that of its base.
-fn left_by_commit(
-    tasks: &Tasks,
-    ending: Ending,
-    current: u64,
-    base: u64,
-) -> Result<Vec<u64>, NoMemory>
-    ensures { IfOk result (λ numbers.
-        numbers.items ≡ left_by (ends_by ending) tasks.now ++ current ∷ base ∷ []) }
-{
-    let mut numbers = tasks.left(ending)?;
-    numbers.extend_from_slice(&[current, base])?;
-    Ok(numbers)
 }
 
 /// The process's broadcast is dropped where one of its threads commits an execve (execve(2)).

@@ -133,19 +133,12 @@ impl State {
         ensures { IfOk result (λ numbers. numbers.items ≡ in_use self.now) }
     {
         let mut numbers = Vec::with_capacity(self.alloc, self.tasks.items().len())?;
-        self.add_in_use(&mut numbers)?;
+        add_current(self.tasks.items(), &mut numbers)?;
+        add_overrides(self.tasks.items(), &mut numbers)?;
+        add_openers(&self.files, &mut numbers)?;
+        add_held(&self.holds, &mut numbers)?;
+        add_bases(&self.prepared, &mut numbers)?;
         Ok(numbers)
-    }
-
-    /// Appends them to these.
-    fn add_in_use(&self, numbers: &mut Vec<u64>) -> Result<(), NoMemory>
-        ensures { OnOk result (numbers.new.items ≡ numbers.old.items ++ in_use self.now) }
-    {
-        add_current(self.tasks.items(), numbers)?;
-        add_overrides(self.tasks.items(), numbers)?;
-        add_openers(&self.files, numbers)?;
-        add_held(&self.holds, numbers)?;
-        add_bases(&self.prepared, numbers)
     }
 
     /// Which slots are live, by a look through all that refers.

@@ -47,6 +47,6 @@ returns-clause-ok c =
     c.if-is_some.false c.in_default-overridden.ensures in
     rw (← c.self.view_is)
     (same_answer _ _ c.open.result c.open.new.self
-    (begins s c.args.line c.args.task c.args.call.now o old can c.in-Ok.cred c.in_ok-cast.cast (rule_made _ c.in-Ok.cred c.in-Ok.ensures)
-    (rw (← c.self.view_is) at c.in_ok-cast.ensures.cast))
+    (begins s c.args.line c.args.task c.args.call.now o old can c.in-Ok.cred c.in_ok-copy.field-0 c.in_ok-waiting.waiting.items
+    (rule_made _ c.in-Ok.cred c.in-Ok.ensures) c.in_ok-copy.ensures.equal c.in_ok-waiting.ensures.others)
     (rw (← c.self.view_is) at c.open.ensures.ok))

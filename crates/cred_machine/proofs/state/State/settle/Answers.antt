@@ -1,4 +1,4 @@
-use Rattle.std.proofs.Common.{◌≡◌, ℕ, List, Some, refl, ap, ◌∙◌}
+use Rattle.std.proofs.Common.{◌≡◌, ℕ, List, [], ◌∷◌, ◌++◌, Some, refl, ap, ◌∙◌}
 use Rattle.cred_model.specs.State.{Changed, SealedCred}
 use Rattle.cred_machine.specs.Labels.{CanCommit, IsChanged}
 use Rattle.cred_plain.proofs.Places.{found_is}
@@ -23,11 +23,15 @@ returns-clause-ok c =
     (commits s c.args.place own owner last is c.ends_with-ending.result c.committed_by-answer.result c.seal-number.result c.count-ended.result _ _ _ _ _ _ _ _ _
     (rw (← c.self.view_is) at c.requires.current) c.ends_with-ending.ensures c.seal-number.ensures.number c.in_ok-make_room.ensures.list c.count-ended.ensures
     c.committed_by-answer.ensures c.set_current.ensures c.end.ensures c.drop_with.ensures c.remove.ensures.items
-    (c.deref.ensures.value ∙ c.in_ok-numbers.ensures)
+    (c.deref.ensures.value ∙ c.in_ok-extend_from_slice.ensures.items
+    ∙ ap (λ (ns : List ℕ). ns ++ owner.current ∷ own.base ∷ []) c.in_ok-numbers.ensures)
     c.in_ok-make_room.ensures.ok c.in_ok-cred.ensures c.seal-number.ensures.sealed)
 
 pub returns-in_err-numbers-clause-err : goal.returns-in_err-numbers-clause-err
 returns-in_err-numbers-clause-err c = on_err _ refl
+
+pub returns-in_err-extend_from_slice-clause-err : goal.returns-in_err-extend_from_slice-clause-err
+returns-in_err-extend_from_slice-clause-err c = on_err _ refl
 
 pub returns-in_err-cred-clause-err : goal.returns-in_err-cred-clause-err
 returns-in_err-cred-clause-err c = on_err _ refl
