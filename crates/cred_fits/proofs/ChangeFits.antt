@@ -1,7 +1,5 @@
 -- What changes make of a credential, and gain, is in range.
-use Rattle.std.proofs.Common.{◌≡◌, ℕ, ◌-◌, ◌<◌, ◌≤◌, ◌^◌, ◌==◌, not, nat_le, nat_lt, Bool, true, false, cond, List, [], Option, Some, None, Result, Ok, Err, refl, arith}
-use Rattle.std.specs.Prelude.{⊤}
-use Rattle.std.specs.List.{All}
+use Rattle.std.proofs.Common.{◌≡◌, ℕ, ◌-◌, ◌<◌, ◌≤◌, ◌^◌, ◌==◌, not, nat_le, nat_lt, Bool, true, false, cond, List, Option, Some, None, Result, Ok, Err, refl, arith}
 use Rattle.std.specs.Option.{IfSome}
 use Rattle.std.proofs.lemmas.Bool.Decides.{nat_tests}
 use Rattle.std.proofs.lemmas.List.Elements.{All-nil}
@@ -9,27 +7,24 @@ use Rattle.std.proofs.lemmas.Nat.{and_le_l, or_lt}
 use Rattle.cred_ids.specs.declared.id.Kind.{Kind}
 use Rattle.cred_ids.specs.declared.id.Kind.TheVariants.{User, Group}
 use Rattle.cred_ids.specs.Id.{IsId}
-use Rattle.cred_ids.specs.Ids4.{all_four}
 use Rattle.cred_caps.specs.declared.secure.Flag.TheVariants.{NoSetuidFixup, KeepCaps}
-use Rattle.cred_caps.specs.Caps.{Caps, IsCaps, empty, full, union, meet, less, with, without}
+use Rattle.cred_caps.specs.Caps.{Caps, IsCaps, empty, full, union, meet, with}
 use Rattle.cred_caps.specs.Numbers.{LAST, SETPCAP}
 use Rattle.cred_caps.specs.Secure.{is_set, is_locked, with_flag}
 use Rattle.cred_caps.proofs.CapsLemmas.{IsCaps-union, IsCaps-one}
 use Rattle.cred_record.specs.Credential.{Credential, ROOT, capable, first_credential}
 use Rattle.cred_record.specs.File.{File}
-use Rattle.cred_record.specs.declared.gains.Gains.{Gains}
 use Rattle.cred_record.specs.declared.adj_call.AdjCall.{AdjCall}
 use Rattle.cred_record.specs.declared.adj_call.AdjCall.TheVariants as adj
 use Rattle.cred_record.specs.declared.refusal.Denial.{Denial}
 use Rattle.cred_record.specs.declared.refusal.Denial.TheVariants.{Perm, Invalid}
-use Rattle.cred_rules.specs.Access.{access_effective, access_credential}
+use Rattle.cred_rules.specs.Access.{access_credential}
 use Rattle.cred_rules.specs.Adjust.{LAST_BITS, is_no_cap, may_capset, may_raise, may_set_bits, adjust, after_capset, after_bound_drop, after_amb_raise, after_amb_lower, after_bits, after_keep_caps, after_no_new_privs}
 use Rattle.cred_rules.specs.Attribute.{Attribute}
 use Rattle.cred_rules.specs.Exec.NoExec.{MayNotExecute, SpellsNothing, GivesTooLittle}
-use Rattle.cred_rules.specs.Exec.{Executed, NoExec, FileSets, sets_user, sets_group, user_after, group_after, sets_of, sets_taken, given_by, is_privileged, amb_after, limited, perm_after, eff_after, may_execute, attribute_for, gives_all, is_by_root, gained, gained_by_file, after_exec, gains_of, executed, executed_by, exec}
-use Rattle.cred_rules.specs.SetFs.{set_fs, old_fs}
+use Rattle.cred_rules.specs.Exec.{Executed, NoExec, FileSets, sets_user, sets_group, sets_of, sets_taken, given_by, is_privileged, amb_after, perm_after, may_execute, attribute_for, gives_all, is_by_root, gained, gained_by_file, after_exec, gains_of, executed_by, exec}
+use Rattle.cred_rules.specs.SetFs.{old_fs}
 use Rattle.cred_event.specs.declared.answer.Answer.{Answer}
-use Rattle.cred_event.specs.declared.answer.Answer.TheVariants as answer
 use Rattle.cred_event.specs.declared.event.Change.{Change}
 use Rattle.cred_event.specs.declared.event.Change.TheVariants as change
 use Rattle.cred_model.specs.Change as model

@@ -1,5 +1,5 @@
 -- The credentials that calls make have ids, sets and securebits in range.
-use Rattle.std.proofs.Common.{◌≡◌, ℕ, ◌-◌, ◌<◌, ◌^◌, ◌==◌, not, ◌&&◌, ◌||◌, nat_le, nat_lt, Bool, true, false, cond, List, [], length, Option, Some, None, Result, Ok, Err, refl, arith}
+use Rattle.std.proofs.Common.{ℕ, ◌-◌, ◌<◌, ◌^◌, ◌==◌, not, ◌&&◌, ◌||◌, nat_lt, Bool, true, false, cond, List, length, Result, Ok, Err, arith}
 use Rattle.std.specs.List.{All, list_any}
 use Rattle.std.proofs.lemmas.Nat.{and_le_l, and_le_r}
 use Rattle.cred_ids.specs.declared.id.Ids4.{Ids4}
@@ -11,7 +11,7 @@ use Rattle.cred_ids.specs.Id.{IsId}
 use Rattle.cred_ids.specs.Ids4.{all_four}
 use Rattle.cred_ids.specs.Ordered.{in_order}
 use Rattle.cred_ids.specs.Limits.{GROUP_LIMIT}
-use Rattle.cred_caps.specs.declared.secure.Flag.TheVariants.{NoSetuidFixup, KeepCaps}
+use Rattle.cred_caps.specs.declared.secure.Flag.TheVariants.{NoSetuidFixup}
 use Rattle.cred_caps.specs.Caps.{Caps, IsCaps, empty, union, meet, less}
 use Rattle.cred_caps.specs.Numbers.{SETGID, SETUID}
 use Rattle.cred_caps.specs.Secure.{is_set}
@@ -22,8 +22,8 @@ use Rattle.cred_record.specs.declared.id_call.IdCall.TheVariants as call
 use Rattle.cred_record.specs.declared.refusal.Denial.{Denial}
 use Rattle.cred_record.specs.declared.refusal.Denial.TheVariants.{Perm, Invalid}
 use Rattle.cred_rules.specs.Fix.{clears_permitted, loses_root, leaves_root, enters_root, fixed, with_user_ids}
-use Rattle.cred_rules.specs.SetFs.{FILE_CAPS, own_ids, fs_after, fs_effective, with_fs_user, set_fs}
-use Rattle.cred_rules.specs.SetId.{id_or, is_given, is_other, is_one_of, three, permitted, after_setuid, after_setreuid, after_setresuid, after_seteuid, after_setgroups, for_users, for_groups, set_id}
+use Rattle.cred_rules.specs.SetFs.{FILE_CAPS, own_ids, fs_after, fs_effective, set_fs}
+use Rattle.cred_rules.specs.SetId.{id_or, is_given, is_other, permitted, after_setuid, after_setreuid, after_setresuid, after_seteuid, after_setgroups, for_users, for_groups, set_id}
 use Rattle.cred_model.proofs.Rising.{All-in_order}
 use Rattle.cred_reader.specs.Fits.{IsArg, FitsCall, FitsIds}
 use Rattle.cred_reader.proofs.Spelled.{Holds}

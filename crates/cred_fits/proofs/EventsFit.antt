@@ -1,13 +1,12 @@
 -- The events of a script's journals fit it.
-use Rattle.std.proofs.Common.{◌≡◌, ℕ, ◌+◌, ◌-◌, ◌*◌, ◌<◌, ◌≤◌, ◌==◌, ◌&&◌, not, Bool, true, false, cond, is_some, List, [], ◌∷◌, length, take, fold, slice_get, Option, Some, None, Ok, refl, sym, ap, ◌∙◌, subst, arith}
-use Rattle.std.specs.Prelude.{⊤}
+use Rattle.std.proofs.Common.{◌≡◌, ℕ, ◌+◌, ◌*◌, ◌<◌, ◌≤◌, ◌==◌, ◌&&◌, not, Bool, true, false, cond, is_some, List, [], ◌∷◌, length, take, fold, slice_get, Option, Some, None, Ok, refl, sym, ◌∙◌, subst, arith}
 use Rattle.std.specs.List.{All}
 use Rattle.std.specs.Option.{IfSome, option_map, option_map_or, option_and_then}
 use Rattle.std.proofs.lemmas.List.Elements.{All-head, All-tail, All-weaker}
 use Rattle.std.proofs.lemmas.Option.{IfSome_then, get_or_from_slice_get}
 use Rattle.cred_ids.specs.Limits.{LINE_LIMIT}
 use Rattle.cred_event.specs.declared.content.Content.{Content}
-use Rattle.cred_event.specs.declared.content.Content.TheVariants.{Nothing, One, Id, Question, Open, Fcap, Signal, Change, Access}
+use Rattle.cred_event.specs.declared.content.Content.TheVariants.{One, Id, Question, Open, Fcap, Signal, Change, Access}
 use Rattle.cred_event.specs.declared.content.Stage.{Stage}
 use Rattle.cred_event.specs.declared.content.Stage.TheVariants as stage
 use Rattle.cred_event.specs.declared.answer.Answer.{Answer}
@@ -15,7 +14,7 @@ use Rattle.cred_event.specs.declared.entry.Entry.{Entry}
 use Rattle.cred_event.specs.declared.event.Event.{Event}
 use Rattle.cred_model.specs.Script.{Script, Line}
 use Rattle.cred_model.specs.Course.{Course, start, event_in, event_at, after, leads}
-use Rattle.cred_model.specs.Journal.{Due, answers_of, next_event, first_due, entry_of, due_in, next, lane_of, SoFar}
+use Rattle.cred_model.specs.Journal.{Due, answers_of, next_event, first_due, entry_of, due_in, next, SoFar}
 use Rattle.cred_model.specs.Named.{IsContentOf, IsEventOf, event_files}
 use Rattle.cred_model.proofs.Courses.{after_line}
 use Rattle.cred_model.proofs.Lists.{slice_get_at}

@@ -1,11 +1,9 @@
 -- What a line of a script is parsed as has numbers and words that fit.
-use Rattle.std.proofs.Common.{◌≡◌, ℕ, ◌==◌, true, Bool, false, nat_le, nat_lt, cond, Option, Some, None, List, [], ◌∷◌, Result, Ok, Err, ok_or, refl}
+use Rattle.std.proofs.Common.{◌≡◌, ℕ, ◌==◌, true, Bool, false, cond, Option, Some, None, List, [], ◌∷◌, Result, Ok, Err, ok_or, refl}
 use Rattle.std.specs.Prelude.{IsTrue, ⊤}
 use Rattle.cred_ids.specs.Limits.{LAST_NUMBER, LINE_LIMIT}
 use Rattle.cred_ids.specs.Id.{IsId}
 use Rattle.cred_record.specs.declared.want.Want.{Want}
-use Rattle.cred_event.specs.declared.content.Content.{Content}
-use Rattle.cred_event.specs.declared.event.Event.{Event}
 use Rattle.cred_event.specs.declared.event.Side.{Side}
 use Rattle.cred_event.specs.declared.event.Side.TheVariants.{Subjective, Objective}
 use Rattle.cred_model.specs.Script.{NamedFile}
@@ -21,7 +19,7 @@ use Rattle.cred_spelling.specs.declared.reason.Reason.{Reason}
 use Rattle.cred_spelling.specs.declared.reason.Reason.TheVariants.{Word}
 use Rattle.cred_spelling.specs.Names as names
 use Rattle.cred_spelling.specs.Spellings as spelling
-use Rattle.cred_spelling.specs.Words.{◌>>=◌, word_of, name_of, no_words, one_of, two_of, three_of, five_of}
+use Rattle.cred_spelling.specs.Words.{word_of, name_of, no_words, one_of, two_of, three_of, five_of}
 use Rattle.cred_forms.specs.declared.forms.Parsed.{Parsed}
 use Rattle.cred_forms.specs.declared.forms.Parsed.TheVariants.{Empty, File, Starts, Lane, Holds}
 use Rattle.cred_forms.specs.declared.forms.Parsed.TheVariants as parsed

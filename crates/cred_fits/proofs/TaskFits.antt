@@ -1,59 +1,42 @@
 -- The numbers of answers are in range: overrides, id calls, files and tasks; and every event.
-use Rattle.std.proofs.Common.{◌≡◌, ◌&&◌, ℕ, ◌+◌, ◌-◌, ◌<◌, ◌≤◌, ◌^◌, ◌==◌, not, nat_lt, Bool, true, false, cond, List, [], ◌∷◌, ◌++◌, length, map, slice_get, drop, Option, Some, None, Result, Ok, Err, ok_or, refl, sym, ap, ◌∙◌, subst, arith}
-use Rattle.std.specs.Prelude.{⊤}
-use Rattle.std.specs.List.{All, Contains, AllPairs, find, position, remove, count_by, filter}
+use Rattle.std.proofs.Common.{◌≡◌, ◌&&◌, ℕ, ◌-◌, ◌<◌, ◌≤◌, ◌==◌, nat_lt, Bool, true, false, cond, List, [], ◌∷◌, ◌++◌, length, map, slice_get, drop, Option, Some, None, Result, Ok, Err, refl, subst, arith}
+use Rattle.std.specs.List.{All, AllPairs, find, position, filter}
 use Rattle.std.specs.Option.{IfSome, option_map_or, option_and_then}
 use Rattle.std.proofs.lemmas.List.{length-drop, length-map}
-use Rattle.std.proofs.lemmas.List.Elements.{All-nil, All-cons, All-push, All-map, All-weaker, All-contains, All-append}
+use Rattle.std.proofs.lemmas.List.Elements.{All-nil, All-cons, All-push, All-map, All-append}
 use Rattle.std.proofs.lemmas.List.Sums.{count_by-le-length, length-filter}
-use Rattle.cred_ids.specs.Limits.{TASKS, OPEN_FILES, HOLDS, PREPARED, DEPTH, SLOTS}
-use Rattle.cred_record.specs.Credential.{Credential, first_credential}
-use Rattle.cred_record.specs.File.{File}
-use Rattle.cred_record.specs.declared.gains.Gains.{Gains}
+use Rattle.cred_ids.specs.Limits.{TASKS, OPEN_FILES, DEPTH}
+use Rattle.cred_record.specs.Credential.{Credential}
 use Rattle.cred_record.specs.declared.id_call.IdCall.{IdCall}
 use Rattle.cred_record.specs.declared.refusal.Denial.{Denial}
 use Rattle.cred_record.specs.declared.refusal.Denial.TheVariants.{Perm, Invalid}
 use Rattle.cred_record.specs.declared.want.Want.{Want}
-use Rattle.cred_rules.specs.Access.{may}
-use Rattle.cred_rules.specs.Adjust.{read_in}
 use Rattle.cred_rules.specs.SetId.{set_id}
 use Rattle.cred_event.specs.declared.answer.Answer.{Answer}
 use Rattle.cred_event.specs.declared.answer.Answer.TheVariants as answer
 use Rattle.cred_event.specs.declared.answer.AbortCause.TheVariants as cause
-use Rattle.cred_event.specs.declared.event.Change.{Change}
-use Rattle.cred_event.specs.declared.event.Change.TheVariants as change
 use Rattle.cred_event.specs.declared.event.Event.{Event}
 use Rattle.cred_event.specs.declared.event.Event.TheVariants as event
-use Rattle.cred_event.specs.declared.event.Query.{Query}
-use Rattle.cred_event.specs.declared.event.Query.TheVariants as query
-use Rattle.cred_event.specs.declared.event.Side.{Side}
-use Rattle.cred_model.specs.Answers.{is_ok, flag, checked, reply}
-use Rattle.cred_model.specs.Casts.{others_of, with_cast, waits_no_more, joined, with_child, without, dropped, is_open, waits_in}
-use Rattle.cred_model.specs.Change.{Made, by_rule, by_change}
-use Rattle.cred_model.specs.Ends.{ended, is_thread_of, is_beside, survivors, is_task}
-use Rattle.cred_model.specs.Moves.{◌>>=◌, in_slot, table_full, first_task, created, replaced}
-use Rattle.cred_model.specs.Moves.{preparing, altered, committed, given_up, with_current, updated}
-use Rattle.cred_model.specs.Moves.{with_overrides, overriding, with_change, changed}
-use Rattle.cred_model.specs.Named.{query_files, change_files}
-use Rattle.cred_model.specs.Script.{Script, info_of, chain_of}
-use Rattle.cred_model.specs.State.{State, SealedCred, Task, Numbered, Prepared, Changed, Broadcast, numbered, number_on, task_of, cast_of, cast_in, begun_by, open_of, hold_of, prepared_of, credential_of, opener_of, held_by}
-use Rattle.cred_model.specs.Step.{done, outcome, step, by_init, take_hold, by_take, by_take_file, by_release, by_ask, by_signal, by_prepare, by_alter, for_task, try_commit, ends_with, casts_after, committed_by, commit_answer, is_access, by_commit, by_abort, for_access, override_held, override_prepared, by_override, by_revert, by_begin, aborted, follow, by_act, by_open, by_close, by_spawn, by_fork, by_exit}
+use Rattle.cred_model.specs.Answers.{is_ok, checked}
+use Rattle.cred_model.specs.Casts.{others_of, with_cast, waits_no_more, is_open}
+use Rattle.cred_model.specs.Change.{by_rule}
+use Rattle.cred_model.specs.Ends.{is_thread_of, is_beside, is_task}
+use Rattle.cred_model.specs.Moves.{◌>>=◌, table_full, first_task, replaced}
+use Rattle.cred_model.specs.Script.{Script, info_of}
+use Rattle.cred_model.specs.State.{State, Task, Numbered, Prepared, Changed, Broadcast, numbered, task_of, cast_of, cast_in, begun_by, open_of, hold_of, held_by}
+use Rattle.cred_model.specs.Step.{step, is_access, by_abort, for_access, override_held, override_prepared, by_override, by_revert, by_begin, aborted, follow, by_act, by_open, by_close, by_spawn, by_fork, by_exit}
 use Rattle.cred_model.proofs.Lists.{All-at, All-remove, find_each, slice_get_at}
-use Rattle.cred_model.proofs.Numbers.{updated_as, overriding_as, changed_as}
 use Rattle.cred_model.proofs.Rising.{All-in_order, All-passed, length-in_order}
 use Rattle.cred_model.proofs.Waiting.{greatest_bounds}
 use Rattle.cred_laws.proofs.Cases.{some_case, none_case, test_case}
 use Rattle.cred_sound.specs.Casts.{IsUnderWay}
-use Rattle.cred_sound.specs.Sound.{IsSound}
-use Rattle.cred_sound.proofs.References.{owner_stands, base_stands}
 use Rattle.cred_sound.proofs.Tests.{in_slots}
 use Rattle.cred_sound.proofs.Parts.{with_left}
-use Rattle.cred_reader.specs.Fits.{IsNumber, IsLong, FitsCall, FitsChange, FitsEvent, FitsGains, FitsAnswer}
+use Rattle.cred_reader.specs.Fits.{IsNumber, FitsCall, FitsEvent}
 use Rattle.cred_reader.proofs.Spelled.{Holds}
 use Rattle.cred_fits.specs.Content.{FitsFile}
 use Rattle.cred_fits.proofs.CredFits.{FitsCred, call_made_fits}
-use Rattle.cred_fits.proofs.ChangeFits.{FitsMade, first_fits, change_made_fits}
-use Rattle.cred_fits.proofs.Ranges.{FitsSealed, FitsTask, FitsCast, FitsChanged, FitsPrepared, AreInRange, IsInRange, Good, Gives, some_fits, IsFound, is_found, found_by, idle, own, fewer}
+use Rattle.cred_fits.proofs.Ranges.{FitsTask, FitsCast, FitsChanged, FitsPrepared, IsInRange, Good, Gives, some_fits, IsFound, is_found, found_by, idle, own, fewer}
 use Rattle.cred_fits.proofs.StateFits.{IsKnown, slot_number, with_cred, current_fits, overrides_fit, survivors_fit, dropped_fit, left_fit, joined_fit, prepared_at, owner_fits, found_answer, without_label, of_init, of_take, of_take_file, of_release, of_ask, of_signal, of_prepare, of_alter, of_commit, of_check}
 
 -- ---- what is given up, and what overrides
