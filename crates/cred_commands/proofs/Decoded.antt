@@ -1,32 +1,54 @@
--- What the status after the text of an attribute says, and after that of why bytes are none.
-use Rattle.std.proofs.Common.{◌≡◌, ℕ, List, Option, Result, Ok, Err, OnOk, sym, subst}
+-- What is said of the bytes of an attribute, and the status that it has.
+use Rattle.std.proofs.Common.{◌≡◌, ℕ, inl, inr, List, Option, sym, subst}
 use Rattle.std.specs.Io.KnownBytes.{Appends}
-use Rattle.cred_io.specs.declared.sink.SinkRefusal.{SinkRefusal}
-use Rattle.cred_io.specs.declared.sink.SinkRefusal.TheVariants as sink
-use Rattle.cred_commands.specs.Decoding.{IsAttribute, SuitsBytes}
-use Rattle.cred_commands.specs.Ends.{finished}
+use Rattle.cred_commands.specs.Decoding.{IsText, LeavesAttribute, SaysBytes, SuitsBytes}
+use Rattle.cred_commands.specs.Ends.{IsWhole}
 use Rattle.cred_commands.specs.declared.status.Status.{Status}
 use Rattle.cred_commands.specs.declared.status.Status.TheVariants as status
+use Rattle.cred_commands.proofs.Telling.{SaidOne, by_ends, same_or_so}
 
-pub attribute_suits : (bytes : List ℕ) (r : Result (Unit {0}) SinkRefusal) (result : Status) → IsAttribute bytes → result ≡ finished r status.Done
-    → SuitsBytes bytes result
-attribute_suits bytes (Ok done) result some is = subst (SuitsBytes bytes) (sym is) some
-attribute_suits bytes (Err sink.Failed) result some is = subst (SuitsBytes bytes) (sym is) tt
-attribute_suits bytes (Err sink.Memory) result some is = subst (SuitsBytes bytes) (sym is) tt
+-- whatever is said is a whole text
+pub bytes_whole : (bytes : List ℕ) (answer : Status) (text : List ℕ) → SaysBytes bytes answer text → IsWhole answer
+bytes_whole bytes status.Done text says = tt
+bytes_whole bytes status.Usage text says = absurd says
+bytes_whole bytes status.Bad text says = tt
+bytes_whole bytes status.ReadFault text says = absurd says
+bytes_whole bytes status.WriteFault text says = absurd says
+bytes_whole bytes status.Memory text says = absurd says
+bytes_whole bytes status.TooLarge text says = absurd says
+bytes_whole bytes status.NotLegal text says = absurd says
 
-pub fault_suits : (bytes : List ℕ) (r : Result (Unit {0}) SinkRefusal) (result : Status) → ¬ IsAttribute bytes → result ≡ finished r status.Bad
-    → SuitsBytes bytes result
-fault_suits bytes (Ok done) result none is = subst (SuitsBytes bytes) (sym is) none
-fault_suits bytes (Err sink.Failed) result none is = subst (SuitsBytes bytes) (sym is) tt
-fault_suits bytes (Err sink.Memory) result none is = subst (SuitsBytes bytes) (sym is) tt
+bytes_suit : (bytes : List ℕ) (answer : Status) (text : List ℕ) → SaysBytes bytes answer text → SuitsBytes bytes answer
+bytes_suit bytes status.Done text says = (says.0, says.1)
+bytes_suit bytes status.Usage text says = absurd says
+bytes_suit bytes status.Bad text says = says.0
+bytes_suit bytes status.ReadFault text says = absurd says
+bytes_suit bytes status.WriteFault text says = tt
+bytes_suit bytes status.Memory text says = tt
+bytes_suit bytes status.TooLarge text says = absurd says
+bytes_suit bytes status.NotLegal text says = absurd says
 
-pub fault_written : (a b : Option (List ℕ)) (text : List ℕ) (r : Result (Unit {0}) SinkRefusal) → OnOk r (Appends a b text)
-    → finished r status.Bad ≡ status.Bad → Appends a b text
-fault_written a b text (Ok done) all is = all
-fault_written a b text (Err sink.Failed) all is = cc
-fault_written a b text (Err sink.Memory) all is = cc
+is_text : (bytes : List ℕ) (answer : Status) (text : List ℕ) → SaysBytes bytes answer text → IsText bytes text
+is_text bytes status.Done text says = inl says
+is_text bytes status.Usage text says = absurd says
+is_text bytes status.Bad text says = inr says
+is_text bytes status.ReadFault text says = absurd says
+is_text bytes status.WriteFault text says = absurd says
+is_text bytes status.Memory text says = absurd says
+is_text bytes status.TooLarge text says = absurd says
+is_text bytes status.NotLegal text says = absurd says
 
-pub fault_not_done : (r : Result (Unit {0}) SinkRefusal) (result : Status) → result ≡ finished r status.Bad → result ≡ status.Done → ⊥
-fault_not_done (Ok done) result is done' = cc
-fault_not_done (Err sink.Failed) result is done' = cc
-fault_not_done (Err sink.Memory) result is done' = cc
+pub leaves_attribute : (bytes : List ℕ) (answer : Status) (a b : Option (List ℕ)) (untouched : Type 0) → (untouched → b ≡ a)
+    → SaidOne (SaysBytes bytes) answer a b untouched → LeavesAttribute bytes answer a b
+leaves_attribute bytes answer a b untouched same said = record {
+  done = λ done.
+      let all = said.whole (subst IsWhole (sym done) tt) in
+      let is : SaysBytes bytes status.Done all.0 = subst (λ s. SaysBytes bytes s all.0) done all.1 in
+      record { attribute = is.0; spelled = is.1; written = subst (Appends a b) is.2 all.2 };
+  bad = λ bad.
+      let all = said.whole (subst IsWhole (sym bad) tt) in
+      let is : SaysBytes bytes status.Bad all.0 = subst (λ s. SaysBytes bytes s all.0) bad all.1 in
+      record { none = is.0; written = subst (Appends a b) is.1 all.2 };
+  suits = by_ends (SuitsBytes bytes) answer said.ends (λ one. bytes_suit bytes answer one.0 one.1) tt tt;
+  prefix = same_or_so same (λ one. (one.1, is_text bytes one.0 one.1 one.2, one.3)) said.prefix;
+}

@@ -1,10 +1,9 @@
 -- What the status after a text says of the writing of the text.
-use Rattle.std.proofs.Common.{◌≡◌, ℕ, List, Result, Ok, Err, OnOk, sym, subst}
+use Rattle.std.proofs.Common.{◌≡◌, ℕ, Result, Ok, Err, OnOk, sym, subst}
 use Rattle.cred_io.specs.Causes.{CountsFaults}
 use Rattle.cred_io.specs.declared.sink.SinkRefusal.{SinkRefusal}
 use Rattle.cred_io.specs.declared.sink.SinkRefusal.TheVariants as sink
-use Rattle.cred_model.specs.Script.{Script}
-use Rattle.cred_commands.specs.Ends.{finished, IsForText, IsScript, IsWhole, Suits}
+use Rattle.cred_commands.specs.Ends.{finished, IsForText, IsWhole}
 use Rattle.cred_commands.specs.declared.status.Status.{Status}
 use Rattle.cred_commands.specs.declared.status.Status.TheVariants as status
 
@@ -35,17 +34,6 @@ finished_for_text (Err sink.Memory) result is = subst IsForText (sym is) tt
 -- a status of a text is none that no text has
 pub for_text_apart : (result other : Status) → IsForText result → (IsForText other → ⊥) → result ≡ other → ⊥
 for_text_apart result other text none same = none (subst IsForText same text)
-
--- the status of the text of an input that is a script suits the input
-pub for_text_suits : (input : List ℕ) (script : Script) (result : Status) → IsScript input script → IsForText result → Suits input result
-for_text_suits input script status.Done is text = (is.within, rw is.read tt)
-for_text_suits input script status.WriteFault is text = is.within
-for_text_suits input script status.Memory is text = tt
-for_text_suits input script status.Usage is text = absurd text
-for_text_suits input script status.Bad is text = absurd text
-for_text_suits input script status.ReadFault is text = absurd text
-for_text_suits input script status.TooLarge is text = absurd text
-for_text_suits input script status.NotLegal is text = absurd text
 
 pub finished_whole : {P : Type 0} (r : Result (Unit {0}) SinkRefusal) (answer result : Status) → OnOk r P → result ≡ finished r answer → IsWhole result → P
 finished_whole (Ok done) answer result handed is whole = handed

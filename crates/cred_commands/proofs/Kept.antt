@@ -1,8 +1,7 @@
 -- A run in order whose entries are written as they come.
-use Rattle.std.proofs.Common.{◌≡◌, ℕ, ◌+◌, ◌≤◌, List, [], ◌++◌, length, take, drop, Option, Result, Ok, Err, refl, sym, ap, ◌∙◌, subst, append_assoc, arith}
-use Rattle.std.proofs.lemmas.List.{append-nil, take_at, take-append-drop}
+use Rattle.std.proofs.Common.{◌≡◌, ℕ, ◌+◌, ◌≤◌, List, [], ◌++◌, length, take, drop, Option, Result, Ok, Err, sym, ap, ◌∙◌, subst, append_assoc, arith}
+use Rattle.std.proofs.lemmas.List.{take-append-drop}
 use Rattle.std.proofs.lemmas.List.Concat.{flat_map-append}
-use Rattle.std.proofs.Math.Seq.{take-append-add}
 use Rattle.std.specs.Io.KnownBytes.{Appends}
 use Rattle.std.proofs.KnownBytes.{Appends-nil}
 use Rattle.cred_io.specs.declared.sink.SinkRefusal.{SinkRefusal}
@@ -14,7 +13,6 @@ use Rattle.cred_io.proofs.Known.{appends_more}
 use Rattle.cred_event.specs.declared.entry.Entry.{Entry}
 use Rattle.cred_model.specs.Script.{Script}
 use Rattle.cred_model.specs.State.{State, opening}
-use Rattle.cred_model.specs.Journal.{IsSequence}
 use Rattle.cred_order.specs.Order.{HasRun, IsAfter, RunsOn}
 use Rattle.cred_order.proofs.Ends.{goes_to_end, is_whole, nothing_run}
 use Rattle.cred_report.specs.Text.{entry_text, text}

@@ -4,4 +4,8 @@ pub mod ReportLine
 pub mod Cuts
 pub mod Kept
 pub mod Told
+pub mod Telling
+pub mod Runs
+pub mod Verdicts
 pub mod Decoded
+pub mod Summed

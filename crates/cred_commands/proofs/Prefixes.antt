@@ -9,14 +9,10 @@ use Rattle.cred_io.proofs.Known.{appends_more, appends_kept}
 use Rattle.cred_event.specs.declared.entry.Entry.{Entry}
 use Rattle.cred_io.specs.declared.sink.SinkRefusal.TheVariants as sink
 use Rattle.cred_model.specs.Script.{Script}
-use Rattle.cred_model.specs.Journal.{IsLegal}
-use Rattle.cred_laws.proofs.AnsweredLaws.{so_far_is_answered}
-use Rattle.cred_laws.proofs.Lawful.{lawful}
-use Rattle.cred_commands.specs.Ends.{IsScript, Reports, finished}
+use Rattle.cred_commands.specs.Ends.{finished}
 use Rattle.cred_commands.specs.declared.status.Status.TheVariants as status
 use Rattle.cred_report.specs.Text.{text}
 use Rattle.cred_report.proofs.Journals.{text_at, take_past}
-use Rattle.cred_audit.proofs.One.{one_journal}
 
 -- a whole text is one of its prefixes
 pub whole : (a b : Option (List ℕ)) (bytes : List ℕ) → Appends a b bytes → AppendsPrefix a b bytes
@@ -74,18 +70,3 @@ pub done_written : (a b : Option (List ℕ)) (bytes : List ℕ) (r : Result (Uni
     → finished r status.Done ≡ status.Done → Appends a b bytes
 done_written a b bytes (Ok done) all is = all
 done_written a b bytes (Err refusal) all is = absurd (refused_apart refusal is)
-
--- a whole report that was written, of one of these journals, which the script may have
-pub reported : (These : Script → List Entry → Type 0) (before after : Option (List ℕ)) (input : List ℕ) (script : Script) (journal : List Entry)
-    → IsScript input script → These script journal → IsLegal script journal → Appends before after (text script journal)
-    → Reports These before after input
-reported These before after input script journal is one legal all = record {
-  script = script;
-  read = is.read;
-  journal = journal;
-  one = one;
-  legal = legal;
-  only = one_journal script journal is.few legal.so_far;
-  lawful = lawful script journal (so_far_is_answered script journal legal.so_far);
-  written = all;
-}

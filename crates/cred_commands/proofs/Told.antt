@@ -1,12 +1,11 @@
 -- A run in order whose entries are told of as they come.
-use Rattle.std.proofs.Common.{◌≡◌, ℕ, ◌+◌, ◌<◌, ◌≤◌, ◌^◌, List, [], ◌++◌, length, refl, sym, ap, ◌∙◌, subst, arith}
+use Rattle.std.proofs.Common.{◌≡◌, ℕ, ◌+◌, ◌≤◌, List, [], ◌++◌, length, sym, ap, ◌∙◌, subst, arith}
 use Rattle.std.proofs.lemmas.List.{length-append}
 use Rattle.cred_event.specs.declared.entry.Entry.{Entry}
 use Rattle.cred_model.specs.Script.{Script}
 use Rattle.cred_model.specs.State.{State, opening}
-use Rattle.cred_model.specs.Journal.{IsSequence}
 use Rattle.cred_laws.proofs.AnsweredLaws.{in_order_is_answered}
-use Rattle.cred_generate.specs.Summary.{HasRoom, nothing_told, summary, told_on}
+use Rattle.cred_generate.specs.Summary.{HasRoom, nothing_told, told_on}
 use Rattle.cred_generate.specs.declared.summing.Summary.{Summary}
 use Rattle.cred_generate.proofs.Told.{room_for, told_on-append, told_whole}
 use Rattle.cred_order.specs.Order.{HasRun, IsAfter, RunsOn, most_left}

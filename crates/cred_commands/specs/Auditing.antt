@@ -4,15 +4,17 @@ use Rattle.std.specs.Prelude.{Ok, Err, Some, MatchOption, ⊤}
 use Rattle.std.specs.declared.option.Option.{Option}
 use Rattle.std.specs.Io.KnownBytes.{Appends}
 use Rattle.cred_ids.specs.Limits.{AUDIT_LIMIT}
-use Rattle.cred_io.specs.Ends.{ReadsMoreThan, AppendsPrefix}
+use Rattle.cred_io.specs.Ends.{AppendsPrefix}
 use Rattle.cred_model.specs.Script.{Script}
 use Rattle.cred_spelling.specs.declared.reason.Reason.{Reason}
 use Rattle.cred_script.specs.Lines.{lines_of}
 use Rattle.cred_script.specs.Grammar.{script_of}
-use Rattle.cred_audit.specs.Report.{IsOneReport, IsFault}
+use Rattle.cred_fits.specs.Fitting.{IsOneList}
+use Rattle.cred_audit.specs.Report.{IsReport, IsFault}
 use Rattle.cred_commands.specs.declared.status.Status.{Status}
 use Rattle.cred_commands.specs.declared.status.Status.TheVariants as status
-use Rattle.cred_commands.specs.Ends.{IsWhole, IsWithin, IsTooLarge, ReadsInput, ReadsAbove}
+use Rattle.cred_commands.specs.Ends.{IsTooLarge, IsWhole, IsWithin, Reads, ReadsTooMuch}
+use Rattle.cred_commands.specs.Ends.{ReadsWithin}
 use Rattle.cred_commands.specs.Parts.{parts_of, script_part}
 use Rattle.cred_commands.specs.Texts.{bad_text}
 
@@ -21,20 +23,6 @@ use Rattle.cred_commands.specs.Texts.{bad_text}
 pub record IsAuditWithin (input : List ℕ) : Type 0 where
   pub bytes : length input ≤ AUDIT_LIMIT
   pub script : IsWithin (script_part input)
-
--- All that was left was read. It is within the limits, and P holds of it.
-abbrev pub AuditReads : Option (List ℕ) → Option (List ℕ) → (List ℕ → Type 0) → Type 0
-AuditReads before after P = ReadsInput IsAuditWithin before after P
-
--- All that was left was read, and it is within the limits.
-abbrev pub AuditReadsWithin : Option (List ℕ) → Option (List ℕ) → Type 0
-AuditReadsWithin before after = AuditReads before after (λ input. ⊤)
-
--- More bytes were read than an input may have, or all was read and its script part is too large.
-abbrev pub AuditReadsTooMuch : Option (List ℕ) → Option (List ℕ) → Type 0
-AuditReadsTooMuch before after =
-    ReadsMoreThan AUDIT_LIMIT before after
-    ⊎ ReadsAbove (λ input. IsTooLarge (script_part input)) before after
 
 -- of a report that is the script's
 abbrev pub legal_text : List ℕ
@@ -48,10 +36,16 @@ not_legal_text entry = codes "not legal " ++ decimal entry ++ codes "\n"
 abbrev pub no_report_text : List ℕ → List ℕ
 no_report_text input = codes "bad " ++ decimal (length (lines_of input) + 1) ++ codes " report\n"
 
+-- The bytes are the text of one of the journals that the script may have, and of no other list of
+-- entries that fit the script.
+pub record IsOneReport (script : Script) (bytes : List ℕ) : Type 0 where
+  pub report : IsReport script bytes
+  pub only : IsOneList script report.journal
+
 -- What is said of the bytes of a script and of those of a report, with this status. Done: the
--- first are a script, and the others are the text of one of the journals that it may have, and of
--- no other. NotLegal: they aren't, and it is at this entry that they go wrong. Bad: the first are
--- no script, whatever the others are, and this is its first bad line with the reason.
+-- first are a script, and the others are its report. NotLegal: they aren't, and it is at this entry
+-- that they go wrong. Bad: the first are no script, whatever the others are, and this is its first
+-- bad line with the reason.
 abbrev pub Judges : List ℕ → List ℕ → Status → List ℕ → Type 0
 Judges bytes report status.Done text =
     (script : Script) × (script_of bytes ≡ Ok script)
@@ -97,9 +91,10 @@ AuditSuits input answer = IsAuditWithin input × ((text : List ℕ) × Says inpu
 pub record LeavesVerdict
     (answer : Status) (before after : Option (List ℕ)) (written now : Option (List ℕ))
     : Type 0 where
-  pub whole : IsWhole answer → AuditReads before after (Writes answer written now)
+  pub whole : IsWhole answer → Reads IsAuditWithin before after (Writes answer written now)
   pub no_usage : answer ≢ status.Usage
-  pub too_large : answer ≡ status.TooLarge → AuditReadsTooMuch before after
-  pub write_fault : answer ≡ status.WriteFault → AuditReadsWithin before after
+  pub too_large : answer ≡ status.TooLarge →
+      ReadsTooMuch AUDIT_LIMIT (λ input. IsTooLarge (script_part input)) before after
+  pub write_fault : answer ≡ status.WriteFault → ReadsWithin IsAuditWithin before after
   pub suits : (input : List ℕ) → before ≡ Some input → AuditSuits input answer
-  pub prefix : (now ≡ written) ⊎ AuditReads before after (WritesPrefix written now)
+  pub prefix : (now ≡ written) ⊎ Reads IsAuditWithin before after (WritesPrefix written now)

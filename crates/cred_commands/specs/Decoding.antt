@@ -23,11 +23,16 @@ pub record ShowsFault (bytes : List ℕ) (before after : Option (List ℕ)) : Ty
   pub none : ¬ IsAttribute bytes
   pub written : Appends before after (fault_text (fault bytes))
 
+-- What is said of the bytes, with this status. Done: they spell an attribute, and this is its
+-- text. Bad: they spell none, and this is why.
+abbrev pub SaysBytes : List ℕ → Status → List ℕ → Type 0
+SaysBytes bytes status.Done text = (a : Attribute) × Spells bytes a × (text ≡ attr_text a)
+SaysBytes bytes status.Bad text = ¬ IsAttribute bytes × (text ≡ fault_text (fault bytes))
+SaysBytes bytes other text = ⊥
+
 -- the text that the bytes have
 abbrev pub IsText : List ℕ → List ℕ → Type 0
-IsText bytes text =
-    ((a : Attribute) × Spells bytes a × (text ≡ attr_text a))
-    ⊎ (¬ IsAttribute bytes × (text ≡ fault_text (fault bytes)))
+IsText bytes text = SaysBytes bytes status.Done text ⊎ SaysBytes bytes status.Bad text
 
 -- a prefix of the text that the bytes have was written
 abbrev pub ShowsPrefix : List ℕ → Option (List ℕ) → Option (List ℕ) → Type 0

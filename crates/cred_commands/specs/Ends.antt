@@ -8,14 +8,14 @@ use Rattle.cred_io.specs.Ends.{ReadsAll, ReadsMoreThan, AppendsPrefix}
 use Rattle.cred_io.specs.declared.sink.SinkRefusal.{SinkRefusal}
 use Rattle.cred_io.specs.declared.sink.SinkRefusal.TheVariants as sink
 use Rattle.cred_event.specs.declared.entry.Entry.{Entry}
-use Rattle.cred_model.specs.Script.{Script, SetupFirst}
+use Rattle.cred_model.specs.Script.{Script}
 use Rattle.cred_model.specs.Journal.{IsSequence, IsLegal}
 use Rattle.cred_laws.specs.Journals.{IsLawful}
 use Rattle.cred_spelling.specs.declared.reason.Reason.{Reason}
 use Rattle.cred_script.specs.Lines.{lines_of}
 use Rattle.cred_script.specs.Grammar.{script_of}
 use Rattle.cred_report.specs.Text.{text}
-use Rattle.cred_audit.specs.One.{IsOnly}
+use Rattle.cred_fits.specs.Fitting.{IsOneList}
 use Rattle.cred_commands.specs.declared.status.Status.{Status}
 use Rattle.cred_commands.specs.declared.status.Status.TheVariants as status
 use Rattle.cred_commands.specs.Texts.{bad_text}
@@ -25,12 +25,16 @@ pub record IsWithin (input : List ℕ) : Type 0 where
   pub bytes : length input ≤ BYTE_LIMIT
   pub lines : length (lines_of input) ≤ LINE_LIMIT
 
+-- an input that has more lines than it may have
+abbrev pub HasTooManyLines : List ℕ → Type 0
+HasTooManyLines input = LINE_LIMIT < length (lines_of input)
+
 -- an input that has more bytes, or more lines, than it may have
 abbrev pub IsTooLarge : List ℕ → Type 0
-IsTooLarge input = (BYTE_LIMIT < length input) ⊎ (LINE_LIMIT < length (lines_of input))
+IsTooLarge input = (BYTE_LIMIT < length input) ⊎ HasTooManyLines input
 
 -- All that was left was read. It is within the limits of a command, and P holds of it.
-pub record ReadsInput
+pub record Reads
     (Within : List ℕ → Type 0) (before after : Option (List ℕ)) (P : List ℕ → Type 0)
     : Type 0 where
   pub input : List ℕ
@@ -38,31 +42,29 @@ pub record ReadsInput
   pub within : Within input
   pub so : P input
 
+-- All that was left was read, and it is within the limits of a command.
+abbrev pub ReadsWithin : (List ℕ → Type 0) → Option (List ℕ) → Option (List ℕ) → Type 0
+ReadsWithin Within before after = Reads Within before after (λ input. ⊤)
+
 -- All that was left was read, and it is above a limit of a command that is not one of bytes.
 pub record ReadsAbove (Above : List ℕ → Type 0) (before after : Option (List ℕ)) : Type 0 where
   pub input : List ℕ
   pub read : ReadsAll before after input
   pub above : Above input
 
--- All that was left was read. It is within both limits, and P holds of it.
-abbrev pub Reads : Option (List ℕ) → Option (List ℕ) → (List ℕ → Type 0) → Type 0
-Reads before after P = ReadsInput IsWithin before after P
-
--- All that was left was read, and it is within both limits.
-abbrev pub ReadsWithin : Option (List ℕ) → Option (List ℕ) → Type 0
-ReadsWithin before after = Reads before after (λ input. ⊤)
-
--- More bytes were read than an input may have, or all was read and it has more lines.
-abbrev pub ReadsTooMuch : Option (List ℕ) → Option (List ℕ) → Type 0
-ReadsTooMuch before after =
-    ReadsMoreThan BYTE_LIMIT before after
-    ⊎ ReadsAbove (λ input. LINE_LIMIT < length (lines_of input)) before after
+-- More bytes were read than the input of a command may have, or all was read and it is above
+-- another limit.
+abbrev pub ReadsTooMuch :
+    ℕ → (List ℕ → Type 0) → Option (List ℕ) → Option (List ℕ) → Type 0
+ReadsTooMuch limit Above before after =
+    ReadsMoreThan limit before after ⊎ ReadsAbove Above before after
 
 -- The input is a script, and the text of a journal of it was written that is one of these: the one
--- in which its lines run whole and in order, or any that it may have. No other journal so far of
--- the script has that text. The laws hold of it: no slot in use is rewritten, a hold and an open
--- file keep their credentials, each execve is the manual's, no permitted set grows but by what its
--- entry says was gained, and a call that is completed is every thread's.
+-- in which its lines run whole and in order, or any that it may have. Each of its entries fits the
+-- script, and no other list of entries that do has that text. The laws hold of it: no slot in use
+-- is rewritten, a hold and an open file keep their credentials, each execve is the manual's, no
+-- permitted set grows but by what its entry says was gained, and a call that is completed is every
+-- thread's.
 pub record Reports
     (These : Script → List Entry → Type 0) (before after : Option (List ℕ)) (input : List ℕ)
     : Type 0 where
@@ -71,7 +73,7 @@ pub record Reports
   pub journal : List Entry
   pub one : These script journal
   pub legal : IsLegal script journal
-  pub only : IsOnly script journal
+  pub only : IsOneList script journal
   pub lawful : IsLawful script journal
   pub written : Appends before after (text script journal)
 
@@ -80,12 +82,6 @@ pub record Refuses (before after : Option (List ℕ)) (input : List ℕ) : Type 
   pub bad : ℕ × Reason
   pub read : script_of input ≡ Err bad
   pub written : Appends before after (bad_text bad)
-
--- The input is no script, and a prefix of the line that it gets was written, and nothing else.
-pub record RefusesPrefix (before after : Option (List ℕ)) (input : List ℕ) : Type 0 where
-  pub bad : ℕ × Reason
-  pub read : script_of input ≡ Err bad
-  pub written : AppendsPrefix before after (bad_text bad)
 
 -- A prefix of a text that the input has was written, and nothing else. That of a script is the
 -- text of one of these journals of it.
@@ -115,14 +111,6 @@ Suits input status.ReadFault = ⊤
 Suits input status.WriteFault = IsWithin input
 Suits input status.Memory = ⊤
 Suits input status.NotLegal = ⊥
-
--- The input is within both limits and is this script, which has no more lines than it may have.
--- The setup's lines come first.
-pub record IsScript (input : List ℕ) (script : Script) : Type 0 where
-  pub within : IsWithin input
-  pub few : length script.lines ≤ LINE_LIMIT
-  pub read : script_of input ≡ Ok script
-  pub setup : SetupFirst script
 
 -- The statuses of a text: nothing but a fault or lack of memory takes its place.
 abbrev pub IsForText : Status → Type 0

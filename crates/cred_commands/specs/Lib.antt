@@ -4,6 +4,7 @@ pub mod Summing
 pub mod Ends
 pub mod Cuts
 pub mod Leaves
+pub mod Telling
 pub mod Parts
 pub mod Auditing
 pub mod Statuses

@@ -35,6 +35,11 @@ pub record IsSummary (n : ℕ) (text : List ℕ) : Type 0 where
   pub run : IsSequence script journal
   pub told : text ≡ summary_text (summary script journal)
 
+-- what is said of that script, with this status
+pub record SaysSummary (n : ℕ) (its : Status) (text : List ℕ) : Type 0 where
+  pub done : its ≡ status.Done
+  pub is : IsSummary n text
+
 -- that text was written
 pub record Sums (n : ℕ) (before after : Option (List ℕ)) : Type 0 where
   pub text : List ℕ

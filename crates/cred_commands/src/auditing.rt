@@ -1,9 +1,8 @@
 //! Saying whether a report is the report of a script.
-ghost use Rattle.std.specs.Prelude.{◌≡◌, ◌≢◌, ◌≤◌, ◌⊎◌, true, IfOk, MatchBool};
+ghost use Rattle.std.specs.Prelude.{◌≡◌, ◌≢◌, ◌≤◌, ◌⊎◌, IfOk, MatchBool};
 ghost use Rattle.std.specs.Prelude.{length, string_bytes};
 ghost use Rattle.std.specs.Option.{option_map};
 ghost use Rattle.cred_ids.specs.Limits.{LINE_LIMIT, AUDIT_LIMIT};
-ghost use Rattle.cred_io.specs.Causes.{CountsFaults};
 ghost use Rattle.cred_script.specs.Lines.{lines_of};
 ghost use Rattle.cred_commands.specs.Auditing.{AuditSuits, IsAuditWithin, Judges, LeavesVerdict};
 ghost use Rattle.cred_commands.specs.Auditing.{Says, Writes, WritesPrefix, no_report_text};
@@ -13,21 +12,15 @@ ghost use Rattle.cred_commands.specs.Parts as spec;
 ghost use Rattle.cred_commands.specs.Parts.{script_part};
 
 use crate::parts::parts_of;
-use crate::status::{Status, finish};
-use crate::writing::{bad_text, write_text};
+use crate::refusing::bad_line;
+use crate::said::{Said, tell_said};
+use crate::status::Status;
 use cred_audit::{Verdict, audit};
 use cred_ids::limits;
 use cred_ids::NoMemory;
 use cred_io::{ReadRefusal, Sink, Source, read_all};
-use cred_script::{ScriptRefusal, line_count, read};
+use cred_script::{line_count, read};
 use std::alloc::Global;
-
-/// What is said of an input, and the status if it was written.
-#[derive(Drop, Debug)]
-struct Said {
-    status: Status,
-    text: String,
-}
 
 /// Reads an input to its end, and says whether its report is its script's.
 pub fn read_and_audit<S: Source, K: Sink>(alloc: Global, source: &mut S, sink: &mut K) -> Status
@@ -58,8 +51,7 @@ fn run_audit<K: Sink>(alloc: Global, input: &[u8], sink: &mut K) -> Status
         → IsTooLarge (script_part input.now) × (sink.new ≡ sink.old) }
     ensures no_read_fault { result ≢ Status.ReadFault }
     ensures suits { AuditSuits input.now result }
-    ensures handed_on { IsWhole result → K.handed_on sink.new ≡ true }
-    ensures cause { CountsFaults (result ≡ Status.WriteFault)
+    ensures writing { IsWriting result (K.handed_on sink.new)
         (K.faults sink.old) (K.faults sink.new) }
     ensures prefix { (sink.new ≡ sink.old) ⊎ (IsAuditWithin input.now
         × WritesPrefix (K.written sink.old) (K.written sink.new) input.now) }
@@ -68,10 +60,7 @@ fn run_audit<K: Sink>(alloc: Global, input: &[u8], sink: &mut K) -> Status
     if is_too_large(script_part(input, parts)) {
         return Status::TooLarge;
     }
-    match say(alloc, input, parts) {
-        Ok(said) => finish(write_text(sink, said.text.as_bytes()), said.status),
-        Err(NoMemory) => Status::Memory,
-    }
+    tell_said(sink, say(alloc, input, parts))
 }
 
 /// What is to be a script: where no line is `report`, the whole input.
@@ -97,14 +86,11 @@ fn say(alloc: Global, input: &[u8], parts: Option<(&[u8], &[u8])>) -> Result<Sai
     requires parts { option_map (λ parts. (parts.0.now, parts.1.now)) parts
         ≡ spec.parts_of input.now }
     requires within { IsWithin (spec.script_part input.now) }
-    ensures { IfOk result (λ said. Says input.now said.status (string_bytes said.text)) }
+    ensures { IfOk result (λ said. Says input.now said.status said.text.items) }
 {
     match parts {
         Some((script, report)) => judge(alloc, script, report),
-        None => Ok(Said {
-            status: Status::Bad,
-            text: no_report(alloc, input)?,
-        }),
+        None => Ok(Said::of(Status::Bad, no_report(alloc, input)?)),
     }
 }
 
@@ -121,27 +107,20 @@ fn no_report(alloc: Global, input: &[u8]) -> Result<String, NoMemory>
 fn judge(alloc: Global, script: &[u8], report: &[u8]) -> Result<Said, NoMemory>
     requires { length (lines_of script.now) ≤ LINE_LIMIT }
     ensures { IfOk result (λ said. Judges script.now report.now said.status
-        (string_bytes said.text)) }
+        said.text.items) }
 {
     match read(alloc, script) {
         Ok(script) => {
             let verdict = audit(alloc, &script, report);
             drop(script);
             match verdict? {
-                Verdict::Legal => Ok(Said {
-                    status: Status::Done,
-                    text: String::from_str(alloc, "legal\n")?,
-                }),
-                Verdict::NotLegal { entry } => Ok(Said {
-                    status: Status::NotLegal,
-                    text: format!(in alloc; "not legal {entry}\n")?,
-                }),
+                Verdict::Legal => Ok(Said::of(Status::Done, String::from_str(alloc, "legal\n")?)),
+                Verdict::NotLegal { entry } => Ok(Said::of(
+                    Status::NotLegal,
+                    format!(in alloc; "not legal {entry}\n")?,
+                )),
             }
         }
-        Err(ScriptRefusal::Bad { line, reason }) => Ok(Said {
-            status: Status::Bad,
-            text: bad_text(alloc, line, reason)?,
-        }),
-        Err(ScriptRefusal::Memory) => Err(NoMemory),
+        Err(refusal) => bad_line(alloc, refusal),
     }
 }

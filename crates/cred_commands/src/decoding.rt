@@ -1,12 +1,13 @@
 //! What the bytes of a file's capability attribute say.
-ghost use Rattle.std.specs.Prelude.{◌≡◌, IfOk, string_bytes};
-ghost use Rattle.cred_commands.specs.Decoding.{LeavesAttribute};
+ghost use Rattle.std.specs.Prelude.{◌≡◌, ◌++◌, IfOk, OnOk, codes, string_bytes};
+ghost use Rattle.cred_report.specs.Numbers.{set_text};
+ghost use Rattle.cred_commands.specs.Decoding.{LeavesAttribute, SaysBytes};
 ghost use Rattle.cred_commands.specs.Leaves.{IsWriting};
 ghost use Rattle.cred_commands.specs.Texts as spec;
 ghost use Rattle.cred_commands.specs.Texts.{attr_text};
 
-use crate::status::{Status, finish};
-use crate::writing::write_text;
+use crate::said::{Said, tell_said};
+use crate::status::Status;
 use cred_filecap::{AttrRefusal, FileCaps, decode};
 use cred_ids::NoMemory;
 use cred_io::Sink;
@@ -19,15 +20,19 @@ pub fn show<K: Sink>(alloc: Global, bytes: &[u8], sink: &mut K) -> Status
     ensures writing { IsWriting result (K.handed_on sink.new)
         (K.faults sink.old) (K.faults sink.new) }
 {
+    tell_said(sink, say(alloc, bytes))
+}
+
+/// What is said of the bytes.
+fn say(alloc: Global, bytes: &[u8]) -> Result<Said, NoMemory>
+    ensures { IfOk result (λ said. SaysBytes bytes.now said.status said.text.items) }
+{
     match decode(bytes) {
-        Ok(caps) => match text_of(alloc, caps) {
-            Ok(text) => finish(write_text(sink, &text), Status::Done),
-            Err(NoMemory) => Status::Memory,
-        },
-        Err(refusal) => match refusal_text(alloc, refusal) {
-            Ok(text) => finish(write_text(sink, text.as_bytes()), Status::Bad),
-            Err(NoMemory) => Status::Memory,
-        },
+        Ok(caps) => Ok(Said {
+            status: Status::Done,
+            text: text_of(alloc, caps)?,
+        }),
+        Err(refusal) => Ok(Said::of(Status::Bad, refusal_text(alloc, refusal)?)),
     }
 }
 
@@ -37,15 +42,23 @@ fn text_of(alloc: Global, caps: FileCaps) -> Result<Vec<u8>, NoMemory>
 {
     let mut text = Vec::new(alloc);
     append_number(&mut text, "version ", u32::from(caps.version))?;
-    append_word(&mut text, " perm")?;
-    append_set(&mut text, caps.perm)?;
-    append_word(&mut text, " inh")?;
-    append_set(&mut text, caps.inh)?;
+    append_sets(&mut text, caps)?;
     append_word(&mut text, " effective")?;
     append_flag(&mut text, caps.effective)?;
     append_number(&mut text, " root ", caps.root)?;
     append_word(&mut text, "\n")?;
     Ok(text)
+}
+
+/// Appends the text of its two sets.
+fn append_sets(text: &mut Vec<u8>, caps: FileCaps) -> Result<(), NoMemory>
+    ensures { OnOk result (text.new.items ≡ text.old.items
+        ++ codes " perm" ++ set_text caps.perm ++ codes " inh" ++ set_text caps.inh) }
+{
+    append_word(text, " perm")?;
+    append_set(text, caps.perm)?;
+    append_word(text, " inh")?;
+    append_set(text, caps.inh)
 }
 
 /// The text of why bytes are no attribute.

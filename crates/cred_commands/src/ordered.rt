@@ -1,29 +1,27 @@
 //! Running a script's lines in order, and writing the entries of each as they come: no journal is
 //! kept.
-ghost use Rattle.std.specs.Prelude.{◌≡◌, ◌≢◌, ◌≤◌, ◌<◌, ◌⊎◌, true, OnOk, OnErr, length};
+ghost use Rattle.std.specs.Prelude.{◌≡◌, ◌≤◌, ◌⊎◌, true, OnOk, OnErr, length};
 ghost use Rattle.std.specs.Io.KnownBytes.{Appends};
 ghost use Rattle.cred_ids.specs.Limits.{BYTE_LIMIT, LINE_LIMIT};
 ghost use Rattle.cred_model.specs.Journal.{IsSequence};
 ghost use Rattle.cred_model.specs.State.{opening};
 ghost use Rattle.cred_io.specs.Causes.{CountsFaults};
 ghost use Rattle.cred_io.specs.Ends.{AppendsPrefix};
-ghost use Rattle.cred_script.specs.Lines.{lines_of};
 ghost use Rattle.cred_report.specs.Text.{text};
-ghost use Rattle.cred_commands.specs.Cuts.{Cuts};
-ghost use Rattle.cred_commands.specs.Ends.{BeginsOne, IsForText, IsWhole, IsWithin, Refuses};
-ghost use Rattle.cred_commands.specs.Ends.{Reports, Suits};
-ghost use Rattle.cred_commands.specs.Leaves.{IsReading, IsWriting, LeavesReport};
+ghost use Rattle.cred_commands.specs.Ends.{IsForText};
+ghost use Rattle.cred_commands.specs.Leaves.{IsReading, IsWriting, LeavesReport, RunsBytes};
 ghost use Rattle.cred_commands.specs.Sequences.{AppendsSequence, BeginsSequence, HandsOver};
 
-use crate::reading::script_from;
+use crate::refusing::bad_line;
 use crate::report::{write_entries, write_last};
+use crate::said::tell_said;
 use crate::status::{Status, finish};
 use cred_event::Entry;
 use cred_ids::limits;
 use cred_io::{ReadRefusal, Sink, SinkRefusal, Source, read_all};
 use cred_order::run_line;
 use cred_report::Pen;
-use cred_script::Script;
+use cred_script::{Script, line_count, read};
 use cred_state::State;
 use std::alloc::Global;
 
@@ -116,8 +114,7 @@ fn report_in_order<K: Sink>(alloc: Global, sink: &mut K, script: &Script) -> Sta
         → AppendsSequence script.now (K.written sink.old) (K.written sink.new) }
     ensures prefix { BeginsSequence script.now (K.written sink.old) (K.written sink.new) }
     ensures only { IsForText result }
-    ensures handed_on { IsWhole result → K.handed_on sink.new ≡ true }
-    ensures cause { CountsFaults (result ≡ Status.WriteFault)
+    ensures writing { IsWriting result (K.handed_on sink.new)
         (K.faults sink.old) (K.faults sink.new) }
 {
     finish(write_in_order(alloc, sink, script), Status::Done)
@@ -127,25 +124,21 @@ fn report_in_order<K: Sink>(alloc: Global, sink: &mut K, script: &Script) -> Sta
 /// where there are too many lines.
 fn run_script_in_order<K: Sink>(alloc: Global, bytes: &[u8], sink: &mut K) -> Status
     requires within { length bytes.now ≤ BYTE_LIMIT }
-    ensures done { result ≡ Status.Done
-        → Reports IsSequence (K.written sink.old) (K.written sink.new) bytes.now }
-    ensures bad { result ≡ Status.Bad
-        → Refuses (K.written sink.old) (K.written sink.new) bytes.now }
-    ensures too_large { result ≡ Status.TooLarge
-        → (LINE_LIMIT < length (lines_of bytes.now)) × (sink.new ≡ sink.old) }
-    ensures no_read_fault { result ≢ Status.ReadFault }
-    ensures suits { Suits bytes.now result }
-    ensures handed_on { IsWhole result → K.handed_on sink.new ≡ true }
-    ensures cause { CountsFaults (result ≡ Status.WriteFault)
+    ensures runs { RunsBytes IsSequence bytes.now result (K.written sink.old)
+        (K.written sink.new) (sink.new ≡ sink.old) }
+    ensures writing { IsWriting result (K.handed_on sink.new)
         (K.faults sink.old) (K.faults sink.new) }
-    ensures prefix { (sink.new ≡ sink.old) ⊎ (IsWithin bytes.now
-        × BeginsOne IsSequence (K.written sink.old) (K.written sink.new) bytes.now) }
-    ensures cut { (sink.new ≡ sink.old)
-        ⊎ (IsWithin bytes.now × Cuts (K.written sink.old) (K.written sink.new) bytes.now) }
 {
-    match script_from(alloc, bytes, sink) {
-        Ok(script) => report_in_order(alloc, sink, &script),
-        Err(status) => status,
+    if line_count(bytes) > limits::LINE_LIMIT {
+        return Status::TooLarge;
+    }
+    match read(alloc, bytes) {
+        Ok(script) => {
+            let status = report_in_order(alloc, sink, &script);
+            drop(script);
+            status
+        }
+        Err(refusal) => tell_said(sink, bad_line(alloc, refusal)),
     }
 }
 

@@ -1,17 +1,16 @@
 //! The summary of a script that is made from a number.
-ghost use Rattle.std.specs.Prelude.{◌≡◌, ◌++◌, IfOk, OnOk, decimal};
+ghost use Rattle.std.specs.Prelude.{◌≡◌, IfOk, string_bytes};
 ghost use Rattle.cred_model.specs.State.{opening};
 ghost use Rattle.cred_commands.specs.Leaves.{IsWriting};
-ghost use Rattle.cred_commands.specs.Summing.{IsCount, IsSummary, LeavesSummary, TellsSequence};
+ghost use Rattle.cred_commands.specs.Summing.{IsCount, LeavesSummary, SaysSummary, TellsSequence};
 ghost use Rattle.cred_commands.specs.Texts as spec;
 
-use crate::status::{Status, finish};
-use crate::writing::write_text;
+use crate::said::{Said, tell_said};
+use crate::status::Status;
 use cred_generate::{Summary, generate};
 use cred_ids::NoMemory;
 use cred_io::Sink;
 use cred_order::run_line;
-use cred_report::append_word;
 use cred_script::Script;
 use cred_state::State;
 use std::alloc::Global;
@@ -23,21 +22,18 @@ pub fn sum<K: Sink>(alloc: Global, n: u32, sink: &mut K) -> Status
     ensures writing { IsWriting result (K.handed_on sink.new)
         (K.faults sink.old) (K.faults sink.new) }
 {
-    match summed(alloc, n) {
-        Ok(text) => finish(write_text(sink, text.as_slice()), Status::Done),
-        Err(NoMemory) => Status::Memory,
-    }
+    tell_said(sink, say(alloc, n))
 }
 
-/// The text of the summary.
-fn summed(alloc: Global, n: u32) -> Result<Vec<u8>, NoMemory>
+/// What is said of the script.
+fn say(alloc: Global, n: u32) -> Result<Said, NoMemory>
     requires { IsCount n }
-    ensures { IfOk result (λ text. IsSummary n text.items) }
+    ensures { IfOk result (λ said. SaysSummary n said.status said.text.items) }
 {
     let script = generate(alloc, n)?;
     let told = told_in_order(alloc, &script);
     drop(script);
-    summary_text(alloc, told?)
+    Ok(Said::of(Status::Done, summary_text(alloc, told?)?))
 }
 
 /// What is told of the run in which all lines of the script run whole and in order, on this state,
@@ -69,23 +65,16 @@ fn told_in_order(alloc: Global, script: &Script) -> Result<Summary, NoMemory>
 }
 
 /// The text that tells a summary.
-fn summary_text(alloc: Global, told: Summary) -> Result<Vec<u8>, NoMemory>
-    ensures { IfOk result (λ text. text.items ≡ spec.summary_text told) }
+fn summary_text(alloc: Global, told: Summary) -> Result<String, NoMemory>
+    ensures { IfOk result (λ text. string_bytes text ≡ spec.summary_text told) }
 {
-    let mut text = Vec::new(alloc);
-    append_count(alloc, &mut text, "lines ", u64::from(told.lines))?;
-    append_count(alloc, &mut text, " entries ", told.entries)?;
-    append_count(alloc, &mut text, " credentials ", told.credentials)?;
-    append_count(alloc, &mut text, " refusals ", told.refusals)?;
-    append_word(&mut text, "\n")?;
-    Ok(text)
-}
-
-/// A word, and a number in decimal.
-fn append_count(alloc: Global, text: &mut Vec<u8>, word: &str, count: u64) -> Result<(), NoMemory>
-    ensures { OnOk result (text.new.items ≡ text.old.items ++ word.now ++ decimal count) }
-{
-    append_word(text, word)?;
-    let digits = format!(in alloc; "{count}")?;
-    append_word(text, digits.as_str())
+    let Summary {
+        lines,
+        entries,
+        credentials,
+        refusals,
+    } = told;
+    Ok(format!(in alloc;
+        "lines {lines} entries {entries} credentials {credentials} refusals {refusals}\n"
+    )?)
 }

@@ -106,5 +106,6 @@ entries_fit bytes script journal read few so_far =
     (entry_at script journal k at.0 (record { bytes = bytes; read = read; few = few; so_far = so_far }) lt at.1))
 
 pub one_fitting_list : OneFittingList
-one_fitting_list bytes script journal read few so_far other fits same =
-    one_list script other journal fits (entries_fit bytes script journal read few so_far) same
+one_fitting_list bytes script journal read few so_far =
+    let fits = entries_fit bytes script journal read few so_far in
+    record { fits = fits; only = λ other others same. one_list script other journal others fits same }

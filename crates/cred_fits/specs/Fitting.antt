@@ -40,13 +40,18 @@ EntriesFit =
     → script_of bytes ≡ Ok script → length script.lines ≤ LINE_LIMIT → SoFar script journal
     → All (Fits script) journal
 
--- And it is the one list of fitting entries that has its text.
+-- Each of the entries fits the script, and no other list of such entries has their text.
+pub record IsOneList (script : Script) (entries : List Entry) : Type 0 where
+  pub fits : All (Fits script) entries
+  pub only : (other : List Entry) → All (Fits script) other
+      → text script other ≡ text script entries → other ≡ entries
+
+-- Such a journal is the one list of fitting entries that has its text.
 abbrev pub OneFittingList : Type 0
 OneFittingList =
     (bytes : List ℕ) (script : Script) (journal : List Entry)
     → script_of bytes ≡ Ok script → length script.lines ≤ LINE_LIMIT → SoFar script journal
-    → (other : List Entry) → All (Fits script) other → text script other ≡ text script journal
-    → other ≡ journal
+    → IsOneList script journal
 
 -- how many entries the journal of a script may have for each of its lines
 abbrev pub MOST_A_LINE : ℕ

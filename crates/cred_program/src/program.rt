@@ -9,7 +9,7 @@ ghost use Rattle.cred_program.specs.Commands.{LeavesUsage, limit_of};
 ghost use Rattle.cred_program.specs.Words.{command_of, texts};
 
 use crate::words::{Command, command_of};
-use cred_commands::{Status, finish, read_and_audit, read_and_run, show, sum, write_text};
+use cred_commands::{Status, read_and_audit, read_and_run, show, sum, tell};
 use cred_ids::NoMemory;
 use cred_io::{Sink, Source};
 use cred_lanes::Gate;
@@ -95,5 +95,5 @@ fn tell_usage<K: Sink>(sink: &mut K) -> Status
     ensures writing { IsWriting result (K.handed_on sink.new)
         (K.faults sink.old) (K.faults sink.new) }
 {
-    finish(write_text(sink, USAGE.as_bytes()), Status::Usage)
+    tell(sink, Status::Usage, USAGE.as_bytes())
 }

@@ -1,10 +1,10 @@
 //! Writing the report of a journal, and handing it on.
-ghost use Rattle.std.specs.Prelude.{◌≡◌, true};
+ghost use Rattle.std.specs.Prelude.{◌≡◌};
 ghost use Rattle.std.specs.Io.KnownBytes.{Appends};
-ghost use Rattle.cred_io.specs.Causes.{CountsFaults};
 ghost use Rattle.cred_io.specs.Ends.{AppendsPrefix};
 ghost use Rattle.cred_report.specs.Text.{text};
-ghost use Rattle.cred_commands.specs.Ends.{IsForText, IsWhole};
+ghost use Rattle.cred_commands.specs.Ends.{IsForText};
+ghost use Rattle.cred_commands.specs.Leaves.{IsWriting};
 
 use cred_commands::{Status, finish, write_last};
 use cred_event::Entry;
@@ -26,8 +26,7 @@ pub(crate) fn report<K: Sink>(
     ensures prefix { AppendsPrefix (K.written sink.old) (K.written sink.new)
         (text script.now journal.now) }
     ensures only { IsForText result }
-    ensures handed_on { IsWhole result → K.handed_on sink.new ≡ true }
-    ensures cause { CountsFaults (result ≡ Status.WriteFault)
+    ensures writing { IsWriting result (K.handed_on sink.new)
         (K.faults sink.old) (K.faults sink.new) }
 {
     let mut pen = Pen::new(alloc);

@@ -1,19 +1,16 @@
 //! Running a script's lanes as threads, from its bytes to its report.
-ghost use Rattle.std.specs.Prelude.{◌≡◌, ◌≢◌, ◌≤◌, ◌<◌, ◌⊎◌, true, length};
-ghost use Rattle.cred_ids.specs.Limits.{BYTE_LIMIT, LINE_LIMIT};
-ghost use Rattle.cred_io.specs.Causes.{CountsFaults};
+ghost use Rattle.std.specs.Prelude.{◌≡◌, ◌≤◌, ◌⊎◌, length};
+ghost use Rattle.cred_ids.specs.Limits.{BYTE_LIMIT};
 ghost use Rattle.cred_model.specs.Journal.{IsLegal};
-ghost use Rattle.cred_script.specs.Lines.{lines_of};
-ghost use Rattle.cred_commands.specs.Cuts.{Cuts};
-ghost use Rattle.cred_commands.specs.Ends.{BeginsOne, IsWhole, IsWithin, Refuses, Reports, Suits};
-ghost use Rattle.cred_commands.specs.Leaves.{IsReading, IsWriting, LeavesReport};
+ghost use Rattle.cred_commands.specs.Leaves.{IsReading, IsWriting, LeavesReport, RunsBytes};
 
 use crate::report::report;
-use cred_commands::{Status, script_from};
+use cred_commands::{Status, bad_line, tell_said};
 use cred_ids::limits;
 use cred_ids::NoMemory;
 use cred_io::{ReadRefusal, Sink, Source, read_all};
 use cred_lanes::{Gate, lanes};
+use cred_script::{line_count, read};
 use std::alloc::Global;
 use std::sync::Wait;
 use std::thread::Threads;
@@ -55,27 +52,19 @@ fn run_lanes<R: Threads + Wait + Sync, K: Sink, G: Gate + Sync>(
     gate: &G,
 ) -> Status
     requires within { length bytes.now ≤ BYTE_LIMIT }
-    ensures done { result ≡ Status.Done
-        → Reports IsLegal (K.written sink.old) (K.written sink.new) bytes.now }
-    ensures bad { result ≡ Status.Bad
-        → Refuses (K.written sink.old) (K.written sink.new) bytes.now }
-    ensures too_large { result ≡ Status.TooLarge
-        → (LINE_LIMIT < length (lines_of bytes.now)) × (sink.new ≡ sink.old) }
-    ensures no_read_fault { result ≢ Status.ReadFault }
-    ensures suits { Suits bytes.now result }
-    ensures handed_on { IsWhole result → K.handed_on sink.new ≡ true }
-    ensures cause { CountsFaults (result ≡ Status.WriteFault)
+    ensures runs { RunsBytes IsLegal bytes.now result (K.written sink.old)
+        (K.written sink.new) (sink.new ≡ sink.old) }
+    ensures writing { IsWriting result (K.handed_on sink.new)
         (K.faults sink.old) (K.faults sink.new) }
-    ensures prefix { (sink.new ≡ sink.old) ⊎ (IsWithin bytes.now
-        × BeginsOne IsLegal (K.written sink.old) (K.written sink.new) bytes.now) }
-    ensures cut { (sink.new ≡ sink.old)
-        ⊎ (IsWithin bytes.now × Cuts (K.written sink.old) (K.written sink.new) bytes.now) }
 {
-    match script_from(alloc, bytes, sink) {
+    if line_count(bytes) > limits::LINE_LIMIT {
+        return Status::TooLarge;
+    }
+    match read(alloc, bytes) {
         Ok(script) => match lanes(rt, alloc, script, gate) {
             Ok(journal) => report(alloc, sink, &journal.script, &journal.entries),
             Err(NoMemory) => Status::Memory,
         },
-        Err(status) => status,
+        Err(refusal) => tell_said(sink, bad_line(alloc, refusal)),
     }
 }

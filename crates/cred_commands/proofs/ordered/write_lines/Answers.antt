@@ -1,6 +1,6 @@
-use Rattle.std.proofs.Common.{◌≡◌, ◌<◌, ◌≤◌, ◌+◌, ◌∙◌, arith}
+use Rattle.std.proofs.Common.{◌+◌, ◌∙◌, arith}
 use Rattle.std.proofs.lemmas.Result.{err_from_is_err_and, on_err_weaker, on_ok_weaker}
-use Rattle.cred_commands.proofs.Kept.{Kept, kept_begins, kept_fewer, kept_more, kept_stops, kept_whole}
+use Rattle.cred_commands.proofs.Kept.{kept_begins, kept_fewer, kept_more, kept_stops, kept_whole}
 use Rattle.cred_commands.proofs.ordered.write_lines.Goals as goal
 
 pub returns-in_default-clause-err : goal.returns-in_default-clause-err

@@ -1,4 +1,4 @@
-use Rattle.std.proofs.Common.{◌≡◌, ◌<◌, ◌≤◌, ◌+◌, length, arith}
+use Rattle.std.proofs.Common.{◌≤◌, length, arith}
 use Rattle.cred_commands.proofs.Told.{told_all, told_has_run, told_more, told_room}
 use Rattle.cred_commands.proofs.summing.tell_lines.Goals as goal
 

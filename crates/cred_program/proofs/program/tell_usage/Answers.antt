@@ -1,15 +1,14 @@
-use Rattle.std.proofs.Common.{inr, sym, ◌∙◌}
-use Rattle.cred_commands.proofs.Prefixes.{prefix_either}
-use Rattle.cred_program.specs.Commands.{usage_text}
-use Rattle.cred_program.proofs.Usage.{usage_suits, usage_written}
+use Rattle.std.proofs.Common.{inr}
+use Rattle.cred_commands.specs.declared.status.Status.TheVariants.{Usage}
+use Rattle.cred_commands.proofs.Telling.{by_end}
+use Rattle.cred_program.specs.Commands.{IsForNoCommand}
 use Rattle.cred_program.proofs.program.tell_usage.Goals as goal
 
 pub returns-clause-usage : goal.returns-clause-usage
 returns-clause-usage g c =
-    let written = c.write_text in
+    let told = rw c.as_bytes.ensures.value at c.tell.ensures.told in
     record {
-      usage = λ usage. usage_written _ _ usage_text written.result (rw c.as_bytes.ensures.value at written.ensures.ok) (sym c.finish.ensures ∙ usage);
-      suits = usage_suits written.result c.finish.result c.finish.ensures;
-      prefix = inr (prefix_either _ _ usage_text written.result (rw c.as_bytes.ensures.value at written.ensures.ok)
-          (rw c.as_bytes.ensures.value at written.ensures.err));
+      usage = told.whole;
+      suits = by_end IsForNoCommand Usage c.tell.result told.ends tt tt tt;
+      prefix = inr told.prefix;
     }

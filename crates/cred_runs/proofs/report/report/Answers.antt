@@ -16,10 +16,8 @@ returns-clause-prefix g c =
 pub returns-clause-only : goal.returns-clause-only
 returns-clause-only g c = finished_for_text c.write_last.result c.finish.result c.finish.ensures
 
-pub returns-clause-handed_on : goal.returns-clause-handed_on
-returns-clause-handed_on g c =
-    finished_whole c.write_last.result Done c.finish.result c.write_last.ensures.handed_on c.finish.ensures
-
-pub returns-clause-cause : goal.returns-clause-cause
-returns-clause-cause g c =
-    finished_counts c.write_last.result Done c.finish.result _ _ (λ fault. cc) c.finish.ensures c.write_last.ensures.cause
+pub returns-clause-writing : goal.returns-clause-writing
+returns-clause-writing g c = record {
+  handed_on = finished_whole c.write_last.result Done c.finish.result c.write_last.ensures.handed_on c.finish.ensures;
+  cause = finished_counts c.write_last.result Done c.finish.result _ _ (λ fault. cc) c.finish.ensures c.write_last.ensures.cause;
+}

@@ -1,0 +1,174 @@
+-- What a run of the bytes of a script leaves, by what came of the bytes.
+use Rattle.std.proofs.Common.{◌≡◌, ◌≤◌, ℕ, length, inl, inr, List, Option, Result, Ok, Err, sym, subst, ◌∙◌}
+use Rattle.std.specs.Prelude.{IfOk, IfSome}
+use Rattle.std.specs.Io.KnownBytes.{Appends}
+use Rattle.std.proofs.KnownBytes.{Consumes-whole}
+use Rattle.std.proofs.lemmas.Result.{IfOk-weaker}
+use Rattle.cred_ids.specs.Limits.{LINE_LIMIT}
+use Rattle.cred_event.specs.declared.entry.Entry.{Entry}
+use Rattle.cred_fits.proofs.EntriesFit.{one_fitting_list}
+use Rattle.cred_io.specs.Ends.{AppendsPrefix, ReadsAll}
+use Rattle.cred_laws.proofs.AnsweredLaws.{so_far_is_answered}
+use Rattle.cred_laws.proofs.Lawful.{lawful}
+use Rattle.cred_model.specs.Journal.{IsLegal}
+use Rattle.cred_model.specs.Script.{Script, SetupFirst}
+use Rattle.cred_report.specs.Text.{text}
+use Rattle.cred_script.specs.Grammar.{script_of}
+use Rattle.cred_script.specs.Read.{Gives}
+use Rattle.cred_script.specs.declared.refusal.ScriptRefusal.{ScriptRefusal}
+use Rattle.cred_script.specs.declared.refusal.ScriptRefusal.TheVariants as refusal
+use Rattle.cred_spelling.specs.declared.reason.Reason.{Reason}
+use Rattle.cred_commands.specs.Ends.{BeginsOne, HasTooManyLines, IsForText, IsWhole, IsWithin, Reports, Suits}
+use Rattle.cred_commands.specs.Cuts.{Cuts}
+use Rattle.cred_commands.specs.Leaves.{LeavesReport, RunsBytes}
+use Rattle.cred_commands.specs.Telling.{SaysRefusal, TellsSaid}
+use Rattle.cred_commands.specs.Texts.{bad_text}
+use Rattle.cred_commands.specs.declared.said.Said.{Said}
+use Rattle.cred_commands.specs.declared.status.Status.{Status}
+use Rattle.cred_commands.specs.declared.status.Status.TheVariants as status
+use Rattle.cred_commands.proofs.Cuts.{cut_written}
+use Rattle.cred_commands.proofs.Finished.{for_text_apart}
+use Rattle.cred_commands.proofs.Telling.{SaidOne, by_ends, or_so, same_or_so, told_one}
+
+-- The bytes are within both limits and are this script. The setup's lines come first.
+pub record IsScript (bytes : List ℕ) (script : Script) : Type 0 where
+  pub within : IsWithin bytes
+  pub few : length script.lines ≤ LINE_LIMIT
+  pub read : script_of bytes ≡ Ok script
+  pub setup : SetupFirst script
+
+-- a whole report that was written, of one of these journals, which the script may have
+reported : (These : Script → List Entry → Type 0) (a b : Option (List ℕ)) (bytes : List ℕ) (script : Script) (journal : List Entry)
+    → IsScript bytes script → These script journal → IsLegal script journal → Appends a b (text script journal)
+    → Reports These a b bytes
+reported These a b bytes script journal is one legal all = record {
+  script = script;
+  read = is.read;
+  journal = journal;
+  one = one;
+  legal = legal;
+  only = one_fitting_list bytes script journal is.read is.few legal.so_far;
+  lawful = lawful script journal (so_far_is_answered script journal legal.so_far);
+  written = all;
+}
+
+-- the status of the text of bytes that are a script suits them
+for_text_suits : (bytes : List ℕ) (script : Script) (answer : Status) → IsScript bytes script → IsForText answer → Suits bytes answer
+for_text_suits bytes script status.Done is text = (is.within, rw is.read tt)
+for_text_suits bytes script status.WriteFault is text = is.within
+for_text_suits bytes script status.Memory is text = tt
+for_text_suits bytes script status.Usage is text = absurd text
+for_text_suits bytes script status.Bad is text = absurd text
+for_text_suits bytes script status.ReadFault is text = absurd text
+for_text_suits bytes script status.TooLarge is text = absurd text
+for_text_suits bytes script status.NotLegal is text = absurd text
+
+-- where they have too many lines
+pub ran_too_large : (These : Script → List Entry → Type 0) (bytes : List ℕ) (a b : Option (List ℕ)) (untouched : Type 0)
+    → HasTooManyLines bytes → untouched → RunsBytes These bytes status.TooLarge a b untouched
+ran_too_large These bytes a b untouched many same = record {
+  done = λ e. cc;
+  bad = λ e. cc;
+  too_large = λ e. (many, same);
+  no_read_fault = λ e. cc;
+  suits = inr many;
+  prefix = inl same;
+  cut = inl same;
+}
+
+-- where memory ran out before there was a journal
+pub ran_out : (These : Script → List Entry → Type 0) (bytes : List ℕ) (a b : Option (List ℕ)) (untouched : Type 0)
+    → untouched → RunsBytes These bytes status.Memory a b untouched
+ran_out These bytes a b untouched same = record {
+  done = λ e. cc;
+  bad = λ e. cc;
+  too_large = λ e. cc;
+  no_read_fault = λ e. cc;
+  suits = tt;
+  prefix = inl same;
+  cut = inl same;
+}
+
+-- where they are a script, of which a report of one of these journals was to be written
+pub ran_script : (These : Script → List Entry → Type 0) (bytes : List ℕ) (script : Script) (answer : Status) (a b : Option (List ℕ)) (untouched : Type 0)
+    → IsScript bytes script → ((journal : List Entry) → These script journal → IsLegal script journal)
+    → (answer ≡ status.Done → (journal : List Entry) × These script journal × Appends a b (text script journal))
+    → (journal : List Entry) × These script journal × AppendsPrefix a b (text script journal)
+    → IsForText answer → RunsBytes These bytes answer a b untouched
+ran_script These bytes script answer a b untouched is legal all begun only = record {
+  done = λ done. let wrote = all done in reported These a b bytes script wrote.0 is wrote.1 (legal wrote.0 wrote.1) wrote.2;
+  bad = λ e. absurd (for_text_apart answer status.Bad only (λ t. t) e);
+  too_large = λ e. absurd (for_text_apart answer status.TooLarge only (λ t. t) e);
+  no_read_fault = for_text_apart answer status.ReadFault only (λ t. t);
+  suits = for_text_suits bytes script answer is only;
+  prefix = inr (is.within, rw is.read begun);
+  cut = inr (is.within, rw is.read (cut_written a b script begun.0 (legal begun.0 begun.1).so_far begun.2));
+}
+
+-- what is said of bytes that are no script
+record IsBad (bytes : List ℕ) (its : Status) (said : List ℕ) : Type 0 where
+  bad : ℕ × Reason
+  its_is : its ≡ status.Bad
+  read : script_of bytes ≡ Err bad
+  said_is : said ≡ bad_text bad
+
+is_bad : (bytes : List ℕ) (r : ScriptRefusal) (its : Status) (said : List ℕ) → Gives (λ (s : Script). s) (Err r) (script_of bytes)
+    → SaysRefusal r its said → IsBad bytes its said
+is_bad bytes (refusal.Bad line reason) its said given says = record { bad = (line, reason); its_is = says.0; read = given; said_is = says.1 }
+is_bad bytes refusal.Memory its said given says = absurd says
+
+pub refusal_whole : (r : ScriptRefusal) (its : Status) (said : List ℕ) → SaysRefusal r its said → IsWhole its
+refusal_whole (refusal.Bad line reason) its said says = subst IsWhole (sym says.0) tt
+refusal_whole refusal.Memory its said says = absurd says
+
+bad_suits : (bytes : List ℕ) (bad : ℕ × Reason) → IsWithin bytes → script_of bytes ≡ Err bad → Suits bytes status.Bad
+bad_suits bytes bad within read = (within, rw read tt)
+
+bad_begins : (These : Script → List Entry → Type 0) (a b : Option (List ℕ)) (bytes : List ℕ) (bad : ℕ × Reason) → script_of bytes ≡ Err bad
+    → AppendsPrefix a b (bad_text bad) → BeginsOne These a b bytes
+bad_begins These a b bytes bad read prefix = rw read prefix
+
+bad_cuts : (a b : Option (List ℕ)) (bytes : List ℕ) (bad : ℕ × Reason) → script_of bytes ≡ Err bad
+    → AppendsPrefix a b (bad_text bad) → Cuts a b bytes
+bad_cuts a b bytes bad read prefix = rw read prefix
+
+-- where what is said of such bytes was to be said
+bad_said : (These : Script → List Entry → Type 0) (bytes : List ℕ) (answer : Status) (a b : Option (List ℕ)) (untouched : Type 0)
+    → IsWithin bytes → SaidOne (IsBad bytes) answer a b untouched → RunsBytes These bytes answer a b untouched
+bad_said These bytes answer a b untouched within one = record {
+  done = λ e. let all = one.whole (subst IsWhole (sym e) tt) in let no : status.Bad ≡ status.Done = sym all.1.its_is ∙ e in cc;
+  bad = λ e.
+      let all = one.whole (subst IsWhole (sym e) tt) in
+      record { bad = all.1.bad; read = all.1.read; written = subst (Appends a b) all.1.said_is all.2 };
+  too_large = λ e. absurd (one.no_too_large e);
+  no_read_fault = one.no_read_fault;
+  suits = by_ends (Suits bytes) answer one.ends
+      (λ is. subst (Suits bytes) (sym is.1.its_is) (bad_suits bytes is.1.bad within is.1.read)) within tt;
+  prefix = or_so (λ some. (within, bad_begins These a b bytes some.2.bad some.2.read (subst (AppendsPrefix a b) some.2.said_is some.3))) one.prefix;
+  cut = or_so (λ some. (within, bad_cuts a b bytes some.2.bad some.2.read (subst (AppendsPrefix a b) some.2.said_is some.3))) one.prefix;
+}
+
+-- where no script was read of them
+pub ran_refused : {E : Type 0} (These : Script → List Entry → Type 0) (bytes : List ℕ) (r : ScriptRefusal) (said : Result Said E) (answer : Status)
+    (a b : Option (List ℕ)) (untouched : Type 0) → IsWithin bytes → Gives (λ (s : Script). s) (Err r) (script_of bytes)
+    → IfOk said (λ s. SaysRefusal r s.status s.text.items) → TellsSaid said answer a b untouched → RunsBytes These bytes answer a b untouched
+ran_refused These bytes r said answer a b untouched within given says tells =
+    let bad : IfOk said (λ s. IsBad bytes s.status s.text.items) = IfOk-weaker said _ _ (λ s is. is_bad bytes r s.status s.text.items given is) says in
+    let has : IfOk said (λ s. IsWhole s.status) = IfOk-weaker said _ _ (λ s is. subst IsWhole (sym is.its_is) tt) bad in
+    bad_said These bytes answer a b untouched within (told_one (IsBad bytes) said answer a b untouched bad has tells)
+
+-- ---- what a command leaves that has read the bytes to their end
+
+pub leaves_report : (These : Script → List Entry → Type 0) (before after a b : Option (List ℕ)) (bytes : List ℕ) (answer : Status) (untouched : Type 0)
+    → (untouched → b ≡ a) → ReadsAll before after bytes → RunsBytes These bytes answer a b untouched → LeavesReport These answer before after a b
+leaves_report These before after a b bytes answer untouched same read runs = record {
+  done = λ e. record { input = bytes; read = read; within = (subst (Suits bytes) e runs.suits).0; so = runs.done e };
+  bad = λ e. record { input = bytes; read = read; within = (subst (Suits bytes) e runs.suits).0; so = runs.bad e };
+  no_usage = λ e. subst (Suits bytes) e runs.suits;
+  no_not_legal = λ e. subst (Suits bytes) e runs.suits;
+  too_large = λ e. inr (record { input = bytes; read = read; above = (runs.too_large e).0 });
+  write_fault = λ e. record { input = bytes; read = read; within = subst (Suits bytes) e runs.suits; so = tt };
+  suits = λ input is. subst (λ o. IfSome o (λ i. Suits i answer)) is (Consumes-whole before after bytes (λ i. Suits i answer) read.taken read.ended runs.suits);
+  prefix = same_or_so same (λ some. record { input = bytes; read = read; within = some.0; so = some.1 }) runs.prefix;
+  cut = same_or_so same (λ some. record { input = bytes; read = read; within = some.0; so = some.1 }) runs.cut;
+}
