@@ -1,18 +1,16 @@
 -- Lines that run whole and in order: from event to event, from line to line, and to the end.
-use Rattle.std.proofs.Common.{◌≡◌, ◌≢◌, ℕ, zero, suc, ◌+◌, ◌-◌, ◌<◌, ◌≤◌, ◌==◌, List, [], ◌∷◌, ◌++◌, length, slice_get, Option, Some, None, is_some, Bool, true, false, refl, sym, ap, ◌∙◌, subst, inl, inr, append_assoc, arith}
+use Rattle.std.proofs.Common.{◌≡◌, ℕ, zero, suc, ◌+◌, ◌<◌, ◌≤◌, List, [], ◌∷◌, ◌++◌, length, slice_get, Option, Some, None, is_some, true, refl, sym, ap, ◌∙◌, subst, inl, inr, append_assoc, arith}
 use Rattle.std.specs.Option.{IfSome, option_and_then, option_map}
 use Rattle.std.proofs.lemmas.List.{append-nil}
 use Rattle.std.proofs.lemmas.List.Sums.{fold_push}
 use Rattle.std.proofs.lemmas.Bool.{cases_lt}
-use Rattle.std.proofs.lemmas.Bool.Decides.{nat_tests}
-use Rattle.cred_event.specs.declared.content.Content.{Content}
 use Rattle.cred_event.specs.declared.content.Stage.{Stage}
 use Rattle.cred_event.specs.declared.event.Event.{Event}
 use Rattle.cred_event.specs.declared.entry.Entry.{Entry}
 use Rattle.cred_model.specs.Script.{Script, Line}
 use Rattle.cred_model.specs.Course as model
 use Rattle.cred_model.specs.Course.{Course, Leads, start, event_in, event_at, leads}
-use Rattle.cred_model.specs.Journal.{Due, IsInOrder, IsSequence, answers_of, entry_of, first_due, next_event, next_in_order, replay}
+use Rattle.cred_model.specs.Journal.{IsInOrder, IsSequence, answers_of, entry_of, next_event, next_in_order, replay}
 use Rattle.cred_model.proofs.Courses.{after_line, makes_event}
 use Rattle.cred_model.proofs.Journals.{IsInOrder-push}
 use Rattle.cred_model.proofs.Lines.{answers_of-push_same, answers_of-push_other}
@@ -22,7 +20,7 @@ use Rattle.cred_cursor.proofs.Courses.{line_at-place, slice_get-none}
 use Rattle.cred_cursor.proofs.Due.{first_due_at, first_due_none}
 use Rattle.cred_book.specs.Cursor.{waiting}
 use Rattle.cred_book.proofs.Measure.{step_falls}
-use Rattle.cred_order.specs.Order.{BeginsSequence, LineHasEnded, IsPast, NotBegun, StandsAt}
+use Rattle.cred_order.specs.Order.{BeginsSequence, LineHasEnded, IsPast, StandsAt}
 
 -- ---- a course and its line
 

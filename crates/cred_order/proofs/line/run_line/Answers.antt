@@ -1,14 +1,9 @@
-use Rattle.std.proofs.Common.{◌≡◌, ◌+◌, ◌-◌, ◌==◌, ℕ, List, [], ◌∷◌, ◌++◌, length, slice_get, Option, Some, None, is_some, Bool, true, false, refl, sym, ap, ◌∙◌, subst, arith}
-use Rattle.std.specs.Option.{IfSome, option_map}
-use Rattle.std.proofs.lemmas.Bool.Decides.{nat_tests}
-use Rattle.cred_event.specs.declared.event.Event.{Event}
+use Rattle.std.proofs.Common.{◌≡◌, ◌+◌, List, [], ◌∷◌, ◌++◌, length, slice_get, Some, is_some, refl, sym, ap, ◌∙◌}
+use Rattle.std.specs.Option.{option_map}
 use Rattle.cred_event.specs.declared.entry.Entry.{Entry}
-use Rattle.cred_model.specs.Script.{Script, Line}
-use Rattle.cred_model.specs.Course.{event_at}
 use Rattle.cred_model.proofs.Names.{event_named}
-use Rattle.cred_script.specs.Grammar.{line_at}
 use Rattle.cred_cursor.proofs.Courses.{line_at-place}
-use Rattle.cred_order.proofs.Goes.{GoesOn, goes_first, goes_sound, goes_by, goes_out}
+use Rattle.cred_order.proofs.Goes.{goes_first, goes_sound, goes_by, goes_out}
 use Rattle.cred_order.proofs.line.run_line.Goals as goal
 
 pub events-init : goal.events-init
