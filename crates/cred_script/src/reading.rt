@@ -20,9 +20,7 @@ use crate::refusal::ScriptRefusal;
 use crate::script::{Script, ScriptLine};
 use crate::uses::{has_files, has_namespaces};
 use cred_event::{Content, LINE_LIMIT};
-use cred_forms::{
-    Files, LineRefusal, Parsed, content_of, event_actor, event_of, parse_form,
-};
+use cred_forms::{Files, LineRefusal, Parsed, content_of, event_actor, event_of, parse_form};
 use cred_names::{Lanes, Namespaces};
 use cred_spelling::{EventName, Form, Reason, form_of, is_comment};
 use std::alloc::Global;
@@ -175,12 +173,7 @@ impl Reading {
     // Few lines declare something.
     #[cold]
     #[inline(never)]
-    fn declare(
-        &mut self,
-        alloc: Global,
-        form: Form,
-        words: &[&[u8]],
-    ) -> Result<(), LineRefusal>
+    fn declare(&mut self, alloc: Global, form: Form, words: &[&[u8]]) -> Result<(), LineRefusal>
         requires few { length self.old.lines < LINE_LIMIT }
         ensures { GivesLine (λ _. self.new) result
             (adding self.old (fitting self.old (parse_form self.old.files form (nows words.now)))) }
