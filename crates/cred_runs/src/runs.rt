@@ -6,8 +6,7 @@ ghost use Rattle.cred_commands.specs.Leaves.{IsReading, IsWriting, LeavesReport,
 
 use crate::report::report;
 use cred_commands::{Status, bad_line, tell_said};
-use cred_ids::limits;
-use cred_ids::NoMemory;
+use cred_ids::{NoMemory, limits};
 use cred_io::{ReadRefusal, Sink, Source, read_all};
 use cred_lanes::{Gate, lanes};
 use cred_script::{line_count, read};

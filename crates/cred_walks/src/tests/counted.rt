@@ -9,6 +9,7 @@ mod tasks;
 mod walk;
 
 ghost use Rattle.cred_ids.specs.Limits.{SLOTS};
+
 use crate::tests::books::{Walk, run_whole, walk_in_book};
 use crate::tests::counted::lists::{Lists, SLOTS};
 use crate::tests::counted::scripts::script_of;
