@@ -25,7 +25,7 @@ use Rattle.cred_script.specs.Grammar.{parse_full, parse_words, parse_line, add_l
 use Rattle.cred_script.specs.Reading.{Reading, nothing, admits, keep}
 use Rattle.cred_script.specs.Reading as reading_of
 use Rattle.cred_script.specs.Sound.{IsParsed}
-use Rattle.cred_script.proofs.Own.{parsed_sound}
+use Rattle.cred_fits.proofs.ParsedSound.{parsed_sound}
 use Rattle.cred_reader.proofs.Spelled as spelled
 use Rattle.cred_reader.proofs.Spelled.{then_holds, ok_or_holds}
 use Rattle.cred_fits.specs.Content.{FitsContent, FitsFile}
