@@ -127,7 +127,7 @@ impl Lanes {
 
     /// Whether a line may stand now that holds this, and by which this task acts: outside the setup
     /// no line of another lane has named the task, or a label of the line.
-    // Most lines are the setup's: those need no call. So in `name`, and what is called is put apart.
+    // Most lines are the setup's, and need no call, here and in `name`.
     #[inline(always)]
     pub fn may_name(&self, by: Option<u32>, content: &Content) -> bool
         ensures { result ≡ spec.may_name self.now by content.now }
