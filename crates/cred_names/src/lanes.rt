@@ -43,6 +43,7 @@ impl Owners {
     }
 
     /// No line of another lane has named it, if there is one.
+    #[inline(never)]
     fn is_free(&self, lane: u32, number: Option<u32>) -> bool
         ensures { result ≡ spec.are_free self.now lane (cons_option number []) }
     {
@@ -56,6 +57,7 @@ impl Owners {
     }
 
     /// A line of this lane names it, if there is one. Without memory nothing changes.
+    #[inline(never)]
     fn name(&mut self, lane: u32, number: Option<u32>) -> Result<(), NoMemory>
         ensures ok { OnOk result
             (self.new ≡ spec.with_owners self.old lane (cons_option number [])) }
@@ -125,6 +127,8 @@ impl Lanes {
 
     /// Whether a line may stand now that holds this, and by which this task acts: outside the setup
     /// no line of another lane has named the task, or a label of the line.
+    // Most lines are the setup's, and need no call, here and in `name`.
+    #[inline(always)]
     pub fn may_name(&self, by: Option<u32>, content: &Content) -> bool
         ensures { result ≡ spec.may_name self.now by content.now }
     {
@@ -132,6 +136,7 @@ impl Lanes {
     }
 
     /// The labels of the line are named by no line of another lane.
+    #[inline(never)]
     fn are_free(&self, content: &Content) -> bool
         ensures { result ≡ spec.are_free self.now.labels self.now.current (labels content.now) }
     {
@@ -146,6 +151,7 @@ impl Lanes {
     ///
     /// `NoMemory` where there is no memory to keep one of them. What a lane had it has still, and
     /// this lane may have a part of them.
+    #[inline(always)]
     pub fn name(&mut self, by: Option<u32>, content: &Content) -> Result<(), NoMemory>
         ensures ok { OnOk result (self.new ≡ spec.naming self.old by content.now) }
         ensures keeps { spec.KeepsLanes self.old self.new }

@@ -28,6 +28,8 @@ fn prepend_init(out: &mut Pen, task: u32, process: u32, user: Id, group: Id, ns:
 
 /// Writes the taking of a credential of a task. Each word is written in an arm of its own, where
 /// its length is known, and needs no call.
+// As all that many entries need, it is no call of its own.
+#[inline(always)]
 fn prepend_take(out: &mut Pen, label: u32, task: u32, side: Side)
     requires { EVENT ≤ out.old.room }
     ensures text { out.new.text
@@ -43,6 +45,7 @@ fn prepend_take(out: &mut Pen, label: u32, task: u32, side: Side)
 }
 
 /// Writes the question on a label's credential.
+#[inline(always)]
 fn prepend_ask(out: &mut Pen, script: &Script, label: u32, query: Query) -> Result<(), NoMemory>
     requires { BEFORE_EVENT + EVENT ≤ out.old.room }
     ensures text { OnOk result (out.new.text
@@ -68,6 +71,7 @@ fn prepend_signal(out: &mut Pen, from: u32, hold: u32, to: u32, target: u32)
 }
 
 /// Writes the preparation of a new credential for a task.
+#[inline(always)]
 fn prepend_prepare(out: &mut Pen, label: u32, task: u32, hold: u32)
     requires { EVENT ≤ out.old.room }
     ensures text { out.new.text
@@ -81,6 +85,7 @@ fn prepend_prepare(out: &mut Pen, label: u32, task: u32, hold: u32)
 }
 
 /// Writes the change of a prepared credential.
+#[inline(always)]
 fn prepend_alter(out: &mut Pen, script: &Script, label: u32, change: Change) -> Result<(), NoMemory>
     requires { BEFORE_EVENT + EVENT ≤ out.old.room }
     ensures text { OnOk result (out.new.text
@@ -94,6 +99,7 @@ fn prepend_alter(out: &mut Pen, script: &Script, label: u32, change: Change) -> 
 }
 
 /// Writes the id call of a task.
+#[inline(always)]
 fn prepend_begin(out: &mut Pen, task: u32, call: &IdCall) -> Result<(), NoMemory>
     requires { BEFORE_EVENT + EVENT ≤ out.old.room }
     ensures text { OnOk result (out.new.text

@@ -25,12 +25,11 @@ use Rattle.cred_spelling.specs.declared.names.CallName.TheVariants as call
 use Rattle.cred_spelling.specs.declared.reason.Reason.{Reason}
 use Rattle.cred_spelling.specs.declared.reason.Reason.TheVariants.{Word, Name, Byte}
 use Rattle.cred_spelling.specs.declared.reason.Reason.TheVariants as reason
-use Rattle.cred_spelling.specs.Lines.{is_printable}
-use Rattle.cred_spelling.specs.Names.{id_name, altered_name, call_name, form_of}
+use Rattle.cred_spelling.specs.Names.{id_name, altered_name, call_name}
 use Rattle.cred_spelling.specs.Spellings.{letter, number_of, within, id_of, cap_of, label_of}
 use Rattle.cred_spelling.specs.Spellings.{task_of, process_of, descriptor_of, line_number_of}
 use Rattle.cred_spelling.specs.Spellings.{lane_number_of, namespace_of, new_namespace_of, parent_of}
-use Rattle.cred_spelling.specs.Words.{◌>>=◌, words_of, is_comment, word_of, no_words, one_of, two_of, three_of, five_of}
+use Rattle.cred_spelling.specs.Words.{◌>>=◌, word_of, no_words, one_of, two_of, three_of, five_of}
 use Rattle.cred_forms.specs.declared.forms.Parsed.{Parsed}
 use Rattle.cred_forms.specs.declared.forms.Parsed.TheVariants.{Empty, File, Starts, Lane, Holds}
 use Rattle.cred_forms.specs.declared.forms.Parsed.TheVariants as parsed

@@ -3,11 +3,11 @@
 //! What text is a script, and which script it is, is defined in `specs/`: a script is its lines,
 //! added one after another to what was read before them. `Reading` says what was read before a
 //! line, what that asks of the line and what the line adds to it. `Grammar` puts these together,
-//! and `read` answers exactly that. `Sound` says what is true of each script, and `Lanes` which
-//! lane is its greatest. What the words of each form are, and what a line then declares or holds,
-//! stands in `cred_forms`; which lane has which tasks and labels, and the namespaces, in
-//! `cred_names`; how a text is split, what a word spells and the tables of keywords in
-//! `cred_spelling`.
+//! and `read` answers exactly that; `Adding` names the steps between. `Sound` says what is true of
+//! each script, and `Lanes` which lane is its greatest. What the words of each form are, and what a
+//! line then declares or holds, stands in `cred_forms`; which lane has which tasks and labels, and
+//! the namespaces, in `cred_names`; how a text is split, what a word spells and the tables of
+//! keywords in `cred_spelling`.
 #![tactic(auto)]
 
 mod parts;

@@ -1,4 +1,4 @@
-use Rattle.std.proofs.Common.{◌≡◌, ◌≢◌, ◌≤◌, ◌++◌, ℕ, List, get_or, length, subst, sym, rules, arith}
+use Rattle.std.proofs.Common.{◌≡◌, ◌≢◌, ◌≤◌, ◌++◌, ℕ, List, get_or, length, subst, sym, rules}
 use Rattle.cred_spelling.specs.Read.{nows}
 use Rattle.cred_spelling.specs.LineWords.{some_word}
 use Rattle.cred_spelling.proofs.LineWords.{IsPast, past_first, past_next, at_first, whole_line, ended_line, bad_line}

@@ -1,4 +1,4 @@
-use Rattle.std.proofs.Common.{◌≡◌, ◌+◌, ◌++◌, ap, ◌∙◌, length, length-append, arith}
+use Rattle.std.proofs.Common.{ap, ◌∙◌, length, length-append, arith}
 use Rattle.cred_spelling.specs.Lines.{ends}
 use Rattle.cred_spelling.proofs.LineCount.{ends-append}
 use Rattle.cred_spelling.proofs.lines.end_count.Goals as goal

@@ -1,4 +1,4 @@
-use Rattle.std.proofs.Common.{◌≡◌, ◌++◌, ◌-◌, length, take, drop, rules}
+use Rattle.std.proofs.Common.{◌≡◌, ◌-◌, length, take, drop, rules}
 use Rattle.cred_report.proofs.Pieces.{word_again}
 use Rattle.cred_report.proofs.pen.Pen.end_of.Goals as goal
 
