@@ -53,13 +53,6 @@ pub flushed : (a b c : Option (List ℕ)) (bytes : List ℕ) (r : Result (Unit {
 flushed a b c bytes (Ok done) all kept = tt
 flushed a b c bytes (Err refusal) all kept = whole_kept a b c bytes all kept
 
--- what a flush after all entries leaves
-pub flushed_entries : (a b c : Option (List ℕ)) (script : Script) (journal : List Entry) (at : ℕ) (r : Result (Unit {0}) SinkRefusal)
-    → length journal ≤ at → Appends a b (text script (take at journal)) → Keeps b c → OnErr r (AppendsPrefix a c (text script journal))
-flushed_entries a b c script journal at r ended all kept =
-    let same : take at journal ≡ journal = take_all at journal ended in
-    flushed a b c (text script journal) r (rw same at all) kept
-
 -- a text that was refused isn't done
 pub refused_apart : (refusal : SinkRefusal) → finished (Err refusal) status.Done ≡ status.Done → ⊥
 refused_apart sink.Failed is = cc

@@ -1,5 +1,9 @@
 -- What a run of the bytes of a script leaves, by what came of the bytes.
+<<<<<<< HEAD
 use Rattle.std.proofs.Common.{◌≡◌, ◌≤◌, ℕ, length, inl, inr, List, Option, Result, Ok, Err, sym, subst, ◌∙◌}
+=======
+use Rattle.std.proofs.Common.{◌≡◌, ℕ, inr, List, Option, Result, Ok, Err, sym, subst, ◌∙◌}
+>>>>>>> 790a2f109ac28cf333f810196d302b1433e01f0a
 use Rattle.std.specs.Prelude.{IfOk, IfSome}
 use Rattle.std.specs.Io.KnownBytes.{Appends}
 use Rattle.std.proofs.KnownBytes.{Consumes-whole}
@@ -18,7 +22,7 @@ use Rattle.cred_script.specs.Read.{Gives}
 use Rattle.cred_script.specs.declared.refusal.ScriptRefusal.{ScriptRefusal}
 use Rattle.cred_script.specs.declared.refusal.ScriptRefusal.TheVariants as refusal
 use Rattle.cred_spelling.specs.declared.reason.Reason.{Reason}
-use Rattle.cred_commands.specs.Ends.{BeginsOne, HasTooManyLines, IsForText, IsWhole, IsWithin, Reports, Suits}
+use Rattle.cred_commands.specs.Ends.{BeginsOne, IsForText, IsWhole, IsWithin, Reports, Suits}
 use Rattle.cred_commands.specs.Cuts.{Cuts}
 use Rattle.cred_commands.specs.Leaves.{LeavesReport, RunsBytes}
 use Rattle.cred_commands.specs.Telling.{SaysRefusal, TellsSaid}
@@ -62,32 +66,6 @@ for_text_suits bytes script status.Bad is text = absurd text
 for_text_suits bytes script status.ReadFault is text = absurd text
 for_text_suits bytes script status.TooLarge is text = absurd text
 for_text_suits bytes script status.NotLegal is text = absurd text
-
--- where they have too many lines
-pub ran_too_large : (These : Script → List Entry → Type 0) (bytes : List ℕ) (a b : Option (List ℕ)) (untouched : Type 0)
-    → HasTooManyLines bytes → untouched → RunsBytes These bytes status.TooLarge a b untouched
-ran_too_large These bytes a b untouched many same = record {
-  done = λ e. cc;
-  bad = λ e. cc;
-  too_large = λ e. (many, same);
-  no_read_fault = λ e. cc;
-  suits = inr many;
-  prefix = inl same;
-  cut = inl same;
-}
-
--- where memory ran out before there was a journal
-pub ran_out : (These : Script → List Entry → Type 0) (bytes : List ℕ) (a b : Option (List ℕ)) (untouched : Type 0)
-    → untouched → RunsBytes These bytes status.Memory a b untouched
-ran_out These bytes a b untouched same = record {
-  done = λ e. cc;
-  bad = λ e. cc;
-  too_large = λ e. cc;
-  no_read_fault = λ e. cc;
-  suits = tt;
-  prefix = inl same;
-  cut = inl same;
-}
 
 -- where they are a script, of which a report of one of these journals was to be written
 pub ran_script : (These : Script → List Entry → Type 0) (bytes : List ℕ) (script : Script) (answer : Status) (a b : Option (List ℕ)) (untouched : Type 0)

@@ -1,4 +1,5 @@
 pub mod Closing
 pub mod Ends
+pub mod Lending
 pub mod Returned
 pub mod Taking
