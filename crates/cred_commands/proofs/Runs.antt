@@ -1,9 +1,5 @@
 -- What a run of the bytes of a script leaves, by what came of the bytes.
-<<<<<<< HEAD
-use Rattle.std.proofs.Common.{◌≡◌, ◌≤◌, ℕ, length, inl, inr, List, Option, Result, Ok, Err, sym, subst, ◌∙◌}
-=======
-use Rattle.std.proofs.Common.{◌≡◌, ℕ, inr, List, Option, Result, Ok, Err, sym, subst, ◌∙◌}
->>>>>>> 790a2f109ac28cf333f810196d302b1433e01f0a
+use Rattle.std.proofs.Common.{◌≡◌, ◌≤◌, ℕ, length, inr, List, Option, Result, Ok, Err, sym, subst, ◌∙◌}
 use Rattle.std.specs.Prelude.{IfOk, IfSome}
 use Rattle.std.specs.Io.KnownBytes.{Appends}
 use Rattle.std.proofs.KnownBytes.{Consumes-whole}
