@@ -1,7 +1,7 @@
 -- Every journal is lawful.
 use Rattle.std.proofs.Common.{◌≡◌, ◌≢◌, ℕ, ◌+◌, ◌<◌, ◌≤◌, List, ◌++◌, length, take, drop, slice_get, Option, Some, None, false, refl, sym, ap, ◌∙◌, subst, arith}
 use Rattle.std.specs.List.{All}
-use Rattle.std.specs.Option.{IfSome}
+use Rattle.std.specs.Option.{IfSome, option_map}
 use Rattle.std.proofs.lemmas.List.{take-take, take-append-drop, get_or-drop, get_or-take, length-drop, length-take}
 use Rattle.std.proofs.lemmas.Option.{slice_get-get_or}
 use Rattle.cred_record.specs.declared.gains.Gains.{Gains}
@@ -11,7 +11,7 @@ use Rattle.cred_event.specs.declared.answer.Answer.TheVariants.{Executed}
 use Rattle.cred_event.specs.declared.event.Event.TheVariants.{Release, CloseFile}
 use Rattle.cred_event.specs.declared.entry.Entry.{Entry}
 use Rattle.cred_model.specs.Script.{Script}
-use Rattle.cred_model.specs.State.{State, SealedCred, Numbered, numbered, task_of, current_of, opener_of, held_by}
+use Rattle.cred_model.specs.State.{State, SealedCred, Task, Numbered, numbered, task_of, current_of, opener_of, held_by}
 use Rattle.cred_model.specs.Step.{step}
 use Rattle.cred_model.specs.Journal.{replay, IsAnswered}
 use Rattle.cred_model.proofs.Numbers.{numbered_stays}
@@ -19,17 +19,18 @@ use Rattle.cred_laws.specs.Slots.{IsUnused}
 use Rattle.cred_sound.proofs.Sound.{sound_after}
 use Rattle.cred_laws.specs.Slots.{IsUnused}
 use Rattle.cred_laws.specs.Held.{prepared_as, ends}
+use Rattle.cred_laws.specs.Overrides.{IsOverriding}
 use Rattle.cred_laws.specs.Permitted.{IsCreatedWith}
 use Rattle.cred_laws.specs.Permitted as permitted
 use Rattle.cred_laws.specs.Execve.{IsExecve}
-use Rattle.cred_laws.specs.Journals.{state_at, IsAlwaysSound, IsAlwaysMade, WritesUnusedSlots, KeepsSealed, KeepsHeld, KeepsOpeners, KeepsPrepared, ExecvesByTheRule, GainsAsAnswered, CreatesTasks, CompletesForAll, JournalsAreLawful}
+use Rattle.cred_laws.specs.Journals.{state_at, IsAlwaysSound, IsAlwaysMade, WritesUnusedSlots, KeepsSealed, KeepsHeld, KeepsOpeners, KeepsPrepared, OverridesLeave, ExecvesByTheRule, GainsAsAnswered, CreatesTasks, CompletesForAll, JournalsAreLawful}
 use Rattle.cred_laws.specs.Broadcast.{HasNamed, AllHave, Completes}
 use Rattle.cred_laws.proofs.AlikeLaws.{keeps_alike}
 use Rattle.cred_laws.proofs.BroadcastLaws.{calls_are_every_threads, followed_after}
 use Rattle.cred_laws.proofs.States.{step_at, answered_at}
 use Rattle.cred_laws.proofs.Unused.{no_held_slot_is_rewritten}
 use Rattle.cred_laws.proofs.HeldLaws.{held_stays, on_extends, replay-append}
-use Rattle.cred_laws.proofs.OverrideLaws.{opener_goes_on}
+use Rattle.cred_laws.proofs.OverrideLaws.{opener_goes_on, overrides_leave_current}
 use Rattle.cred_laws.proofs.PreparedLaws.{prepared_goes_on}
 use Rattle.cred_laws.proofs.MadeLaws.{made_after}
 use Rattle.cred_laws.proofs.ExecveLaws.{execves_are_by_the_rule}
@@ -101,6 +102,17 @@ keeps_openers script journal k l fd opener within is none =
     ∙ ap (λ (s : State). opener_of s fd) (replay-append script (take k journal) more)
     ∙ opener_goes_on script (state_at script journal k) more fd opener is
     (each_between (λ entry. entry.event ≢ CloseFile fd) journal k l none)
+
+overrides_by : (script : Script) (journal : List Entry) (k task : ℕ) (o : Option Entry) → slice_get journal k ≡ o
+    → IfSome o (λ entry. IsOverriding entry.event
+    → option_map (λ t. t.current) (task_of (state_at script journal (k + 1)) task) ≡ option_map (λ t. t.current) (task_of (state_at script journal k) task))
+overrides_by script journal k task (Some entry) is = λ overriding.
+    ap (λ (s : State). option_map (λ (t : Task). t.current) (task_of s task)) (step_at script journal k entry is)
+    ∙ overrides_leave_current script (state_at script journal k) entry.line entry.event task overriding
+overrides_by script journal k task None is = tt
+
+pub overrides_leave : (script : Script) (journal : List Entry) → OverridesLeave script journal
+overrides_leave script journal k task = overrides_by script journal k task (slice_get journal k) refl
 
 pub keeps_prepared : (script : Script) (journal : List Entry) → KeepsPrepared script journal
 keeps_prepared script journal k l label p within is none =
@@ -178,6 +190,7 @@ lawful script journal answered = record {
   sealed = keeps_sealed script journal;
   held = keeps_held script journal;
   openers = keeps_openers script journal;
+  overrides = overrides_leave script journal;
   prepared = keeps_prepared script journal;
   execves = execves_by_the_rule script journal answered;
   gains = gains_as_answered script journal answered;

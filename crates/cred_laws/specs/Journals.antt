@@ -16,6 +16,7 @@ use Rattle.cred_sound.specs.Sound.{IsSound}
 use Rattle.cred_laws.specs.Slots.{IsUnused}
 use Rattle.cred_laws.specs.Held.{prepared_as, ends}
 use Rattle.cred_laws.specs.Made.{AreMade}
+use Rattle.cred_laws.specs.Overrides.{IsOverriding}
 use Rattle.cred_laws.specs.Execve.{IsExecve}
 use Rattle.cred_laws.specs.Permitted.{GainsBy, IsCreatedWith}
 use Rattle.cred_laws.specs.Broadcast.{HasNamed, AllHave, Completes, kind_of, three_of, IsAlike}
@@ -67,6 +68,15 @@ KeepsOpeners script journal =
     → ((i : ℕ) → k ≤ i → i < l
     → IfSome (slice_get journal i) (λ entry. entry.event ≢ CloseFile fd))
     → opener_of (state_at script journal l) fd ≡ Some opener
+
+-- An entry by which a task overrides its credential, or reverts, leaves each task the current one
+-- that it had.
+abbrev pub OverridesLeave : Script → List Entry → Type 0
+OverridesLeave script journal =
+    (k task : ℕ)
+    → IfSome (slice_get journal k) (λ entry. IsOverriding entry.event
+    → option_map (λ t. t.current) (task_of (state_at script journal (k + 1)) task)
+    ≡ option_map (λ t. t.current) (task_of (state_at script journal k) task))
 
 -- What a label prepares stays, but for its changes, as long as no entry ends it.
 abbrev pub KeepsPrepared : Script → List Entry → Type 0
@@ -164,6 +174,7 @@ pub record IsLawful (script : Script) (journal : List Entry) : Type 0 where
   pub sealed : KeepsSealed script journal
   pub held : KeepsHeld script journal
   pub openers : KeepsOpeners script journal
+  pub overrides : OverridesLeave script journal
   pub prepared : KeepsPrepared script journal
   pub execves : ExecvesByTheRule script journal
   pub gains : GainsAsAnswered script journal

@@ -9,7 +9,9 @@ use Rattle.cred_sound.specs.Ledger.{ledger, IsClear, SealsOf}
 use Rattle.cred_sound.specs.Sound.{IsSound}
 
 -- No reference in use is to a credential in the slot, and no prepared label keeps it but the one
--- whose credential the event seals.
+-- whose credential the event seals. Of a journal two laws say together that what is referred to
+-- stays in its place: a sealed number keeps its slot for good (`KeepsSealed`), and nothing else is
+-- put into that slot while a reference in use is to it (`WritesUnusedSlots`, which is this).
 pub record IsUnused (s : State) (event : Event) (slot : ℕ) : Type 0 where
   pub clear : IsClear (ledger s).slots slot (in_use s)
   pub kept : All (λ p. p.slot ≡ slot → SealsOf event p.label) s.prepared
