@@ -3,48 +3,57 @@ use cred_event::{Answer, Entry, Event, Told, copy_answer, copy_event};
 use cred_ids::Id;
 use cred_record::{IdCall, IdList};
 use cred_report::Text;
+use std::alloc::Global;
 use std::mem::size_of;
 use std::test::Fail;
-
-/// Three ids, out of order.
-fn ids() -> Result<[Id; 3], Fail> {
-    Ok([
-        Id::new(30).ok_or("30")?,
-        Id::new(10).ok_or("10")?,
-        Id::new(20).ok_or("20")?,
-    ])
-}
 
 #[test]
 fn an_entry_is_small(rt: HostRuntime) {
     assert!(rt; size_of::<Entry>() <= 200);
 }
 
-#[test]
-fn a_copied_event_has_its_list(rt: HostRuntime) -> Result<(), Fail> {
-    let ids = ids()?;
-    let call = IdCall::SetGroups(IdList::of(rt.alloc(), &ids)?);
+/// Three ids, out of order.
+fn list(alloc: Global) -> Result<IdList, Fail> {
+    let ids = [
+        Id::new(30).ok_or("30")?,
+        Id::new(10).ok_or("10")?,
+        Id::new(20).ok_or("20")?,
+    ];
+    Ok(IdList::of(alloc, &ids)?)
+}
+
+/// What the copy of an event is that holds the list.
+fn copied_event(alloc: Global) -> Result<String, Fail> {
+    let call = IdCall::SetGroups(list(alloc)?);
     let event = Event::Begin { task: 7, call };
-    match copy_event(&event)? {
-        Event::Begin {
-            task,
-            call: IdCall::SetGroups(list),
-        } => {
-            assert!(rt; task == 7 && list.items() == ids.as_slice());
-        }
-        _ => return Err(Fail::from("another event")),
-    }
-    Ok(())
+    let copied = copy_event(&event);
+    drop(event);
+    let copied = copied?;
+    let text = format!(in alloc; "{copied:?}");
+    drop(copied);
+    Ok(text?)
+}
+
+/// What the copy of an answer is that holds the list.
+fn copied_answer(alloc: Global) -> Result<String, Fail> {
+    let answer = Answer::Told(Told::Groups(list(alloc)?));
+    let copied = copy_answer(&answer);
+    drop(answer);
+    let copied = copied?;
+    let text = format!(in alloc; "{copied:?}");
+    drop(copied);
+    Ok(text?)
 }
 
 #[test]
-fn a_copied_answer_has_its_list(rt: HostRuntime) -> Result<(), Fail> {
-    let ids = ids()?;
-    let answer = Answer::Told(Told::Groups(IdList::of(rt.alloc(), &ids)?));
-    match copy_answer(&answer)? {
-        Answer::Told(Told::Groups(list)) => assert!(rt; list.items() == ids.as_slice()),
-        _ => return Err(Fail::from("another answer")),
-    }
+fn a_copy_has_its_list(rt: HostRuntime) -> Result<(), Fail> {
+    let event = copied_event(rt.alloc())?;
+    let answer = copied_answer(rt.alloc())?;
+    assert!(rt;
+        event.as_str()
+            == "Begin { task: 7, call: SetGroups(IdList { ids: [Id(30), Id(10), Id(20)] }) }"
+    );
+    assert!(rt; answer.as_str() == "Told(Groups(IdList { ids: [Id(30), Id(10), Id(20)] }))");
     Ok(())
 }
 

@@ -1,89 +1,77 @@
 //! What a script keeps of the files and namespaces that it declares.
 use crate::tests::held::script_of;
+use cred_ids::NoMemory;
 use cred_script::Script;
-use std::alloc::Global;
+use std::alloc::{AllocError, Global};
 use std::test::Fail;
 
 /// Two files, and three namespaces.
 const DECLARED: &str = "file a reg 1 2 4750 nosuid caps 0x00fF\nfile b dir 3 4 0001\n\
     ns 3 1000 0\nns 7 2000 3\nns 1 5 0\n";
 
-/// The files, with their names.
-const FILES: [(&str, &str); 2] = [
+/// What a script is asked: the file or the name at a place, the place of a name, or the root ids of
+/// a namespace and of its ancestors, its own first.
+#[derive(Clone, Copy)]
+enum Asked {
+    File(u32),
+    Name(u32),
+    Place(&'static str),
+    Chain(u32),
+}
+
+const ROWS: [(Asked, &str); 15] = [
     (
-        "a",
-        "FileInfo { kind: Regular, owner: Id(1), group: Id(2), mode: 2536, nosuid: true, \
-         attr: Some(Bytes { items: [0, 255] }) }",
+        Asked::File(0),
+        "Some(FileInfo { kind: Regular, owner: Id(1), group: Id(2), mode: 2536, nosuid: true, \
+         attr: Some(Bytes { items: [0, 255] }) })",
     ),
     (
-        "b",
-        "FileInfo { kind: Directory, owner: Id(3), group: Id(4), mode: 1, nosuid: false, \
-         attr: None }",
+        Asked::File(1),
+        "Some(FileInfo { kind: Directory, owner: Id(3), group: Id(4), mode: 1, nosuid: false, \
+         attr: None })",
     ),
+    (Asked::File(2), "None"),
+    (Asked::Name(0), "Some(\"a\")"),
+    (Asked::Name(1), "Some(\"b\")"),
+    (Asked::Name(2), "None"),
+    (Asked::Place("b"), "Some(1)"),
+    (Asked::Place("c"), "None"),
+    (Asked::Place(""), "None"),
+    (Asked::Chain(0), "Some([Id(0)])"),
+    (Asked::Chain(1), "Some([Id(5), Id(0)])"),
+    (Asked::Chain(2), "None"),
+    (Asked::Chain(3), "Some([Id(1000), Id(0)])"),
+    (Asked::Chain(7), "Some([Id(2000), Id(1000), Id(0)])"),
+    (Asked::Chain(16), "None"),
 ];
 
-/// Whether the script has the files, with their names.
-fn has_files(alloc: Global, script: &Script) -> Result<bool, Fail> {
-    for (place, (name, want)) in (0..).zip(FILES) {
-        let file = script.file(place).ok_or("a file")?;
-        let got = format!(in alloc; "{file:?}")?;
-        if script.name(place) != Some(name) || got.as_str() != want {
-            return Ok(false);
+/// What the script answers.
+fn told(alloc: Global, script: &Script, asked: Asked) -> Result<String, AllocError> {
+    match asked {
+        Asked::File(place) => format!(in alloc; "{:?}", script.file(place)),
+        Asked::Name(place) => format!(in alloc; "{:?}", script.name(place)),
+        Asked::Place(name) => format!(in alloc; "{:?}", script.place_of(name)),
+        Asked::Chain(number) => format!(in alloc; "{:?}", script.chain(number)),
+    }
+}
+
+/// The first row that the script answers otherwise, by its place.
+fn first_other(alloc: Global, script: &Script) -> Result<Option<usize>, NoMemory> {
+    for (place, (asked, want)) in ROWS.iter().enumerate() {
+        let told = told(alloc, script, *asked)?;
+        if told.as_str() != *want {
+            return Ok(Some(place));
         }
     }
-    Ok(true)
+    Ok(None)
 }
 
 #[test]
-fn keeps_what_files_hold(rt: HostRuntime) -> Result<(), Fail> {
+fn keeps_what_is_declared(rt: HostRuntime) -> Result<(), Fail> {
     let script = script_of(rt.alloc(), DECLARED)?;
-    let has_files = has_files(rt.alloc(), &script);
+    let other = first_other(rt.alloc(), &script);
     drop(script);
-    assert!(rt; has_files?);
-    Ok(())
-}
-
-#[test]
-fn finds_files_by_their_names(rt: HostRuntime) -> Result<(), Fail> {
-    let script = script_of(rt.alloc(), DECLARED)?;
-    let places = [
-        script.place_of("b"),
-        script.place_of("c"),
-        script.place_of(""),
-    ];
-    let has_two = script.name(2).is_none() && script.file(2).is_none();
-    drop(script);
-    assert!(rt; places == [Some(1), None, None] && has_two);
-    Ok(())
-}
-
-/// The root ids of each namespace and of its ancestors, its own first.
-const CHAINS: [(u32, &str); 6] = [
-    (0, "Some([Id(0)])"),
-    (1, "Some([Id(5), Id(0)])"),
-    (2, "None"),
-    (3, "Some([Id(1000), Id(0)])"),
-    (7, "Some([Id(2000), Id(1000), Id(0)])"),
-    (16, "None"),
-];
-
-/// Whether the namespaces of the script have their chains.
-fn has_chains(alloc: Global, script: &Script) -> Result<bool, Fail> {
-    for (number, want) in CHAINS {
-        let chain = script.chain(number);
-        let got = format!(in alloc; "{chain:?}")?;
-        if got.as_str() != want {
-            return Ok(false);
-        }
-    }
-    Ok(true)
-}
-
-#[test]
-fn chains_lead_to_the_initial_namespace(rt: HostRuntime) -> Result<(), Fail> {
-    let script = script_of(rt.alloc(), DECLARED)?;
-    let has_chains = has_chains(rt.alloc(), &script);
-    drop(script);
-    assert!(rt; has_chains?);
+    let other = other?;
+    assert!(rt; other.is_none(), "row {other:?}");
     Ok(())
 }

@@ -1,8 +1,8 @@
 //! What the program does where its ends fail.
-use crate::tests::runs::words_of;
-use cred_io::{MemorySink, MemorySource, StdSink};
-use cred_lanes::NoGate;
-use cred_program::{Status, credtrace};
+use crate::tests::runs::end_of;
+use cred_ids::NoMemory;
+use cred_io::{MemorySink, StdSink};
+use cred_program::Status;
 use std::io;
 use std::io::Write;
 use std::sync::Wait;
@@ -11,56 +11,87 @@ use std::thread::Threads;
 
 const SCRIPT: &str = "init t1 p1 0 0 n0\nt1 setresuid 1000 1000 1000\nt1 caps\nt1 ids\n";
 
-/// The script's report, an entry in each.
-const ENTRIES: [&str; 8] = [
-    "1 init t1 p1 0 0 n0 -> ok c0 s0\n",
-    "2 begin t1 setresuid 1000 1000 1000 -> ok c1 s1 left 0\n",
-    "3 take h100030 t1 -> ok c1 s1\n",
-    "3 ask h100030 caps -> ok 0 0 0 1ffffffffff 0\n",
-    "3 drop h100030 -> ok\n",
-    "4 take h100040 t1 -> ok c1 s1\n",
-    "4 ask h100040 ids -> ok 1000 1000 1000 1000 0 0 0 0\n",
-    "4 drop h100040 -> ok\n",
+/// A command, its input, and what it writes for that, each line a write.
+#[derive(Clone, Copy)]
+struct Asked {
+    command: &'static str,
+    input: &'static str,
+    written: &'static str,
+}
+
+const RUN: Asked = Asked {
+    command: "run",
+    input: SCRIPT,
+    written: "1 init t1 p1 0 0 n0 -> ok c0 s0\n\
+        2 begin t1 setresuid 1000 1000 1000 -> ok c1 s1 left 0\n\
+        3 take h100030 t1 -> ok c1 s1\n\
+        3 ask h100030 caps -> ok 0 0 0 1ffffffffff 0\n\
+        3 drop h100030 -> ok\n\
+        4 take h100040 t1 -> ok c1 s1\n\
+        4 ask h100040 ids -> ok 1000 1000 1000 1000 0 0 0 0\n\
+        4 drop h100040 -> ok\n",
+};
+
+const AUDIT: Asked = Asked {
+    command: "audit",
+    input: "report\nx\n",
+    written: "not legal 1\n",
+};
+
+/// What is asked, the reads and the writes that fail, each once, how the program ends then, and how
+/// many lines it has written.
+type Row = (Asked, &'static [u64], &'static [u64], Status, usize);
+
+const ROWS: [Row; 15] = [
+    (RUN, &[1], &[], Status::ReadFault, 0),
+    (RUN, &[2], &[], Status::ReadFault, 0),
+    (RUN, &[], &[1], Status::WriteFault, 0),
+    (RUN, &[], &[2], Status::WriteFault, 1),
+    (RUN, &[], &[3], Status::WriteFault, 2),
+    (RUN, &[], &[4], Status::WriteFault, 3),
+    (RUN, &[], &[5], Status::WriteFault, 4),
+    (RUN, &[], &[6], Status::WriteFault, 5),
+    (RUN, &[], &[7], Status::WriteFault, 6),
+    (RUN, &[], &[8], Status::WriteFault, 7),
+    (RUN, &[], &[9], Status::Done, 8),
+    (AUDIT, &[1], &[], Status::ReadFault, 0),
+    (AUDIT, &[2], &[], Status::ReadFault, 0),
+    (AUDIT, &[], &[1], Status::WriteFault, 0),
+    (AUDIT, &[], &[2], Status::NotLegal, 1),
 ];
 
-/// How the program ends where these reads and these writes fail, each once, and what it has
-/// written.
-fn failing<R: AllocGlobal + Threads + Wait + Sync>(
-    rt: &R,
-    reads: &[u64],
-    writes: &[u64],
-) -> Result<(Status, MemorySink), Fail> {
-    let alloc = rt.alloc();
-    let words = words_of(alloc, &["run"])?;
-    let mut source = MemorySource::of(alloc, SCRIPT.as_bytes(), reads)?;
-    let mut sink = MemorySink::of(alloc, writes)?;
-    let status = credtrace(rt, alloc, &words, &mut source, &mut sink, &NoGate);
-    Ok((status, sink))
+/// Whether the bytes are so many lines, and the first ones of the text.
+fn are_first(bytes: &[u8], text: &str, count: usize) -> bool {
+    let ends = matches!(bytes.last(), None | Some(b'\n'));
+    let lines = bytes.iter().filter(|byte| **byte == b'\n').count();
+    ends && lines == count && text.as_bytes().starts_with(bytes)
+}
+
+/// Whether the program ends as the row says.
+fn ends_so<R: AllocGlobal + Threads + Wait + Sync>(rt: &R, row: &Row) -> Result<bool, NoMemory> {
+    let (asked, reads, writes, status, count) = row;
+    let mut sink = MemorySink::of(rt.alloc(), writes)?;
+    let input = asked.input.as_bytes();
+    let end = end_of(rt, &[asked.command], input, reads, &mut sink);
+    let are_first = are_first(sink.bytes(), asked.written, *count);
+    drop(sink);
+    Ok(end? == *status && are_first)
+}
+
+/// The place of the first row that goes otherwise.
+fn first_other<R: AllocGlobal + Threads + Wait + Sync>(rt: &R) -> Result<Option<usize>, NoMemory> {
+    for (place, row) in ROWS.iter().enumerate() {
+        if !ends_so(rt, row)? {
+            return Ok(Some(place));
+        }
+    }
+    Ok(None)
 }
 
 #[test]
-fn a_failed_read_leaves_nothing_written(rt: HostRuntime) -> Result<(), Fail> {
-    for read in [1, 2] {
-        let (status, sink) = failing(&rt, &[read], &[])?;
-        assert!(rt; status == Status::ReadFault && sink.bytes().is_empty());
-    }
-    Ok(())
-}
-
-#[test]
-fn a_failed_write_leaves_the_entries_before(rt: HostRuntime) -> Result<(), Fail> {
-    let mut written = String::new(rt.alloc());
-    for (done, entry) in ENTRIES.iter().enumerate() {
-        let (status, sink) = failing(&rt, &[], &[done as u64 + 1])?;
-        let is_kept = sink.bytes() == written.as_bytes();
-        assert!(rt;
-            status == Status::WriteFault && is_kept,
-            "after {done} entries"
-        );
-        written.push_str(entry)?;
-    }
-    let (status, sink) = failing(&rt, &[], &[9])?;
-    assert!(rt; status == Status::Done && sink.bytes() == written.as_bytes());
+fn a_fault_is_told_and_leaves_the_lines_before(rt: HostRuntime) -> Result<(), Fail> {
+    let other = first_other(&rt)?;
+    assert!(rt; other.is_none(), "row {other:?}");
     Ok(())
 }
 
@@ -78,45 +109,36 @@ impl Write for FullDisk {
     }
 }
 
-#[test]
-fn a_text_that_is_not_handed_on_is_a_write_fault(rt: HostRuntime) -> Result<(), Fail> {
-    // A report, an empty one, both verdicts, a summary, the line of an attribute, the reason why
-    // bytes are none, and the usage line.
-    let table: [(&[&str], &str); 9] = [
-        (&["run"], SCRIPT),
-        (&["run"], ""),
-        (&["lanes"], SCRIPT),
-        (&["audit"], "report\n"),
-        (&["audit"], "report\nx\n"),
-        (&["gen", "1"], ""),
-        (&["decode", "0100000200200000000000000000000000000000"], ""),
-        (&["decode", "0100"], ""),
-        (&["frob"], ""),
-    ];
-    for (texts, script) in table {
-        let words = words_of(rt.alloc(), texts)?;
-        let mut source = MemorySource::of(rt.alloc(), script.as_bytes(), &[])?;
+/// A report, an empty one, both verdicts, a summary, the line of an attribute, the reason why
+/// bytes are none, and the usage line.
+const TEXTS: [(&[&str], &str); 9] = [
+    (&["run"], SCRIPT),
+    (&["run"], ""),
+    (&["lanes"], SCRIPT),
+    (&["audit"], "report\n"),
+    (&["audit"], "report\nx\n"),
+    (&["gen", "1"], ""),
+    (&["decode", "0100000200200000000000000000000000000000"], ""),
+    (&["decode", "0100"], ""),
+    (&["frob"], ""),
+];
+
+/// The place of the first text that ends otherwise over a full disk.
+fn first_taken<R: AllocGlobal + Threads + Wait + Sync>(rt: &R) -> Result<Option<usize>, NoMemory> {
+    for (place, (texts, input)) in TEXTS.iter().enumerate() {
         let mut sink = StdSink::new(FullDisk);
-        let status = credtrace(&rt, rt.alloc(), &words, &mut source, &mut sink, &NoGate);
-        assert!(rt; status == Status::WriteFault);
+        let end = end_of(rt, texts, input.as_bytes(), &[], &mut sink);
+        drop(sink);
+        if end? != Status::WriteFault {
+            return Ok(Some(place));
+        }
     }
-    Ok(())
+    Ok(None)
 }
 
 #[test]
-fn an_audit_tells_its_faults(rt: HostRuntime) -> Result<(), Fail> {
-    let words = words_of(rt.alloc(), &["audit"])?;
-    for (reads, writes, status) in [
-        (&[1_u64][..], &[][..], Status::ReadFault),
-        (&[2], &[], Status::ReadFault),
-        (&[], &[1], Status::WriteFault),
-        (&[], &[2], Status::NotLegal),
-    ] {
-        let mut source = MemorySource::of(rt.alloc(), b"report\nx\n", reads)?;
-        let mut sink = MemorySink::of(rt.alloc(), writes)?;
-        let answer = credtrace(&rt, rt.alloc(), &words, &mut source, &mut sink, &NoGate);
-        let is_written = sink.bytes() == "not legal 1\n".as_bytes();
-        assert!(rt; answer == status && is_written == (status == Status::NotLegal));
-    }
+fn a_text_that_is_not_handed_on_is_a_write_fault(rt: HostRuntime) -> Result<(), Fail> {
+    let taken = first_taken(&rt)?;
+    assert!(rt; taken.is_none(), "row {taken:?}");
     Ok(())
 }

@@ -1,5 +1,4 @@
 //! Texts of entries, read and printed again; and texts that are those of none.
-use cred_event::{Answer, Entry, Told};
 use cred_ids::NoMemory;
 use cred_reader::read;
 use cred_report::print;
@@ -130,75 +129,82 @@ static NONE: [&str; 40] = [
     "13 act 12 -> aborted t2 late\n",
 ];
 
-/// Whether the text is read as an entry that prints as it again.
-fn comes_back(alloc: Global, script: &Script, text: &str) -> Result<bool, Fail> {
-    match read(alloc, script, text.as_bytes())? {
-        Some(entry) => {
-            let printed = print(alloc, script, &entry)?;
-            Ok(printed.items() == text.as_bytes())
-        }
-        None => Ok(false),
-    }
+/// Texts of entries with their answers: `ok` says no more than the event lets it say.
+static ANSWERS: [(&str, &str); 3] = [
+    ("3 drop h1 -> ok\n", "Done"),
+    (
+        "4 ask h1 groups -> ok\n",
+        "Told(Groups(IdList { ids: [] }))",
+    ),
+    ("4 ask h1 capable 1 -> ok 1\n", "Told(Flag(true))"),
+];
+
+/// What comes of a text that is read and printed again.
+#[derive(Clone, Copy, PartialEq, Eq)]
+enum Came {
+    Back,
+    Changed,
+    Nothing,
 }
 
-/// The first text that doesn't come back.
-fn first_lost(alloc: Global, script: &Script) -> Result<Option<&'static str>, Fail> {
-    for text in &TEXTS {
-        if !comes_back(alloc, script, text)? {
+fn came_of(alloc: Global, script: &Script, text: &str) -> Result<Came, NoMemory> {
+    let Some(entry) = read(alloc, script, text.as_bytes())? else {
+        return Ok(Came::Nothing);
+    };
+    let printed = print(alloc, script, &entry);
+    drop(entry);
+    let is_same = printed?.items() == text.as_bytes();
+    Ok(if is_same { Came::Back } else { Came::Changed })
+}
+
+/// The first text of which something else comes.
+fn first_other(
+    alloc: Global,
+    script: &Script,
+    texts: &[&'static str],
+    want: Came,
+) -> Result<Option<&'static str>, NoMemory> {
+    for text in texts {
+        if came_of(alloc, script, text)? != want {
             return Ok(Some(*text));
         }
     }
     Ok(None)
 }
 
-#[test]
-fn entries_come_back(rt: HostRuntime) -> Result<(), Fail> {
-    let script = script(rt.alloc())?;
-    let lost = first_lost(rt.alloc(), &script);
-    drop(script);
-    let lost = lost?;
-    assert!(rt; lost.is_none(), "{lost:?}");
-    Ok(())
+/// Whether the text is that of an entry with this answer.
+fn answers(alloc: Global, script: &Script, text: &str, want: &str) -> Result<bool, NoMemory> {
+    let Some(entry) = read(alloc, script, text.as_bytes())? else {
+        return Ok(false);
+    };
+    let answer = format!(in alloc; "{:?}", entry.answer);
+    drop(entry);
+    Ok(answer?.as_str() == want)
 }
 
-/// The first text of those that are no entries which is read as one.
-fn first_read(alloc: Global, script: &Script) -> Result<Option<&'static str>, Fail> {
-    for text in &NONE {
-        if read(alloc, script, text.as_bytes())?.is_some() {
+/// The first text of an entry that has another answer.
+fn first_answer(alloc: Global, script: &Script) -> Result<Option<&'static str>, NoMemory> {
+    for (text, want) in &ANSWERS {
+        if !answers(alloc, script, text, want)? {
             return Ok(Some(*text));
         }
     }
     Ok(None)
 }
 
+/// The first text of the three tables that is read otherwise.
+fn first_misread(alloc: Global, script: &Script) -> Result<Option<&'static str>, NoMemory> {
+    let lost = first_other(alloc, script, &TEXTS, Came::Back)?;
+    let taken = first_other(alloc, script, &NONE, Came::Nothing)?;
+    Ok(lost.or(taken).or(first_answer(alloc, script)?))
+}
+
 #[test]
-fn other_texts_are_no_entries(rt: HostRuntime) -> Result<(), Fail> {
+fn texts_of_entries_are_read(rt: HostRuntime) -> Result<(), Fail> {
     let script = script(rt.alloc())?;
-    let taken = first_read(rt.alloc(), &script);
+    let misread = first_misread(rt.alloc(), &script);
     drop(script);
-    let taken = taken?;
-    assert!(rt; taken.is_none(), "{taken:?}");
-    Ok(())
-}
-
-fn answer(alloc: Global, text: &[u8]) -> Result<Option<Answer>, Fail> {
-    let script = script(alloc)?;
-    let entry: Result<Option<Entry>, NoMemory> = read(alloc, &script, text);
-    drop(script);
-    match entry? {
-        Some(entry) => Ok(Some(entry.answer)),
-        None => Ok(None),
-    }
-}
-
-/// `ok` says no more than the event lets it say.
-#[test]
-fn the_event_reads_the_answer(rt: HostRuntime) -> Result<(), Fail> {
-    let done = answer(rt.alloc(), b"3 drop h1 -> ok\n")?;
-    assert!(rt; matches!(&done, Some(Answer::Done)));
-    let told = answer(rt.alloc(), b"4 ask h1 groups -> ok\n")?;
-    assert!(rt; matches!(&told, Some(Answer::Told(Told::Groups(_)))));
-    let flag = answer(rt.alloc(), b"4 ask h1 capable 1 -> ok 1\n")?;
-    assert!(rt; matches!(&flag, Some(Answer::Told(Told::Flag(true)))));
+    let misread = misread?;
+    assert!(rt; misread.is_none(), "{misread:?}");
     Ok(())
 }

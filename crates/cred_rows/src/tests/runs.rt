@@ -1,6 +1,6 @@
 //! Runs of the program over ends in memory.
 use cred_ids::NoMemory;
-use cred_io::{MemorySink, MemorySource};
+use cred_io::{MemorySource, Sink};
 use cred_lanes::NoGate;
 use cred_program::{Status, credtrace};
 use std::alloc::Global;
@@ -8,7 +8,7 @@ use std::sync::Wait;
 use std::thread::Threads;
 
 /// The words of a command line.
-pub(crate) fn words_of(alloc: Global, texts: &[&str]) -> Result<Vec<String>, NoMemory> {
+fn words_of(alloc: Global, texts: &[&str]) -> Result<Vec<String>, NoMemory> {
     let mut words = Vec::new(alloc);
     for text in texts {
         words.push(String::from_str(alloc, text)?)?;
@@ -16,33 +16,31 @@ pub(crate) fn words_of(alloc: Global, texts: &[&str]) -> Result<Vec<String>, NoM
     Ok(words)
 }
 
-/// How `lanes` ends on this script where the write of this number fails, and what it has written.
-pub(crate) fn failed<R: AllocGlobal + Threads + Wait + Sync>(
+/// How the program ends on these words and this input, of which these reads fail.
+pub(crate) fn end_of<R: AllocGlobal + Threads + Wait + Sync, K: Sink>(
     rt: &R,
-    script: &str,
-    write: u64,
-) -> Result<(Status, MemorySink), NoMemory> {
-    let alloc = rt.alloc();
-    let words = words_of(alloc, &["lanes"])?;
-    let mut source = MemorySource::of(alloc, script.as_bytes(), &[])?;
-    let mut sink = MemorySink::of(alloc, &[write])?;
-    let status = credtrace(rt, alloc, &words, &mut source, &mut sink, &NoGate);
-    Ok((status, sink))
+    texts: &[&str],
+    input: &[u8],
+    reads: &[u64],
+    sink: &mut K,
+) -> Result<Status, NoMemory> {
+    let words = words_of(rt.alloc(), texts)?;
+    let end = end_of_words(rt, &words, input, reads, sink);
+    // At one place, here and below: what is owned is dear to let go of, for the prover.
+    drop(words);
+    end
 }
 
-/// What `audit` says of a script and of what is to be its report.
-pub(crate) fn audited<R: AllocGlobal + Threads + Wait + Sync>(
+/// The same on words that stand there.
+fn end_of_words<R: AllocGlobal + Threads + Wait + Sync, K: Sink>(
     rt: &R,
-    script: &str,
-    report: &[u8],
-) -> Result<MemorySink, NoMemory> {
-    let alloc = rt.alloc();
-    let mut input = script.as_bytes().to_vec(alloc)?;
-    input.extend_from_slice(b"report\n")?;
-    input.extend_from_slice(report)?;
-    let words = words_of(alloc, &["audit"])?;
-    let mut source = MemorySource::of(alloc, &input, &[])?;
-    let mut sink = MemorySink::of(alloc, &[])?;
-    let _status = credtrace(rt, alloc, &words, &mut source, &mut sink, &NoGate);
-    Ok(sink)
+    words: &[String],
+    input: &[u8],
+    reads: &[u64],
+    sink: &mut K,
+) -> Result<Status, NoMemory> {
+    let mut source = MemorySource::of(rt.alloc(), input, reads)?;
+    let status = credtrace(rt, rt.alloc(), words, &mut source, sink, &NoGate);
+    drop(source);
+    Ok(status)
 }

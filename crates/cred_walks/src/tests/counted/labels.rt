@@ -1,97 +1,73 @@
 //! What events on holds, open files and prepared labels do to the lists.
-use crate::tests::counted::lists::{Kept, Lists, Prepared, Purpose};
-use crate::tests::counted::walk::is_rule;
-use cred_event::{Answer, Change, Event};
+use crate::tests::counted::lists::{Lists, Owner, Prepared, Purpose};
+use crate::tests::counted::walk::{is_rule, sealed};
+use cred_event::{Answer, Change, Event, Side};
 use cred_ids::NoMemory;
 
 impl Lists {
     /// Holds and open files.
     pub(crate) fn on_kept(&mut self, event: &Event, answer: &Answer) -> Result<bool, NoMemory> {
-        match (event, answer) {
-            (Event::Take { label, task, side }, Answer::Sealed { cred, slot }) => {
-                let number = self.number_on(*task, *side);
-                self.holds_now(*label, number, *cred, *slot)
+        match event {
+            Event::Take { label, task, side } => {
+                let number = match side {
+                    Side::Subjective => self.acts_with(*task),
+                    Side::Objective => self.number_of(Owner::Task(*task)),
+                };
+                self.holds(*label, number, answer)
             }
-            (Event::TakeFile { label, fd }, Answer::Sealed { cred, slot }) => {
-                let number = self.opener(*fd);
-                self.holds_now(*label, number, *cred, *slot)
+            Event::TakeFile { label, fd } => {
+                let number = self.number_of(Owner::File(*fd));
+                self.holds(*label, number, answer)
             }
-            (Event::Release { label }, Answer::Done) => self.releases(*label),
-            (Event::OpenFile { hold, fd, .. }, Answer::Done) => self.opens(*hold, *fd),
-            (Event::OpenFile { .. }, answer) => Ok(is_rule(answer)),
-            (Event::CloseFile { fd }, Answer::Done) => self.closes(*fd),
-            _ => Ok(false),
+            Event::Release { label } => Ok(self.lets_go(Owner::Hold(*label), answer)),
+            Event::CloseFile { fd } => Ok(self.lets_go(Owner::File(*fd), answer)),
+            Event::OpenFile { hold, fd, .. } => self.opens(*hold, *fd, answer),
+            _ => self.on_prepared(event, answer),
         }
     }
 
-    fn releases(&mut self, label: u32) -> Result<bool, NoMemory> {
-        let number = self.held(label);
-        self.defer(number)?;
-        self.holds.retain(|hold| hold.name != label);
-        Ok(number.is_some())
-    }
-
-    fn opens(&mut self, hold: u32, fd: u32) -> Result<bool, NoMemory> {
-        let Some(number) = self.held(hold) else {
-            return Ok(false);
-        };
-        self.files.push(Kept { name: fd, number })?;
-        Ok(true)
-    }
-
-    fn closes(&mut self, fd: u32) -> Result<bool, NoMemory> {
-        let number = self.opener(fd);
-        self.defer(number)?;
-        self.files.retain(|file| file.name != fd);
-        Ok(number.is_some())
-    }
-
     /// A label takes hold of a number.
-    fn holds_now(
+    fn holds(
         &mut self,
         label: u32,
         number: Option<u64>,
-        cred: u64,
-        slot: u32,
+        answer: &Answer,
     ) -> Result<bool, NoMemory> {
-        self.holds.push(Kept {
-            name: label,
-            number: cred,
-        })?;
+        let Some((cred, slot)) = sealed(answer) else {
+            return Ok(false);
+        };
+        self.refers(Owner::Hold(label), cred)?;
         Ok(number == Some(cred) && self.stands(cred, slot))
     }
 
+    fn lets_go(&mut self, owner: Owner, answer: &Answer) -> bool {
+        self.gives_up(owner);
+        matches!(answer, Answer::Done)
+    }
+
+    fn opens(&mut self, hold: u32, fd: u32, answer: &Answer) -> Result<bool, NoMemory> {
+        if is_rule(answer) {
+            return Ok(true);
+        }
+        let Some(number) = self.number_of(Owner::Hold(hold)) else {
+            return Ok(false);
+        };
+        self.refers(Owner::File(fd), number)?;
+        Ok(matches!(answer, Answer::Done))
+    }
+
     /// Prepared labels.
-    pub(crate) fn on_prepared(&mut self, event: &Event, answer: &Answer) -> Result<bool, NoMemory> {
-        match (event, answer) {
-            (Event::Prepare { label, task, hold }, Answer::Kept { slot }) => {
-                self.prepares(*label, *task, *hold, *slot)
-            }
-            (Event::Prepare { .. }, Answer::TableFull) => Ok(self.claimed()?.is_none()),
-            (Event::Alter { label, change }, Answer::Done | Answer::Was { .. }) => {
-                let purpose = match change {
-                    Change::Access => Purpose::Access,
-                    _ => Purpose::Commit,
-                };
-                self.alters(*label, purpose);
-                Ok(true)
-            }
-            (Event::Alter { .. }, answer) => Ok(is_rule(answer)),
-            (Event::Commit { label }, Answer::Sealed { cred, slot }) => {
-                self.commits(*label, *cred, *slot)
-            }
-            (
-                Event::Commit { label },
-                Answer::Executed {
-                    cred,
-                    slot,
-                    ended,
-                    ..
-                },
-            ) => self.executes(*label, *cred, *slot, *ended),
-            (Event::Abort { label }, Answer::Done) => {
-                self.give_up(*label)?;
-                Ok(true)
+    fn on_prepared(&mut self, event: &Event, answer: &Answer) -> Result<bool, NoMemory> {
+        match event {
+            Event::Prepare { label, task, hold } => match answer {
+                Answer::Kept { slot } => self.prepares(*label, *task, *hold, *slot),
+                _ => self.is_full(answer),
+            },
+            Event::Alter { label, change } => Ok(self.alters(*label, *change, answer)),
+            Event::Commit { label } => self.commits(*label, answer),
+            Event::Abort { label } => {
+                self.drop_label(*label);
+                Ok(matches!(answer, Answer::Done))
             }
             _ => Ok(false),
         }
@@ -99,45 +75,69 @@ impl Lists {
 
     fn prepares(&mut self, label: u32, task: u32, hold: u32, slot: u32) -> Result<bool, NoMemory> {
         let is_least = self.claimed()? == Some(slot);
-        let Some(base) = self.held(hold) else {
+        let Some(base) = self.number_of(Owner::Hold(hold)) else {
             return Ok(false);
         };
+        self.refers(Owner::Prepared(label), base)?;
         self.prepared.push(Prepared {
             label,
             task,
-            base,
             slot,
             purpose: None,
         })?;
         Ok(is_least)
     }
 
-    fn alters(&mut self, label: u32, purpose: Purpose) {
+    fn alters(&mut self, label: u32, change: Change, answer: &Answer) -> bool {
+        if !matches!(answer, Answer::Done | Answer::Was { .. }) {
+            return is_rule(answer);
+        }
+        let purpose = match change {
+            Change::Access => Purpose::Access,
+            _ => Purpose::Commit,
+        };
         for own in self.prepared.iter_mut() {
             if own.label == label {
                 own.purpose = Some(purpose);
             }
         }
+        true
     }
 
-    fn commits(&mut self, label: u32, cred: u64, slot: u32) -> Result<bool, NoMemory> {
+    fn commits(&mut self, label: u32, answer: &Answer) -> Result<bool, NoMemory> {
         let Some(own) = self.label(label) else {
             return Ok(false);
         };
+        match answer {
+            Answer::Sealed { cred, slot } => self.commits_in(own, *cred, *slot),
+            Answer::Executed {
+                cred,
+                slot,
+                ended,
+                ..
+            } => Ok(
+                self.executes(own.task)? == u64::from(*ended)
+                    && self.commits_in(own, *cred, *slot)?,
+            ),
+            _ => Ok(false),
+        }
+    }
+
+    fn commits_in(&mut self, own: Prepared, cred: u64, slot: u32) -> Result<bool, NoMemory> {
         let is_next = self.seals(cred, slot)?;
         self.replace(own.task, cred)?;
-        self.give_up(label)?;
+        self.drop_label(own.label);
         Ok(is_next && own.slot == slot)
     }
 
-    /// An execve ends all other threads of the process, and drops its broadcast.
-    fn executes(&mut self, label: u32, cred: u64, slot: u32, ended: u32) -> Result<bool, NoMemory> {
-        let Some(own) = self.label(label) else {
-            return Ok(false);
-        };
-        let others = self.others(own.task)?;
-        self.drop_cast(own.task);
-        self.end(&others)?;
-        Ok(self.commits(label, cred, slot)? && others.len() as u64 == u64::from(ended))
+    /// An execve drops the broadcast of the process, and ends all its other threads. Answers how
+    /// many.
+    fn executes(&mut self, task: u32) -> Result<u64, NoMemory> {
+        let others = self.others(task)?;
+        self.drop_cast(task);
+        for other in &others {
+            self.end(*other);
+        }
+        Ok(others.len() as u64)
     }
 }

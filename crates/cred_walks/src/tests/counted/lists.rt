@@ -1,26 +1,54 @@
-//! Tasks, broadcasts, files, holds and labels as plain lists, in which all is found by search.
-use cred_event::Side;
+//! Tasks, broadcasts, prepared labels and references as plain lists, in which all is found by
+//! search.
 use cred_ids::NoMemory;
 use std::alloc::Global;
 
 /// How many slots there are.
 pub(crate) const SLOTS: u32 = 256;
 
-/// A live task: its process, the number of its current credential, and those of the credentials
-/// that it acts with in its place, the newest last.
-#[derive(Drop)]
+/// What refers to a credential. A task's overrides are numbered from 1, the newest last; a prepared
+/// label refers to its base; and what was given up still refers to its credential until the sweep.
+#[derive(Clone, Copy, PartialEq, Eq)]
+pub(crate) enum Owner {
+    Task(u32),
+    Override { task: u32, depth: usize },
+    File(u32),
+    Hold(u32),
+    Prepared(u32),
+    GivenUp,
+}
+
+impl Owner {
+    /// It goes with the task.
+    fn is_of(self, task: u32) -> bool {
+        match self {
+            Owner::Task(own) => own == task,
+            Owner::Override { task: own, .. } => own == task,
+            _ => false,
+        }
+    }
+
+    /// It is an override of the task.
+    fn overrides(self, task: u32) -> bool {
+        match self {
+            Owner::Override { task: own, .. } => own == task,
+            _ => false,
+        }
+    }
+}
+
+/// A reference to the credential of this number.
+#[derive(Clone, Copy)]
+struct Reference {
+    owner: Owner,
+    number: u64,
+}
+
+/// A live task.
+#[derive(Clone, Copy)]
 pub(crate) struct Task {
     pub(crate) number: u32,
     pub(crate) process: u32,
-    pub(crate) current: u64,
-    pub(crate) overrides: Vec<u64>,
-}
-
-/// A label and the number that it holds, or a descriptor and its opener's number.
-#[derive(Clone, Copy)]
-pub(crate) struct Kept {
-    pub(crate) name: u32,
-    pub(crate) number: u64,
 }
 
 /// What a prepared credential was last changed for.
@@ -30,44 +58,33 @@ pub(crate) enum Purpose {
     Access,
 }
 
-/// A prepared label: its task, its base's number, the slot that it keeps, and what it was last
-/// changed for.
+/// A prepared label: its task, the slot that it keeps, and what it was last changed for.
 #[derive(Clone, Copy)]
 pub(crate) struct Prepared {
     pub(crate) label: u32,
     pub(crate) task: u32,
-    pub(crate) base: u64,
     pub(crate) slot: u32,
     pub(crate) purpose: Option<Purpose>,
 }
 
-/// An open broadcast, with the threads that still wait.
-#[derive(Drop)]
-pub(crate) struct Broadcast {
-    pub(crate) number: u32,
+/// A thread that waits for its step in a broadcast, which is open as long as a thread waits in it.
+#[derive(Clone, Copy)]
+pub(crate) struct Waiting {
+    pub(crate) cast: u32,
     pub(crate) process: u32,
     pub(crate) caller: u32,
-    pub(crate) waiting: Vec<u32>,
+    pub(crate) task: u32,
 }
 
-/// The lists, the numbers that were given up since the last sweep, and the slot of each number that
-/// was ever sealed.
+/// The lists, and the slot of each number that was ever sealed.
 #[derive(Drop)]
 pub(crate) struct Lists {
     pub(crate) alloc: Global,
     pub(crate) tasks: Vec<Task>,
-    pub(crate) casts: Vec<Broadcast>,
-    pub(crate) files: Vec<Kept>,
-    pub(crate) holds: Vec<Kept>,
+    pub(crate) waiting: Vec<Waiting>,
     pub(crate) prepared: Vec<Prepared>,
-    pub(crate) deferred: Vec<u64>,
-    pub(crate) slots: Vec<u32>,
-}
-
-/// The number that is kept under a name.
-fn kept_under(kept: &[Kept], name: u32) -> Option<u64> {
-    let found = kept.iter().find(|own| own.name == name)?;
-    Some(found.number)
+    references: Vec<Reference>,
+    slots: Vec<u32>,
 }
 
 impl Lists {
@@ -75,89 +92,115 @@ impl Lists {
         Lists {
             alloc,
             tasks: Vec::new(alloc),
-            casts: Vec::new(alloc),
-            files: Vec::new(alloc),
-            holds: Vec::new(alloc),
+            waiting: Vec::new(alloc),
             prepared: Vec::new(alloc),
-            deferred: Vec::new(alloc),
+            references: Vec::new(alloc),
             slots: Vec::new(alloc),
         }
     }
 
-    pub(crate) fn task(&self, number: u32) -> Option<&Task> {
-        self.tasks.iter().find(|task| task.number == number)
+    /// The number of the credential that this refers to.
+    pub(crate) fn number_of(&self, owner: Owner) -> Option<u64> {
+        let found = self.references.iter().find(|own| own.owner == owner)?;
+        Some(found.number)
     }
 
-    /// The number of the credential that a task acts with, or of the one that it is acted on by.
-    pub(crate) fn number_on(&self, task: u32, side: Side) -> Option<u64> {
-        let task = self.task(task)?;
-        match side {
-            Side::Subjective => task.overrides.last().copied().or(Some(task.current)),
-            Side::Objective => Some(task.current),
+    pub(crate) fn has(&self, owner: Owner) -> bool {
+        self.number_of(owner).is_some()
+    }
+
+    /// How many overrides the task has.
+    pub(crate) fn depth(&self, task: u32) -> usize {
+        self.references
+            .iter()
+            .filter(|own| own.owner.overrides(task))
+            .count()
+    }
+
+    /// The number of the credential that a task acts with.
+    pub(crate) fn acts_with(&self, task: u32) -> Option<u64> {
+        match self.depth(task) {
+            0 => self.number_of(Owner::Task(task)),
+            depth => self.number_of(Owner::Override { task, depth }),
         }
     }
 
-    /// The number that a label holds.
-    pub(crate) fn held(&self, label: u32) -> Option<u64> {
-        kept_under(&self.holds, label)
+    pub(crate) fn refers(&mut self, owner: Owner, number: u64) -> Result<(), NoMemory> {
+        self.references.push(Reference { owner, number })?;
+        Ok(())
     }
 
-    /// The number of the credential that the file of a descriptor was opened by.
-    pub(crate) fn opener(&self, fd: u32) -> Option<u64> {
-        kept_under(&self.files, fd)
+    /// What this refers to is given up.
+    pub(crate) fn gives_up(&mut self, owner: Owner) {
+        for own in self.references.iter_mut() {
+            if own.owner == owner {
+                own.owner = Owner::GivenUp;
+            }
+        }
     }
 
-    pub(crate) fn label(&self, label: u32) -> Option<Prepared> {
-        self.prepared.iter().find(|own| own.label == label).copied()
+    /// All that was given up lets go.
+    pub(crate) fn sweep(&mut self) {
+        self.references.retain(|own| own.owner != Owner::GivenUp);
     }
 
-    pub(crate) fn cast(&self, number: u32) -> Option<&Broadcast> {
-        self.casts.iter().find(|cast| cast.number == number)
+    /// The task ends. What it refers to is given up, and it waits no longer.
+    pub(crate) fn end(&mut self, task: u32) {
+        for own in self.references.iter_mut() {
+            if own.owner.is_of(task) {
+                own.owner = Owner::GivenUp;
+            }
+        }
+        self.tasks.retain(|own| own.number != task);
+        self.waiting.retain(|own| own.task != task);
     }
 
-    /// The task waits for its step in a broadcast.
-    pub(crate) fn waits(&self, task: u32) -> bool {
-        self.casts.iter().any(|cast| cast.waiting.contains(&task))
+    pub(crate) fn process_of(&self, task: u32) -> Option<u32> {
+        let own = self.tasks.iter().find(|own| own.number == task)?;
+        Some(own.process)
     }
 
     /// The other threads of a task's process.
     pub(crate) fn others(&self, task: u32) -> Result<Vec<u32>, NoMemory> {
         let mut others = Vec::new(self.alloc);
-        let Some(own) = self.task(task) else {
+        let Some(process) = self.process_of(task) else {
             return Ok(others);
         };
         for other in &self.tasks {
-            if other.process == own.process && other.number != task {
+            if other.process == process && other.number != task {
                 others.push(other.number)?;
             }
         }
         Ok(others)
     }
 
-    /// Every reference, those that were given up among them.
-    fn references(&self) -> Result<Vec<u64>, NoMemory> {
-        let mut numbers = self.deferred.clone()?;
-        for task in &self.tasks {
-            numbers.push(task.current)?;
-            numbers.extend_from_slice(&task.overrides)?;
+    pub(crate) fn label(&self, label: u32) -> Option<Prepared> {
+        self.prepared.iter().find(|own| own.label == label).copied()
+    }
+
+    /// A prepared label goes, and its base is given up.
+    pub(crate) fn drop_label(&mut self, label: u32) {
+        self.gives_up(Owner::Prepared(label));
+        self.prepared.retain(|own| own.label != label);
+    }
+
+    /// The task waits for its step in a broadcast.
+    pub(crate) fn waits(&self, task: u32) -> bool {
+        self.waiting.iter().any(|own| own.task == task)
+    }
+
+    /// The broadcast of the task's process is dropped.
+    pub(crate) fn drop_cast(&mut self, task: u32) {
+        if let Some(process) = self.process_of(task) {
+            self.waiting.retain(|own| own.process != process);
         }
-        for file in &self.files {
-            numbers.push(file.number)?;
-        }
-        for hold in &self.holds {
-            numbers.push(hold.number)?;
-        }
-        for label in &self.prepared {
-            numbers.push(label.base)?;
-        }
-        Ok(numbers)
     }
 
     /// The slots of all references, each as often as something refers to a number in it.
     pub(crate) fn used(&self) -> Result<Vec<u32>, NoMemory> {
         let mut used = Vec::new(self.alloc);
-        for number in &self.references()? {
-            if let Some(slot) = self.slots.get(*number as usize) {
+        for own in &self.references {
+            if let Some(slot) = self.slots.get(own.number as usize) {
                 used.push(*slot)?;
             }
         }
@@ -167,8 +210,8 @@ impl Lists {
     /// The least slot that nothing refers to and no label keeps.
     fn free(&self) -> Result<Option<u32>, NoMemory> {
         let mut live = self.used()?;
-        for label in &self.prepared {
-            live.push(label.slot)?;
+        for own in &self.prepared {
+            live.push(own.slot)?;
         }
         Ok((0..SLOTS).find(|slot| !live.contains(slot)))
     }
@@ -178,7 +221,7 @@ impl Lists {
         if let Some(slot) = self.free()? {
             return Ok(Some(slot));
         }
-        self.deferred.clear();
+        self.sweep();
         self.free()
     }
 
@@ -194,60 +237,9 @@ impl Lists {
         Ok(is_next)
     }
 
-    /// These tasks end. What they refer to is given up, and they wait no longer.
-    pub(crate) fn end(&mut self, ended: &[u32]) -> Result<(), NoMemory> {
-        for task in &self.tasks {
-            if ended.contains(&task.number) {
-                self.deferred.push(task.current)?;
-                self.deferred.extend_from_slice(&task.overrides)?;
-            }
-        }
-        self.tasks.retain(|task| !ended.contains(&task.number));
-        self.wait_no_more(ended);
-        Ok(())
-    }
-
-    /// These tasks wait no longer. A broadcast in which nobody waits is open no longer.
-    pub(crate) fn wait_no_more(&mut self, gone: &[u32]) {
-        for cast in self.casts.iter_mut() {
-            cast.waiting.retain(|task| !gone.contains(task));
-        }
-        self.casts.retain(|cast| !cast.waiting.is_empty());
-    }
-
-    /// The broadcast of the task's process is dropped.
-    pub(crate) fn drop_cast(&mut self, task: u32) {
-        if let Some(own) = self.task(task) {
-            let process = own.process;
-            self.casts.retain(|cast| cast.process != process);
-        }
-    }
-
     /// A task's current credential is replaced: the old one is given up.
     pub(crate) fn replace(&mut self, task: u32, number: u64) -> Result<(), NoMemory> {
-        for own in self.tasks.iter_mut() {
-            if own.number == task {
-                self.deferred.push(own.current)?;
-                own.current = number;
-            }
-        }
-        Ok(())
-    }
-
-    /// The number is given up, if there is one.
-    pub(crate) fn defer(&mut self, number: Option<u64>) -> Result<(), NoMemory> {
-        if let Some(number) = number {
-            self.deferred.push(number)?;
-        }
-        Ok(())
-    }
-
-    /// A prepared label goes, and its base is given up.
-    pub(crate) fn give_up(&mut self, label: u32) -> Result<(), NoMemory> {
-        if let Some(own) = self.label(label) {
-            self.deferred.push(own.base)?;
-        }
-        self.prepared.retain(|own| own.label != label);
-        Ok(())
+        self.gives_up(Owner::Task(task));
+        self.refers(Owner::Task(task), number)
     }
 }

@@ -1,23 +1,40 @@
 //! What the lists refuse an event by, before any rule on credentials is asked.
-use crate::tests::counted::lists::{Lists, Purpose};
-use cred_event::{Answer, Event, Named};
+use crate::tests::counted::lists::{Lists, Owner, Purpose};
+use cred_event::{Event, Named};
 
 /// How many credentials a task may act with in place of its own.
 const DEPTH: usize = 8;
 
-/// Refused by this answer where it does not hold.
-fn unless(holds: bool, answer: Answer) -> Option<Answer> {
-    if holds { None } else { Some(answer) }
+/// The answers that refuse an event, named and printed as `cred_event::Answer` has them. They are
+/// copied, and nothing has to be let go of.
+#[derive(Clone, Copy, Debug)]
+pub(crate) enum Due {
+    Ebadf,
+    NoTask(u32),
+    NoHold(u32),
+    NoPrepared(u32),
+    NoBroadcast(u32),
+    Busy(u32),
+    Exists { what: Named, number: u32 },
+    Overridden(u32),
+    NotOverridden,
+    TooDeep,
+    Stale { base: u64, now: u64 },
 }
 
-fn exists(holds: bool, what: Named, number: u32) -> Option<Answer> {
-    unless(!holds, Answer::Exists { what, number })
+/// Refused by this answer where it does not hold.
+fn unless(holds: bool, due: Due) -> Option<Due> {
+    if holds { None } else { Some(due) }
+}
+
+fn exists(holds: bool, what: Named, number: u32) -> Option<Due> {
+    unless(!holds, Due::Exists { what, number })
 }
 
 impl Lists {
     /// What the event of a line is refused by; each event has its tests in their order. No script
     /// here reaches the greatest number of tasks, files, holds or labels.
-    pub(crate) fn refusal(&self, line: u32, event: &Event) -> Option<Answer> {
+    pub(crate) fn refusal(&self, line: u32, event: &Event) -> Option<Due> {
         match event {
             Event::Take { label, task, .. } => self.no_task(*task).or(self.has_label(*label)),
             Event::TakeFile { label, fd } => self.ebadf(*fd).or(self.has_label(*label)),
@@ -37,29 +54,36 @@ impl Lists {
                 .or(self.busy(*task))
                 .or(self.no_hold(*hold))
                 .or(self.has_label(*label)),
-            Event::Alter { label, .. } | Event::Abort { label } => self.no_prepared(*label),
+            Event::Alter { label, .. } | Event::Abort { label } => {
+                unless(self.has(Owner::Prepared(*label)), Due::NoPrepared(*label))
+            }
             Event::Commit { label } => self.no_commit(*label),
-            Event::OpenFile { hold, fd, .. } => self.no_hold(*hold).or(self.has_file(*fd)),
+            Event::OpenFile { hold, fd, .. } => {
+                let is_open = self.has(Owner::File(*fd));
+                self.no_hold(*hold).or(exists(is_open, Named::File, *fd))
+            }
             Event::CloseFile { fd } => self.ebadf(*fd),
             _ => self.task_refusal(line, event),
         }
     }
 
     /// The same of the events that concern a task with its overrides and broadcasts.
-    fn task_refusal(&self, line: u32, event: &Event) -> Option<Answer> {
+    fn task_refusal(&self, line: u32, event: &Event) -> Option<Due> {
         match event {
             Event::Init { task, process, .. } => self.open_in(*process).or(self.has_task(*task)),
             Event::Override { task, label } => self
                 .no_task(*task)
                 .or(self.no_override(*task, *label))
-                .or(self.too_deep(*task)),
-            Event::Revert { task } => self.no_task(*task).or(self.not_overridden(*task)),
+                .or(unless(self.depth(*task) < DEPTH, Due::TooDeep)),
+            Event::Revert { task } => self
+                .no_task(*task)
+                .or(unless(self.depth(*task) != 0, Due::NotOverridden)),
             Event::Begin { task, .. } => self
                 .no_task(*task)
                 .or(self.open_beside(*task))
-                .or(exists(self.cast(line).is_some(), Named::Broadcast, line))
+                .or(exists(self.is_open(line), Named::Broadcast, line))
                 .or(self.overridden(*task)),
-            Event::Act { cast } => unless(self.cast(*cast).is_some(), Answer::NoBroadcast(*cast)),
+            Event::Act { cast } => unless(self.is_open(*cast), Due::NoBroadcast(*cast)),
             Event::Spawn { task, child } => self
                 .no_task(*task)
                 .or(self.busy(*task))
@@ -83,103 +107,86 @@ impl Lists {
         }
     }
 
-    fn no_task(&self, task: u32) -> Option<Answer> {
-        unless(self.task(task).is_some(), Answer::NoTask(task))
+    fn no_task(&self, task: u32) -> Option<Due> {
+        unless(self.has(Owner::Task(task)), Due::NoTask(task))
     }
 
-    fn has_task(&self, task: u32) -> Option<Answer> {
-        exists(self.task(task).is_some(), Named::Task, task)
+    fn has_task(&self, task: u32) -> Option<Due> {
+        exists(self.has(Owner::Task(task)), Named::Task, task)
     }
 
-    fn has_process(&self, process: u32) -> Option<Answer> {
+    fn has_process(&self, process: u32) -> Option<Due> {
         let holds = self.tasks.iter().any(|task| task.process == process);
         exists(holds, Named::Process, process)
     }
 
-    fn no_hold(&self, label: u32) -> Option<Answer> {
-        let holds = self.held(label).is_some();
-        unless(holds, Answer::NoHold(label))
-    }
-
-    fn no_prepared(&self, label: u32) -> Option<Answer> {
-        unless(self.label(label).is_some(), Answer::NoPrepared(label))
+    fn no_hold(&self, label: u32) -> Option<Due> {
+        unless(self.has(Owner::Hold(label)), Due::NoHold(label))
     }
 
     /// A hold or a prepared label has the label already.
-    fn has_label(&self, label: u32) -> Option<Answer> {
-        let is_held = self.held(label).is_some();
-        exists(is_held || self.label(label).is_some(), Named::Label, label)
+    fn has_label(&self, label: u32) -> Option<Due> {
+        let holds = self.has(Owner::Hold(label)) || self.has(Owner::Prepared(label));
+        exists(holds, Named::Label, label)
     }
 
-    fn has_file(&self, fd: u32) -> Option<Answer> {
-        exists(self.opener(fd).is_some(), Named::File, fd)
+    fn ebadf(&self, fd: u32) -> Option<Due> {
+        unless(self.has(Owner::File(fd)), Due::Ebadf)
     }
 
-    fn ebadf(&self, fd: u32) -> Option<Answer> {
-        unless(self.opener(fd).is_some(), Answer::Ebadf)
+    /// The broadcast of this number is open.
+    fn is_open(&self, cast: u32) -> bool {
+        self.waiting.iter().any(|own| own.cast == cast)
     }
 
     /// The task is the caller of an open broadcast.
-    fn busy(&self, task: u32) -> Option<Answer> {
-        let cast = self.casts.iter().find(|cast| cast.caller == task)?;
-        Some(Answer::Busy(cast.number))
+    fn busy(&self, task: u32) -> Option<Due> {
+        let own = self.waiting.iter().find(|own| own.caller == task)?;
+        Some(Due::Busy(own.cast))
     }
 
     /// A broadcast is open in the process.
-    fn open_in(&self, process: u32) -> Option<Answer> {
-        let cast = self.casts.iter().find(|cast| cast.process == process)?;
-        Some(Answer::Busy(cast.number))
+    fn open_in(&self, process: u32) -> Option<Due> {
+        let own = self.waiting.iter().find(|own| own.process == process)?;
+        Some(Due::Busy(own.cast))
     }
 
     /// A broadcast is open in the task's process.
-    fn open_beside(&self, task: u32) -> Option<Answer> {
-        let task = self.task(task)?;
-        self.open_in(task.process)
+    fn open_beside(&self, task: u32) -> Option<Due> {
+        self.open_in(self.process_of(task)?)
     }
 
-    fn depth(&self, task: u32) -> usize {
-        match self.task(task) {
-            Some(task) => task.overrides.len(),
-            None => 0,
-        }
-    }
-
-    fn overridden(&self, task: u32) -> Option<Answer> {
+    fn overridden(&self, task: u32) -> Option<Due> {
         let depth = self.depth(task);
         let number = u32::try_from(depth).ok()?;
-        unless(depth == 0, Answer::Overridden(number))
-    }
-
-    fn not_overridden(&self, task: u32) -> Option<Answer> {
-        unless(self.depth(task) != 0, Answer::NotOverridden)
-    }
-
-    fn too_deep(&self, task: u32) -> Option<Answer> {
-        unless(self.depth(task) < DEPTH, Answer::TooDeep)
+        unless(depth == 0, Due::Overridden(number))
     }
 
     /// The label is no hold, and the task has prepared nothing under it for access(2).
-    fn no_override(&self, task: u32, label: u32) -> Option<Answer> {
-        let is_held = self.held(label).is_some();
+    fn no_override(&self, task: u32, label: u32) -> Option<Due> {
         let is_for_access = self.label(label).is_some_and(|own| own.task == task
             && own.purpose == Some(Purpose::Access));
-        unless(is_held || is_for_access, Answer::NoHold(label))
+        unless(
+            is_for_access || self.has(Owner::Hold(label)),
+            Due::NoHold(label),
+        )
     }
 
-    fn no_commit(&self, label: u32) -> Option<Answer> {
+    fn no_commit(&self, label: u32) -> Option<Due> {
         match self.label(label) {
             Some(own) if own.purpose == Some(Purpose::Commit) => self
                 .no_task(own.task)
                 .or(self.busy(own.task))
                 .or(self.overridden(own.task))
-                .or(self.stale(own.task, own.base)),
-            _ => Some(Answer::NoPrepared(label)),
+                .or(self.stale(own.task, label)),
+            _ => Some(Due::NoPrepared(label)),
         }
     }
 
-    /// The task's current credential isn't the base any more.
-    fn stale(&self, task: u32, base: u64) -> Option<Answer> {
-        let now = self.task(task)?.current;
-        unless(now == base, Answer::Stale { base, now })
+    /// The task's current credential isn't the label's base any more.
+    fn stale(&self, task: u32, label: u32) -> Option<Due> {
+        let base = self.number_of(Owner::Prepared(label))?;
+        let now = self.number_of(Owner::Task(task))?;
+        unless(now == base, Due::Stale { base, now })
     }
 }

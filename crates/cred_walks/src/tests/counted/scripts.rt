@@ -192,6 +192,18 @@ pub(crate) fn script_of(alloc: Global, number: u32) -> Result<String, Fail> {
     Ok(text)
 }
 
+/// The number that stands for a letter of a form; none for one that stands for itself.
+fn number_for(numbers: &mut Numbers, begun: &[u32], letter: char) -> Option<i64> {
+    match letter {
+        'T' => Some(1 + i64::from(numbers.below(6))),
+        'P' => Some(1 + i64::from(numbers.below(5))),
+        'H' | 'F' => Some(1 + i64::from(numbers.below(4))),
+        'L' => Some(i64::from(recent(numbers, begun))),
+        'I' => Some(numbers.one_of(&[0, 0, -1, 5, 1000], 0)),
+        _ => None,
+    }
+}
+
 /// Writes a line of this form.
 fn write_form(
     text: &mut String,
@@ -200,13 +212,9 @@ fn write_form(
     begun: &[u32],
 ) -> Result<(), Fail> {
     for letter in form.chars() {
-        match letter {
-            'T' => write!(text, "{}", 1 + numbers.below(6) % 6)?,
-            'P' => write!(text, "{}", 1 + numbers.below(5) % 5)?,
-            'H' | 'F' => write!(text, "{}", 1 + numbers.below(4) % 4)?,
-            'L' => write!(text, "{}", recent(numbers, begun))?,
-            'I' => text.push_str(numbers.one_of(&["0", "0", "-1", "5", "1000"], "0"))?,
-            other => text.push(other)?,
+        match number_for(numbers, begun, letter) {
+            Some(number) => write!(text, "{number}")?,
+            None => text.push(letter)?,
         }
     }
     text.push('\n')?;

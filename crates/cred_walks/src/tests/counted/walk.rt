@@ -1,5 +1,6 @@
 //! What each entry of a journal does to the lists.
 use crate::tests::counted::lists::Lists;
+use crate::tests::counted::refusals::Due;
 use cred_event::{Answer, Entry, Event};
 use cred_ids::NoMemory;
 use std::alloc::Global;
@@ -9,19 +10,16 @@ pub(crate) fn is_rule(answer: &Answer) -> bool {
     matches!(answer, Answer::Eperm | Answer::Einval | Answer::Eacces)
 }
 
-/// The label that a commit which comes too late gives up.
-fn stale_label(event: &Event, due: &Answer) -> Option<u32> {
-    let Answer::Stale { .. } = due else {
-        return None;
-    };
-    match event {
-        Event::Commit { label } => Some(*label),
+/// The number and the slot of the credential that the answer tells, and nothing else.
+pub(crate) fn sealed(answer: &Answer) -> Option<(u64, u32)> {
+    match answer {
+        Answer::Sealed { cred, slot } => Some((*cred, *slot)),
         _ => None,
     }
 }
 
 /// The two are one answer.
-fn print_alike(alloc: Global, due: &Answer, answer: &Answer) -> Result<bool, NoMemory> {
+fn print_alike(alloc: Global, due: Due, answer: &Answer) -> Result<bool, NoMemory> {
     let due = format!(in alloc; "{due:?}")?;
     let answer = format!(in alloc; "{answer:?}")?;
     Ok(due == answer)
@@ -35,10 +33,11 @@ impl Lists {
         let Some(due) = self.refusal(entry.line, &entry.event) else {
             return self.made(&entry.event, entry.line, &entry.answer);
         };
-        if let Some(label) = stale_label(&entry.event, &due) {
-            self.give_up(label)?;
+        // A commit that comes too late gives up its label.
+        if let (Due::Stale { .. }, Event::Commit { label }) = (due, &entry.event) {
+            self.drop_label(*label);
         }
-        print_alike(self.alloc, &due, &entry.answer)
+        print_alike(self.alloc, due, &entry.answer)
     }
 
     /// Makes an event that the lists don't refuse.
@@ -51,15 +50,12 @@ impl Lists {
             | Event::TakeFile { .. }
             | Event::Release { .. }
             | Event::OpenFile { .. }
-            | Event::CloseFile { .. } => self.on_kept(event, answer),
-            Event::Prepare { .. }
+            | Event::CloseFile { .. }
+            | Event::Prepare { .. }
             | Event::Alter { .. }
             | Event::Commit { .. }
-            | Event::Abort { .. } => self.on_prepared(event, answer),
-            Event::Init { .. } | Event::Begin { .. } | Event::Act { .. } => {
-                self.on_new(event, line, answer)
-            }
-            _ => self.on_tasks(event, answer),
+            | Event::Abort { .. } => self.on_kept(event, answer),
+            _ => self.on_new(event, line, answer),
         }
     }
 }
