@@ -1,5 +1,5 @@
 -- An id call that a task makes, and what refuses it.
-use Rattle.std.proofs.Common.{◌≡◌, ℕ, ◌==◌, Bool, false, List, find, is_some, Option, Some, Result, Ok, Err, refl, sym, ap, ◌∙◌, inl, inr}
+use Rattle.std.proofs.Common.{◌≡◌, ◌⊎◌, ℕ, ◌==◌, Bool, false, List, find, is_some, Option, Some, Result, Ok, Err, refl, sym, ap, ◌∙◌, inl, inr}
 use Rattle.std.specs.Option.{option_map}
 use Rattle.std.specs.Result.{IfOk}
 use Rattle.cred_record.specs.Answer.{AnswersBy}
@@ -7,6 +7,7 @@ use Rattle.cred_record.specs.Credential.{Credential}
 use Rattle.cred_record.specs.declared.id_call.IdCall.{IdCall}
 use Rattle.cred_record.specs.declared.refusal.Denial.{Denial}
 use Rattle.cred_record.specs.declared.refusal.Denial.TheVariants as denial
+use Rattle.cred_record.specs.declared.refusal.Refusal.{Refusal}
 use Rattle.cred_record.specs.declared.refusal.Refusal.TheVariants as refusal
 use Rattle.cred_rules.specs.SetId.{set_id}
 use Rattle.cred_event.specs.declared.answer.Answer.{Answer}
@@ -41,6 +42,14 @@ rule_invalid (Ok x) (inl is) = cc
 rule_invalid (Ok x) (inr is) = cc
 rule_invalid (Err denial.Perm) is = cc
 rule_invalid (Err denial.Invalid) is = refl
+
+-- a call that is refused, whatever its refusal
+pub rule_denied : (given : Result Credential Denial) (why : Refusal) → AnswersBy (Err why) given → (why ≡ refusal.Perm) ⊎ (why ≡ refusal.Invalid)
+    → (d : Denial) × (given ≡ Err d)
+rule_denied (Ok x) why (inl is) either = cc
+rule_denied (Ok x) why (inr is) (inl either) = cc
+rule_denied (Ok x) why (inr is) (inr either) = cc
+rule_denied (Err d) why is either = (d, refl)
 
 -- ---- what refuses the call
 

@@ -120,8 +120,11 @@ impl State {
         let (process, left, number) = (cast.process, cast.others(), current.number);
         let cred = match apply(self.alloc, current.cred, &cast.call) {
             Ok(cred) => cred,
-            Err(Refusal::Perm) => return self.end_process(process, task, AbortCause::Perm),
-            Err(Refusal::Invalid) => return self.end_process(process, task, AbortCause::Perm),
+            // Whether a call is valid is the call's alone, and its caller has made it: what the
+            // thread lacks is the right.
+            Err(Refusal::Perm | Refusal::Invalid) => {
+                return self.end_process(process, task, AbortCause::Perm);
+            }
             Err(Refusal::Memory) => return Err(NoMemory),
         };
         let Some(slot) = room.slot else {

@@ -89,8 +89,11 @@ impl State {
         let call = self.casts.call(number).unwrap();
         let cred = match apply(self.alloc, now.cred, call) {
             Ok(cred) => cred,
-            Err(Refusal::Perm) => return self.end_process_of(task, AbortCause::Perm),
-            Err(Refusal::Invalid) => return self.end_process_of(task, AbortCause::Perm),
+            // Whether a call is valid is the call's alone, and its caller has made it: what the
+            // thread lacks is the right.
+            Err(Refusal::Perm | Refusal::Invalid) => {
+                return self.end_process_of(task, AbortCause::Perm);
+            }
             Err(Refusal::Memory) => return Err(NoMemory),
         };
         self.slots.reserve()?;

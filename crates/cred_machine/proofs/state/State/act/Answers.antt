@@ -1,10 +1,9 @@
-use Rattle.std.proofs.Common.{◌==◌, refl, sym, ◌∙◌}
-use Rattle.cred_record.specs.declared.refusal.Denial.TheVariants as denial
+use Rattle.std.proofs.Common.{◌==◌, refl, sym, ◌∙◌, rules, tests}
 use Rattle.cred_event.specs.declared.answer.AbortCause.TheVariants.{Perm, Full}
 use Rattle.cred_model.specs.State.{Broadcast}
 use Rattle.cred_plain.specs.Creds.{seen_numbered}
 use Rattle.cred_machine.proofs.Acts.{act_full, act_refused, next_is}
-use Rattle.cred_machine.proofs.Begins.{rule_invalid, rule_made, rule_perm}
+use Rattle.cred_machine.proofs.Begins.{rule_denied, rule_made}
 use Rattle.cred_machine.proofs.Follows.{aborts, act_unsealed, steps}
 use Rattle.cred_plain.proofs.Places.{none_is}
 use Rattle.cred_machine.proofs.Threads.{waits_rising}
@@ -36,25 +35,10 @@ returns-in-Err-Perm-clause-ok c =
     let next = next_is s c.args.line c.in-Some-least.task _ b _ o _ old c.deref.ensures.value c.in-Some.ensures c.cast.view_is
     c.in-Some-least.ensures c.in-Some-get.ensures c.owner.view_is c.in-Some-get-2.ensures in
     let ended = c.end_process in
-    let rule = rw c.in-Err-Perm.field-0-is at c.in-Err-Perm.ensures in
+    let no = rule_denied _ c.in-Err-Perm.field-0 c.in-Err-Perm.ensures (search (rules, tests)) in
     rw (← c.self.view_is)
     (aborts s ended.new.self c.args.line c.in-Some-least.task Perm b ended.result
-    (act_refused s c.args.line c.in-Some-least.task b o old next denial.Perm (rule_perm _ rule))
-    ended.ensures.answer (rw (← c.self.view_is) at ended.ensures.state))
-
-pub returns-in-Err-Invalid-clause-ok : goal.returns-in-Err-Invalid-clause-ok
-returns-in-Err-Invalid-clause-ok c =
-    let s = seen_state c.self.inside in
-    let b = seen_cast c.cast.inside in
-    let o = seen_task c.owner.inside in
-    let old = seen_numbered c.in-Some-get-2.current in
-    let next = next_is s c.args.line c.in-Some-least.task _ b _ o _ old c.deref.ensures.value c.in-Some.ensures c.cast.view_is
-    c.in-Some-least.ensures c.in-Some-get.ensures c.owner.view_is c.in-Some-get-2.ensures in
-    let ended = c.end_process-in-Err-Invalid in
-    let rule = rw c.in-Err-Invalid.field-0-is at c.in-Err-Invalid.ensures in
-    rw (← c.self.view_is)
-    (aborts s ended.new.self c.args.line c.in-Some-least.task Perm b ended.result
-    (act_refused s c.args.line c.in-Some-least.task b o old next denial.Invalid (rule_invalid _ rule))
+    (act_refused s c.args.line c.in-Some-least.task b o old next no.0 no.1)
     ended.ensures.answer (rw (← c.self.view_is) at ended.ensures.state))
 
 pub returns-in_default-slot-clause-ok : goal.returns-in_default-slot-clause-ok

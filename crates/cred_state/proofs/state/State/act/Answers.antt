@@ -1,4 +1,4 @@
-use Rattle.std.proofs.Common.{◌≡◌, Ok, inl, inr, refl, sym}
+use Rattle.std.proofs.Common.{◌≡◌, Ok, refl, sym, rules, tests}
 use Rattle.cred_rules.specs.SetId.{set_id}
 use Rattle.cred_cast.proofs.Conditions.{least_waits}
 use Rattle.cred_event.specs.declared.answer.AbortCause.TheVariants.{Perm, Full}
@@ -94,22 +94,8 @@ returns-in-Err-Perm-clause-ok c =
     let has = rw (← c.self.view_is) at c.in-Some-current.ensures in
     let next = next_is s c.args.number c.in-Some.task sound c.in-Some.ensures.next in
     let call : c.unwrap-call.result.now ≡ next.cast.call = mapped_is _ _ c.call.result _ c.unwrap-call.result next.cast c.call.ensures c.unwrap-call.ensures next.found in
-    let no = denied (set_id c.in-Some-current.now.cred.now c.unwrap-call.result.now) c.in-Err-Perm.field-0 c.in-Err-Perm.ensures (inl c.in-Err-Perm.field-0-is) in
+    let no = denied (set_id c.in-Some-current.now.cred.now c.unwrap-call.result.now) c.in-Err-Perm.field-0 c.in-Err-Perm.ensures (search (rules, tests)) in
     let ended = c.end_process_of in
-    rw (← c.self.view_is)
-    (aborts_so s s c.args.number c.in-Some.task Perm ended.new.self next ended.result refl ended.ensures.answer (rw (← c.self.view_is) at ended.ensures.state)
-    (act_refused s c.args.number c.in-Some.task next _ (sym has) no.0 (rw (← call) no.1)))
-
-pub returns-in-Err-Invalid-clause-ok : goal.returns-in-Err-Invalid-clause-ok
-returns-in-Err-Invalid-clause-ok c =
-    let t = c.self.inside in
-    let s = state_of (parts_of t.tasks t.casts t.files t.holds t.prepared) t.store t.slots in
-    let sound = rw (← c.self.view_is) at c.requires in
-    let has = rw (← c.self.view_is) at c.in-Some-current.ensures in
-    let next = next_is s c.args.number c.in-Some.task sound c.in-Some.ensures.next in
-    let call : c.unwrap-call.result.now ≡ next.cast.call = mapped_is _ _ c.call.result _ c.unwrap-call.result next.cast c.call.ensures c.unwrap-call.ensures next.found in
-    let no = denied (set_id c.in-Some-current.now.cred.now c.unwrap-call.result.now) c.in-Err-Invalid.field-0 c.in-Err-Invalid.ensures (inr c.in-Err-Invalid.field-0-is) in
-    let ended = c.end_process_of-in-Err-Invalid in
     rw (← c.self.view_is)
     (aborts_so s s c.args.number c.in-Some.task Perm ended.new.self next ended.result refl ended.ensures.answer (rw (← c.self.view_is) at ended.ensures.state)
     (act_refused s c.args.number c.in-Some.task next _ (sym has) no.0 (rw (← call) no.1)))
