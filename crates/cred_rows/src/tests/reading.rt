@@ -139,6 +139,54 @@ static ANSWERS: [(&str, &str); 3] = [
     ("4 ask h1 capable 1 -> ok 1\n", "Told(Flag(true))"),
 ];
 
+/// The calls that set ids, and whether some caller is answered `ok`, `eperm` and `einval` for these
+/// arguments (setuid(2), seteuid(2), setreuid(2), setresuid(2), setgroups(2)).
+static ID_CALLS: [(&str, [bool; 3]); 18] = [
+    ("begin t1 setuid 5", [true, true, false]),
+    ("begin t1 setuid -1", [false, false, true]),
+    ("begin t1 seteuid 5", [true, true, false]),
+    ("begin t1 seteuid -1", [false, false, true]),
+    ("begin t1 setreuid -1 5", [true, true, false]),
+    ("begin t1 setreuid -1 -1", [true, false, false]),
+    ("begin t1 setresuid -1 -1 5", [true, true, false]),
+    ("begin t1 setresuid -1 -1 -1", [true, false, false]),
+    ("begin t1 setgid 5", [true, true, false]),
+    ("begin t1 setgid -1", [false, false, true]),
+    ("begin t1 setegid 5", [true, true, false]),
+    ("begin t1 setegid -1", [false, false, true]),
+    ("begin t1 setregid 5 -1", [true, true, false]),
+    ("begin t1 setregid -1 -1", [true, false, false]),
+    ("begin t1 setresgid 5 -1 -1", [true, true, false]),
+    ("begin t1 setresgid -1 -1 -1", [true, false, false]),
+    ("begin t1 setgroups 7 7", [true, true, false]),
+    (
+        "begin t1 setgroups 1 2 3 4 5 6 7 8 9 10 11 12 13 14 15 16 17 18 19 20 21 22 23 24 25 26 27 \
+         28 29 30 31 32 33",
+        [false, true, true],
+    ),
+];
+
+/// The same of changes of sets and securebits (capset(2), prctl(2), capabilities(7)).
+static CHANGES: [(&str, [bool; 3]); 17] = [
+    ("change h2 capset 400 400 400", [true, true, false]),
+    ("change h2 capset 0 0 0", [true, false, false]),
+    ("change h2 capset 400 0 1ffffffffff", [false, true, false]),
+    ("change h2 capdrop 40", [true, true, false]),
+    ("change h2 capdrop 41", [false, true, true]),
+    ("change h2 ambraise 40", [true, true, false]),
+    ("change h2 ambraise 41", [false, false, true]),
+    ("change h2 amblower 40", [true, false, false]),
+    ("change h2 amblower 41", [false, false, true]),
+    ("change h2 ambclear", [true, false, false]),
+    ("change h2 securebits 255", [true, true, false]),
+    ("change h2 securebits 256", [false, true, false]),
+    ("change h2 keepcaps 0", [true, true, false]),
+    ("change h2 keepcaps 2", [false, false, true]),
+    ("change h2 nonewprivs 1", [true, false, false]),
+    ("change h2 nonewprivs 0", [false, false, true]),
+    ("change h2 setfsuid 5", [false, false, false]),
+];
+
 /// What comes of a text that is read and printed again.
 #[derive(Clone, Copy, PartialEq, Eq)]
 enum Came {
@@ -192,11 +240,56 @@ fn first_answer(alloc: Global, script: &Script) -> Result<Option<&'static str>, 
     Ok(None)
 }
 
+/// Whether the event may be given the answer.
+fn fits(alloc: Global, script: &Script, event: &str, answer: &str) -> Result<bool, NoMemory> {
+    let text = format!(in alloc; "7 {event} -> {answer}\n")?;
+    let entry = read(alloc, script, text.as_bytes());
+    drop(text);
+    let entry = entry?;
+    let is_some = entry.is_some();
+    drop(entry);
+    Ok(is_some)
+}
+
+/// The first of these events that is given an answer which it may not have, or not given one that
+/// it may. `done` is the one of the call that is made.
+fn first_misfit(
+    alloc: Global,
+    script: &Script,
+    events: &[(&'static str, [bool; 3])],
+    done: &str,
+) -> Result<Option<&'static str>, NoMemory> {
+    for (event, answered) in events {
+        for (answer, want) in [done, "eperm", "einval"].iter().zip(answered) {
+            if fits(alloc, script, event, answer)? != *want {
+                return Ok(Some(*event));
+            }
+        }
+    }
+    Ok(None)
+}
+
 /// The first text of the three tables that is read otherwise.
 fn first_misread(alloc: Global, script: &Script) -> Result<Option<&'static str>, NoMemory> {
     let lost = first_other(alloc, script, &TEXTS, Came::Back)?;
     let taken = first_other(alloc, script, &NONE, Came::Nothing)?;
     Ok(lost.or(taken).or(first_answer(alloc, script)?))
+}
+
+/// The first event whose answers are others than its call may be given.
+fn first_misanswered(alloc: Global, script: &Script) -> Result<Option<&'static str>, NoMemory> {
+    let begun = first_misfit(alloc, script, &ID_CALLS, "ok c2 s2 left 0")?;
+    Ok(begun.or(first_misfit(alloc, script, &CHANGES, "ok")?))
+}
+
+#[test]
+fn answers_are_those_of_the_call(rt: HostRuntime) -> Result<(), Fail> {
+    let script = script(rt.alloc())?;
+    let misanswered = first_misanswered(rt.alloc(), &script);
+    drop(script);
+    let misanswered = misanswered?;
+    assert!(rt; misanswered.is_none(), "{misanswered:?}");
+    Ok(())
 }
 
 #[test]
