@@ -43,7 +43,7 @@ pub fn credtrace<R: Threads + Wait + Sync, S: Source, K: Sink, G: Gate + Sync>(
     gate: &G,
 ) -> Status
     // `run` and `lanes`: the report of a journal of the script, the one in which its lines run
-    // whole and in order, or one that came about by threads; or its first bad line.
+    // whole and in order, or some legal one; or its first bad line.
     ensures run { command_of (texts words.now) ≡ Some Command.Run
         → LeavesReport IsSequence result (S.left source.old) (S.left source.new)
         (K.written sink.old) (K.written sink.new) }
