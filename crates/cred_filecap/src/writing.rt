@@ -12,8 +12,8 @@ use cred_record::Attr;
 use std::alloc::Global;
 
 /// The bytes of an attribute, 12 in version 1, 20 in version 2 and 24 in version 3
-/// (linux/capability.h, `struct vfs_ns_cap_data`). Every bit that spells nothing is zero. They are the attribute of a file as
-/// setxattr(2) takes it.
+/// (linux/capability.h, `struct vfs_ns_cap_data`), as setxattr(2) takes them. Every bit that spells
+/// nothing is zero.
 ///
 /// # Errors
 ///
