@@ -1,5 +1,5 @@
-//! What no clause says of a list of numbers: that it is made where memory is left. No script has one
-//! made so.
+//! What no clause says of a list of numbers: that it is made where memory is left. No script has
+//! one made so.
 use cred_procs::CredNumbers;
 use std::test::Fail;
 
