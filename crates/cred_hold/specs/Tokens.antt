@@ -9,6 +9,7 @@ use Rattle.cred_record.specs.Words.{credential_of, are_words}
 use Rattle.cred_words.specs.Size.{width}
 use Rattle.cred_words.specs.declared.view.Slot.{Slot}
 use Rattle.cred_words.specs.declared.view.Token.{Token}
+use Rattle.cred_words.specs.declared.view.Ledger.{Ledger}
 
 -- what is lent: a hold of a credential, or a writer, for which none stands here
 pub record Entry : Type 0 where
@@ -70,3 +71,9 @@ abbrev pub AreSlots : List Slot → Type 0
 AreSlots slots =
     (s : ℕ) (x : Slot) → slice_get slots s ≡ Some x →
     (length x.words ≡ width) × (x.sealed ≡ true → are_words x.words ≡ true)
+
+-- the ledger is as before, but for its next ticket
+pub record IsAgain (before after : Ledger) : Type 0 where
+  pub slots_are : after.slots ≡ before.slots
+  pub entries : after.entries ≡ before.entries
+  pub kept : after.kept ≡ before.kept

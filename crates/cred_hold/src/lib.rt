@@ -2,6 +2,7 @@
 #![tactic(auto)]
 
 pub mod master;
+mod parts;
 pub mod tokens;
 mod words;
 

@@ -2,10 +2,16 @@
 ghost use Rattle.std.specs.Prelude.{◌≡◌, ◌<◌, [], ◌∷◌, Some, None, IfOk, slice_get, slice_set};
 ghost use Rattle.cred_ids.specs.Limits.{SLOTS};
 ghost use Rattle.cred_words.specs.Lists.{IsTaken};
+ghost use Rattle.cred_record.specs.Credential.{Credential};
 ghost use Rattle.cred_hold.specs.Tokens.{entry, none_sealed, IsSealed, IsAlone};
 
-use crate::tokens::{Hold, Writer};
-use cred_ids::NoMemory;
+use crate::parts::{known_caps, known_ids};
+use crate::tokens::{Hold, Writer, put};
+use crate::words::peek;
+use cred_caps::CapSet;
+use cred_ids::{Ids4, NoMemory};
+use cred_record::layout::{PERMITTED, USER};
+use cred_record::{Cred, WORDS, known_words};
 use cred_words::{Cells, cells};
 use std::alloc::Global;
 use std::marker::Model;
@@ -115,5 +121,60 @@ impl Master {
         } = writer;
         self.inner.return_writer(cells, inner);
         self.inner.load_after_return(cells, put);
+    }
+
+    /// The credential of a sealed slot, for the owner of the master: a hold is lent, read and taken
+    /// back. What else is lent stays.
+    ///
+    /// # Errors
+    ///
+    /// `NoMemory` if the allocation of the groups fails. The master stays as it was, as on success.
+    pub fn look(&mut self, alloc: Global, cells: &Cells, slot: u32) -> Result<Cred, NoMemory>
+        requires own { self.old.id ≡ cells.now }
+        requires sealed { IsSealed self.old.slots slot }
+        ensures cred { IfOk result (λ c. slice_get self.old.slots slot ≡ Some (Some c)) }
+        ensures same { self.new ≡ self.old }
+    {
+        let words = peek::<WORDS>(&mut self.inner, cells, slot, 0);
+        known_words(alloc, &words)
+    }
+
+    /// The user ids and the group ids of the credential of a sealed slot. It takes no memory. What
+    /// is lent stays.
+    pub fn look_ids(&mut self, cells: &Cells, slot: u32) -> (Ids4, Ids4)
+        requires own { self.old.id ≡ cells.now }
+        requires sealed { IsSealed self.old.slots slot }
+        ensures ids { (c : Credential) → slice_get self.old.slots slot ≡ Some (Some c) →
+            (result.0 ≡ c.uid) × (result.1 ≡ c.gid) }
+        ensures same { self.new ≡ self.old }
+    {
+        known_ids(peek::<4>(&mut self.inner, cells, slot, USER))
+    }
+
+    /// The permitted, inheritable, effective, bounding and ambient set of the credential of a
+    /// sealed slot, in this order. It takes no memory. What is lent stays.
+    pub fn look_caps(&mut self, cells: &Cells, slot: u32) -> [CapSet; 5]
+        requires own { self.old.id ≡ cells.now }
+        requires sealed { IsSealed self.old.slots slot }
+        ensures caps { (c : Credential) → slice_get self.old.slots slot ≡ Some (Some c) →
+            result ≡ c.perm ∷ c.inh ∷ c.eff ∷ c.bound ∷ c.amb ∷ [] }
+        ensures same { self.new ≡ self.old }
+    {
+        known_caps(peek::<5>(&mut self.inner, cells, slot, PERMITTED))
+    }
+
+    /// Puts a credential on a slot on which nothing is lent, for the owner of the master: a writer
+    /// is lent, put by and taken back. What else is lent stays. It takes no memory.
+    pub fn set(&mut self, cells: &Cells, slot: u32, cred: &Cred)
+        requires own { self.old.id ≡ cells.now }
+        requires within { slot < SLOTS }
+        requires alone { IsAlone self.old.entries slot }
+        ensures { self.new ≡ record self.old {
+          slots = slice_set self.old.slots slot (Some cred.now);
+        } }
+    {
+        let mut writer = self.lend_writer(cells, 0, slot);
+        put(cells, &mut writer, cred);
+        self.take_back(cells, writer);
     }
 }

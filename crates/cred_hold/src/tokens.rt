@@ -1,12 +1,12 @@
 //! What is lent: holds and writers.
 ghost use Rattle.std.specs.Prelude.{◌≡◌, Some, IfOk, [], ◌∷◌};
-ghost use Rattle.cred_caps.specs.Caps.{IsCaps};
 
+use crate::parts::{known_caps, known_ids};
 use crate::words::{gather, scatter};
 use cred_caps::CapSet;
 use cred_ids::{Ids4, NoMemory};
 use cred_record::layout::{PERMITTED, USER};
-use cred_record::{Cred, WORDS, ids_in, is_credential, of_words, to_words};
+use cred_record::{Cred, WORDS, is_credential, known_words, to_words};
 use cred_words::{Cells, cells};
 use std::alloc::Global;
 use std::marker::Model;
@@ -83,10 +83,7 @@ pub fn read(alloc: Global, cells: &Cells, hold: &mut Hold) -> Result<Cred, NoMem
     ensures same { hold.new ≡ hold.old }
 {
     let words = gather::<WORDS>(cells, &mut hold.inner, hold.slot, 0);
-    let Some(cred) = of_words(alloc, &words)? else {
-        unreachable!()
-    };
-    Ok(cred)
+    known_words(alloc, &words)
 }
 
 /// The user ids and the group ids of the credential that is held. It takes no memory and waits for
@@ -96,19 +93,7 @@ pub fn read_ids(cells: &Cells, hold: &mut Hold) -> (Ids4, Ids4)
     ensures value { (result.0 ≡ hold.old.cred.uid) × (result.1 ≡ hold.old.cred.gid) }
     ensures same { hold.new ≡ hold.old }
 {
-    let [user, saved_user, group, saved_group] = gather::<4>(
-        cells,
-        &mut hold.inner,
-        hold.slot,
-        USER,
-    );
-    let Some(uid) = ids_in(user, saved_user) else {
-        unreachable!()
-    };
-    let Some(gid) = ids_in(group, saved_group) else {
-        unreachable!()
-    };
-    (uid, gid)
+    known_ids(gather::<4>(cells, &mut hold.inner, hold.slot, USER))
 }
 
 /// The permitted, inheritable, effective, bounding and ambient set of the credential that is held,
@@ -119,19 +104,7 @@ pub fn read_caps(cells: &Cells, hold: &mut Hold) -> [CapSet; 5]
         ∷ hold.old.cred.bound ∷ hold.old.cred.amb ∷ [] }
     ensures same { hold.new ≡ hold.old }
 {
-    let [perm, inh, eff, bound, amb] = gather::<5>(cells, &mut hold.inner, hold.slot, PERMITTED);
-    [set(perm), set(inh), set(eff), set(bound), set(amb)]
-}
-
-/// The set of bits that are known to be one.
-fn set(bits: u64) -> CapSet
-    requires { IsCaps bits }
-    ensures { result ≡ bits }
-{
-    let Some(set) = CapSet::of_bits(bits) else {
-        unreachable!()
-    };
-    set
+    known_caps(gather::<5>(cells, &mut hold.inner, hold.slot, PERMITTED))
 }
 
 /// Puts a credential on the writer's slot. It takes no memory and waits for nobody.

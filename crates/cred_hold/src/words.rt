@@ -1,10 +1,12 @@
 //! The words of a slot, read or put one step after another.
-ghost use Rattle.std.specs.Prelude.{◌≡◌, ◌+◌, ◌<◌, ◌≤◌, length, take, drop, slice_index};
+ghost use Rattle.std.specs.Prelude.{◌≡◌, ◌+◌, ◌<◌, ◌≤◌, None, length, take, drop, slice_index};
+ghost use Rattle.cred_words.specs.Seen.{IsSealed};
 ghost use Rattle.cred_words.specs.Size.{width};
-ghost use Rattle.cred_words.specs.Words.{put_words};
+ghost use Rattle.cred_words.specs.Words.{put_words, words_at};
+ghost use Rattle.cred_hold.specs.Tokens.{IsAgain};
 
 use cred_record::WORDS;
-use cred_words::cells::{Cells, Hold, Writer, put_word, read_word};
+use cred_words::cells::{Cells, Hold, Master, Writer, read_word, settle_word};
 
 /// So many words of the slot that is held, from `first` on. Each is loaded at a moment of its own.
 pub(crate) fn gather<const N: usize>(
@@ -27,6 +29,30 @@ pub(crate) fn gather<const N: usize>(
     words
 }
 
+/// So many words of a sealed slot, from `first` on, by a hold that is lent and comes back. What
+/// else is lent stays.
+pub(crate) fn peek<const N: usize>(
+    master: &mut Master,
+    cells: &Cells,
+    slot: u32,
+    first: usize,
+) -> [u64; N]
+    requires own { master.old.id ≡ cells.now }
+    requires empty { master.old.ledger.kept ≡ None }
+    requires sealed { IsSealed master.old.ledger slot }
+    requires wide { length (words_at master.old.ledger.slots slot) ≡ width }
+    requires within { first + N ≤ width }
+    ensures words { result ≡ take N (drop first (words_at master.old.ledger.slots slot)) }
+    ensures same { (master.new.id ≡ master.old.id)
+        × IsAgain master.old.ledger master.new.ledger }
+{
+    let mut hold = master.lend_hold(cells, 0, slot);
+    let words = gather::<N>(cells, &mut hold, slot, first);
+    master.return_hold(cells, hold);
+    master.load_after_return(cells, false);
+    words
+}
+
 /// Puts all words of the slot that is written.
 pub(crate) fn scatter(cells: &Cells, writer: &mut Writer, slot: u32, words: &[u64; WORDS])
     requires own { writer.old.id ≡ cells.now }
@@ -37,6 +63,6 @@ pub(crate) fn scatter(cells: &Cells, writer: &mut Writer, slot: u32, words: &[u6
         × (writer.new.token ≡ put_words writer.old.token words.now) }
 {
     for i in 0..WORDS {
-        put_word(cells, writer, slot, i, words[i]);
+        settle_word(cells, writer, slot, i, words[i]);
     }
 }

@@ -187,3 +187,21 @@ pub fn of_words(alloc: Global, words: &[u64; WORDS]) -> Result<Option<Cred>, NoM
         Ok(None)
     }
 }
+
+/// The credential of words that are known to be one's.
+///
+/// # Errors
+///
+/// `NoMemory` if the allocation of the groups fails.
+pub fn known_words(alloc: Global, words: &[u64; WORDS]) -> Result<Cred, NoMemory>
+    requires { are_words words.now ≡ true }
+    ensures { IfOk result (λ c. c ≡ credential_of words.now) }
+{
+    let Some(groups) = groups_in(alloc, words)? else {
+        unreachable!()
+    };
+    let Some(cred) = cred_in(words, groups) else {
+        unreachable!()
+    };
+    Ok(cred)
+}

@@ -1,10 +1,12 @@
 //! The table of words, the tokens, and one call for each kind of step.
-ghost use Rattle.std.specs.Prelude.{◌≡◌, ◌<◌, None, Some, true, false, IfOk, IfSome, IsSome};
+ghost use Rattle.std.specs.Prelude.{◌≡◌, ◌<◌, [], None, Some, true, false, IfOk, IfSome, IsSome};
 ghost use Rattle.std.specs.Prelude.{replicate, slice_index, slice_set};
 ghost use Rattle.cred_words.specs.Lists.{IsTaken};
 ghost use Rattle.cred_words.specs.Size.{width, count, total, place};
 ghost use Rattle.cred_words.specs.Words.{ledger, ledger_of, opened, lent_token, after_lend};
 ghost use Rattle.cred_words.specs.Words.{after_back, put_words, EntryFits, entry_of, without};
+ghost use Rattle.cred_words.specs.Words.{token_of};
+ghost use Rattle.cred_words.specs.declared.view.View.TheVariants.{Lent};
 ghost use Rattle.cred_words.specs.Seen.{IsSealed, IsAlone};
 
 use crate::rule::{Learns, LendsHold, LendsWriter, Order, Puts, Reads, Returns, Words};
@@ -268,6 +270,19 @@ impl Master {
     }
 }
 
+/// Loads the word `i` of the slot of a token, by the token's seat.
+fn load_word(cells: &Cells, seat: &mut Seat<(), View>, slot: u32, i: usize) -> u64
+    requires own { seat.old.table_id ≡ cells.now }
+    requires lent { seat.old.me ≡ (Lent (token_of seat.old.me.0), []) }
+    requires slot { (slot ≡ (token_of seat.old.me.0).slot) × (slot < count) }
+    requires within { i < width }
+    ensures value { result ≡ slice_index (token_of seat.old.me.0).words i }
+    ensures same { (seat.new.table_id ≡ seat.old.table_id) × (seat.new.me ≡ seat.old.me) }
+{
+    let shared = &cells.table.shared;
+    shared.load::<Reads>(seat, place_of(slot, i))
+}
+
 /// Reads the word `i` of the slot that is held. It waits for nobody.
 pub fn read_word(cells: &Cells, hold: &mut Hold, slot: u32, i: usize) -> u64
     requires own { hold.old.id ≡ cells.now }
@@ -276,9 +291,18 @@ pub fn read_word(cells: &Cells, hold: &mut Hold, slot: u32, i: usize) -> u64
     ensures value { result ≡ slice_index hold.old.token.words i }
     ensures same { hold.new ≡ hold.old }
 {
-    let shared = &cells.table.shared;
-    let seat = &mut hold.seat;
-    shared.load::<Reads>(seat, place_of(slot, i))
+    load_word(cells, &mut hold.seat, slot, i)
+}
+
+/// Reads the word `i` of the slot that is written. It waits for nobody.
+pub fn see_word(cells: &Cells, writer: &mut Writer, slot: u32, i: usize) -> u64
+    requires own { writer.old.id ≡ cells.now }
+    requires slot { slot ≡ writer.old.token.slot }
+    requires within { i < width }
+    ensures value { result ≡ slice_index writer.old.token.words i }
+    ensures same { writer.new ≡ writer.old }
+{
+    load_word(cells, &mut writer.seat, slot, i)
 }
 
 /// Puts the word `i` of the slot that is written. It waits for nobody.
@@ -293,4 +317,19 @@ pub fn put_word(cells: &Cells, writer: &mut Writer, slot: u32, i: usize, word: u
     let shared = &cells.table.shared;
     let seat = &mut writer.seat;
     shared.store::<Puts>(seat, place_of(slot, i), word);
+}
+
+/// Puts the word `i` of the slot that is written, unless it stands there already: a load costs less
+/// than a store that is seen by all threads in one order. It waits for nobody.
+pub fn settle_word(cells: &Cells, writer: &mut Writer, slot: u32, i: usize, word: u64)
+    requires own { writer.old.id ≡ cells.now }
+    requires slot { slot ≡ writer.old.token.slot }
+    requires within { i < width }
+    ensures { (writer.new.id ≡ writer.old.id)
+        × (writer.new.token
+        ≡ put_words writer.old.token (slice_set writer.old.token.words i word)) }
+{
+    if see_word(cells, writer, slot, i) != word {
+        put_word(cells, writer, slot, i, word);
+    }
 }

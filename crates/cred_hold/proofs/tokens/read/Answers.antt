@@ -1,6 +1,6 @@
-use Rattle.std.proofs.Common.{sym, ap, ◌∙◌, arith}
-use Rattle.std.proofs.lemmas.Option.{same_Some}
-use Rattle.cred_record.proofs.WordLemmas.{words-are}
+use Rattle.std.proofs.lemmas.Result.{IfOk-weaker}
+use Rattle.cred_record.specs.Words.{are_words, credential_of}
+use Rattle.std.proofs.Common.{◌≡◌, ap, ◌∙◌, arith}
 use Rattle.cred_words.proofs.Opens.{width_is}
 use Rattle.cred_hold.proofs.Slots.{whole-words}
 use Rattle.cred_hold.proofs.tokens.read.Goals as goal
@@ -11,15 +11,11 @@ gather-words-requires c =
     let w = width_is in
     (omega arith, (ap (λ h. h.id) c.hold.view_is ∙ c.requires, (i.0, (i.2, omega arith))))
 
-pub unreachable-requires : goal.unreachable-requires
-unreachable-requires c =
-    let i = c.hold.invariant in
-    let h = words-are _ i.3 in
-    c.in_default.not-Some _ (c.in_ok-cred.ensures.each_value _ h.0 (c.gather-words.ensures.words ∙ whole-words _ i.2 ∙ h.1))
+pub known_words-requires : goal.known_words-requires
+known_words-requires c = ap are_words (c.gather-words.ensures.words ∙ whole-words _ c.hold.invariant.2) ∙ c.hold.invariant.3
 
 pub returns-clause-value : goal.returns-clause-value
 returns-clause-value c =
-    let i = c.hold.invariant in
-    let h = words-are _ i.3 in
-    let found = c.in_ok-cred.ensures.each_value _ h.0 (c.gather-words.ensures.words ∙ whole-words _ i.2 ∙ h.1) in
-    same_Some _ _ (sym c.in-Some.is ∙ found) ∙ ap (λ h. h.cred) c.hold.view_is
+    IfOk-weaker c.known_words.result (λ cred. cred ≡ credential_of c.gather-words.result) _
+    (λ cred is. is ∙ ap credential_of (c.gather-words.ensures.words ∙ whole-words _ c.hold.invariant.2) ∙ ap (λ h. h.cred) c.hold.view_is)
+    c.known_words.ensures

@@ -1,0 +1,48 @@
+//! Parts of a credential, in words that are known to be one's.
+ghost use Rattle.std.specs.Prelude.{◌≡◌, ℕ, List, ◌∷◌, [], take, drop, true};
+ghost use Rattle.cred_caps.specs.Caps.{IsCaps};
+ghost use Rattle.cred_record.specs.Words.{are_words, credential_of};
+ghost use Rattle.cred_record.specs.declared.layout.TheConstants.{USER, PERMITTED};
+
+use cred_caps::CapSet;
+use cred_ids::Ids4;
+use cred_record::ids_in;
+
+/// The user ids and the group ids in the four words from `USER` on.
+pub(crate) fn known_ids(words: [u64; 4]) -> (Ids4, Ids4)
+    requires { (ws : List ℕ) × (are_words ws ≡ true) × (words ≡ take 4 (drop USER ws)) }
+    ensures { (ws : List ℕ) → are_words ws ≡ true → words ≡ take 4 (drop USER ws) →
+        (result.0 ≡ (credential_of ws).uid) × (result.1 ≡ (credential_of ws).gid) }
+{
+    let [user, saved_user, group, saved_group] = words;
+    let Some(uid) = ids_in(user, saved_user) else {
+        unreachable!()
+    };
+    let Some(gid) = ids_in(group, saved_group) else {
+        unreachable!()
+    };
+    (uid, gid)
+}
+
+/// The permitted, inheritable, effective, bounding and ambient set, in the five words from
+/// `PERMITTED` on.
+pub(crate) fn known_caps(words: [u64; 5]) -> [CapSet; 5]
+    requires { (ws : List ℕ) × (are_words ws ≡ true) × (words ≡ take 5 (drop PERMITTED ws)) }
+    ensures { (ws : List ℕ) → are_words ws ≡ true → words ≡ take 5 (drop PERMITTED ws) →
+        result ≡ (credential_of ws).perm ∷ (credential_of ws).inh ∷ (credential_of ws).eff
+        ∷ (credential_of ws).bound ∷ (credential_of ws).amb ∷ [] }
+{
+    let [perm, inh, eff, bound, amb] = words;
+    [set(perm), set(inh), set(eff), set(bound), set(amb)]
+}
+
+/// The set of bits that are known to be one.
+fn set(bits: u64) -> CapSet
+    requires { IsCaps bits }
+    ensures { result ≡ bits }
+{
+    let Some(set) = CapSet::of_bits(bits) else {
+        unreachable!()
+    };
+    set
+}
