@@ -19,7 +19,7 @@ use Rattle.cred_event.specs.declared.event.Event.{Event}
 use Rattle.cred_event.specs.declared.event.Side.{Side}
 use Rattle.cred_event.specs.declared.event.Query.{Query}
 use Rattle.cred_event.specs.declared.event.Event.TheVariants.{Init, Take, TakeFile, Release, Ask, Signal, Prepare, Alter, Commit, Abort, Override, Revert, Begin, Act, OpenFile, CloseFile, Spawn, Fork, Exit, Sweep}
-use Rattle.cred_model.specs.Script.{Script, info_of, chain_of}
+use Rattle.cred_model.specs.Script.{Script, info_of, chain_of, root_of}
 use Rattle.cred_model.specs.Named.{change_files}
 use Rattle.cred_model.specs.State.{State, SealedCred, Task, Broadcast, OpenFile as Open, Hold, Prepared, Changed, Numbered, numbered, task_of, cast_of, cast_in, begun_by, open_of, hold_of, prepared_of, held_by}
 use Rattle.cred_model.specs.Slots.{swept}
@@ -83,7 +83,7 @@ module _ (script : Script) (s : State) (cs : List SealedCred) (line : ℕ) (like
   pub init_like : (task process user group ns : ℕ) → DoneAlike (Init task process user group ns)
   init_like task process user group ns =
       let new = first_task task process in
-      let cred = first_credential user group ns in
+      let cred = first_credential user group ns (root_of script ns) in
       tested (not_busy (cast_in s process)) _ _
       (λ idle. tested (none_or (task_of s task) _) _ _
       (λ free. tested (fewer_or (length s.tasks) TASKS _) _ _

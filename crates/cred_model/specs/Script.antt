@@ -1,6 +1,6 @@
 -- What a script is.
 use Rattle.std.specs.Prelude.{◌≡◌, ℕ, ◌==◌, List, [], ◌∷◌, find, slice_get, Some, None}
-use Rattle.std.specs.Prelude.{if◌then◌else◌}
+use Rattle.std.specs.Prelude.{if◌then◌else◌, slice_index_or}
 use Rattle.std.specs.declared.option.Option.{Option}
 use Rattle.std.specs.List.{AllPairs}
 use Rattle.std.specs.Option.{option_map, option_map_or}
@@ -36,8 +36,11 @@ info_of script [] = None
 info_of script (place ∷ places) = option_map (λ file. file.info) (slice_get script.files place)
 
 -- Namespace 0 is the initial one. Its root id is 0, and it has no parent.
+abbrev pub INITIAL_ROOT : ℕ
+INITIAL_ROOT = 0
+
 abbrev pub INITIAL : List ℕ
-INITIAL = 0 ∷ []
+INITIAL = INITIAL_ROOT ∷ []
 
 -- the root ids of a namespace and of its ancestors; none where it isn't declared
 abbrev pub chain_in : List Namespace → ℕ → Option (List ℕ)
@@ -47,6 +50,11 @@ chain_in declared number =
 
 abbrev pub chain_of : Script → ℕ → List ℕ
 chain_of script number = option_map_or (λ chain. chain) (chain_in script.namespaces number) []
+
+-- The user id of root in a namespace: the first of its chain, which is its own. For one that isn't
+-- declared it is that of the initial namespace.
+abbrev pub root_of : Script → ℕ → ℕ
+root_of script number = slice_index_or (chain_of script number) 0 INITIAL_ROOT
 
 -- A line of the setup has none but such lines before it.
 abbrev pub SetupBefore : Line → Line → Type 0

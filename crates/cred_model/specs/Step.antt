@@ -30,7 +30,7 @@ use Rattle.cred_event.specs.declared.answer.Answer.TheVariants.{TooMany, Aborted
 use Rattle.cred_event.specs.declared.answer.Named.TheVariants as named
 use Rattle.cred_event.specs.declared.answer.Counted.TheVariants as counted
 use Rattle.cred_event.specs.declared.answer.AbortCause.TheVariants as cause
-use Rattle.cred_model.specs.Script.{Script, info_of, chain_of}
+use Rattle.cred_model.specs.Script.{Script, info_of, chain_of, root_of}
 use Rattle.cred_model.specs.Named.{query_files, change_files}
 use Rattle.cred_model.specs.State.{State, Task, Prepared, Changed, Broadcast, Numbered, task_of}
 use Rattle.cred_model.specs.State.{cast_of, cast_in, begun_by, open_of, hold_of, prepared_of}
@@ -78,16 +78,16 @@ try_commit s place p owner last =
     )
     else (Stale p.base owner.current, given_up s place p)
 
--- init: a first task is created
-abbrev pub by_init : State → ℕ → ℕ → ℕ → ℕ → ℕ → Result (Answer × State) Answer
-by_init s task process user group ns = do
+-- init: a first task is created, in a namespace where root has this user id
+abbrev pub by_init : State → ℕ → ℕ → ℕ → ℕ → ℕ → ℕ → Result (Answer × State) Answer
+by_init s task process user group ns root = do
   idle ← not_busy (cast_in s process)
   new ← none_or (task_of s task) (Exists named.Task task)
   few ← fewer_or (length s.tasks) TASKS (TooMany counted.Tasks)
   Ok (in_slot s table_full (λ s slot.
       let number = length s.creds in
       let first = first_task task process number in
-      (Sealed number slot, created s first (first_credential user group ns) slot)))
+      (Sealed number slot, created s first (first_credential user group ns root) slot)))
 
 -- a label takes hold of this credential
 abbrev pub take_hold : State → ℕ → Numbered → Result (Answer × State) Answer
@@ -344,7 +344,8 @@ by_exit s task = do
 
 -- what an event of a line does if nothing refuses it, with its answer
 abbrev pub done : Script → State → ℕ → Event → Result (Answer × State) Answer
-done script s line (Init task process user group ns) = by_init s task process user group ns
+done script s line (Init task process user group ns) =
+    by_init s task process user group ns (root_of script ns)
 done script s line (Take label task side) = by_take s label task side
 done script s line (TakeFile label fd) = by_take_file s label fd
 done script s line (Release label) = by_release s label

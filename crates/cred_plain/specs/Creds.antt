@@ -13,7 +13,7 @@ pub record StoredCred : Type 0 where
 
 -- what stands under every number whose credential was forgotten
 abbrev pub gone : Credential
-gone = first_credential 0 0 0
+gone = first_credential 0 0 0 0
 
 -- What is stored stands in the order of its numbers, all of which were sealed: so many were.
 pub record IsStored (stored : List StoredCred) (count : ℕ) : Type 0 where

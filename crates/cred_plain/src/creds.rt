@@ -72,11 +72,11 @@ impl Creds {
     pub fn new(alloc: Global) -> Result<Creds, NoMemory>
         ensures { IfOk result (λ creds. creds.list ≡ []) }
     {
-        let root = Id::new(0).unwrap();
+        let zero = Id::new(0).unwrap();
         Ok(Creds {
             stored: Vec::new(alloc),
             slots: Vec::new(alloc),
-            forgotten: first(alloc, root, root, 0)?,
+            forgotten: first(alloc, zero, zero, 0, zero)?,
         })
     }
 

@@ -15,7 +15,7 @@ use Rattle.cred_event.specs.declared.event.Change.TheVariants.{Exec}
 use Rattle.cred_event.specs.declared.event.Side.{Side}
 use Rattle.cred_event.specs.declared.answer.Answer.{Answer}
 use Rattle.cred_event.specs.declared.answer.Answer.TheVariants.{Done, Sealed, Kept, Stale, TableFull}
-use Rattle.cred_model.specs.Script.{Script, info_of, chain_of}
+use Rattle.cred_model.specs.Script.{Script, info_of, chain_of, root_of}
 use Rattle.cred_model.specs.State.{State, Task, OpenFile as Open, Hold, Prepared, Changed, Numbered, numbered, task_of, cast_in, begun_by, open_of, hold_of, prepared_of, held_by, opener_of, credential_of}
 use Rattle.cred_model.specs.Slots.{refs}
 use Rattle.cred_model.specs.Named.{change_files}
@@ -41,7 +41,7 @@ init_changes script s line task process user group ns =
     let event = Init task process user group ns in
     let Q = Changes script s event in
     let first = first_task task process (length s.creds) in
-    let c = first_credential user group ns in
+    let c = first_credential user group ns (root_of script ns) in
     outcome_has Q s _ (refused script s event)
     (if_idle Q (cast_in s process) _
     (λ idle. if_none Q (task_of s task) _ _

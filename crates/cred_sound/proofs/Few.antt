@@ -11,7 +11,7 @@ use Rattle.cred_event.specs.declared.event.Event.TheVariants.{Init, Spawn, Fork}
 use Rattle.cred_event.specs.declared.answer.Answer.{Answer}
 use Rattle.cred_event.specs.declared.answer.Answer.TheVariants.{Sealed}
 use Rattle.cred_event.specs.declared.entry.Entry.{Entry}
-use Rattle.cred_model.specs.Script.{Script}
+use Rattle.cred_model.specs.Script.{Script, root_of}
 use Rattle.cred_model.specs.State.{State, Task, opening, numbered, task_of, cast_in, begun_by}
 use Rattle.cred_model.specs.Ends.{is_thread_of, survivors}
 use Rattle.cred_model.specs.Moves.{◌>>=◌, fewer_or, table_full, first_task, created, updated}
@@ -40,7 +40,7 @@ init_few : (script : Script) (s : State) (line task process user group ns : ℕ)
     → AreFew (step script s line (Init task process user group ns))
 init_few script s line task process user group ns few =
     let first = first_task task process (length s.creds) in
-    let c = first_credential user group ns in
+    let c = first_credential user group ns (root_of script ns) in
     outcome_has AreFew s _ (λ answer. few)
     (if_idle AreFew (cast_in s process) _
     (λ idle. if_none AreFew (task_of s task) _ _
@@ -89,7 +89,7 @@ created_few script s line event task child process few (ByFork is unused casts) 
     subst (λ e. AreFew (step script s line e)) (sym is) (fork_few script s line task child process few)
 
 kept_few : (script : Script) (s : State) (line : ℕ) (event : Event) → length s.tasks ≤ TASKS
-    → TasksChange s event (step script s line event) → AreFew (step script s line event)
+    → TasksChange script s event (step script s line event) → AreFew (step script s line event)
 kept_few script s line event few (SameTasks same casts) =
     let long = ap (λ (ts : List Task). length ts) same in omega (arith, long, few)
 kept_few script s line event few (Creates task process user group ns slot is tasks creds new idle casts) =

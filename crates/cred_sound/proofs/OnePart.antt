@@ -82,7 +82,7 @@ refused script s event answer = still script s event answer s.deferred (All-cont
 pub with_tasks : (script : Script) (s : State) (event : Event) (answer : Answer) (left : List ℕ) (tasks : List Task)
     (casts : List Broadcast) (c : Credential) (slot : ℕ) (deferred : List ℕ)
     → let t = record s { tasks = tasks; casts = casts; deferred = deferred; creds = s.creds ++ sealed_cred c slot ∷ [] } in
-    All (Contains s.deferred) left → IsFree (with_left s left) slot → TasksChange s event (answer, t)
+    All (Contains s.deferred) left → IsFree (with_left s left) slot → TasksChange script s event (answer, t)
     → All (Contains (refs (with_left s left))) deferred → Changes script s event (answer, t)
 with_tasks script s event answer left tasks casts c slot deferred fewer free change refer =
     let t : State = record s { tasks = tasks; casts = casts; deferred = deferred; creds = s.creds ++ sealed_cred c slot ∷ [] } in
@@ -101,7 +101,7 @@ with_tasks script s event answer left tasks casts c slot deferred fewer free cha
 pub only_tasks : (script : Script) (s : State) (event : Event) (answer : Answer) (left : List ℕ) (tasks : List Task) (casts : List Broadcast)
     (deferred : List ℕ)
     → let t = record s { tasks = tasks; casts = casts; deferred = deferred } in
-    All (Contains s.deferred) left → TasksChange s event (answer, t) → All (Contains (refs (with_left s left))) deferred
+    All (Contains s.deferred) left → TasksChange script s event (answer, t) → All (Contains (refs (with_left s left))) deferred
     → Changes script s event (answer, t)
 only_tasks script s event answer left tasks casts deferred fewer change refer = record {
   left = left;

@@ -7,6 +7,7 @@ use Rattle.cred_event.specs.declared.event.Change.{Change}
 use Rattle.cred_event.specs.declared.event.Change.TheVariants.{Exec}
 use Rattle.cred_event.specs.declared.event.Event.{Event}
 use Rattle.cred_event.specs.declared.answer.Answer.{Answer}
+use Rattle.cred_model.specs.Script.{Script}
 use Rattle.cred_model.specs.State.{State, Task, Broadcast, task_of}
 use Rattle.cred_model.specs.Ends.{is_beside, survivors}
 use Rattle.cred_model.specs.Moves.{first_task, overriding, updated, with_current}
@@ -120,7 +121,7 @@ fewer_open s event ends made (ByAbort number task cause cast is ending casts ans
     let test : (t.process == cast.process) ≡ false = grind (arith, nat_tests) in ap (λ (f : Task → Bool). f t) ending ∙ test))
     (sound_open s sound))
 
-pub casts_open : (s : State) (event : Event) (made : Answer × State) → TasksChange s event made → IsSound s
+pub casts_open : {script : Script} → (s : State) (event : Event) (made : Answer × State) → TasksChange script s event made → IsSound s
     → AreOpen made.1.tasks made.1.casts
 casts_open s event made (SameTasks same casts) sound = settled s.tasks s.casts made.1 same casts (sound_open s sound)
 casts_open s event made (Creates task process user group ns slot is tasks creds new idle casts) sound =

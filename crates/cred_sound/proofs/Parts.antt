@@ -13,7 +13,7 @@ use Rattle.cred_event.specs.declared.event.Change.TheVariants.{Exec}
 use Rattle.cred_event.specs.declared.answer.Answer.{Answer}
 use Rattle.cred_event.specs.declared.answer.Answer.TheVariants.{Began, Acted, Aborted}
 use Rattle.cred_event.specs.declared.answer.AbortCause.{AbortCause}
-use Rattle.cred_model.specs.Script.{Script, info_of, chain_of}
+use Rattle.cred_model.specs.Script.{Script, info_of, chain_of, root_of}
 use Rattle.cred_model.specs.State.{State, SealedCred, Task, Broadcast, OpenFile, Hold, Prepared, Changed, Numbered, numbered, task_of, cast_of, cast_in, begun_by, hold_of, prepared_of, current_of}
 use Rattle.cred_model.specs.Slots.{refs, kept}
 use Rattle.cred_model.specs.Named.{change_files}
@@ -112,23 +112,23 @@ pub data Death (s : State) (event : Event) (ends : Task → Bool) (made : Answer
 -- The tasks and the broadcasts: as they were, a first task more, one more that shares its parent's
 -- credential, one of them with a new credential, perhaps after others have ended, one that acts
 -- with other credentials, or fewer.
-pub data TasksChange (s : State) (event : Event) (made : Answer × State) : Type 0 where
-  SameTasks : made.1.tasks ≡ s.tasks → made.1.casts ≡ s.casts → TasksChange s event made
+pub data TasksChange (script : Script) (s : State) (event : Event) (made : Answer × State) : Type 0 where
+  SameTasks : made.1.tasks ≡ s.tasks → made.1.casts ≡ s.casts → TasksChange script s event made
   Creates : (task process user group ns slot : ℕ) → event ≡ Init task process user group ns
       → made.1.tasks ≡ s.tasks ++ first_task task process (length s.creds) ∷ []
-      → made.1.creds ≡ s.creds ++ sealed_cred (first_credential user group ns) slot ∷ [] → task_of s task ≡ None
-      → cast_in s process ≡ None → made.1.casts ≡ s.casts → TasksChange s event made
+      → made.1.creds ≡ s.creds ++ sealed_cred (first_credential user group ns (root_of script ns)) slot ∷ [] → task_of s task ≡ None
+      → cast_in s process ≡ None → made.1.casts ≡ s.casts → TasksChange script s event made
   Shares : (task child process : ℕ) (parent : Numbered)
       → made.1.tasks ≡ s.tasks ++ first_task child process parent.number ∷ [] → made.1.creds ≡ s.creds
-      → current_of s task ≡ Some parent → task_of s child ≡ None → Creation s event task child process made → TasksChange s event made
+      → current_of s task ≡ Some parent → task_of s child ≡ None → Creation s event task child process made → TasksChange script s event made
   Renews : (task slot : ℕ) (owner : Task) (c : Credential) (ends : Task → Bool)
       → made.1.tasks ≡ with_current (survivors ends s.tasks) task (length s.creds)
       → made.1.creds ≡ s.creds ++ sealed_cred c slot ∷ [] → task_of s task ≡ Some owner
-      → Cause s event task owner ends c made → TasksChange s event made
+      → Cause s event task owner ends c made → TasksChange script s event made
   Overrides : (task : ℕ) (numbers : List ℕ) → made.1.tasks ≡ with_overrides s.tasks task numbers
-      → ((left : List ℕ) → All (OldOrNew s left made.1) numbers) → made.1.casts ≡ s.casts → TasksChange s event made
+      → ((left : List ℕ) → All (OldOrNew s left made.1) numbers) → made.1.casts ≡ s.casts → TasksChange script s event made
   Fewer : (ends : Task → Bool) → made.1.tasks ≡ survivors ends s.tasks → made.1.creds ≡ s.creds → Death s event ends made
-      → TasksChange s event made
+      → TasksChange script s event made
 
 -- A list of things that are found by a number: as it was, one more, or one less.
 pub data ListChange (X : Type 0) (name : X → ℕ) (IsNew : X → Type 0) (IsGone : ℕ → Type 0) (before : List X) (after : List X) : Type 0 where
@@ -168,7 +168,7 @@ pub data PreparedChange (script : Script) (s : State) (event : Event) (left : Li
 pub record Changes (script : Script) (s : State) (event : Event) (made : Answer × State) : Type 0 where
   pub left : List ℕ
   pub fewer : All (Contains s.deferred) left
-  pub tasks : TasksChange s event made
+  pub tasks : TasksChange script s event made
   pub files : FilesChange s event left made.1
   pub holds : HoldsChange s event left made.1
   pub prepared : PreparedChange script s event left made.1

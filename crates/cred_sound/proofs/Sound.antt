@@ -35,7 +35,7 @@ record Refers (P : ℕ → Type 0) (t : Task) : Type 0 where
   current : P t.current
   overrides : All P t.overrides
 
-tasks_refer : (s : State) (event : Event) (left : List ℕ) (made : Answer × State) → TasksChange s event made
+tasks_refer : {script : Script} → (s : State) (event : Event) (left : List ℕ) (made : Answer × State) → TasksChange script s event made
     → All (Refers (OldOrNew s left made.1)) s.tasks → All (Refers (OldOrNew s left made.1)) made.1.tasks
 tasks_refer s event left made (SameTasks same casts) old = subst (All (Refers (OldOrNew s left made.1))) (sym same) old
 tasks_refer s event left made (Creates task process user group ns slot is tasks creds new idle casts) old =

@@ -36,7 +36,7 @@ number_of t = t.number
 abbrev prepared_as : Prepared → ℕ
 prepared_as p = p.label
 
-pub tasks_differ : (s : State) (event : Event) (made : Answer × State) → TasksChange s event made
+pub tasks_differ : {script : Script} → (s : State) (event : Event) (made : Answer × State) → TasksChange script s event made
     → AllPairs (Differ number_of) s.tasks → AllPairs (Differ number_of) made.1.tasks
 tasks_differ s event made (SameTasks same casts) differ = subst (AllPairs (Differ number_of)) (sym same) differ
 tasks_differ s event made (Creates task process user group ns slot is tasks creds new idle casts) differ =
