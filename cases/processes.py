@@ -1,9 +1,8 @@
-"""Processes with the ids 0, 1 and 2, as the pages speak of them, and the tables of all their
-calls.
+"""Processes with three ids, as the pages speak of them, and the tables of all their calls.
 
 A page's generator says what one call makes of one process, in the page's sentences. Here every
 process makes every such call in a child of its own, and is then asked for its ids and its
-capability sets.
+capability sets: in the initial user namespace, and in one whose root is another user.
 """
 from dataclasses import dataclass, replace
 from itertools import islice, product
@@ -21,6 +20,52 @@ RAW, NET_RAW = 0x2000, 13
 ON_FILES = sum(1 << it for it in (0, 1, 2, 3, 4, 9, 27, 32))
 # The securebits.
 KEEP_CAPS, NO_SETUID_FIXUP = 0x10, 0x04
+
+
+@dataclass(frozen=True)
+class Namespace:
+    """A user namespace: its number, its root's user id, and the ids of the processes in it.
+
+    user_namespaces(7): "a process can have a normal unprivileged user ID outside a user namespace
+    while at the same time having a user ID of 0 inside the namespace". The ids of a script are
+    those outside. So where a page speaks of the user id 0 of a process it is `root` here:
+    capabilities(7), "A namespace's root user ID is the value that user ID 0 inside that namespace
+    maps to in the initial user namespace."
+    """
+
+    number: int
+    root: int
+    ids: tuple
+
+    def declared(self):
+        """The line that declares it, if one does: the initial one is there."""
+        return [f"ns {self.number} {self.root} 0"] if self.number else []
+
+
+INITIAL = Namespace(0, 0, IDS)
+# A container's, to whose processes the initial namespace's root is one user like any other.
+CONTAINER = Namespace(1, 100_000, (100_000, 0, 1))
+
+
+@dataclass(frozen=True)
+class Setting:
+    """Where the processes of a table are, and under which securebits."""
+
+    namespace: Namespace = INITIAL
+    securebits: int = 0
+
+    def told(self):
+        """How the name of a case tells it."""
+        place = f" in n{self.namespace.number}" if self.namespace.number else ""
+        return place + (f", with securebits {self.securebits}" if self.securebits else "")
+
+
+SETTINGS = (
+    Setting(),
+    Setting(CONTAINER),
+    Setting(CONTAINER, KEEP_CAPS),
+    Setting(CONTAINER, NO_SETUID_FIXUP),
+)
 
 
 class Refused(Exception):
@@ -67,9 +112,11 @@ class Kind:
     capability: int
     user: bool
 
-    def told(self, process):
-        """The eight ids, of which the other four are 0."""
-        return f"ok {process.ids()} 0 0 0 0" if self.user else f"ok 0 0 0 0 {process.ids()}"
+    def told(self, process, root):
+        """The eight ids, of which the other four are those of root's task."""
+        if self.user:
+            return f"ok {process.ids()} 0 0 0 0"
+        return f"ok {root} {root} {root} {root} {process.ids()}"
 
 
 USERS = Kind("setresuid", "setfsuid", 7, True)
@@ -86,10 +133,10 @@ def ways():
             yield permitted, inheritable, effective, bounding, ambient
 
 
-def processes():
+def processes(ids=IDS):
     """Each process with these ids, privileged or not."""
-    for privileged, *ids in product((False, True), IDS, IDS, IDS, IDS):
-        yield Process(*ids, privileged)
+    for privileged, *its in product((False, True), ids, ids, ids, ids):
+        yield Process(*its, privileged)
 
 
 def followed(process):
@@ -105,10 +152,11 @@ def held(process, kind):
     return Sets(ALL, ALL if process.privileged else ALL & ~(1 << kind.capability), RAW)
 
 
-def sets_after(old, new, sets, securebits=0):
+def sets_after(old, new, sets, setting):
     """The sets after a change of user ids: capabilities(7), "Effect of user ID changes on
     capabilities".
     """
+    root, securebits = setting.namespace.root, setting.securebits
     # "SECBIT_NO_SETUID_FIXUP: Setting this flag stops the kernel from adjusting the process's
     # permitted, effective, and ambient capability sets when the thread's effective and filesystem
     # UIDs are switched between zero and nonzero values."
@@ -118,7 +166,7 @@ def sets_after(old, new, sets, securebits=0):
     # "If one or more of the real, effective, or saved set user IDs was previously 0, and as a
     # result of the UID changes all of these IDs have a nonzero value, then all capabilities are
     # cleared from the permitted, effective, and ambient capability sets."
-    if 0 in before and 0 not in after:
+    if root in before and root not in after:
         # "SECBIT_KEEP_CAPS: Setting this flag allows a thread that has one or more 0 UIDs to
         # retain capabilities in its permitted set [..] if the thread has set this flag and its
         # effective UID is already nonzero [..], then the effective capabilities will not be
@@ -127,26 +175,27 @@ def sets_after(old, new, sets, securebits=0):
         sets = Sets(sets.permitted if kept else 0, sets.effective if kept else 0, 0)
     # "If the effective user ID is changed from 0 to nonzero, then all capabilities are cleared from
     # the effective set."
-    if old.effective == 0 and new.effective != 0:
+    if old.effective == root and new.effective != root:
         sets = replace(sets, effective=0)
     # "If the effective user ID is changed from nonzero to 0, then the permitted set is copied to
     # the effective set."
-    if old.effective != 0 and new.effective == 0:
+    if old.effective != root and new.effective == root:
         sets = replace(sets, effective=sets.permitted)
     return sets
 
 
-def sets_after_fs(old, new, sets, securebits=0):
+def sets_after_fs(old, new, sets, setting):
     """The sets after setfsuid(2), by the same section."""
-    if securebits & NO_SETUID_FIXUP:
+    root = setting.namespace.root
+    if setting.securebits & NO_SETUID_FIXUP:
         return sets
     # "If the filesystem user ID is changed from 0 to nonzero (see setfsuid(2)), then the following
     # capabilities are cleared from the effective set: CAP_CHOWN, [..] and CAP_MKNOD."
-    if old.fs == 0 and new.fs != 0:
+    if old.fs == root and new.fs != root:
         return replace(sets, effective=sets.effective & ~ON_FILES)
     # "If the filesystem UID is changed from nonzero to 0, then any of these capabilities that are
     # enabled in the permitted set are enabled in the effective set."
-    if old.fs != 0 and new.fs == 0:
+    if old.fs != root and new.fs == root:
         return replace(sets, effective=sets.effective | sets.permitted & ON_FILES)
     return sets
 
@@ -155,15 +204,18 @@ def sets_after_fs(old, new, sets, securebits=0):
 ROOT, TASK, CHILD = 1, 2, 3
 
 
-def begun():
-    """A script with root's task, whose children keep their permitted set when they leave root."""
+def begun(namespace):
+    """A script with a task of the namespace's root, whose children keep their permitted set when
+    they leave root.
+    """
     script = Script()
-    script.init(ROOT, 1, 0, 0)
+    script.declares(*namespace.declared())
+    script.init(ROOT, 1, namespace.root, 0, namespace.number)
     script.changes(ROOT, "keepcaps 1")
     return script
 
 
-def make(script, process, kind, securebits=0):
+def make(script, process, kind, setting):
     """Makes root's child this process."""
     script.fork(ROOT, TASK, 2)
     ids = process.real, process.effective, process.saved
@@ -172,18 +224,18 @@ def make(script, process, kind, securebits=0):
     script.changes(TASK, f"{kind.set_fs} {process.fs}", answer=f"ok was {process.effective}")
     script.changes(TASK, f"ambraise {NET_RAW}")
     script.changes(TASK, f"capset {ALL:x} {RAW:x} {ALL:x}")
-    script.changes(TASK, f"securebits {securebits}")
+    script.changes(TASK, f"securebits {setting.securebits}")
     script.changes(TASK, f"capset {ALL:x} {RAW:x} {held(process, kind).effective:x}")
 
 
-def shown(script, kind, process, sets):
+def shown(script, kind, process, sets, setting):
     """Asks the child for what it is, and ends it."""
-    script.asks(CHILD, "ids", kind.told(process))
+    script.asks(CHILD, "ids", kind.told(process, setting.namespace.root))
     script.asks(CHILD, "caps", sets.told())
     script.exit(CHILD)
 
 
-def tries_ids(script, process, kind, page, words, securebits=0):
+def tries_ids(script, process, kind, page, words, setting):
     """A child makes a call that sets ids: what the page says must come of it."""
     name, *arguments = words
     script.fork(TASK, CHILD, 3)
@@ -192,36 +244,47 @@ def tries_ids(script, process, kind, page, words, securebits=0):
     try:
         new = page(process, *arguments)
     except Refused as why:
+        new = process
         script.ids(CHILD, call, str(why))
-        shown(script, kind, process, sets)
     else:
         script.ids(CHILD, call)
-        shown(script, kind, new, sets_after(process, new, sets, securebits) if kind.user else sets)
+        sets = sets_after(process, new, sets, setting) if kind.user else sets
+    shown(script, kind, new, sets, setting)
 
 
-def tries_fs(script, process, kind, page, words, securebits=0):
+def tries_fs(script, process, kind, page, words, setting):
     """A child sets its filesystem id: what the page says must come of it."""
     name, argument = words
     script.fork(TASK, CHILD, 3)
     sets = held(process, kind)
     new, answer = page(process, argument)
     script.changes(CHILD, f"{name} {argument}", answer=f"ok was {answer}")
-    shown(script, kind, new, sets_after_fs(process, new, sets, securebits) if kind.user else sets)
+    sets = sets_after_fs(process, new, sets, setting) if kind.user else sets
+    shown(script, kind, new, sets, setting)
 
 
-def table(name, width, kind, page, tries=tries_ids):
-    """Every call of this name, which takes so many ids, by every process."""
-    calls = [(name, *ids) for ids in product((NONE, *IDS), repeat=width)]
+def rows(setting, name, width, kind, page, tries):
+    """Every call of this name, which takes so many ids, by every process of this setting."""
+    ids = setting.namespace.ids
+    calls = [(name, *its) for its in product((NONE, *ids), repeat=width)]
     # A process takes nine lines to make and to end, and each of its calls five.
     room = LINES // (5 * len(calls) + 10)
-    left = processes()
+    left = processes(ids)
     while some := list(islice(left, room)):
-        script = begun()
+        script = begun(setting.namespace)
         for process in some:
-            make(script, process, kind)
+            make(script, process, kind, setting)
             for words in calls:
-                tries(script, process, kind, page, words)
+                tries(script, process, kind, page, words, setting)
             script.exit(TASK)
         first = some[0]
         privileged = "privileged" if first.privileged else "unprivileged"
-        yield script.case(f"{name} from {first.ids()}, {privileged}", len(some) * len(calls))
+        told = f"{name} from {first.ids()}, {privileged}{setting.told()}"
+        yield script.case(told, len(some) * len(calls))
+
+
+def table(name, width, kind, page, tries=tries_ids):
+    """The rows of this call in every setting. No securebit is about group ids."""
+    for setting in SETTINGS:
+        if kind.user or not setting.securebits:
+            yield from rows(setting, name, width, kind, page, tries)

@@ -85,7 +85,7 @@ class Script:
     def labels(self):
         """The labels of the last line."""
         base = 100_000 + 10 * len(self.lines)
-        return f"h{base}", f"h{base + 1}"
+        return f"h{base}", f"h{base + 1}", f"h{base + 2}"
 
     def declares(self, *texts):
         """Lines that make no entry."""
@@ -157,7 +157,7 @@ class Script:
     def changes(self, task, change, refusal=None, answer="ok", then=""):
         """A change of the task's credential, answered so; `then` ends the answer of its commit."""
         self.line(f"t{task} {change}")
-        held, prepared = self.labels()
+        held, prepared, _ = self.labels()
         slot = self.slots.keep()
         self.entry(f"take {held} t{task}", self.named(self.current[task]))
         self.entry(f"prepare {prepared} t{task} {held}", f"ok s{slot}")
@@ -172,9 +172,26 @@ class Script:
     def asks(self, task, query, answer):
         """A question about what the task acts with."""
         self.line(f"t{task} {query}")
-        held, _ = self.labels()
+        held, *_ = self.labels()
         self.entry(f"take {held} t{task}", self.named(self.acts_with(task)))
         self.entry(f"ask {held} {query}", answer)
+        self.entry(f"drop {held}", "ok")
+
+    def access(self, task, file, want, answer):
+        """access(2): the task acts for a while with the credential that the call decides by."""
+        self.line(f"t{task} access {file} {want}")
+        held, prepared, asked = self.labels()
+        slot = self.slots.keep()
+        self.entry(f"take {held} t{task}", self.named(self.acts_with(task)))
+        self.entry(f"prepare {prepared} t{task} {held}", f"ok s{slot}")
+        self.entry(f"change {prepared} access", "ok")
+        lent = self.slots.seal(slot)
+        self.entry(f"override t{task} {prepared}", self.named(lent))
+        self.entry(f"take {asked} t{task}", self.named(lent))
+        self.entry(f"ask {asked} check {file} {want}", answer)
+        self.entry(f"drop {asked}", "ok")
+        self.entry(f"revert t{task}", "ok")
+        self.slots.uses[lent] -= 1
         self.entry(f"drop {held}", "ok")
 
     def takes(self, label, task):
@@ -208,7 +225,7 @@ class Script:
     def signals(self, task, other, answer):
         """A signal to the other task."""
         self.line(f"t{task} signal t{other}")
-        of_task, of_other = self.labels()
+        of_task, of_other, _ = self.labels()
         self.entry(f"take {of_task} t{task}", self.named(self.acts_with(task)))
         self.entry(f"takereal {of_other} t{other}", self.named(self.current[other]))
         self.entry(f"signal t{task} {of_task} t{other} {of_other}", answer)

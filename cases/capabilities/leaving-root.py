@@ -1,12 +1,15 @@
-"""Every setresuid(2) between triples of the ids 0, 1 and 2, under the securebits that change its
-effect.
+"""Every setresuid(2) between triples of three user ids, of which one is root's, under the
+securebits that change its effect: in the initial user namespace and in a container's.
 """
 from dataclasses import replace
 from itertools import product
 
 from processes import (
-    IDS, KEEP_CAPS, NO_SETUID_FIXUP, TASK, USERS, Process, begun, followed, make, tries_ids,
+    CONTAINER, INITIAL, KEEP_CAPS, NO_SETUID_FIXUP, TASK, USERS, Process, Setting, begun, followed,
+    make, tries_ids,
 )
+
+SECUREBITS = 0, KEEP_CAPS, NO_SETUID_FIXUP, KEEP_CAPS | NO_SETUID_FIXUP
 
 
 def page(process, real, effective, saved):
@@ -17,13 +20,14 @@ def page(process, real, effective, saved):
 
 
 def cases():
-    """A script for each choice of securebits."""
-    for securebits in (0, KEEP_CAPS, NO_SETUID_FIXUP, KEEP_CAPS | NO_SETUID_FIXUP):
-        script = begun()
-        for real, effective, saved in product(IDS, repeat=3):
+    """A script for each namespace and each choice of securebits."""
+    for setting in (Setting(*it) for it in product((INITIAL, CONTAINER), SECUREBITS)):
+        script = begun(setting.namespace)
+        for real, effective, saved in product(setting.namespace.ids, repeat=3):
             process = Process(real, effective, saved, effective, True)
-            make(script, process, USERS, securebits)
-            for ids in product(IDS, repeat=3):
-                tries_ids(script, process, USERS, page, ("setresuid", *ids), securebits)
+            make(script, process, USERS, setting)
+            for ids in product(setting.namespace.ids, repeat=3):
+                tries_ids(script, process, USERS, page, ("setresuid", *ids), setting)
             script.exit(TASK)
-        yield script.case(f"with securebits {securebits}", 27 * 27)
+        number, securebits = setting.namespace.number, setting.securebits
+        yield script.case(f"in n{number} with securebits {securebits}", 27 * 27)

@@ -1,21 +1,24 @@
-"""What bytes say as a capability attribute: their length, their revision and flags, and each bit of a set.
+"""What bytes say as a capability attribute: their length, their revision and flags, and each bit of
+a set.
 
-The sources are capabilities(7), "File capability extended attribute versioning", and the structures of
-linux/capability.h. What each says is quoted beside the line that follows it.
+The sources are capabilities(7), "File capability extended attribute versioning", and the structures
+of linux/capability.h. What each says is quoted beside the line that follows it.
 """
 from suite import UNREAD, Case
 
-# "VFS_CAP_REVISION_1 This was the original file capability implementation, which supported 32-bit masks
-# for file capabilities": the first word, and one word for each of the two sets.
-# "VFS_CAP_REVISION_2 This version allows for file capability masks that are 64 bits in size": `data[2]`.
-# "VFS_CAP_REVISION_3 Version 3 file capabilities are provided to support namespaced file capabilities":
-# `__le32 rootid` stands behind them.
+# "VFS_CAP_REVISION_1 This was the original file capability implementation, which supported 32-bit
+# masks for file capabilities": the first word, and one word for each of the two sets.
+# "VFS_CAP_REVISION_2 This version allows for file capability masks that are 64 bits in size":
+# `data[2]`.
+# "VFS_CAP_REVISION_3 Version 3 file capabilities are provided to support namespaced file
+# capabilities": `__le32 rootid` stands behind them.
 BYTES = {1: 4 * (1 + 2), 2: 4 * (1 + 2 * 2), 3: 4 * (1 + 2 * 2 + 1)}
 # `#define VFS_CAP_REVISION_SHIFT 24`, `#define VFS_CAP_FLAGS_EFFECTIVE 0x000001`
 EFFECTIVE = 0x000001
 # Every other bit below the revision.
 OTHERS = 0xFFFFFE
-# "a version 3 attribute also encodes the root user ID of namespace": here user 100000.
+# "But in addition, the root user ID of namespace is encoded in the security.capability extended
+# attribute": here user 100000.
 ROOT = 100000
 # CAP_LAST_CAP
 LAST = 40
@@ -24,11 +27,14 @@ LAST = 40
 def said(version, permitted, inheritable, effective):
     """The line that an attribute is written as."""
     root = ROOT if version == 3 else 0
-    return f"version {version} perm {permitted:x} inh {inheritable:x} effective {effective} root {root}\n"
+    sets = f"perm {permitted:x} inh {inheritable:x}"
+    return f"version {version} {sets} effective {effective} root {root}\n"
 
 
 def spelt(revision, flags, permitted, inheritable):
-    """The six words: `magic_etc`, twice `permitted` and `inheritable`, the low halves first, `rootid`."""
+    """The six words: `magic_etc`, twice `permitted` and `inheritable`, the low halves first, and
+    `rootid`.
+    """
     words = [revision << 24 | flags]
     words += [it >> half & 0xFFFFFFFF for half in (0, 32) for it in (permitted, inheritable)]
     return b"".join(it.to_bytes(4, "little") for it in [*words, ROOT])
@@ -54,7 +60,8 @@ def lengths():
                     line = f"bad length {length}\n"
                 else:
                     line = said(revision, permitted, inheritable, flags & EFFECTIVE)
-                yield case(f"{length}-bytes-revision-{revision}-flags-{flags:x}", whole[:length], line)
+                name = f"{length}-bytes-revision-{revision}-flags-{flags:x}"
+                yield case(name, whole[:length], line)
 
 
 def capabilities():

@@ -1,10 +1,14 @@
-"""Every execve(2) of a table of processes and programs: 147,456 of one capability each.
+"""Every execve(2) of a table of processes and programs: 377,856 of one capability each.
 
 A process may have a capability in its sets in sixteen ways, and what becomes of one capability
 hangs on no other, but for the test of capability-dumb binaries. So a process has its 41
 capabilities in all sixteen ways at once, where that test isn't made. Where it is, it has them in
 the eight ways that the test lets pass, and then eight processes more have one capability in a way
 that it doesn't.
+
+The table stands once for each of four places: two in the initial user namespace, where the
+attributes count and where they don't, one in a container's, and one in a namespace below that. Who
+is root elsewhere is nobody special there, as a user and as a file's owner.
 """
 from dataclasses import dataclass
 from itertools import product
@@ -14,14 +18,46 @@ from reports import LINES, Script
 
 NOROOT = 1
 CAPABILITIES = range(41)
-# The user ids of the process where they aren't root's, each another, and its group ids; a saved
-# and a filesystem id that no effective id is, and a supplementary group.
+# The user ids of the process where they are nobody's, each another, and its group ids; a saved and
+# a filesystem id that no effective id is, and a supplementary group.
 REAL_USER, EFFECTIVE_USER, REAL_GROUP, EFFECTIVE_GROUP = 1000, 2000, 10, 20
 OTHER, SUPPLEMENTARY = 77, 60
-# The program's owner where it isn't root, and its group; the root id of its attribute.
-OWNER, GROUP, NAMESPACE_ROOT = 500, 50, 7
-# A namespace where the attributes of the table count, and one where they don't.
-INSIDE, OUTSIDE = 1, 2
+# The program's owner where it is nobody, and its group.
+OWNER, GROUP = 500, 50
+# The root ids of a container's namespace and of one below it, which every script declares.
+CONTAINER, NESTED = 100_000, 200_000
+NAMESPACES = f"ns 1 {CONTAINER} 0", f"ns 2 {NESTED} 1"
+
+
+@dataclass(frozen=True)
+class Place:
+    """Where a table stands: a user namespace, by its number, its root id and those of its
+    ancestors; the root id of the attributes; who is root elsewhere, if anybody; and the owners of
+    the programs.
+    """
+
+    name: str
+    namespace: int
+    root: int
+    ancestors: tuple
+    attribute_root: int
+    elsewhere: tuple
+    owners: tuple
+
+    def users(self):
+        """The real and the effective user ids of the processes."""
+        other = (*self.elsewhere, REAL_USER)[0]
+        yield from product((self.root, other), (self.root, EFFECTIVE_USER))
+        yield from ((REAL_USER, it) for it in self.elsewhere)
+
+
+PLACES = (
+    Place("in n0", 0, 0, (), 0, (), (0, OWNER)),
+    Place("in n0, attributes of n1", 0, 0, (), CONTAINER, (), (0, OWNER)),
+    Place("in n1", 1, CONTAINER, (0,), CONTAINER, (0,), (CONTAINER, 0, OWNER)),
+    Place("in n2, attributes of n1", 2, NESTED, (CONTAINER, 0), CONTAINER, (CONTAINER,),
+          (NESTED, CONTAINER)),
+)
 
 
 @dataclass(frozen=True)
@@ -49,7 +85,7 @@ class Process:
     noroot: bool
     keep_caps: bool
     no_new_privs: bool
-    namespace: int
+    place: Place
     sets: Sets
 
 
@@ -62,12 +98,12 @@ class Attribute:
     inheritable: int = 0
     effective: bool = False
 
-    def spelt(self):
+    def spelt(self, root):
         """Its bytes, in version 3 (linux/capability.h); a damaged one has no version's revision."""
         words = [self.effective | (4 if self.name == "damaged" else 3) << 24]
         for half in (0, 32):
             words += [it >> half & 0xFFFFFFFF for it in (self.permitted, self.inheritable)]
-        return b"".join(it.to_bytes(4, "little") for it in [*words, NAMESPACE_ROOT]).hex()
+        return b"".join(it.to_bytes(4, "little") for it in [*words, root]).hex()
 
 
 NO_ATTRIBUTE = Attribute("none")
@@ -102,10 +138,11 @@ class Program:
         suid, nosuid = "-suid" * self.set_user_id, "-nosuid" * self.nosuid
         return f"u{self.owner}{suid}{self.set_group_id}{nosuid}-{self.attribute.name}"
 
-    def declared(self):
-        """The line that declares it."""
+    def declared(self, root):
+        """The line that declares it, its attribute with this root id."""
         mode = 0o4000 * self.set_user_id + MODES[self.set_group_id]
-        attribute = "" if self.attribute == NO_ATTRIBUTE else f" caps {self.attribute.spelt()}"
+        has_none = self.attribute == NO_ATTRIBUTE
+        attribute = "" if has_none else f" caps {self.attribute.spelt(root)}"
         nosuid = " nosuid" * self.nosuid
         return f"file {self.name()} reg {self.owner} {GROUP} {mode:04o}{nosuid}{attribute}"
 
@@ -158,7 +195,9 @@ def met(process, program):
         return NO_ATTRIBUTE
     if attribute.name == "damaged":
         raise Refused("einval")
-    return attribute if process.namespace == INSIDE else NO_ATTRIBUTE
+    place = process.place
+    counts = place.attribute_root in (place.root, *place.ancestors)
+    return attribute if counts else NO_ATTRIBUTE
 
 
 def check_dumb(sets, attribute):
@@ -176,23 +215,27 @@ def is_all_ones(process, user, attribute):
     process is 0 (root), then the file inheritable and permitted sets are ignored; instead they are
     notionally considered to be all ones". "SECBIT_NOROOT: If this bit is set, then the kernel does
     not grant capabilities [..] when a process with an effective or real UID of 0 calls execve(2)."
+    UID 0 is that of the process's user namespace: "A namespace's root user ID is the value that
+    user ID 0 inside that namespace maps to in the initial user namespace."
     """
-    if process.noroot or 0 not in (process.real_user, user):
+    root = process.place.root
+    if process.noroot or root not in (process.real_user, user):
         return False
     # "Set-user-ID-root programs that have file capabilities": "If (a) the binary that is being
     # executed has capabilities attached and (b) the real user ID of the process is not 0 (root)
     # and (c) the effective user ID of the process is 0 (root), then the file capability bits are
     # honored".
-    return not (attribute != NO_ATTRIBUTE and process.real_user != 0 and user == 0)
+    return not (attribute != NO_ATTRIBUTE and process.real_user != root and user == root)
 
 
 def transformed(process, program, user, attribute):
     """The sets after, by "Transformation of capabilities during execve()", and the gains."""
-    sets, root = process.sets, is_all_ones(process, user, attribute)
+    sets, all_ones = process.sets, is_all_ones(process, user, attribute)
     # "If the effective user ID of the process is 0 (root) or the file effective bit is in fact
     # enabled, then the file effective bit is notionally defined to be one", for root.
-    effective = attribute.effective or root and user == 0
-    permitted, inheritable = (ALL, ALL) if root else (attribute.permitted, attribute.inheritable)
+    effective = attribute.effective or all_ones and user == process.place.root
+    honored = attribute.permitted, attribute.inheritable
+    permitted, inheritable = (ALL, ALL) if all_ones else honored
     # "a privileged file is one that has capabilities or has the set-user-ID or set-group-ID bit
     # set."
     by_id = changes_user(process, program) or changes_group(process, program)
@@ -208,7 +251,7 @@ def transformed(process, program, user, attribute):
     after = Sets(new, sets.inheritable, new if effective else ambient, sets.bounding, ambient)
     gain = new & ~sets.permitted
     of_file = gain & permitted & sets.bounding
-    return after, (0, 0, gain) if root else (of_file, gain & ~of_file, 0)
+    return after, (0, 0, gain) if all_ones else (of_file, gain & ~of_file, 0)
 
 
 def page(process, program):
@@ -236,27 +279,26 @@ def short_of(way, sets):
     return Sets(*(it & ~(1 << 13) | has << 13 for it, has in zip(fields, way)))
 
 
-def programs():
+def programs(place):
     """Each program of the table."""
-    kinds = product((0, OWNER), (False, True), MODES, (False, True), ATTRIBUTES)
+    kinds = product(place.owners, (False, True), MODES, (False, True), ATTRIBUTES)
     return [Program(*it) for it in kinds]
 
 
-def rows():
+def rows(place):
     """The sets of a process, and the programs that it executes."""
-    dumb = [it for it in programs() if it.attribute == DUMB]
+    dumb = [it for it in programs(place) if it.attribute == DUMB]
     bounded = sets_of(it for it in ways() if it[3])
-    yield sets_of(ways()), [it for it in programs() if it.attribute != DUMB]
+    yield sets_of(ways()), [it for it in programs(place) if it.attribute != DUMB]
     yield bounded, dumb
     for way in (it for it in ways() if not it[3]):
         yield short_of(way, bounded), dumb
 
 
-def processes(namespace, sets):
+def processes(place, sets):
     """Each process of the table with these sets."""
-    users = (0, REAL_USER), (0, EFFECTIVE_USER)
-    for real, effective, *flags in product(*users, *[(False, True)] * 3):
-        yield Process(real, effective, *flags, namespace, sets)
+    for users, *flags in product(place.users(), *[(False, True)] * 3):
+        yield Process(*users, *flags, place, sets)
 
 
 # Root's task, one with the groups and the sets that shrink alone, a process of the table, and the
@@ -264,12 +306,11 @@ def processes(namespace, sets):
 ROOT, BODY, TASK, CHILD = 1, 2, 3, 4
 
 
-def begun(namespace):
-    """A script with the programs, the namespaces and root's task."""
+def begun(place):
+    """A script with the programs, the namespaces and a task of the place's root."""
     script = Script()
-    script.declares(f"ns {INSIDE} {NAMESPACE_ROOT} 0", f"ns {OUTSIDE} {OTHER} 0")
-    script.declares(*(it.declared() for it in programs()))
-    script.init(ROOT, 1, 0, 0, namespace)
+    script.declares(*NAMESPACES, *(it.declared(place.attribute_root) for it in programs(place)))
+    script.init(ROOT, 1, place.root, 0, place.namespace)
     script.changes(ROOT, f"securebits {NO_SETUID_FIXUP}")
     return script
 
@@ -324,16 +365,16 @@ def executes(script, process, program):
     script.exit(CHILD)
 
 
-def table(namespace):
-    """All rows in this namespace."""
-    script, calls, part = begun(namespace), 0, 1
-    for sets, some in rows():
+def table(place):
+    """All rows in this place."""
+    script, calls, part = begun(place), 0, 1
+    for sets, some in rows(place):
         make_body(script, sets)
-        for process in processes(namespace, sets):
+        for process in processes(place, sets):
             # A process takes seven lines to make and to end, and so does each program; then a body.
             if len(script.lines) + 7 * len(some) + 100 > LINES:
-                yield script.case(f"in n{namespace}, part {part}", calls)
-                script, calls, part = begun(namespace), 0, part + 1
+                yield script.case(f"{place.name}, part {part}", calls)
+                script, calls, part = begun(place), 0, part + 1
                 make_body(script, sets)
             make(script, process)
             for program in some:
@@ -341,10 +382,10 @@ def table(namespace):
             script.exit(TASK)
             calls += len(some)
         script.exit(BODY)
-    yield script.case(f"in n{namespace}, part {part}", calls)
+    yield script.case(f"{place.name}, part {part}", calls)
 
 
 def cases():
-    """The table in both namespaces."""
-    yield from table(INSIDE)
-    yield from table(OUTSIDE)
+    """The table in each place."""
+    for it in PLACES:
+        yield from table(it)

@@ -1,4 +1,4 @@
-"""Every setresuid(2) and setresgid(2) of a process with the ids 0, 1 and 2."""
+"""Every setresuid(2) and setresgid(2) of a process with three ids, one of them root's."""
 from dataclasses import replace
 
 from processes import GROUPS, NONE, USERS, Refused, followed, table

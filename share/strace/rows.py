@@ -33,8 +33,6 @@ ALL = (
     NO_NEW_PRIVS_FILE, NO_NEW_PRIVS_IDS, SET_ID, PLAIN_FILE, TRACED,
 )  # fmt: skip
 
-# An attribute of the first version.
-
 # What a kept row may have changed.
 IDS, CAPS, FILE_IDS = "ids", "caps", "file ids"
 
