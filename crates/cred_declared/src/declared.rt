@@ -3,7 +3,7 @@ ghost use Rattle.std.specs.Prelude.{◌≡◌, ◌∷◌, [], if◌then◌else�
 ghost use Rattle.std.specs.Option.{option_map};
 ghost use Rattle.cred_model.specs.Answers.{checked};
 ghost use Rattle.cred_model.specs.Named.{change_files, query_files};
-ghost use Rattle.cred_model.specs.Script.{chain_of, info_of};
+ghost use Rattle.cred_model.specs.Script.{chain_of, info_of, root_of};
 
 use cred_access::may;
 use cred_event::{Answer, Change, Query};
@@ -50,5 +50,17 @@ pub fn chain_of(script: &Script, ns: u32) -> &[Id]
     match script.chain(ns) {
         Some(chain) => chain,
         None => &[],
+    }
+}
+
+/// The user id of root in a namespace, which is the first of its root ids (user_namespaces(7)). For
+/// a namespace that isn't declared it is that of the initial one.
+pub fn root_of(script: &Script, ns: u32) -> Id
+    ensures { result ≡ root_of script.now ns }
+{
+    match chain_of(script, ns).first() {
+        Some(root) => *root,
+        // 0 is an id.
+        None => Id::new(0).unwrap(),
     }
 }

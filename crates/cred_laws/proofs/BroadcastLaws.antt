@@ -50,7 +50,7 @@ committed_none : (process : ℕ) (change : Change) (owner : Task) (casts : List 
 committed_none process (Exec file) owner casts none = dropped_still process owner.process casts none
 committed_none process change owner casts none = none
 
-none_by : (s : State) (event : Event) (made : Answer × State) (process : ℕ) → cast_in s process ≡ None → TasksChange s event made
+none_by : {script : Script} → (s : State) (event : Event) (made : Answer × State) (process : ℕ) → cast_in s process ≡ None → TasksChange script s event made
     → (found_in process made.1.casts ≡ None) ⊎ BeginsIn s made.1 process
 none_by s event made process none (SameTasks same casts) = inl (no_change process s.casts made.1.casts casts none)
 none_by s event made process none (Creates task of user group ns slot is tasks creds new idle casts) =

@@ -293,7 +293,7 @@ module _ (P : Credential → Type 0) (kept : Kept P) (script : Script) (s : Stat
             (ap (found_in process) casts ∙ dropped_beside process in_cast.process s.casts cast other is ∙ shown_open cast at.under_way.some)
       ] refl
 
-  pub goes : TasksChange s event made → (more : List SealedCred) × (made.1.creds ≡ s.creds ++ more) → Goes
+  pub goes : TasksChange script s event made → (more : List SealedCred) × (made.1.creds ≡ s.creds ++ more) → Goes
   goes (SameTasks same casts) more =
       Waits cast.waiting (settled s.tasks cast.waiting same (grown made.1.creds more)) (open_still casts)
   goes (Creates task of user group ns slot inits tasks creds new idle casts) more =

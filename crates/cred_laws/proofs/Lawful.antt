@@ -156,7 +156,7 @@ gains_as_answered script journal answered k task before after =
 created_by : (script : Script) (journal : List Entry) (k task : ℕ) (after : Numbered) (o : Option Entry)
     → slice_get journal k ≡ o → task_of (state_at script journal k) task ≡ None
     → current_of (state_at script journal (k + 1)) task ≡ Some after
-    → IfSome o (λ entry. IsCreatedWith (state_at script journal k) entry.event task after)
+    → IfSome o (λ entry. IsCreatedWith script (state_at script journal k) entry.event task after)
 created_by script journal k task after (Some entry) is none now =
     new_tasks_are_created script (state_at script journal k) entry.line entry.event task after none
     (ap (λ (s : State). current_of s task) (sym (step_at script journal k entry is)) ∙ now)

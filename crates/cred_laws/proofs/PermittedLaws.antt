@@ -14,7 +14,7 @@ use Rattle.cred_setid.proofs.SetIdLaws as setid
 use Rattle.cred_event.specs.declared.event.Event.{Event}
 use Rattle.cred_event.specs.declared.event.Event.TheVariants.{Init}
 use Rattle.cred_event.specs.declared.answer.Answer.{Answer}
-use Rattle.cred_model.specs.Script.{Script, info_of, chain_of}
+use Rattle.cred_model.specs.Script.{Script, info_of, chain_of, root_of}
 use Rattle.cred_model.specs.State.{State, SealedCred, Task, Numbered, numbered, task_of, current_of}
 use Rattle.cred_model.specs.Named.{change_files}
 use Rattle.cred_model.specs.Change.{gained}
@@ -160,7 +160,7 @@ owner_current s acting owner old found current =
     sym (at.number ∙ ap (λ (t : Task). t.current) one)
 
 gains_by : (script : Script) (s : State) (event : Event) (left : List ℕ) (made : Answer × State) (task : ℕ) (before after : Numbered)
-    → IsSound s → AreMade script s → CredsChange s event left made.1 → TasksChange s event made → current_of s task ≡ Some before
+    → IsSound s → AreMade script s → CredsChange s event left made.1 → TasksChange script s event made → current_of s task ≡ Some before
     → current_of made.1 task ≡ Some after → GainsBy made.0 before after
 gains_by script s event left made task before after sound are creds (SameTasks same casts) is now =
     unchanged made.1 task made.0 before after
@@ -221,15 +221,15 @@ nobody : (tasks : List Task) (creds : List SealedCred) (task : ℕ) (c : Numbere
 nobody tasks creds task c none is =
     let empty : None ≡ Some c = sym (ap (option_and_then (λ (t : Task). numbered creds t.current)) none) ∙ is in cc
 
-first_at : (s : State) (number process task user group ns slot : ℕ) (c : Numbered) (b : Bool) → (number == task) ≡ b
-    → option_and_then (λ (t : Task). numbered (s.creds ++ sealed_cred (first_credential user group ns) slot ∷ []) t.current) (cond b (Some (first_task number process (length s.creds))) None) ≡ Some c
-    → IsCreatedWith s (Init number process user group ns) task c
-first_at s number process task user group ns slot c true test now =
+first_at : (script : Script) (s : State) (number process task user group ns slot : ℕ) (c : Numbered) (b : Bool) → (number == task) ≡ b
+    → option_and_then (λ (t : Task). numbered (s.creds ++ sealed_cred (first_credential user group ns (root_of script ns)) slot ∷ []) t.current) (cond b (Some (first_task number process (length s.creds))) None) ≡ Some c
+    → IsCreatedWith script s (Init number process user group ns) task c
+first_at script s number process task user group ns slot c true test now =
     let same : number ≡ task = grind (arith, nat_tests) in
-    let both = sym (numbered_last s.creds (sealed_cred (first_credential user group ns) slot)) ∙ now in
-    let one : record { number = length s.creds; cred = first_credential user group ns; slot = slot } ≡ c = cc in
+    let both = sym (numbered_last s.creds (sealed_cred (first_credential user group ns (root_of script ns)) slot)) ∙ now in
+    let one : record { number = length s.creds; cred = first_credential user group ns (root_of script ns); slot = slot } ≡ c = cc in
     (same, ap (λ (n : Numbered). n.number) (sym one), ap (λ (n : Numbered). n.cred) (sym one))
-first_at s number process task user group ns slot c false test now = cc
+first_at script s number process task user group ns slot c false test now = cc
 
 child_at : (s : State) (parent child process task : ℕ) (shared c : Numbered) (b : Bool) → (child == task) ≡ b
     → current_of s parent ≡ Some shared
@@ -242,47 +242,47 @@ child_at s parent child process task shared c true test current now =
     (same, current ∙ ap Some one)
 child_at s parent child process task shared c false test current now = cc
 
-created_with : (s : State) (event : Event) (parent child process task : ℕ) (c : Numbered) (made : Answer × State)
-    → Creation s event parent child process made → (child ≡ task) × (current_of s parent ≡ Some c) → IsCreatedWith s event task c
-created_with s event parent child process task c made (BySpawn owner is found own casts) with =
-    subst (λ e. IsCreatedWith s e task c) (sym is) with
-created_with s event parent child process task c made (ByFork is unused casts) with =
-    subst (λ e. IsCreatedWith s e task c) (sym is) with
+created_with : (script : Script) (s : State) (event : Event) (parent child process task : ℕ) (c : Numbered) (made : Answer × State)
+    → Creation s event parent child process made → (child ≡ task) × (current_of s parent ≡ Some c) → IsCreatedWith script s event task c
+created_with script s event parent child process task c made (BySpawn owner is found own casts) with =
+    subst (λ e. IsCreatedWith script s e task c) (sym is) with
+created_with script s event parent child process task c made (ByFork is unused casts) with =
+    subst (λ e. IsCreatedWith script s e task c) (sym is) with
 
-created_by : (s : State) (event : Event) (made : Answer × State) (task : ℕ) (after : Numbered) → TasksChange s event made
-    → task_of s task ≡ None → current_of made.1 task ≡ Some after → IsCreatedWith s event task after
-created_by s event made task after (SameTasks same casts) none now =
+created_by : (script : Script) (s : State) (event : Event) (made : Answer × State) (task : ℕ) (after : Numbered) → TasksChange script s event made
+    → task_of s task ≡ None → current_of made.1 task ≡ Some after → IsCreatedWith script s event task after
+created_by script s event made task after (SameTasks same casts) none now =
     absurd (nobody made.1.tasks made.1.creds task after (ap (find (λ (t : Task). t.number == task)) same ∙ none) now)
-created_by s event made task after (Creates number process user group ns slot by tasks creds fresh idle casts) none now =
+created_by script s event made task after (Creates number process user group ns slot by tasks creds fresh idle casts) none now =
     let first = first_task number process (length s.creds) in
     let owner = find-append (λ (t : Task). t.number == task) s.tasks (first ∷ [])
     ∙ ap (λ o. option_or o (find (λ (t : Task). t.number == task) (first ∷ []))) none in
-    subst (λ e. IsCreatedWith s e task after) (sym by)
-    (first_at s number process task user group ns slot after (number == task) refl
+    subst (λ e. IsCreatedWith script s e task after) (sym by)
+    (first_at script s number process task user group ns slot after (number == task) refl
     (sym (ap (λ tasks. current_in tasks made.1.creds task) tasks
     ∙ ap (λ creds. current_in (s.tasks ++ first ∷ []) creds task) creds
-    ∙ ap (option_and_then (λ (t : Task). numbered (s.creds ++ sealed_cred (first_credential user group ns) slot ∷ []) t.current)) owner) ∙ now))
-created_by s event made task after (Shares parent child process shared tasks creds current fresh creation) none now =
+    ∙ ap (option_and_then (λ (t : Task). numbered (s.creds ++ sealed_cred (first_credential user group ns (root_of script ns)) slot ∷ []) t.current)) owner) ∙ now))
+created_by script s event made task after (Shares parent child process shared tasks creds current fresh creation) none now =
     let first = first_task child process shared.number in
     let owner = find-append (λ (t : Task). t.number == task) s.tasks (first ∷ [])
     ∙ ap (λ o. option_or o (find (λ (t : Task). t.number == task) (first ∷ []))) none in
-    created_with s event parent child process task after made creation
+    created_with script s event parent child process task after made creation
     (child_at s parent child process task shared after (child == task) refl current
     (sym (ap (λ tasks. current_in tasks made.1.creds task) tasks
     ∙ ap (λ creds. current_in (s.tasks ++ first ∷ []) creds task) creds
     ∙ ap (option_and_then (λ (t : Task). numbered s.creds t.current)) owner) ∙ now))
-created_by s event made task after (Renews acting slot owner c ends tasks creds found cause) none now =
+created_by script s event made task after (Renews acting slot owner c ends tasks creds found cause) none now =
     absurd (nobody made.1.tasks made.1.creds task after
     (ap (find (λ (t : Task). t.number == task)) tasks ∙ updated_task (survivors ends s.tasks) acting (length s.creds) task
     ∙ ap (option_map (updated acting (length s.creds))) (find_no_survivor ends s.tasks task none)) now)
-created_by s event made task after (Overrides acting numbers tasks refer casts) none now =
+created_by script s event made task after (Overrides acting numbers tasks refer casts) none now =
     absurd (nobody made.1.tasks made.1.creds task after
     (ap (find (λ (t : Task). t.number == task)) tasks ∙ overriding_task s.tasks acting numbers task
     ∙ ap (option_map (overriding acting numbers)) none) now)
-created_by s event made task after (Fewer ends tasks creds death) none now =
+created_by script s event made task after (Fewer ends tasks creds death) none now =
     absurd (nobody made.1.tasks made.1.creds task after
     (ap (find (λ (t : Task). t.number == task)) tasks ∙ find_no_survivor ends s.tasks task none) now)
 
 pub new_tasks_are_created : NewTasksAreCreated
 new_tasks_are_created script s line event task after =
-    created_by s event _ task after (changes script s line event).tasks
+    created_by script s event _ task after (changes script s line event).tasks

@@ -22,7 +22,7 @@ use Rattle.cred_event.specs.declared.event.Query.{Query}
 use Rattle.cred_event.specs.declared.event.Query.TheVariants.{Ids, Caps, Groups, Bits, Capable, Bset, AmbIs, Check}
 use Rattle.cred_event.specs.declared.event.Event.{Event}
 use Rattle.cred_event.specs.declared.event.Event.TheVariants.{Init, Take, TakeFile, Release, Ask, Signal, Prepare, Alter, Commit, Abort, Override, Revert, Begin, Act, OpenFile, CloseFile, Spawn, Fork, Exit, Sweep}
-use Rattle.cred_model.specs.Script.{Script, info_of, chain_of}
+use Rattle.cred_model.specs.Script.{Script, info_of, chain_of, root_of}
 use Rattle.cred_model.specs.Named.{change_files}
 use Rattle.cred_model.specs.State.{State, Broadcast, Task, Numbered, numbered, task_of, cast_of, cast_in, begun_by, open_of, hold_of, prepared_of, credential_of, opener_of, held_by}
 use Rattle.cred_model.specs.Casts.{not_busy, others_of, with_cast, waits_no_more}
@@ -194,7 +194,7 @@ follow_plain s cast task old (Ok new) =
 pub plain : (script : Script) (s : State) (line : ℕ) (event : Event) → commits event ≡ false → Plain (done script s line event)
 plain script s line (Init task process user group ns) other =
     idle_plain (cast_in s process) _ (none_plain (task_of s task) _ _ refl (fewer_plain (length s.tasks) TASKS _ _ refl
-    (slot_plain s table_full (λ t slot. (answer.Sealed (length t.creds) slot, created t (first_task task process (length t.creds)) (first_credential user group ns) slot))
+    (slot_plain s table_full (λ t slot. (answer.Sealed (length t.creds) slot, created t (first_task task process (length t.creds)) (first_credential user group ns (root_of script ns)) slot))
     (λ t. refl) (λ t slot. refl))))
 plain script s line (Take label task side) other =
     some_plain (credential_of s task side) _ _ refl (λ taken. hold_plain s label taken)

@@ -111,7 +111,7 @@ CreatesTasks script journal =
     (k task : ℕ) (after : Numbered) → task_of (state_at script journal k) task ≡ None
     → current_of (state_at script journal (k + 1)) task ≡ Some after
     → IfSome (slice_get journal k) (λ entry.
-    IsCreatedWith (state_at script journal k) entry.event task after)
+    IsCreatedWith script (state_at script journal k) entry.event task after)
 
 -- After an entry that completes a call of a thread, each live thread of the process has what the
 -- call names.

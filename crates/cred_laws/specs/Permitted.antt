@@ -5,7 +5,7 @@ use Rattle.cred_record.specs.Credential.{first_credential}
 use Rattle.cred_event.specs.declared.answer.Answer.{Answer}
 use Rattle.cred_event.specs.declared.event.Event.{Event}
 use Rattle.cred_event.specs.declared.event.Event.TheVariants.{Init, Spawn, Fork}
-use Rattle.cred_model.specs.Script.{Script}
+use Rattle.cred_model.specs.Script.{Script, root_of}
 use Rattle.cred_model.specs.State.{State, Numbered, task_of, current_of}
 use Rattle.cred_model.specs.Change.{gained}
 use Rattle.cred_model.specs.Step.{step}
@@ -30,19 +30,21 @@ PermittedGains =
     → GainsBy (step script s line event).0 before after
 
 -- In this state the event creates the task, with this current credential: a first task has a new
--- one, that of the ids and the namespace which the event names, and a thread or a child shares that
--- of the task which creates it.
-abbrev pub IsCreatedWith : State → Event → ℕ → Numbered → Type 0
-IsCreatedWith s (Init number process user group ns) task c =
-    (number ≡ task) × (c.number ≡ length s.creds) × (c.cred ≡ first_credential user group ns)
-IsCreatedWith s (Spawn parent child) task c = (child ≡ task) × (current_of s parent ≡ Some c)
-IsCreatedWith s (Fork parent child process) task c =
+-- one, that of the ids and the namespace which the event names, where root is the namespace's own,
+-- and a thread or a child shares that of the task which creates it.
+abbrev pub IsCreatedWith : Script → State → Event → ℕ → Numbered → Type 0
+IsCreatedWith script s (Init number process user group ns) task c =
+    (number ≡ task) × (c.number ≡ length s.creds) ×
+    (c.cred ≡ first_credential user group ns (root_of script ns))
+IsCreatedWith script s (Spawn parent child) task c =
     (child ≡ task) × (current_of s parent ≡ Some c)
-IsCreatedWith s event task c = ⊥
+IsCreatedWith script s (Fork parent child process) task c =
+    (child ≡ task) × (current_of s parent ≡ Some c)
+IsCreatedWith script s event task c = ⊥
 
 -- A task that was not alive before an event, and is after it, was created by it.
 abbrev pub NewTasksAreCreated : Type 0
 NewTasksAreCreated =
     (script : Script) (s : State) (line : ℕ) (event : Event) (task : ℕ) (after : Numbered)
     → task_of s task ≡ None → current_of (step script s line event).1 task ≡ Some after
-    → IsCreatedWith s event task after
+    → IsCreatedWith script s event task after

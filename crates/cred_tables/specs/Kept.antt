@@ -19,7 +19,7 @@ use Rattle.cred_tables.specs.declared.table.Numbered as table
 
 -- what stands for the credential of a place that has none
 unfoldable pub no_credential : Credential
-no_credential = first_credential 0 0 0
+no_credential = first_credential 0 0 0 0
 
 -- the credential in a slot's place
 abbrev pub placed : List (Option Credential) → ℕ → Credential
