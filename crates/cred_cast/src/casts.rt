@@ -1,5 +1,5 @@
 //! The table of open broadcasts.
-ghost use Rattle.std.specs.Prelude.{◌≡◌, ◌≢◌, ◌==◌, ℕ, ◌+◌, ◌<◌, [], All, length, is_some};
+ghost use Rattle.std.specs.Prelude.{◌≡◌, ◌≢◌, ◌==◌, ℕ, ◌+◌, ◌<◌, [], All, length};
 ghost use Rattle.std.specs.Prelude.{slice_get, vec_len, true, None, IfOk, IfSome, OnOk, OnErr};
 ghost use Rattle.std.specs.List.{AllPairs, position, remove};
 ghost use Rattle.std.specs.Option.{IsSomeAnd, option_and_then, option_map};
@@ -88,14 +88,17 @@ impl Casts {
         Ok(())
     }
 
-    /// The least task that waits in a broadcast. `None` just where none of that number is open.
-    pub fn next(&self, number: u32) -> Option<u32>
-        ensures next { result
+    /// The least task that waits in a broadcast, and the call that it makes there. `None` just
+    /// where none of that number is open.
+    pub fn next(&self, number: u32) -> Option<(u32, &IdCall)>
+        ensures next { option_map (λ n. n.0) result
             ≡ option_and_then (λ b. slice_get b.waiting 0) (cast_under self.now number) }
-        ensures none { is_some result ≡ is_some (cast_under self.now number) }
+        ensures call { option_map (λ n. n.1.now) result
+            ≡ option_map (λ b. b.call) (cast_under self.now number) }
         ensures casts { AreCasts self.now }
     {
-        self.cast(number)?.least()
+        let cast = self.cast(number)?;
+        Some((cast.least()?, &cast.call))
     }
 
     /// A task has made its step: it waits no more. Returns how many still wait in the broadcast;
@@ -171,14 +174,6 @@ impl Casts {
         ensures { result ≡ option_map (λ b. b.caller) (cast_under self.now number) }
     {
         Some(self.cast(number)?.caller)
-    }
-
-    /// The call that every thread of a broadcast makes. `None` where none of that number is open.
-    pub fn call(&self, number: u32) -> Option<&IdCall>
-        ensures { option_map (λ c. c.now) result
-            ≡ option_map (λ b. b.call) (cast_under self.now number) }
-    {
-        Some(&self.cast(number)?.call)
     }
 
     /// The broadcast of a number. `None` where none of that number is open.

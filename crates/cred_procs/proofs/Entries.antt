@@ -14,7 +14,7 @@ use Rattle.cred_procs.specs.declared.thread.Thread.{Thread}
 use Rattle.cred_procs.specs.Kept.{task_as, tasks_of}
 use Rattle.cred_procs.specs.Tasks.{task_in}
 
-test_sym : (a b : ℕ) → nat_eq a b ≡ nat_eq b a
+pub test_sym : (a b : ℕ) → nat_eq a b ≡ nat_eq b a
 test_sym a b = grind (arith, nat_tests)
 
 pub numbers-tasks_of : (es : List (ℕ × Thread)) → map (λ t. t.number) (tasks_of es) ≡ keys_of es

@@ -3,3 +3,4 @@ pub mod Changes
 pub mod Writes
 pub mod Ends
 pub mod Many
+pub mod Places

@@ -193,6 +193,35 @@ impl Procs {
         Ok(TaskList::from_vec(tasks))
     }
 
+    /// Where a task stands in the table, until a task ends. `None` where it isn't alive.
+    #[inline(always)]
+    pub fn place(&self, task: u32) -> Option<usize>
+        ensures place { IfSome result (λ place.
+            slice_get self.now place ≡ task_in self.now task) }
+        ensures alive { is_some result ≡ is_some (task_in self.now task) }
+    {
+        self.tasks.get_index_of(&task)
+    }
+
+    /// The number of the current credential of the task at a place.
+    #[inline(always)]
+    pub fn current_at(&self, place: usize) -> u64
+        requires { place < length self.now }
+        ensures { Some result ≡ option_map (λ t. t.current) (slice_get self.now place) }
+    {
+        self.tasks[place].current
+    }
+
+    /// Gives the task at a place another current credential.
+    #[inline(always)]
+    pub fn set_current_at(&mut self, place: usize, number: u64)
+        requires { place < length self.old }
+        ensures { IfSome (slice_get self.old place) (λ t.
+            self.new ≡ with_current self.old t.number number) }
+    {
+        self.tasks[place].current = number;
+    }
+
     /// Gives a task another current credential, and returns the number of the one before.
     #[inline(always)]
     pub fn set_current(&mut self, task: u32, number: u64) -> u64

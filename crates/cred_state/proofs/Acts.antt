@@ -1,9 +1,11 @@
 -- A thread that waits makes its step in a broadcast, or its process ends.
-use Rattle.std.proofs.Common.{◌≡◌, ℕ, ◌+◌, ◌-◌, ◌==◌, List, ◌++◌, ◌⊎◌, length, slice_get, slice_set, Option, None, Some, is_some, Result, Ok, Err, IfOk, OnOk, inl, inr, refl, sym, ap, ◌∙◌, subst, arith}
+use Rattle.std.proofs.Common.{◌≡◌, ℕ, ◌+◌, ◌-◌, ◌<◌, ◌==◌, List, ◌++◌, ◌⊎◌, length, slice_get, slice_set, Option, None, Some, is_some, Result, Ok, Err, IfOk, OnOk, inl, inr, refl, sym, ap, ◌∙◌, subst, arith}
 use Rattle.std.specs.Option.{IfSome, IsSome, option_and_then, option_map}
+use Rattle.std.proofs.lemmas.Option.{slice_get_within}
 use Rattle.cred_ids.specs.Limits.{SLOTS}
 use Rattle.cred_record.specs.Credential.{Credential}
 use Rattle.cred_record.specs.Answer.{AnswersBy}
+use Rattle.cred_record.specs.declared.id_call.IdCall.{IdCall}
 use Rattle.cred_record.specs.declared.refusal.Denial.{Denial}
 use Rattle.cred_record.specs.declared.refusal.Refusal.{Refusal}
 use Rattle.cred_record.specs.declared.refusal.Refusal.TheVariants as refusal
@@ -20,6 +22,7 @@ use Rattle.cred_model.specs.Moves.{in_slot, with_current, replaced}
 use Rattle.cred_model.specs.Step.{aborted, by_act, outcome}
 use Rattle.cred_model.proofs.Likes.{does_same}
 use Rattle.cred_model.proofs.Lists.{found}
+use Rattle.cred_model.proofs.Numbers.{owner_number}
 use Rattle.cred_sound.specs.Casts.{IsThread, IsUnderWay}
 use Rattle.cred_sound.specs.Sound.{IsSound}
 use Rattle.cred_sound.proofs.Threads.{thread_is, waits_at}
@@ -36,15 +39,6 @@ use Rattle.cred_model.proofs.Places.{if_some}
 use Rattle.cred_tables.proofs.Sealing.{Drops, roomy, in_free_or, in_none_or}
 
 -- ---- what was found
-
-pub some_mapped : {X Y Z : Type 0} (f : X → Z) (g : Y → Z) (x : Option X) (y : Option Y) (b : Y) → option_map f x ≡ option_map g y → y ≡ Some b → IsSome x
-some_mapped f g None y b is at = let none : None ≡ Some (g b) = is ∙ ap (option_map g) at in cc
-some_mapped f g (Some x) y b is at = refl
-
-pub mapped_is : {X Y Z : Type 0} (f : X → Z) (g : Y → Z) (x : Option X) (y : Option Y) (a : X) (b : Y) → option_map f x ≡ option_map g y → x ≡ Some a → y ≡ Some b
-    → f a ≡ g b
-mapped_is f g x y a b is here there =
-    let both : Some (f a) ≡ Some (g b) = sym (ap (option_map f) here) ∙ is ∙ ap (option_map g) there in cc
 
 -- The least task that waits in the broadcast of this number is this one, which is alive and of the
 -- broadcast's process.
@@ -70,6 +64,27 @@ next_is s number task sound is = by (cast_of s number) refl is
         let waits = least_waits cast task (sym is) in
         let thread = thread_is s.tasks cast.process task (waits_at (IsThread s.tasks cast.process) task cast.waiting under_way.waiting waits) in
         record { cast = cast; found = at; least = sym is; owner = thread.task; lives = thread.is; of = thread.of }
+
+-- the call that the thread makes is that of its broadcast
+pub call_is : {s : State} {number task : ℕ} (next : IsNext s number task) (call : IdCall) → Some call ≡ option_map (λ b. b.call) (cast_of s number) → call ≡ next.cast.call
+call_is next call is = let both : Some call ≡ Some next.cast.call = is ∙ ap (option_map (λ (b : Broadcast). b.call)) next.found in cc
+
+-- the thread's place in the table of tasks
+module _ {s : State} {number task : ℕ} (next : IsNext s number task) (place : ℕ) (there : slice_get s.tasks place ≡ task_of s task) where
+  pub place_within : place < length s.tasks
+  place_within = slice_get_within s.tasks place next.owner (there ∙ next.lives)
+
+  pub current_there : (current : ℕ) → Some current ≡ option_map (λ t. t.current) (slice_get s.tasks place) → numbered s.creds current ≡ current_of s task
+  current_there current is =
+      let both : Some current ≡ Some next.owner.current = is ∙ ap (option_map (λ (t : Task). t.current)) (there ∙ next.lives) in
+      let same : current ≡ next.owner.current = cc in
+      ap (numbered s.creds) same ∙ sym (ap (option_and_then (λ (t : Task). numbered s.creds t.current)) next.lives)
+
+  pub set_there : (new : ℕ) {after : List Task} → IfSome (slice_get s.tasks place) (λ t. after ≡ with_current s.tasks t.number new)
+      → after ≡ with_current s.tasks task new
+  set_there new {after = after} is =
+      if_some (λ t. after ≡ with_current s.tasks t.number new) (slice_get s.tasks place) next.owner (there ∙ next.lives) is
+      ∙ ap (λ (n : ℕ). with_current s.tasks n new) (owner_number s task next.owner next.lives)
 
 -- ---- what the tests lead to
 

@@ -18,7 +18,7 @@ use cred_event::{AbortCause, Answer, Named};
 use cred_ids::NoMemory;
 use cred_record::{IdCall, Refusal};
 use cred_setid::apply;
-use cred_tables::{Numbered, begin_in, drop_all, seal_next, sweep_at};
+use cred_tables::{Numbered, begin_in, drop_all, seal_next, sealed_at, sweep_at};
 
 impl State {
     /// A task makes an id call. The other threads of its process then wait for their step; where it
@@ -78,15 +78,15 @@ impl State {
             GivesLike self.old (by_act self.old number) answer self.new) }
         ensures err { OnErr result (self.new ≡ self.old) }
     {
-        let Some(task) = self.casts.next(number) else {
+        let Some((task, call)) = self.casts.next(number) else {
             return Ok(Answer::NoBroadcast(number));
         };
-        let Some(now) = self.current(task) else {
+        // It is there: who waits in a broadcast is alive.
+        let place = self.tasks.place(task).unwrap();
+        let Some(now) = sealed_at(&self.store, &self.slots, self.tasks.current_at(place)) else {
             return Ok(Answer::NoBroadcast(number));
         };
         let replaced = now.number;
-        // It is there: a task waits in the broadcast.
-        let call = self.casts.call(number).unwrap();
         let cred = match apply(self.alloc, now.cred, call) {
             Ok(cred) => cred,
             // Whether a call is valid is the call's alone, and its caller has made it: what the
@@ -102,7 +102,7 @@ impl State {
         };
         let new = seal_next(&mut self.slots, slot);
         self.store.put(slot, cred);
-        self.tasks.set_current(task, new);
+        self.tasks.set_current_at(place, new);
         self.slots.drop_later(replaced);
         let left = self.casts.acted(number, task);
         Ok(Answer::Acted {

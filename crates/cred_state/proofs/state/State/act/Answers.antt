@@ -1,10 +1,10 @@
-use Rattle.std.proofs.Common.{◌≡◌, Ok, refl, sym, rules, tests}
+use Rattle.std.proofs.Common.{◌≡◌, ◌∙◌, Ok, refl, sym, rules, tests}
 use Rattle.cred_rules.specs.SetId.{set_id}
 use Rattle.cred_cast.proofs.Conditions.{least_waits}
 use Rattle.cred_event.specs.declared.answer.AbortCause.TheVariants.{Perm, Full}
 use Rattle.cred_model.specs.State.{cast_of}
 use Rattle.cred_tables.specs.Kept.{parts_of, state_of}
-use Rattle.cred_state.proofs.Acts.{next_is, next-lives, act_none, act_without, some_mapped, mapped_is, aborts_so, act_refused, denied, same_spare, act_full, act_kept, act_sealed}
+use Rattle.cred_state.proofs.Acts.{next_is, next-lives, call_is, place_within, current_there, set_there, act_none, act_without, aborts_so, act_refused, denied, same_spare, act_full, act_kept, act_sealed}
 use Rattle.cred_tables.proofs.Bags.{bag-keeps}
 use Rattle.cred_model.proofs.Places.{if_some}
 use Rattle.cred_tables.proofs.Sealing.{current-held, drops, none_spare, seals_spare}
@@ -18,34 +18,49 @@ returns-in_default-clause-ok c =
     let none = c.in_default.ensures.next in
     rw (← c.self.view_is) (act_none (state_of (parts_of t.tasks t.casts t.files t.holds t.prepared) t.store t.slots) c.args.number none)
 
-pub returns-in_default-current-clause-ok : goal.returns-in_default-current-clause-ok
-returns-in_default-current-clause-ok c =
-    let t = c.self.inside in
-    let sound = rw (← c.self.view_is) at c.requires in
-    let none = rw (← c.self.view_is) at c.in_default-current.ensures in
-    rw (← c.self.view_is) (act_without (state_of (parts_of t.tasks t.casts t.files t.holds t.prepared) t.store t.slots) c.args.number c.in-Some.task (next_is (state_of (parts_of t.tasks t.casts t.files t.holds t.prepared) t.store t.slots) c.args.number c.in-Some.task sound c.in-Some.ensures.next) (sym none))
-
-pub unwrap-call-requires : goal.unwrap-call-requires
-unwrap-call-requires c =
+pub unwrap-place-requires : goal.unwrap-place-requires
+unwrap-place-requires c =
     let t = c.self.inside in
     let sound = rw (← c.self.view_is) at c.requires in
     let next = next_is (state_of (parts_of t.tasks t.casts t.files t.holds t.prepared) t.store t.slots) c.args.number c.in-Some.task sound c.in-Some.ensures.next in
-    some_mapped _ _ c.call.result _ next.cast c.call.ensures next.found
+    c.place.ensures.alive ∙ next-lives next
+
+pub current_at-requires : goal.current_at-requires
+current_at-requires c =
+    let t = c.self.inside in
+    let sound = rw (← c.self.view_is) at c.requires in
+    let next = next_is (state_of (parts_of t.tasks t.casts t.files t.holds t.prepared) t.store t.slots) c.args.number c.in-Some.task sound c.in-Some.ensures.next in
+    place_within next _ (if_some _ _ _ c.unwrap-place.ensures c.place.ensures.place)
+
+pub returns-in_default-sealed_at-clause-ok : goal.returns-in_default-sealed_at-clause-ok
+returns-in_default-sealed_at-clause-ok c =
+    let t = c.self.inside in
+    let s = state_of (parts_of t.tasks t.casts t.files t.holds t.prepared) t.store t.slots in
+    let sound = rw (← c.self.view_is) at c.requires in
+    let next = next_is s c.args.number c.in-Some.task sound c.in-Some.ensures.next in
+    let there = if_some _ _ _ c.unwrap-place.ensures c.place.ensures.place in
+    let none = c.in_default-sealed_at.ensures ∙ current_there next _ there _ c.current_at.ensures in
+    rw (← c.self.view_is) (act_without s c.args.number c.in-Some.task next (sym none))
 
 pub seal_next-new-requires-clause-free : goal.seal_next-new-requires-clause-free
 seal_next-new-requires-clause-free c = sym c.in-Some-free_slot.ensures
 
-pub set_current-requires : goal.set_current-requires
-set_current-requires c =
+pub set_current_at-requires : goal.set_current_at-requires
+set_current_at-requires c =
     let t = c.self.inside in
     let sound = rw (← c.self.view_is) at c.requires in
-    next-lives (next_is (state_of (parts_of t.tasks t.casts t.files t.holds t.prepared) t.store t.slots) c.args.number c.in-Some.task sound c.in-Some.ensures.next)
+    let next = next_is (state_of (parts_of t.tasks t.casts t.files t.holds t.prepared) t.store t.slots) c.args.number c.in-Some.task sound c.in-Some.ensures.next in
+    place_within next _ (if_some _ _ _ c.unwrap-place.ensures c.place.ensures.place)
 
 pub drop_later-requires : goal.drop_later-requires
 drop_later-requires c =
-    let has = rw (← c.self.view_is) at c.in-Some-current.ensures in
+    let t = c.self.inside in
+    let sound = rw (← c.self.view_is) at c.requires in
+    let next = next_is (state_of (parts_of t.tasks t.casts t.files t.holds t.prepared) t.store t.slots) c.args.number c.in-Some.task sound c.in-Some.ensures.next in
+    let there = if_some _ _ _ c.unwrap-place.ensures c.place.ensures.place in
+    let has = c.in-Some-sealed_at.ensures ∙ current_there next _ there _ c.current_at.ensures in
     let seals = seals_spare {t = c.self.inside.slots} c.in_ok-reserve.ensures.ok c.seal_next-new.ensures in
-    bag-keeps c.in-Some-current.now.number seals.held (current-held c.self.invariant c.in-Some.task _ (sym has))
+    bag-keeps c.in-Some-sealed_at.now.number seals.held (current-held c.self.invariant c.in-Some.task _ (sym has))
 
 pub acted-left-requires : goal.acted-left-requires
 acted-left-requires c =
@@ -58,11 +73,12 @@ pub invariant_of-self-2 : goal.invariant_of-self-2
 invariant_of-self-2 c =
     let t = c.self.inside in
     let sound = rw (← c.self.view_is) at c.requires in
-    let has = rw (← c.self.view_is) at c.in-Some-current.ensures in
     let next = next_is (state_of (parts_of t.tasks t.casts t.files t.holds t.prepared) t.store t.slots) c.args.number c.in-Some.task sound c.in-Some.ensures.next in
-    let call : c.unwrap-call.result.now ≡ next.cast.call = mapped_is _ _ c.call.result _ c.unwrap-call.result next.cast c.call.ensures c.unwrap-call.ensures next.found in
-    let rule : set_id c.in-Some-current.now.cred.now c.unwrap-call.result.now ≡ Ok c.in-Ok.cred = rule_made _ c.in-Ok.cred c.in-Ok.ensures in
-    rw (c.set_current.ensures.tasks, c.put.ensures.set, c.acted-left.ensures.casts)
+    let there = if_some _ _ _ c.unwrap-place.ensures c.place.ensures.place in
+    let has = c.in-Some-sealed_at.ensures ∙ current_there next _ there _ c.current_at.ensures in
+    let call = call_is next c.in-Some.call.now c.in-Some.ensures.call in
+    let rule : set_id c.in-Some-sealed_at.now.cred.now c.in-Some.call.now ≡ Ok c.in-Ok.cred = rule_made _ c.in-Ok.cred c.in-Ok.ensures in
+    rw (set_there next _ there _ c.set_current_at.ensures, c.put.ensures.set, c.acted-left.ensures.casts)
     (act_kept c.self.invariant c.args.number c.in-Some.task next _ (sym has) c.in-Ok.cred (rw (← call) rule) c.put.ensures.long
     (seals_spare c.in_ok-reserve.ensures.ok c.seal_next-new.ensures) sound.tasks (drops c.drop_later.ensures.held c.drop_later.ensures.table))
 
@@ -70,12 +86,13 @@ pub returns-clause-ok : goal.returns-clause-ok
 returns-clause-ok c =
     let t = c.self.inside in
     let sound = rw (← c.self.view_is) at c.requires in
-    let has = rw (← c.self.view_is) at c.in-Some-current.ensures in
     let next = next_is (state_of (parts_of t.tasks t.casts t.files t.holds t.prepared) t.store t.slots) c.args.number c.in-Some.task sound c.in-Some.ensures.next in
-    let call : c.unwrap-call.result.now ≡ next.cast.call = mapped_is _ _ c.call.result _ c.unwrap-call.result next.cast c.call.ensures c.unwrap-call.ensures next.found in
-    let rule : set_id c.in-Some-current.now.cred.now c.unwrap-call.result.now ≡ Ok c.in-Ok.cred = rule_made _ c.in-Ok.cred c.in-Ok.ensures in
+    let there = if_some _ _ _ c.unwrap-place.ensures c.place.ensures.place in
+    let has = c.in-Some-sealed_at.ensures ∙ current_there next _ there _ c.current_at.ensures in
+    let call = call_is next c.in-Some.call.now c.in-Some.ensures.call in
+    let rule : set_id c.in-Some-sealed_at.now.cred.now c.in-Some.call.now ≡ Ok c.in-Ok.cred = rule_made _ c.in-Ok.cred c.in-Ok.ensures in
     let left = if_some _ (cast_of (state_of (parts_of t.tasks t.casts t.files t.holds t.prepared) t.store t.slots) c.args.number) next.cast next.found c.acted-left.ensures.left in
-    rw (← c.self.view_is, c.set_current.ensures.tasks, c.put.ensures.set, c.acted-left.ensures.casts)
+    rw (← c.self.view_is, set_there next _ there _ c.set_current_at.ensures, c.put.ensures.set, c.acted-left.ensures.casts)
     (act_sealed c.self.invariant c.args.number c.in-Some.task next _ (sym has) c.in-Ok.cred (rw (← call) rule) c.put.ensures.long
     (seals_spare c.in_ok-reserve.ensures.ok c.seal_next-new.ensures) sound.tasks (drops c.drop_later.ensures.held c.drop_later.ensures.table) c.acted-left.result left)
 
@@ -91,10 +108,11 @@ returns-in-Err-Perm-clause-ok c =
     let t = c.self.inside in
     let s = state_of (parts_of t.tasks t.casts t.files t.holds t.prepared) t.store t.slots in
     let sound = rw (← c.self.view_is) at c.requires in
-    let has = rw (← c.self.view_is) at c.in-Some-current.ensures in
     let next = next_is s c.args.number c.in-Some.task sound c.in-Some.ensures.next in
-    let call : c.unwrap-call.result.now ≡ next.cast.call = mapped_is _ _ c.call.result _ c.unwrap-call.result next.cast c.call.ensures c.unwrap-call.ensures next.found in
-    let no = denied (set_id c.in-Some-current.now.cred.now c.unwrap-call.result.now) c.in-Err-Perm.field-0 c.in-Err-Perm.ensures (search (rules, tests)) in
+    let there = if_some _ _ _ c.unwrap-place.ensures c.place.ensures.place in
+    let has = c.in-Some-sealed_at.ensures ∙ current_there next _ there _ c.current_at.ensures in
+    let call = call_is next c.in-Some.call.now c.in-Some.ensures.call in
+    let no = denied (set_id c.in-Some-sealed_at.now.cred.now c.in-Some.call.now) c.in-Err-Perm.field-0 c.in-Err-Perm.ensures (search (rules, tests)) in
     let ended = c.end_process_of in
     rw (← c.self.view_is)
     (aborts_so s s c.args.number c.in-Some.task Perm ended.new.self next ended.result refl ended.ensures.answer (rw (← c.self.view_is) at ended.ensures.state)
@@ -106,10 +124,11 @@ returns-in_default-free_slot-clause-ok c =
     let parts = parts_of t.tasks t.casts t.files t.holds t.prepared in
     let s = state_of parts t.store t.slots in
     let sound = rw (← c.self.view_is) at c.requires in
-    let has = rw (← c.self.view_is) at c.in-Some-current.ensures in
     let next = next_is s c.args.number c.in-Some.task sound c.in-Some.ensures.next in
-    let call : c.unwrap-call.result.now ≡ next.cast.call = mapped_is _ _ c.call.result _ c.unwrap-call.result next.cast c.call.ensures c.unwrap-call.ensures next.found in
-    let rule : set_id c.in-Some-current.now.cred.now c.unwrap-call.result.now ≡ Ok c.in-Ok.cred = rule_made _ c.in-Ok.cred c.in-Ok.ensures in
+    let there = if_some _ _ _ c.unwrap-place.ensures c.place.ensures.place in
+    let has = c.in-Some-sealed_at.ensures ∙ current_there next _ there _ c.current_at.ensures in
+    let call = call_is next c.in-Some.call.now c.in-Some.ensures.call in
+    let rule : set_id c.in-Some-sealed_at.now.cred.now c.in-Some.call.now ≡ Ok c.in-Ok.cred = rule_made _ c.in-Ok.cred c.in-Ok.ensures in
     let none = sym c.in_default-free_slot.ensures in
     let ended = c.end_process_of-in_default-free_slot in
     rw (← c.self.view_is)
