@@ -2,7 +2,7 @@
 
 docs/AUDIT.md: "one character of an entry changed: that entry"; "the last line feed cut off: the
 last entry: a line that doesn't end is no entry"; "the last entries cut off: one more than the
-entries that are left".
+entries that are left"; "there is no `report` line: LINE is one more than the number of lines".
 """
 from suite import Case
 
@@ -83,8 +83,20 @@ def cut_off():
         yield audited(f"{place} bytes", REPORT[:place], b"not legal %d\n" % entry)
 
 
+def cut_off_before():
+    """The input stops at each byte of the script and of the line `report`, whose line feed it may
+    lack."""
+    given = SCRIPT + b"report"
+    for place in range(len(given)):
+        lines = len(given[:place].splitlines())
+        written = b"bad %d report\n" % (lines + 1)
+        yield Case(f"{place} bytes of the input", ("audit",), given[:place], written)
+    yield Case("no report", ("audit",), given, b"not legal 1\n")
+
+
 def cases():
     """The report, and the texts that are none."""
     yield audited("the report", REPORT, b"legal\n")
     yield from changed()
     yield from cut_off()
+    yield from cut_off_before()

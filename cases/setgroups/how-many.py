@@ -1,0 +1,25 @@
+"""Every number of groups, up to more than there may be.
+
+setgroups(2): "EINVAL size is greater than NGROUPS_MAX (32 before Linux 2.6.4; 65536 since Linux
+2.6.4)"; docs/RULES.md has the 32.
+"""
+from reports import Script
+
+TASK = 1
+MOST = 32
+COUNTS = range(MOST + 9)
+
+
+def cases():
+    """A root task sets no group, one, two and so on, and is asked each time."""
+    made = Script()
+    made.init(TASK, 1, 0, 0)
+    groups = ""
+    for count in COUNTS:
+        told = " ".join(str(it) for it in range(1, count + 1))
+        call = f"setgroups {told}".rstrip()
+        if count <= MOST:
+            groups = told
+        made.ids(TASK, call, None if count <= MOST else "einval")
+        made.asks(TASK, "groups", f"ok {groups}".rstrip())
+    yield made.case("0 to 40", len(COUNTS))
