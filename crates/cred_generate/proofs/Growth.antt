@@ -35,7 +35,7 @@ use Rattle.cred_model.specs.Ends.{ended, is_thread_of}
 use Rattle.cred_model.specs.Moves.{◌>>=◌, in_slot, table_full, first_task, created, replaced}
 use Rattle.cred_model.specs.Moves.{preparing, altered, committed, given_up}
 use Rattle.cred_model.specs.Named.{query_files, change_files}
-use Rattle.cred_model.specs.Script.{Script, info_of, chain_of}
+use Rattle.cred_model.specs.Script.{Script, info_of, chain_of, root_of}
 use Rattle.cred_model.specs.Slots.{swept_if_full, free, least_free, swept}
 use Rattle.cred_model.specs.State.{State, SealedCred, Task, Numbered, Prepared, Changed, Broadcast, numbered, number_on, task_of, cast_of, cast_in, begun_by, open_of, hold_of, prepared_of, credential_of, opener_of, held_by}
 use Rattle.cred_model.specs.Step.{done, outcome, by_init, take_hold, by_take, by_take_file, by_release, by_ask, by_signal, by_prepare, by_alter, for_task, try_commit, ends_with, casts_after, committed_by, commit_answer, by_commit, by_abort, for_access, override_held, override_prepared, by_override, by_revert, by_begin, aborted, follow, by_act, by_open, by_close, by_spawn, by_fork, by_exit}
@@ -110,14 +110,14 @@ long s t is = ap (λ (creds : List SealedCred). length creds) is
 
 -- ---- the events
 
-of_init : (s : State) (task process user group ns : ℕ) → Tells s (by_init s task process user group ns)
-of_init s task process user group ns =
+of_init : (s : State) (task process user group ns root : ℕ) → Tells s (by_init s task process user group ns root)
+of_init s task process user group ns root =
     idle_case (Tells s) (cast_in s process) _ (λ number. refl) (λ idle.
     none_case (Tells s) (task_of s task) _ _ refl (λ new.
     test_case (Tells s) (nat_lt (length s.tasks) TASKS) _ _ refl
     (slot_counts s table_full
-    (λ t slot. (answer.Sealed (length t.creds) slot, created t (first_task task process (length t.creds)) (first_credential user group ns) slot))
-    (λ t is. long s t is) (λ t slot is. next_of s t.creds (record { cred = first_credential user group ns; slot = slot }) is))))
+    (λ t slot. (answer.Sealed (length t.creds) slot, created t (first_task task process (length t.creds)) (first_credential user group ns root) slot))
+    (λ t is. long s t is) (λ t slot is. next_of s t.creds (record { cred = first_credential user group ns root; slot = slot }) is))))
 
 of_hold : (s : State) (label : ℕ) (taken : Numbered) → (taken.number == length s.creds) ≡ false → Tells s (take_hold s label taken)
 of_hold s label taken old =
@@ -348,7 +348,7 @@ of_exit s task =
     own_case (Tells s) owner _ (λ depth. refl) refl))
 
 pub tells : (script : Script) (s : State) (line : ℕ) (e : Event) → Tells s (done script s line e)
-tells script s line (event.Init task process user group ns) = of_init s task process user group ns
+tells script s line (event.Init task process user group ns) = of_init s task process user group ns (root_of script ns)
 tells script s line (event.Take label task side) = of_take s label task side
 tells script s line (event.TakeFile label fd) = of_take_file s label fd
 tells script s line (event.Release label) = of_release s label

@@ -49,12 +49,12 @@ pub forked : (s : State) (task child process : ℕ) (owner : Task) (parent : Num
     ≡ (Sealed parent.number parent.slot, record s { tasks = s.tasks ++ first_task child process parent.number ∷ [] })
 forked s task child process owner parent can unused = rw (can.lives, can.has, can.idle, can.new, unused, can.own, can.few) refl
 
-pub init_tests : (s : State) (task process user group ns : ℕ) → not_busy (cast_in s process) ≡ Ok tt → task_of s task ≡ None
+pub init_tests : (s : State) (task process user group ns root : ℕ) → not_busy (cast_in s process) ≡ Ok tt → task_of s task ≡ None
     → nat_lt (length s.tasks) TASKS ≡ true
-    → outcome s (by_init s task process user group ns)
+    → outcome s (by_init s task process user group ns root)
     ≡ in_slot s table_full (λ r slot.
-    (Sealed (length r.creds) slot, created r (first_task task process (length r.creds)) (first_credential user group ns) slot))
-init_tests s task process user group ns idle new few = rw (idle, new, few) refl
+    (Sealed (length r.creds) slot, created r (first_task task process (length r.creds)) (first_credential user group ns root) slot))
+init_tests s task process user group ns root idle new few = rw (idle, new, few) refl
 
 pub commit_tests : (s : State) (label place : ℕ) (p : Prepared) (owner : Task) (last : Changed) → position (λ p. p.label == label) s.prepared ≡ Some place
     → slice_get s.prepared place ≡ Some p → option_and_then for_task p.changed ≡ Some last → task_of s p.task ≡ Some owner

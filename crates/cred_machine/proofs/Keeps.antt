@@ -19,7 +19,7 @@ use Rattle.cred_model.specs.Change.{by_change, by_rule}
 use Rattle.cred_model.specs.Ends.{is_task, is_thread_of}
 use Rattle.cred_model.specs.Moves.{created, first_task, preparing, replaced, table_full}
 use Rattle.cred_model.specs.Named.{change_files}
-use Rattle.cred_model.specs.Script.{Script, chain_of, info_of}
+use Rattle.cred_model.specs.Script.{Script, chain_of, info_of, root_of}
 use Rattle.cred_model.specs.State.{State, Task, Broadcast, Prepared, Numbered, begun_by, cast_in, cast_of, credential_of, held_by, hold_of, numbered, open_of, opener_of, prepared_of, task_of}
 use Rattle.cred_model.specs.Step.{aborted, follow, for_access, for_task, step}
 use Rattle.cred_sound.specs.Sound.{IsSound}
@@ -35,7 +35,7 @@ full s left is = still s TableFull left (if_left s left is)
 init_keeps : (script : Script) (s : State) (line task process user group ns : ℕ) → Keeps s (step script s line (Init task process user group ns))
 init_keeps script s line task process user group ns =
     let Q = Keeps s in
-    let c = first_credential user group ns in
+    let c = first_credential user group ns (root_of script ns) in
     outcome_has Q s _ (refused s)
     (if_idle Q (cast_in s process) _
     (λ idle. if_none Q (task_of s task) _ _

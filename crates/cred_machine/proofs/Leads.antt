@@ -112,26 +112,26 @@ can_prepare s label task hold held whose looked among alive used is lives same i
       few = few;
     }
 
-pub init_leads : (s : State) (task process user group ns number slot : ℕ) (sweep : Bool) (c : Credential) (tasks : List Task) (late : List ℕ) (old creds : List SealedCred)
+pub init_leads : (s : State) (task process user group ns root number slot : ℕ) (sweep : Bool) (c : Credential) (tasks : List Task) (late : List ℕ) (old creds : List SealedCred)
     → not_busy (cast_in s process) ≡ Ok tt → task_of s task ≡ None → nat_lt (length s.tasks) TASKS ≡ true
-    → free s ≡ Some slot → sweep ≡ not (is_some (least_free s)) → number ≡ length old → old ≡ s.creds → c ≡ first_credential user group ns
+    → free s ≡ Some slot → sweep ≡ not (is_some (least_free s)) → number ≡ length old → old ≡ s.creds → c ≡ first_credential user group ns root
     → tasks ≡ s.tasks ++ first_task task process number ∷ [] → creds ≡ old ++ record { cred = c; slot = slot } ∷ []
     → late ≡ (if sweep then [] else s.deferred)
-    → outcome s (by_init s task process user group ns) ≡ (Sealed number slot, record s { tasks = tasks; creds = creds; deferred = late })
-init_leads s task process user group ns number slot sweep c tasks late old creds idle new few found is many same first ts cs ls =
-    init_tests s task process user group ns idle new few
+    → outcome s (by_init s task process user group ns root) ≡ (Sealed number slot, record s { tasks = tasks; creds = creds; deferred = late })
+init_leads s task process user group ns root number slot sweep c tasks late old creds idle new few found is many same first ts cs ls =
+    init_tests s task process user group ns root idle new few
     ∙ in_free s table_full
-    (λ r at. (Sealed (length r.creds) at, created r (first_task task process (length r.creds)) (first_credential user group ns) at)) sweep slot found is
+    (λ r at. (Sealed (length r.creds) at, created r (first_task task process (length r.creds)) (first_credential user group ns root) at)) sweep slot found is
     ∙ done sweep
     ∙ rw (ts, cs, ls, many, same, first) refl
   where
     done : (b : Bool)
         → ◌≡◌ {A = Answer × State}
-        (Sealed (length (swept_if b s).creds) slot, created (swept_if b s) (first_task task process (length (swept_if b s).creds)) (first_credential user group ns) slot) (
+        (Sealed (length (swept_if b s).creds) slot, created (swept_if b s) (first_task task process (length (swept_if b s).creds)) (first_credential user group ns root) slot) (
           Sealed (length s.creds) slot,
           record s {
             tasks = s.tasks ++ first_task task process (length s.creds) ∷ [];
-            creds = s.creds ++ record { cred = first_credential user group ns; slot = slot } ∷ [];
+            creds = s.creds ++ record { cred = first_credential user group ns root; slot = slot } ∷ [];
             deferred = if b then [] else s.deferred;
           },
         )

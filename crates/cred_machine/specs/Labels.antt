@@ -11,7 +11,7 @@ use Rattle.cred_model.specs.Step.{try_commit}
 -- a sealed credential by its number and its slot alone, where it doesn't matter which one it is
 abbrev pub numbered_in : ℕ → ℕ → Numbered
 numbered_in number slot =
-    record { number = number; cred = first_credential 0 0 0; slot = slot }
+    record { number = number; cred = first_credential 0 0 0 0; slot = slot }
 
 -- the broadcasts that a commit of this change leaves open: an execve drops that of its process
 -- (execve(2))

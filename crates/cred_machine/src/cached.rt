@@ -11,6 +11,7 @@ ghost use Rattle.cred_machine.specs.Slots.{AreLive, TakesSlot, is_act};
 
 use crate::slots::Marks;
 use crate::state::State;
+use cred_declared::root_of;
 use cred_event::{AbortCause, Answer, Event};
 use cred_ids::NoMemory;
 use cred_script::Script;
@@ -103,7 +104,7 @@ impl State {
                 user,
                 group,
                 ns,
-            } => self.init(*task, *process, *user, *group, *ns),
+            } => self.init(*task, *process, *user, *group, *ns, root_of(script, *ns)),
             Event::Take { label, task, side } => self.take(*label, *task, *side),
             Event::TakeFile { label, fd } => self.take_file(*label, *fd),
             Event::Release { label } => self.release(*label),

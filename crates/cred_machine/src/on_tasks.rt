@@ -13,8 +13,8 @@ use cred_plain::{Ending, Numbered, Task};
 use cred_record::first;
 
 impl State {
-    /// A first task is created, with its first credential. `Busy`, `Exists` and `TooMany` leave the
-    /// state; `TableFull` leaves it swept.
+    /// A first task is created, with its first credential, in a namespace where root has the user
+    /// id `root`. `Busy`, `Exists` and `TooMany` leave the state; `TableFull` leaves it swept.
     pub(crate) fn init(
         &mut self,
         number: u32,
@@ -22,9 +22,10 @@ impl State {
         user: Id,
         group: Id,
         ns: u32,
+        root: Id,
     ) -> Result<Answer, NoMemory>
         ensures ok { IfOk result (λ answer.
-            Gives self.old (by_init self.old number process user group ns) answer self.new) }
+            Gives self.old (by_init self.old number process user group ns root) answer self.new) }
         ensures err { OnErr result (self.new ≡ self.old) }
     {
         if let Some(cast) = open_in(&self.casts, process) {
@@ -44,7 +45,7 @@ impl State {
             return Ok(self.table_full());
         };
         self.creds.reserve()?;
-        let cred = first(self.alloc, user, group, ns)?;
+        let cred = first(self.alloc, user, group, ns, root)?;
         let next = self.creds.next_number();
         self.tasks
             .push(Task::first(self.alloc, number, process, next))?;

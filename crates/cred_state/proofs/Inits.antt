@@ -29,36 +29,36 @@ pub started : (tasks after : List Task) (task process next number : ℕ) → aft
     → after ≡ tasks ++ first_task task process number ∷ []
 started tasks after task process next number is same = is ∙ ap (λ (n : ℕ). tasks ++ first_task task process n ∷ []) same
 
-init_does : (task process user group ns : ℕ) → State → ℕ → Answer × State
-init_does task process user group ns s slot =
+init_does : (task process user group ns root : ℕ) → State → ℕ → Answer × State
+init_does task process user group ns root s slot =
     let number = length s.creds in
-    (Sealed number slot, created s (first_task task process number) (first_credential user group ns) slot)
+    (Sealed number slot, created s (first_task task process number) (first_credential user group ns root) slot)
 
 few_tasks : (n : ℕ) → n < 64 → nat_lt n 64 ≡ true
 few_tasks n few = grind (arith, nat_tests)
 
-init_tests : (s : State) (task process user group ns : ℕ) → not_busy (cast_in s process) ≡ Ok tt → find (λ t. t.number == task) s.tasks ≡ None → length s.tasks < 64
-    → outcome s (by_init s task process user group ns) ≡ in_slot s table_full (init_does task process user group ns)
+init_tests : (s : State) (task process user group ns root : ℕ) → not_busy (cast_in s process) ≡ Ok tt → find (λ t. t.number == task) s.tasks ≡ None → length s.tasks < 64
+    → outcome s (by_init s task process user group ns root) ≡ in_slot s table_full (init_does task process user group ns root)
 unfolding init_does
-init_tests s task process user group ns idle new few = rw (idle, new, few_tasks (length s.tasks) few) refl
+init_tests s task process user group ns root idle new few = rw (idle, new, few_tasks (length s.tasks) few) refl
 
 module _ {parts : Parts} {store : List (Option Credential)} {t : Table} (is : IsKept parts store t)
-    (after : Table) (task process user group ns : ℕ) where
+    (after : Table) (task process user group ns root : ℕ) where
   abbrev s : State
   s = state_of parts store t
 
   pub init_full : not_busy (cast_in s process) ≡ Ok tt → find (λ u. u.number == task) parts.tasks ≡ None → length parts.tasks < 64 → table.free t ≡ None
       → state_of parts store (table.swept_if_full t) ≡ state_of parts store after
-      → IsOutcomeLike (outcome s (by_init s task process user group ns)) TableFull (state_of parts store after)
+      → IsOutcomeLike (outcome s (by_init s task process user group ns root)) TableFull (state_of parts store after)
   init_full idle new few none makes =
-      does_same _ _ _ (init_tests s task process user group ns idle new few ∙ in_none is (init_does task process user group ns) after none makes)
+      does_same _ _ _ (init_tests s task process user group ns root idle new few ∙ in_none is (init_does task process user group ns root) after none makes)
 
   module _ {number slot : ℕ} (long : length store ≡ SLOTS) (seals : Seals t after number slot) where
     abbrev pub first : List Task
     first = parts.tasks ++ first_task task process number ∷ []
 
     abbrev pub put : List (Option Credential)
-    put = slice_set store slot (Some (first_credential user group ns))
+    put = slice_set store slot (Some (first_credential user group ns root))
 
     pub init_kept : IsKept (record parts { tasks = first }) put after
     init_kept = record {
@@ -67,17 +67,17 @@ module _ {parts : Parts} {store : List (Option Credential)} {t : Table} (is : Is
         keeps = keeps_same t after _ is.counted.keeps seals.kept;
       };
       filled = subst (λ (ss : List ℕ). AreFilled put ss) (sym seals.sealed)
-          (filled-put store slot (first_credential user group ns) t.sealed long seals.in_table is.filled);
+          (filled-put store slot (first_credential user group ns root) t.sealed long seals.in_table is.filled);
     }
 
     pub init_sealed : not_busy (cast_in s process) ≡ Ok tt → find (λ u. u.number == task) parts.tasks ≡ None → length parts.tasks < 64
-        → IsOutcomeLike (outcome s (by_init s task process user group ns)) (Sealed number slot) (state_of (record parts { tasks = first }) put after)
+        → IsOutcomeLike (outcome s (by_init s task process user group ns root)) (Sealed number slot) (state_of (record parts { tasks = first }) put after)
     unfolding init_does
     init_sealed idle new few =
-        let c = first_credential user group ns in
+        let c = first_credential user group ns root in
         let count = length-creds_in store t.sealed ∙ sym seals.counted in
         does_made
-        (init_tests s task process user group ns idle new few ∙ in_free is (init_does task process user group ns) slot seals.takes
+        (init_tests s task process user group ns root idle new few ∙ in_free is (init_does task process user group ns root) slot seals.takes
         ∙ ap (λ (n : ℕ). (Sealed n slot, created (roomy is) (first_task task process n) c slot)) count)
         (stored_like store after t.sealed c slot (created (roomy is) (first_task task process number) c slot) init_kept seals.sealed long seals.in_table
         (subst (λ (n : ℕ). IsAlone after n slot) seals.counted seals.alone) refl seals.deferred refl)

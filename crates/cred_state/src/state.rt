@@ -21,7 +21,7 @@ mod tasks;
 use cred_access::may_signal;
 use cred_cast::Casts;
 use cred_decide::reply;
-use cred_declared::asked_file;
+use cred_declared::{asked_file, root_of};
 use cred_event::{Answer, Counted, Event, Named, Query, Side};
 use cred_files::Files;
 use cred_ids::{NoMemory, limits};
@@ -102,7 +102,7 @@ impl State {
                 user,
                 group,
                 ns,
-            } => self.init(*task, *process, *user, *group, *ns),
+            } => self.init(*task, *process, *user, *group, *ns, root_of(script, *ns)),
             Event::Take { label, task, side } => self.take(*label, *task, *side),
             Event::TakeFile { label, fd } => self.take_file(*label, *fd),
             Event::Release { label } => Ok(self.release(*label)),

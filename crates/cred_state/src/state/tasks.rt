@@ -11,8 +11,8 @@ use cred_record::first;
 use cred_tables::{Numbered, drop_all, seal_next, spawn_in};
 
 impl State {
-    /// A first task is created, with its first credential. `Busy`, `Exists` and `TooMany` leave the
-    /// state; `TableFull` leaves it swept.
+    /// A first task is created, with its first credential, in a namespace where root has the user
+    /// id `root`. `Busy`, `Exists` and `TooMany` leave the state; `TableFull` leaves it swept.
     ///
     /// # Errors
     ///
@@ -25,9 +25,10 @@ impl State {
         user: Id,
         group: Id,
         ns: u32,
+        root: Id,
     ) -> Result<Answer, NoMemory>
         ensures ok { IfOk result (λ answer.
-            GivesLike self.old (by_init self.old number process user group ns) answer self.new) }
+            GivesLike self.old (by_init self.old number process user group ns root) answer self.new) }
         ensures err { OnErr result (self.new ≡ self.old) }
     {
         if let Some(cast) = self.open_in(process) {
@@ -42,7 +43,7 @@ impl State {
         if self.tasks.full() {
             return Ok(Answer::TooMany(Counted::Tasks));
         }
-        let cred = first(self.alloc, user, group, ns)?;
+        let cred = first(self.alloc, user, group, ns, root)?;
         self.slots.reserve()?;
         let Some(slot) = self.slots.free_slot() else {
             self.slots.sweep();

@@ -10,7 +10,7 @@ pub returns-clause-ok : goal.returns-clause-ok
 returns-clause-ok c =
     let s = seen_state c.self.inside in
     rw (← c.self.view_is)
-    (init_leads s c.args.number c.args.process _ _ c.args.ns c.next_number-next.result c.in-Some-slot.slot c.in_ok-slot.field-0.swept _ _ _ _ _
+    (init_leads s c.args.number c.args.process _ _ c.args.ns _ c.next_number-next.result c.in-Some-slot.slot c.in_ok-slot.field-0.swept _ _ _ _ _
     (idle_in s _ c.args.process _ c.deref.ensures.value c.in_default.ensures) (none_by_test _ c.alive.result c.alive.ensures c.if-alive.false)
     (not_full _ c.full.result c.full.ensures c.if-full.false)
     (rw (← c.self.view_is) at (sym c.in_ok-slot.ensures.slot ∙ c.in-Some-slot.is)) (rw (← c.self.view_is) at c.in_ok-slot.ensures.swept)

@@ -16,7 +16,7 @@ returns-in_default-free_slot-clause-ok c =
     let few = few_by_test (length t.tasks) c.full.result c.full.ensures.full c.if-full.false in
     let none = sym c.in_default-free_slot.ensures in
     rw (← c.self.view_is)
-    (init_full c.self.invariant c.sweep.new.self c.args.number c.args.process c.args.user c.args.group c.args.ns idle new few
+    (init_full c.self.invariant c.sweep.new.self c.args.number c.args.process c.args.user c.args.group c.args.ns c.args.root idle new few
     (none_spare t.slots c.in_ok-reserve.ensures.ok none)
     (roomy_spare (parts_of t.tasks t.casts t.files t.holds t.prepared) t.store t.slots _ _ _ c.in_ok-reserve.ensures.ok (c.sweep.ensures ∙ sym (full_swept c.reserve.new.self none))))
 
@@ -28,10 +28,10 @@ invariant_of-self-2 c =
     let t = c.self.inside in
     let seals = c.seal_next-current.ensures in
     let tasks = started t.tasks c.start.new.self c.args.number c.args.process _ _ c.in_ok-start.ensures.ok (c.next_number-next.ensures ∙ sym seals.counted) in
-    let store : c.put.new.self ≡ slice_set t.store c.in-Some-free_slot.slot (Some (first_credential c.args.user c.args.group c.args.ns))
+    let store : c.put.new.self ≡ slice_set t.store c.in-Some-free_slot.slot (Some (first_credential c.args.user c.args.group c.args.ns c.args.root))
     = c.put.ensures.set ∙ ap (λ (x : Credential). slice_set t.store c.in-Some-free_slot.slot (Some x)) c.in_ok-cred.ensures in
     rw (tasks, store)
-    (init_kept c.self.invariant c.seal_next-current.new.slots c.args.number c.args.process c.args.user c.args.group c.args.ns
+    (init_kept c.self.invariant c.seal_next-current.new.slots c.args.number c.args.process c.args.user c.args.group c.args.ns c.args.root
     c.put.ensures.long (seals_spare c.in_ok-reserve.ensures.ok seals))
 
 pub returns-clause-ok : goal.returns-clause-ok
@@ -39,13 +39,13 @@ returns-clause-ok c =
     let t = c.self.inside in
     let seals = c.seal_next-current.ensures in
     let tasks = started t.tasks c.start.new.self c.args.number c.args.process _ _ c.in_ok-start.ensures.ok (c.next_number-next.ensures ∙ sym seals.counted) in
-    let store : c.put.new.self ≡ slice_set t.store c.in-Some-free_slot.slot (Some (first_credential c.args.user c.args.group c.args.ns))
+    let store : c.put.new.self ≡ slice_set t.store c.in-Some-free_slot.slot (Some (first_credential c.args.user c.args.group c.args.ns c.args.root))
     = c.put.ensures.set ∙ ap (λ (x : Credential). slice_set t.store c.in-Some-free_slot.slot (Some x)) c.in_ok-cred.ensures in
     let idle = rw (← c.self.view_is) at c.in_default.ensures in
     let new = none_by_test _ c.alive.result c.alive.ensures c.if-alive.false in
     let few = few_by_test (length t.tasks) c.full.result c.full.ensures.full c.if-full.false in
     rw (← c.self.view_is, tasks, store)
-    (init_sealed c.self.invariant c.seal_next-current.new.slots c.args.number c.args.process c.args.user c.args.group c.args.ns
+    (init_sealed c.self.invariant c.seal_next-current.new.slots c.args.number c.args.process c.args.user c.args.group c.args.ns c.args.root
     c.put.ensures.long (seals_spare c.in_ok-reserve.ensures.ok seals) idle new few)
 
 pub invariant_of-self : goal.invariant_of-self
