@@ -15,7 +15,7 @@ fn access_effective(cred: &Cred) -> CapSet
 {
     if cred.bits.flag(Flag::NoSetuidFixup) {
         cred.eff
-    } else if cred.uid.real.number() == 0 {
+    } else if cred.is_root(cred.uid.real) {
         cred.perm
     } else {
         CapSet::empty()
@@ -24,8 +24,8 @@ fn access_effective(cred: &Cred) -> CapSet
 
 /// The credential that access(2) asks by, for a program that acts with more rights than the user
 /// who called it: the filesystem ids are the real ids, and the effective set is the permitted one
-/// if the real user id is 0, else empty. With NO_SETUID_FIXUP the effective set stays. All else is
-/// as in `cred`, which stays as it is.
+/// if the real user id is root, else empty. With NO_SETUID_FIXUP the effective set stays. All else
+/// is as in `cred`, which stays as it is.
 ///
 /// # Errors
 ///

@@ -6,7 +6,7 @@ use Rattle.cred_caps.specs.Flags.{SetsFlag}
 use Rattle.cred_caps.proofs.FlagLaws.{sets_flag}
 use Rattle.cred_caps.proofs.SetLaws.{meet-right, less-within}
 use Rattle.cred_record.specs.declared.gains.Gains.{Gains}
-use Rattle.cred_record.specs.Credential.{Credential, ROOT}
+use Rattle.cred_record.specs.Credential.{Credential}
 use Rattle.cred_record.specs.File.{File}
 use Rattle.cred_rules.specs.Attribute.{Attribute}
 use Rattle.cred_rules.specs.Exec.{Executed, NoExec, MayNotExecute, GivesTooLittle, exec, may_execute, attribute_for, executed_by, gives_all, after_exec, gains_of, is_by_root, is_privileged, given_by, sets_taken, sets_of, amb_after, limited, perm_after}
@@ -19,8 +19,8 @@ use Rattle.cred_exec.proofs.Parts.{empty-within, meet-empty, less-empty, empty-u
 record IsMade (c : Credential) (f : File) (chain : List ℕ) (e : Executed) : Type 0 where
   attr : Option Attribute
   read : attribute_for c f chain ≡ Ok attr
-  cred : after_exec ROOT c f attr ≡ e.cred
-  gains : gains_of ROOT c f attr ≡ e.gains
+  cred : after_exec c f attr ≡ e.cred
+  gains : gains_of c f attr ≡ e.gains
 
 if-ok :
     (b : Bool) (x e : Executed) (reason : NoExec) → (if b then Ok x else Err reason) ≡ Ok e → x ≡ e
@@ -30,10 +30,10 @@ if-ok false x e reason same = cc
 made-by :
     (c : Credential) (f : File) (chain : List ℕ) (e : Executed)
     (r : Result (Option Attribute) NoExec) → attribute_for c f chain ≡ r
-    → executed_by ROOT c f r ≡ Ok e → IsMade c f chain e
+    → executed_by c f r ≡ Ok e → IsMade c f chain e
 made-by c f chain e (Err reason) read same = cc
 made-by c f chain e (Ok a) read same =
-    let given : Executed = record { cred = after_exec ROOT c f a; gains = gains_of ROOT c f a } in
+    let given : Executed = record { cred = after_exec c f a; gains = gains_of c f a } in
     let is = if-ok (gives_all c a) given e GivesTooLittle same in
     record { attr = a; read = read; cred = ap (λ x. x.cred) is; gains = ap (λ x. x.gains) is }
 
@@ -49,7 +49,7 @@ made :
 unfolding exec
 made c f chain e same =
     made-by c f chain e (attribute_for c f chain) refl
-    (may-by (may_execute c f) (executed_by ROOT c f (attribute_for c f chain)) e same)
+    (may-by (may_execute c f) (executed_by c f (attribute_for c f chain)) e same)
 
 -- ---- the gains
 
@@ -90,20 +90,20 @@ each-way p q given false = by_file p q given
 
 gains-are :
     (c : Credential) (f : File) (a : Option Attribute)
-    → AreGains c.perm (perm_after ROOT c f a) (gains_of ROOT c f a)
+    → AreGains c.perm (perm_after c f a) (gains_of c f a)
 unfolding gains_of
 gains-are c f a =
-    each-way (perm_after ROOT c f a) c.perm (meet (sets_of a).perm c.bound) (is_by_root ROOT c f a)
+    each-way (perm_after c f a) c.perm (meet (sets_of a).perm c.bound) (is_by_root c f a)
 
 -- what holds of the permitted set and the gains of the rule holds of those that an execve gives
 of_made :
     (P : Caps → Gains → Type 0) (c : Credential) (f : File) (chain : List ℕ) (e : Executed)
-    (m : IsMade c f chain e) → P (perm_after ROOT c f m.attr) (gains_of ROOT c f m.attr)
+    (m : IsMade c f chain e) → P (perm_after c f m.attr) (gains_of c f m.attr)
     → P e.cred.perm e.gains
 unfolding after_exec
 of_made P c f chain e m holds =
     subst (P e.cred.perm) m.gains
-    (subst (λ p. P p (gains_of ROOT c f m.attr)) (ap (λ d. d.perm) m.cred) holds)
+    (subst (λ p. P p (gains_of c f m.attr)) (ap (λ d. d.perm) m.cred) holds)
 
 pub gains_are_what_is_gained : GainsAreWhatIsGained
 gains_are_what_is_gained c f chain e same =
@@ -135,17 +135,17 @@ nothing p q given false within =
 
 gains-nothing :
     (c : Credential) (f : File) (a : Option Attribute)
-    → IsWithin (perm_after ROOT c f a) c.perm
-    → GainsNothing c.perm (perm_after ROOT c f a) (gains_of ROOT c f a)
+    → IsWithin (perm_after c f a) c.perm
+    → GainsNothing c.perm (perm_after c f a) (gains_of c f a)
 unfolding gains_of
 gains-nothing c f a within =
     let given = meet (sets_of a).perm c.bound in
-    nothing (perm_after ROOT c f a) c.perm given (is_by_root ROOT c f a) within
+    nothing (perm_after c f a) c.perm given (is_by_root c f a) within
 
 pub no_new_privs_gains_nothing : NoNewPrivsGainsNothing
 no_new_privs_gains_nothing c f chain e same set =
     let m = made c f chain e same in
-    let given = given_by c (sets_taken ROOT c f m.attr) in
+    let given = given_by c (sets_taken c f m.attr) in
     let within = limited-within c (union given (amb_after c f m.attr)) set in
     of_made (GainsNothing c.perm) c f chain e m (gains-nothing c f m.attr within)
 
@@ -153,7 +153,7 @@ no_new_privs_gains_nothing c f chain e same set =
 
 after-amb :
     (c : Credential) (f : File) (a : Option Attribute) (b : Bool) → is_privileged c f a ≡ b
-    → (after_exec ROOT c f a).amb ≡ (if b then empty else c.amb)
+    → (after_exec c f a).amb ≡ (if b then empty else c.amb)
 unfolding after_exec
 after-amb c f a b is = ap (λ p. if p then empty else c.amb) is
 
@@ -169,7 +169,7 @@ ambient :
 ambient c f chain e a b m read is =
     let one = same-ok (attribute_for c f chain) a m.attr read m.read in
     ap (λ d. d.amb) (sym m.cred) ∙
-    ap (λ x. (after_exec ROOT c f x).amb) one ∙
+    ap (λ x. (after_exec c f x).amb) one ∙
     after-amb c f a b is
 
 pub plain_files_keep_ambient : PlainFilesKeepAmbient
@@ -183,7 +183,7 @@ privileged_files_empty_ambient c f chain e same a read is =
 -- ---- what stays
 
 keeps-sets :
-    (c : Credential) (f : File) (a : Option Attribute) → KeepsSets c (after_exec ROOT c f a)
+    (c : Credential) (f : File) (a : Option Attribute) → KeepsSets c (after_exec c f a)
 unfolding after_exec
 keeps-sets c f a = record { inheritable = refl; bounding = refl }
 
@@ -193,7 +193,7 @@ inheritable_and_bounding_stay c f chain e same =
 
 keeps-bits :
     (c : Credential) (f : File) (a : Option Attribute)
-    → SetsFlag c.bits (after_exec ROOT c f a).bits KeepCaps false
+    → SetsFlag c.bits (after_exec c f a).bits KeepCaps false
 unfolding after_exec
 keeps-bits c f a = sets_flag c.bits KeepCaps false
 
@@ -203,13 +203,14 @@ other_securebits_stay c f chain e same =
     subst (λ d. SetsFlag c.bits d.bits KeepCaps false) m.cred (keeps-bits c f m.attr)
 
 keeps-identity :
-    (c : Credential) (f : File) (a : Option Attribute) → KeepsIdentity c (after_exec ROOT c f a)
+    (c : Credential) (f : File) (a : Option Attribute) → KeepsIdentity c (after_exec c f a)
 unfolding after_exec
 keeps-identity c f a = record {
   user = refl;
   group = refl;
   groups = refl;
   namespace = refl;
+  root = refl;
   no_new_privs = refl;
 }
 

@@ -1,5 +1,5 @@
 -- The sets after an execve are those of a credential.
-use Rattle.std.proofs.Common.{ℕ, Bool, true, false, Option, if◌then◌else◌}
+use Rattle.std.proofs.Common.{Bool, true, false, Option, if◌then◌else◌}
 use Rattle.cred_caps.specs.Caps.{Caps, empty, union, meet, IsWithin}
 use Rattle.cred_caps.proofs.SetLaws.{within_itself, within-union_right}
 use Rattle.cred_record.specs.Credential.{Credential, AreValidSets}
@@ -24,17 +24,17 @@ either true s t within = within_itself s
 either false s t within = within
 
 pub valid_after :
-    (root : ℕ) (c : Credential) (f : File) (a : Option Attribute)
+    (c : Credential) (f : File) (a : Option Attribute)
     → AreValidSets c.perm c.inh c.eff c.amb
-    → AreValidSets (perm_after root c f a) c.inh (eff_after root c f a) (amb_after c f a)
-valid_after root c f a valid =
+    → AreValidSets (perm_after c f a) c.inh (eff_after c f a) (amb_after c f a)
+valid_after c f a valid =
     let amb = amb_after c f a in
-    let permitted : IsWithin amb (perm_after root c f a) =
-    cut c.nnp amb (union (given_by c (sets_taken root c f a)) amb) c.perm
-    (within-union_right (given_by c (sets_taken root c f a)) amb)
+    let permitted : IsWithin amb (perm_after c f a) =
+    cut c.nnp amb (union (given_by c (sets_taken c f a)) amb) c.perm
+    (within-union_right (given_by c (sets_taken c f a)) amb)
     (kept (is_privileged c f a) c.amb c.perm valid.ambient) in
     record {
-      effective = either (sets_taken root c f a).effective (perm_after root c f a) amb permitted;
+      effective = either (sets_taken c f a).effective (perm_after c f a) amb permitted;
       ambient = permitted;
       inheritable = kept (is_privileged c f a) c.amb c.inh valid.inheritable;
     }

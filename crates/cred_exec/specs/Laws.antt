@@ -72,6 +72,7 @@ pub record KeepsIdentity (before after : Credential) : Type 0 where
   pub group : after.gid.real ≡ before.gid.real
   pub groups : after.groups ≡ before.groups
   pub namespace : after.ns ≡ before.ns
+  pub root : after.root ≡ before.root
   pub no_new_privs : after.nnp ≡ before.nnp
 
 abbrev pub RealIdsAndGroupsStay : Type 0

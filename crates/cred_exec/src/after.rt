@@ -1,7 +1,6 @@
 //! The credential of the task after execve.
 ghost use Rattle.std.specs.Prelude.{◌≡◌, IfOk};
 ghost use Rattle.cred_caps.specs.Caps.{IsWithin};
-ghost use Rattle.cred_record.specs.Credential.{ROOT};
 ghost use Rattle.cred_rules.specs.Exec.{is_privileged, amb_after, limited, perm_after};
 ghost use Rattle.cred_rules.specs.Exec.{eff_after, after_exec};
 
@@ -42,7 +41,7 @@ fn limited(cred: &Cred, set: CapSet) -> CapSet
 
 /// The new permitted set.
 pub fn permitted_after(cred: &Cred, file: &FileInfo, caps: &Option<FileCaps>) -> CapSet
-    ensures { result ≡ perm_after ROOT cred.now file.now caps.now }
+    ensures { result ≡ perm_after cred.now file.now caps.now }
 {
     let given = given_by(cred, sets_taken(cred, file, caps));
     limited(cred, given.union(&ambient_after(cred, file, caps)))
@@ -50,7 +49,7 @@ pub fn permitted_after(cred: &Cred, file: &FileInfo, caps: &Option<FileCaps>) ->
 
 /// The new effective set.
 fn effective_after(cred: &Cred, file: &FileInfo, caps: &Option<FileCaps>) -> CapSet
-    ensures { result ≡ eff_after ROOT cred.now file.now caps.now }
+    ensures { result ≡ eff_after cred.now file.now caps.now }
 {
     if sets_taken(cred, file, caps).effective {
         permitted_after(cred, file, caps)
@@ -62,7 +61,7 @@ fn effective_after(cred: &Cred, file: &FileInfo, caps: &Option<FileCaps>) -> Cap
 /// The credential after the execve of the file.
 #[tactic(auto, unfolding(cred_rules::specs::Exec::after_exec))]
 pub fn after_exec(cred: &Cred, file: &FileInfo, caps: &Option<FileCaps>) -> Result<Cred, NoMemory>
-    ensures { IfOk result (λ new. new ≡ after_exec ROOT cred.now file.now caps.now) }
+    ensures { IfOk result (λ new. new ≡ after_exec cred.now file.now caps.now) }
 {
     let mut new = copy(cred)?;
     new.uid = ids_after(cred.uid, user_after(cred, file));

@@ -1,6 +1,5 @@
 //! What the permitted set gains.
 ghost use Rattle.std.specs.Prelude.{◌≡◌};
-ghost use Rattle.cred_record.specs.Credential.{ROOT};
 ghost use Rattle.cred_rules.specs.Exec.{gained, gained_by_file, gains_of};
 
 use crate::after::permitted_after;
@@ -12,14 +11,14 @@ use cred_record::{Cred, FileInfo, Gains};
 
 /// What is permitted that was not.
 fn gained(cred: &Cred, file: &FileInfo, caps: &Option<FileCaps>) -> CapSet
-    ensures { result ≡ gained ROOT cred.now file.now caps.now }
+    ensures { result ≡ gained cred.now file.now caps.now }
 {
     permitted_after(cred, file, caps).less(&cred.perm)
 }
 
 /// What of it the file's own permitted set gave.
 fn gained_by_file(cred: &Cred, file: &FileInfo, caps: &Option<FileCaps>) -> CapSet
-    ensures { result ≡ gained_by_file ROOT cred.now file.now caps.now }
+    ensures { result ≡ gained_by_file cred.now file.now caps.now }
 {
     let given = sets_of(caps).perm.meet(&cred.bound);
     gained(cred, file, caps).meet(&given)
@@ -28,7 +27,7 @@ fn gained_by_file(cred: &Cred, file: &FileInfo, caps: &Option<FileCaps>) -> CapS
 /// What is gained, by where it comes from.
 #[tactic(auto, unfolding(cred_rules::specs::Exec::gains_of))]
 pub fn gains_of(cred: &Cred, file: &FileInfo, caps: &Option<FileCaps>) -> Gains
-    ensures { result ≡ gains_of ROOT cred.now file.now caps.now }
+    ensures { result ≡ gains_of cred.now file.now caps.now }
 {
     let gained = gained(cred, file, caps);
     if is_by_root(cred, file, caps) {

@@ -1,18 +1,10 @@
 //! The ids of the task after execve.
-ghost use Rattle.std.specs.Prelude.{◌≡◌, ◌==◌};
-ghost use Rattle.cred_record.specs.Credential.{ROOT};
+ghost use Rattle.std.specs.Prelude.{◌≡◌};
 ghost use Rattle.cred_rules.specs.Exec.{user_after, group_after, ids_after};
 
 use crate::attribute::{sets_group, sets_user};
 use cred_ids::{Id, Ids4};
 use cred_record::{Cred, FileInfo};
-
-/// Whether the user is root.
-pub fn is_root(user: Id) -> bool
-    ensures { result ≡ (user == ROOT) }
-{
-    user.number() == 0
-}
 
 /// The new effective user id: the owner of a file whose set-user-ID bit is in force.
 pub fn user_after(cred: &Cred, file: &FileInfo) -> Id

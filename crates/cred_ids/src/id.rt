@@ -3,7 +3,7 @@ ghost use Rattle.std.specs.Prelude.{◌≡◌, ◌<◌, ◌↔◌, IsNone, IfSom
 
 use std::marker::Model;
 
-/// A user's or a group's id, from 0 to 4294967294. Contracts see it as its number. User 0 is root.
+/// A user's or a group's id, from 0 to 4294967294. Contracts see it as its number.
 #[derive(Clone, Copy, PartialEq, Eq, PartialOrd, Ord, Debug)]
 pub struct Id(u32);
 

@@ -18,7 +18,7 @@ use Rattle.cred_ids.specs.Limits.{GROUP_LIMIT}
 use Rattle.cred_record.specs.Credential.{Credential, AreValidSets}
 use Rattle.cred_record.specs.Words.{pair, low, high, group_words, unpaired, words_of, credential_of, ids_of, group_count, are_ids, are_groups, are_sets, is_credential, IsCredential, are_words}
 use Rattle.cred_record.specs.WordLaws.{NoWordsSpellTwo, WordsAreTested}
-use Rattle.cred_record.specs.declared.layout.TheConstants.{WORDS, USER, SAVED_USER, GROUP, SAVED_GROUP, PERMITTED, INHERITABLE, EFFECTIVE, BOUNDING, AMBIENT, FLAGS, NAMESPACE, GROUPS}
+use Rattle.cred_record.specs.declared.layout.TheConstants.{WORDS, USER, SAVED_USER, GROUP, SAVED_GROUP, PERMITTED, INHERITABLE, EFFECTIVE, BOUNDING, AMBIENT, FLAGS, NAMESPACE, ROOT, GROUPS}
 
 -- ---- two numbers in a word
 
@@ -189,21 +189,31 @@ pub record IsValid (c : Credential) : Type 0 where
   pub sets : AllSets c
   pub bits : c.bits < 256
   pub ns : c.ns < 2 ^ 32
+  pub root : c.root < NO_ID
 
 pub credential-is : (c : Credential) → IsCredential c → IsValid c
 unfolding is_credential
 credential-is c is =
-    let h5 = both _ _ is in
+    let h6 = both _ _ is in
+    let h5 = both _ _ h6.0 in
     let h4 = both _ _ h5.0 in
     let h3 = both _ _ h4.0 in
     let h2 = both _ _ h3.0 in
     let h1 = both _ _ h2.0 in
-    record { uid = ids-are _ h1.0; gid = ids-are _ h1.1; groups = groups-are _ h2.1; sets = sets-are c h3.1; bits = ltb-true _ _ h4.1; ns = ltb-true _ _ h5.1 }
+    record {
+      uid = ids-are _ h1.0;
+      gid = ids-are _ h1.1;
+      groups = groups-are _ h2.1;
+      sets = sets-are c h3.1;
+      bits = ltb-true _ _ h4.1;
+      ns = ltb-true _ _ h5.1;
+      root = ltb-true _ _ h6.1;
+    }
 
 pub credential-test : (c : Credential) → IsValid c → IsCredential c
 unfolding is_credential
 credential-test c h =
-    both_true (both_true (both_true (both_true (both_true (ids-test _ h.uid) (ids-test _ h.gid)) (groups-test _ h.groups)) (sets-test c h.sets)) (lt-ltb _ _ h.bits)) (lt-ltb _ _ h.ns)
+    both_true (both_true (both_true (both_true (both_true (both_true (ids-test _ h.uid) (ids-test _ h.gid)) (groups-test _ h.groups)) (sets-test c h.sets)) (lt-ltb _ _ h.bits)) (lt-ltb _ _ h.ns)) (lt-ltb _ _ h.root)
 
 -- ---- the words of a credential read again
 
@@ -245,6 +255,7 @@ again c h k = record {
   bits = bits-again (length c.groups) (from_bool c.nnp) c.bits h.bits k;
   nnp = nnp-again (length c.groups) c.bits c.nnp h.bits k;
   ns = c.ns;
+  root = c.root;
 }
 
 pub words-again : (c : Credential) → IsCredential c → credential_of (words_of c) ≡ c
@@ -320,6 +331,7 @@ pub record WordFacts (ws : List ℕ) : Type 0 where
   pub amb : slice_index ws AMBIENT < 2 ^ 41
   pub valid : AreValidSets (slice_index ws PERMITTED) (slice_index ws INHERITABLE) (slice_index ws EFFECTIVE) (slice_index ws AMBIENT)
   pub ns : slice_index ws NAMESPACE < 2 ^ 32
+  pub root : slice_index ws ROOT < NO_ID
 
 pub word-facts : (ws : List ℕ) → are_words ws ≡ true → WordFacts ws
 unfolding credential_of
@@ -335,6 +347,7 @@ word-facts ws is =
       amb = h.sets.amb;
       valid = h.sets.valid;
       ns = h.ns;
+      root = h.root;
     }
 
 -- the number of groups that stands in the words

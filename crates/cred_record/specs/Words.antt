@@ -14,7 +14,7 @@ use Rattle.cred_record.specs.Credential.{Credential, AreValidSets}
 use Rattle.cred_record.specs.declared.layout.TheConstants.{WORDS, USER, SAVED_USER, GROUP}
 use Rattle.cred_record.specs.declared.layout.TheConstants.{SAVED_GROUP, PERMITTED, INHERITABLE}
 use Rattle.cred_record.specs.declared.layout.TheConstants.{EFFECTIVE, BOUNDING, AMBIENT, FLAGS}
-use Rattle.cred_record.specs.declared.layout.TheConstants.{NAMESPACE, GROUPS}
+use Rattle.cred_record.specs.declared.layout.TheConstants.{NAMESPACE, ROOT, GROUPS}
 
 -- ---- the layout
 
@@ -47,7 +47,7 @@ words_of c =
     c.amb ∷
     flags_word c ∷
     c.ns ∷
-    0 ∷
+    c.root ∷
     group_words (WORDS - GROUPS) c.groups
 
 -- ---- a credential
@@ -89,7 +89,8 @@ is_credential c =
     are_groups c.groups &&
     are_sets c &&
     nat_lt c.bits 256 &&
-    nat_lt c.ns (2 ^ 32)
+    nat_lt c.ns (2 ^ 32) &&
+    nat_lt c.root NO_ID
 
 abbrev pub IsCredential : Credential → Type 0
 IsCredential c = is_credential c ≡ true
@@ -134,6 +135,7 @@ credential_of ws = record {
   bits = slice_index ws FLAGS % 2 ^ 8;
   nnp = (slice_index ws FLAGS / 2 ^ 8 % 2 == 1);
   ns = slice_index ws NAMESPACE;
+  root = slice_index ws ROOT;
 }
 
 -- the five sets stand in the words, and are those of a credential

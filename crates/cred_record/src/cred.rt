@@ -1,6 +1,6 @@
 //! A task's credential.
 ghost use Rattle.std.specs.Prelude.{◌≡◌, IfOk};
-ghost use Rattle.cred_record.specs.Credential.{first_credential};
+ghost use Rattle.cred_record.specs.Credential.{first_credential, is_root};
 
 use cred_caps::{CapSet, SecureBits};
 use cred_ids::{Groups, Id, Ids4, NoMemory};
@@ -34,6 +34,8 @@ pub struct Cred {
     pub nnp: bool,
     /// The number of the task's user namespace.
     pub ns: u32,
+    /// The user id of root in that namespace (user_namespaces(7)). No call changes it.
+    pub root: Id,
 }
 
 impl Model for Cred {
@@ -53,22 +55,34 @@ impl Model for Cred {
       bits = c.bits;
       nnp = c.nnp;
       ns = c.ns;
+      root = c.root;
     } };
 
     ghost invariant = { λ c. AreValidSets c.perm c.inh c.eff c.amb };
 }
 
-/// The credential of a first task: all ids as given, no groups, the bounding set full, the
-/// permitted and the effective set full for root and empty for each other user, and all else empty,
-/// unset and false.
+impl Cred {
+    /// Whether the user is root, as far as the task's capabilities go: root of the task's own user
+    /// namespace (user_namespaces(7), "Capabilities"). User 0 is so where the namespace's root is
+    /// user 0, as in the initial one.
+    pub fn is_root(&self, user: Id) -> bool
+        ensures { result ≡ is_root self.now user }
+    {
+        user == self.root
+    }
+}
+
+/// The credential of a first task in a user namespace where root has the user id `root`: all ids as
+/// given, no groups, the bounding set full, the permitted and the effective set full for root and
+/// empty for each other user, and all else empty, unset and false.
 ///
 /// # Errors
 ///
 /// `NoMemory` if an allocation of the credential fails.
-pub fn first(alloc: Global, user: Id, group: Id, ns: u32) -> Result<Cred, NoMemory>
-    ensures { IfOk result (λ c. c ≡ first_credential user group ns) }
+pub fn first(alloc: Global, user: Id, group: Id, ns: u32, root: Id) -> Result<Cred, NoMemory>
+    ensures { IfOk result (λ c. c ≡ first_credential user group ns root) }
 {
-    let own = if user.number() == 0 {
+    let own = if user == root {
         CapSet::full()
     } else {
         CapSet::empty()
@@ -85,6 +99,7 @@ pub fn first(alloc: Global, user: Id, group: Id, ns: u32) -> Result<Cred, NoMemo
         bits: SecureBits::none(),
         nnp: false,
         ns,
+        root,
     })
 }
 
@@ -108,5 +123,6 @@ pub fn copy(cred: &Cred) -> Result<Cred, NoMemory>
         bits: cred.bits,
         nnp: cred.nnp,
         ns: cred.ns,
+        root: cred.root,
     })
 }

@@ -37,8 +37,8 @@ pub const FLAGS: usize = 9;
 /// The number of the user namespace.
 pub const NAMESPACE: usize = 10;
 
-/// The word that is not used.
-pub const SPARE: usize = 11;
+/// The user id of root in that namespace.
+pub const ROOT: usize = 11;
 
 /// The first of the words of groups, which are the rest.
 pub const GROUPS: usize = 12;

@@ -2,13 +2,14 @@
 ghost use Rattle.std.specs.Prelude.{◌≡◌, ◌↔◌, IsTrue, ◌<◌, ◌-◌, ◌*◌, ◌/◌, ◌%◌, ◌^◌, drop, Some};
 ghost use Rattle.std.specs.Prelude.{true, IfOk, IfSome, IfNone, slice_index};
 ghost use Rattle.std.specs.Option.{SomeIff};
+ghost use Rattle.cred_ids.specs.Id.{IsId};
 ghost use Rattle.cred_record.specs.Credential.{Credential, AreValidSets};
 ghost use Rattle.cred_record.specs.Words.{are_ids, ids_of, unpaired, IsCredential, words_of};
 ghost use Rattle.cred_record.specs.Words.{credential_of, are_words, AreSetsOf};
 
 use crate::cred::Cred;
 use crate::layout::{
-    AMBIENT, BOUNDING, EFFECTIVE, FLAGS, GROUP, GROUPS, INHERITABLE, NAMESPACE, PERMITTED,
+    AMBIENT, BOUNDING, EFFECTIVE, FLAGS, GROUP, GROUPS, INHERITABLE, NAMESPACE, PERMITTED, ROOT,
     SAVED_GROUP, SAVED_USER, USER, WORDS,
 };
 use crate::valid::is_credential;
@@ -127,6 +128,13 @@ fn namespace_in(word: u64) -> Option<u32>
     u32::try_from(word).ok()
 }
 
+/// The user id of root. `None` exactly where the word is no id.
+fn root_in(word: u64) -> Option<Id>
+    ensures { SomeIff result (IsId word) word }
+{
+    Id::new(u32::try_from(word).ok()?)
+}
+
 /// The credential of the words but for its groups, which are given. `None` only where the words
 /// are no credential's. What the layout leaves out is not looked at.
 fn cred_in(words: &[u64; WORDS], groups: Groups) -> Option<Cred>
@@ -147,12 +155,13 @@ fn cred_in(words: &[u64; WORDS], groups: Groups) -> Option<Cred>
         bits: bits_in(words[FLAGS])?,
         nnp: words[FLAGS] >> 8 & 1 == 1,
         ns: namespace_in(words[NAMESPACE])?,
+        root: root_in(words[ROOT])?,
     })
 }
 
-/// The credential of the words. `None` exactly where they are no credential's: where an id or a
-/// group is 4294967295, a set has a bit above 40, the sets are not those of a credential, the
-/// groups are not sorted or are more than 32, or a bit is set that the layout leaves out.
+/// The credential of the words. `None` exactly where they are no credential's: where an id, a group
+/// or root's id is 4294967295, a set has a bit above 40, the sets are not those of a credential,
+/// the groups are not sorted or are more than 32, or a bit is set that the layout leaves out.
 ///
 /// # Errors
 ///

@@ -32,5 +32,6 @@ pub fn is_credential(cred: &Cred)
         cred.amb.bits(),
         cred.bits.number(),
         u64::from(cred.ns),
+        cred.root.number(),
     );
 }

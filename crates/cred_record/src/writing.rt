@@ -4,8 +4,8 @@ ghost use Rattle.cred_record.specs.Words.{IsCredential, pair, flags_word, words_
 
 use crate::cred::Cred;
 use crate::layout::{
-    AMBIENT, BOUNDING, EFFECTIVE, FLAGS, GROUP, GROUPS, INHERITABLE, NAMESPACE, PERMITTED,
-    SAVED_GROUP, SAVED_USER, SPARE, USER, WORDS,
+    AMBIENT, BOUNDING, EFFECTIVE, FLAGS, GROUP, GROUPS, INHERITABLE, NAMESPACE, PERMITTED, ROOT,
+    SAVED_GROUP, SAVED_USER, USER, WORDS,
 };
 use cred_ids::{Groups, Id};
 
@@ -59,7 +59,7 @@ fn word_at(cred: &Cred, place: usize) -> u64
         AMBIENT => cred.amb.bits(),
         FLAGS => flags(cred),
         NAMESPACE => u64::from(cred.ns),
-        SPARE => 0,
+        ROOT => u64::from(cred.root.number()),
         _ => {
             let first = 2 * (place - GROUPS);
             let low = group_or_zero(&cred.groups, first);

@@ -10,7 +10,7 @@ use Rattle.cred_caps.specs.Secure.{is_set}
 use Rattle.cred_record.specs.declared.file.FileKind.{FileKind}
 use Rattle.cred_record.specs.declared.file.FileKind.TheVariants.{Regular, Directory}
 use Rattle.cred_record.specs.declared.want.Want.{Want}
-use Rattle.cred_record.specs.Credential.{Credential, ROOT, capable}
+use Rattle.cred_record.specs.Credential.{Credential, capable, is_root}
 use Rattle.cred_record.specs.File.{File}
 use Rattle.cred_rules.specs.Bits.{has_bit}
 
@@ -103,7 +103,7 @@ may_signal from to same =
 abbrev pub access_effective : Credential → Caps
 access_effective c =
     if is_set c.bits NoSetuidFixup then c.eff
-    else if c.uid.real == ROOT then c.perm
+    else if is_root c c.uid.real then c.perm
     else empty
 
 -- the credential that access(2) asks by: files are reached by the real ids

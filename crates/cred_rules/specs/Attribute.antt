@@ -59,8 +59,8 @@ revision_of bytes = slice_index bytes 3
 
 -- ---- what they spell
 
--- version 1 (VFS_CAP_REVISION_1) has three words. It has no root id, and is taken to have 0, that of
--- the initial namespace
+-- version 1 (VFS_CAP_REVISION_1) has three words. It has no root id, and is taken to have 0, that
+-- of the initial namespace
 pub record IsVersion1 (bytes : List ℕ) (a : Attribute) : Type 0 where
   pub size : length bytes ≡ 12
   pub revision : revision_of bytes ≡ 1

@@ -1,7 +1,7 @@
 -- What execve(2) makes of the credential of a task, and what that gains (execve(2), inode(7);
--- capabilities(7), "Transformation of capabilities during execve()"). `root` is the user id of
--- root, and `a` the capability attribute of the file, where the file has one that counts.
-use Rattle.std.specs.Prelude.{ℕ, Bool, true, false, List, ◌==◌, ◌&&◌, ◌||◌, not, Option, Some, None}
+-- capabilities(7), "Transformation of capabilities during execve()"). Root is that of the task's
+-- user namespace, and `a` the capability attribute of the file, where the file has one that counts.
+use Rattle.std.specs.Prelude.{ℕ, Bool, true, false, List, ◌&&◌, ◌||◌, not, Option, Some, None}
 use Rattle.std.specs.Prelude.{Result, Ok, Err, if◌then◌else◌}
 use Rattle.std.specs.Option.{is_some}
 use Rattle.cred_ids.specs.declared.id.Ids4.{Ids4}
@@ -10,7 +10,7 @@ use Rattle.cred_caps.specs.Caps.{Caps, empty, full, union, meet, less, is_within
 use Rattle.cred_caps.specs.Secure.{is_set, with_flag}
 use Rattle.cred_record.specs.declared.gains.Gains.{Gains}
 use Rattle.cred_record.specs.declared.want.Want.{Want}
-use Rattle.cred_record.specs.Credential.{Credential, ROOT}
+use Rattle.cred_record.specs.Credential.{Credential, is_root}
 use Rattle.cred_record.specs.File.{File}
 use Rattle.cred_rules.specs.Access.{GROUP, is_directory, may}
 use Rattle.cred_rules.specs.Attribute.{Attribute, attribute_of, counts}
@@ -130,26 +130,25 @@ gives_all c a = not (sets_of a).effective || is_within (sets_of a).perm (given_b
 -- the exception: the file has an attribute, the real user id is not root, and the effective one is
 -- ("Set-user-ID-root programs that have file capabilities"). It asks for the ids alone, whether or
 -- not the set-user-ID bit made the effective one
-abbrev pub honors_file : ℕ → Credential → File → Option Attribute → Bool
-honors_file root c f a =
-    is_some a && not (c.uid.real == root) && (user_after c f == root)
+abbrev pub honors_file : Credential → File → Option Attribute → Bool
+honors_file c f a = is_some a && not (is_root c c.uid.real) && is_root c (user_after c f)
 
 -- the rule applies: the real or the new effective user id is root, NOROOT is unset ("The securebits
 -- flags"), and this is not the exception
-abbrev pub is_by_root : ℕ → Credential → File → Option Attribute → Bool
-is_by_root root c f a =
+abbrev pub is_by_root : Credential → File → Option Attribute → Bool
+is_by_root c f a =
     not (is_set c.bits NoRoot) &&
-    ((c.uid.real == root) || (user_after c f == root)) &&
-    not (honors_file root c f a)
+    (is_root c c.uid.real || is_root c (user_after c f)) &&
+    not (honors_file c f a)
 
 -- the sets of the file as the call takes them: by the rule both are full, and the flag is set if
 -- the new effective user id is root
-abbrev pub sets_taken : ℕ → Credential → File → Option Attribute → FileSets
-sets_taken root c f a =
-    if is_by_root root c f a then record {
+abbrev pub sets_taken : Credential → File → Option Attribute → FileSets
+sets_taken c f a =
+    if is_by_root c f a then record {
       perm = full;
       inh = full;
-      effective = (sets_of a).effective || (user_after c f == root);
+      effective = (sets_of a).effective || is_root c (user_after c f);
     }
     else sets_of a
 
@@ -170,25 +169,23 @@ abbrev pub limited : Credential → Caps → Caps
 limited c s = if c.nnp then meet s c.perm else s
 
 -- P'(permitted) = (P(inheritable) & F(inheritable)) | (F(permitted) & P(bounding)) | P'(ambient)
-abbrev pub perm_after : ℕ → Credential → File → Option Attribute → Caps
-perm_after root c f a =
-    limited c (union (given_by c (sets_taken root c f a)) (amb_after c f a))
+abbrev pub perm_after : Credential → File → Option Attribute → Caps
+perm_after c f a = limited c (union (given_by c (sets_taken c f a)) (amb_after c f a))
 
 -- P'(effective) = F(effective) ? P'(permitted) : P'(ambient)
-abbrev pub eff_after : ℕ → Credential → File → Option Attribute → Caps
-eff_after root c f a =
-    if (sets_taken root c f a).effective then perm_after root c f a else amb_after c f a
+abbrev pub eff_after : Credential → File → Option Attribute → Caps
+eff_after c f a = if (sets_taken c f a).effective then perm_after c f a else amb_after c f a
 
 -- the credential after the call. KEEP_CAPS is cleared, and every other securebit stays ("The
 -- securebits flags"). P'(inheritable) = P(inheritable), P'(bounding) = P(bounding), and all else
 -- stays
-unfoldable pub after_exec : ℕ → Credential → File → Option Attribute → Credential
-after_exec root c f a =
+unfoldable pub after_exec : Credential → File → Option Attribute → Credential
+after_exec c f a =
     record c {
       uid = ids_after c.uid (user_after c f);
       gid = ids_after c.gid (group_after c f);
-      perm = perm_after root c f a;
-      eff = eff_after root c f a;
+      perm = perm_after c f a;
+      eff = eff_after c f a;
       amb = amb_after c f a;
       bits = with_flag c.bits KeepCaps false;
     }
@@ -196,44 +193,44 @@ after_exec root c f a =
 -- ---- what is gained
 
 -- what is permitted that was not
-abbrev pub gained : ℕ → Credential → File → Option Attribute → Caps
-gained root c f a = less (perm_after root c f a) c.perm
+abbrev pub gained : Credential → File → Option Attribute → Caps
+gained c f a = less (perm_after c f a) c.perm
 
 -- what F(permitted) & P(bounding) gave of it
-abbrev pub gained_by_file : ℕ → Credential → File → Option Attribute → Caps
-gained_by_file root c f a = meet (gained root c f a) (meet (sets_of a).perm c.bound)
+abbrev pub gained_by_file : Credential → File → Option Attribute → Caps
+gained_by_file c f a = meet (gained c f a) (meet (sets_of a).perm c.bound)
 
 -- where the rule for root applies, all of it comes by that. Else it comes from the permitted set of
 -- the file, and the rest of it from the inheritable set
-unfoldable pub gains_of : ℕ → Credential → File → Option Attribute → Gains
-gains_of root c f a =
-    if is_by_root root c f a then record {
+unfoldable pub gains_of : Credential → File → Option Attribute → Gains
+gains_of c f a =
+    if is_by_root c f a then record {
       file = empty;
       inherit = empty;
-      root = gained root c f a;
+      root = gained c f a;
     }
     else record {
-      file = gained_by_file root c f a;
-      inherit = less (gained root c f a) (gained_by_file root c f a);
+      file = gained_by_file c f a;
+      inherit = less (gained c f a) (gained_by_file c f a);
       root = empty;
     }
 
 -- ---- the call
 
 -- what the file makes of the task, once its attribute is read; or why it is refused
-abbrev pub executed : ℕ → Credential → File → Option Attribute → Result Executed NoExec
-executed root c f a =
-    if gives_all c a then Ok (record { cred = after_exec root c f a; gains = gains_of root c f a })
+abbrev pub executed : Credential → File → Option Attribute → Result Executed NoExec
+executed c f a =
+    if gives_all c a then Ok (record { cred = after_exec c f a; gains = gains_of c f a })
     else Err GivesTooLittle
 
 abbrev pub executed_by
-    : ℕ → Credential → File → Result (Option Attribute) NoExec → Result Executed NoExec
-executed_by root c f (Ok a) = executed root c f a
-executed_by root c f (Err e) = Err e
+    : Credential → File → Result (Option Attribute) NoExec → Result Executed NoExec
+executed_by c f (Ok a) = executed c f a
+executed_by c f (Err e) = Err e
 
 -- the credential of a task after the execve of a file, and what that gains; or why it is refused.
 -- `chain` has the root ids of the task's user namespace and of its ancestors
 unfoldable pub exec : Credential → File → List ℕ → Result Executed NoExec
 exec c f chain =
-    if may_execute c f then executed_by ROOT c f (attribute_for c f chain)
+    if may_execute c f then executed_by c f (attribute_for c f chain)
     else Err MayNotExecute

@@ -12,7 +12,7 @@ use Rattle.cred_caps.specs.Caps.{Caps, union, meet, less, caps_of}
 use Rattle.cred_caps.specs.Numbers.{CHOWN, DAC_OVERRIDE, DAC_READ_SEARCH, FOWNER, FSETID, SETGID}
 use Rattle.cred_caps.specs.Numbers.{SETUID, LINUX_IMMUTABLE, MKNOD, MAC_OVERRIDE}
 use Rattle.cred_caps.specs.Secure.{is_set}
-use Rattle.cred_record.specs.Credential.{Credential, ROOT, capable}
+use Rattle.cred_record.specs.Credential.{Credential, capable, is_root}
 
 -- the eight capabilities that act on files
 abbrev pub FILE_CAPS : Caps
@@ -42,8 +42,8 @@ fs_after able ids (Set n) = if able || list_any (λ id. id == n) (own_ids ids) t
 -- out of it, and becoming root adds those of the eight that are permitted
 abbrev pub fs_effective : Credential → ℕ → ℕ → Caps
 fs_effective c old new =
-    if (old == ROOT) && not (new == ROOT) then less c.eff FILE_CAPS
-    else if not (old == ROOT) && (new == ROOT) then union c.eff (meet FILE_CAPS c.perm)
+    if is_root c old && not (is_root c new) then less c.eff FILE_CAPS
+    else if not (is_root c old) && is_root c new then union c.eff (meet FILE_CAPS c.perm)
     else c.eff
 
 -- the credential with this filesystem user id: NO_SETUID_FIXUP leaves the effective set alone

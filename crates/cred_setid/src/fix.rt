@@ -7,11 +7,11 @@ use cred_caps::{CapSet, Flag};
 use cred_ids::Ids4;
 use cred_record::{Cred, Refusal, copy};
 
-/// Whether the real, the effective or the saved id is root.
-fn has_root(ids: &Ids4) -> bool
-    ensures { result ≡ has_root ids.now }
+/// Whether the real, the effective or the saved id is root, as the task's namespace has it.
+fn has_root(cred: &Cred, ids: &Ids4) -> bool
+    ensures { result ≡ has_root cred.now ids.now }
 {
-    ids.real.number() == 0 || ids.effective.number() == 0 || ids.saved.number() == 0
+    cred.is_root(ids.real) || cred.is_root(ids.effective) || cred.is_root(ids.saved)
 }
 
 /// The credential with these user ids, and the sets that it then has.
@@ -30,9 +30,9 @@ pub fn with_user_ids(cred: &Cred, ids: Ids4) -> Result<Cred, Refusal>
     if cred.bits.flag(Flag::NoSetuidFixup) {
         return Ok(new);
     }
-    let was_root = cred.uid.effective.number() == 0;
-    let is_root = ids.effective.number() == 0;
-    let lost = has_root(&cred.uid) && !has_root(&ids);
+    let was_root = cred.is_root(cred.uid.effective);
+    let is_root = cred.is_root(ids.effective);
+    let lost = has_root(cred, &cred.uid) && !has_root(cred, &ids);
     let cleared = lost && !cred.bits.flag(Flag::KeepCaps);
     if cleared {
         new.perm = CapSet::empty();

@@ -36,8 +36,8 @@ fn fs_effective(cred: &Cred, new: Id) -> CapSet
     ensures value { result ≡ fs_effective cred.now cred.now.uid.fs new }
     ensures permitted { IsWithin result cred.now.perm }
 {
-    let was_root = cred.uid.fs.number() == 0;
-    let is_root = new.number() == 0;
+    let was_root = cred.is_root(cred.uid.fs);
+    let is_root = cred.is_root(new);
     if was_root && !is_root {
         cred.eff.less(&file_caps())
     } else if !was_root && is_root {

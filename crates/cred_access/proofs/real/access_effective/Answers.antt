@@ -1,5 +1,5 @@
 use Rattle.std.proofs.Common.{rules}
 use Rattle.cred_access.proofs.real.access_effective.Goals as goal
 
-pub returns-else-number-eq0-clause-value : goal.returns-else-number-eq0-clause-value
-returns-else-number-eq0-clause-value c = search rules
+pub returns-else-is_root-clause-value : goal.returns-else-is_root-clause-value
+returns-else-is_root-clause-value c = search rules

@@ -1,5 +1,5 @@
 use Rattle.std.proofs.Common.{◌≡◌, ◌∙◌, ap, subst}
-use Rattle.cred_record.specs.Credential.{ROOT, AreValidSets}
+use Rattle.cred_record.specs.Credential.{AreValidSets}
 use Rattle.cred_exec.proofs.Valid.{valid_after}
 use Rattle.cred_exec.proofs.after.after_exec.Goals as goal
 
@@ -13,4 +13,4 @@ invariant_of-new c =
     let eff = c.effective_after-new-inside.ensures in
     let amb = c.ambient_after-new-inside.ensures in
     rw (perm, eff, amb, inh)
-    (valid_after ROOT cred c.args.file.now c.args.caps.now valid)
+    (valid_after cred c.args.file.now c.args.caps.now valid)

@@ -14,6 +14,9 @@ returns-in_err-ids_in-2-clause-none c = none-is _ c.args.words.now (λ is. c.in_
 pub returns-in_err-namespace_in-clause-none : goal.returns-in_err-namespace_in-clause-none
 returns-in_err-namespace_in-clause-none c = none-is _ c.args.words.now (λ is. c.in_err-namespace_in.ensures (word-facts _ is).ns)
 
+pub returns-in_err-root_in-clause-none : goal.returns-in_err-root_in-clause-none
+returns-in_err-root_in-clause-none c = none-is _ c.args.words.now (λ is. c.in_err-root_in.ensures (word-facts _ is).root)
+
 pub returns-clause-some : goal.returns-clause-some
 unfolding credential_of
 returns-clause-some c is k =
@@ -30,4 +33,5 @@ returns-clause-some c is k =
       bits = same_Some _ _ c.in_ok-bits_in.ensures k;
       nnp = (last_bit (slice_index c.args.words.now FLAGS / 2 ^ 8) k == 1);
       ns = c.in_ok-namespace_in.ensures.1 k;
+      root = c.in_ok-root_in.ensures.1 k;
     }

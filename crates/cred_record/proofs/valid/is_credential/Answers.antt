@@ -20,4 +20,5 @@ returns c =
       };
       bits = omega (arith, c.number.ensures.value, c.number.ensures.small);
       ns = omega (arith, c.from.ensures, c.from.type_inv);
+      root = omega (arith, c.number-2.ensures.value, c.number-2.ensures.id);
     })
