@@ -7,11 +7,11 @@ ghost use Rattle.cred_hold.specs.Tokens.{entry, none_sealed, IsSealed, IsAlone};
 
 use crate::parts::{known_caps, known_ids};
 use crate::tokens::{Hold, Writer, put};
-use crate::words::peek;
+use crate::words::{peek, peek_all};
 use cred_caps::CapSet;
 use cred_ids::{Ids4, NoMemory};
 use cred_record::layout::{PERMITTED, USER};
-use cred_record::{Cred, WORDS, known_words};
+use cred_record::{Cred, known_words};
 use cred_words::{Cells, cells};
 use std::alloc::Global;
 use std::marker::Model;
@@ -135,7 +135,7 @@ impl Master {
         ensures cred { IfOk result (λ c. slice_get self.old.slots slot ≡ Some (Some c)) }
         ensures same { self.new ≡ self.old }
     {
-        let words = peek::<WORDS>(&mut self.inner, cells, slot, 0);
+        let words = peek_all(&mut self.inner, cells, slot);
         known_words(alloc, &words)
     }
 

@@ -2,11 +2,11 @@
 ghost use Rattle.std.specs.Prelude.{◌≡◌, Some, IfOk, [], ◌∷◌};
 
 use crate::parts::{known_caps, known_ids};
-use crate::words::{gather, scatter};
+use crate::words::{gather, gather_all, scatter};
 use cred_caps::CapSet;
 use cred_ids::{Ids4, NoMemory};
 use cred_record::layout::{PERMITTED, USER};
-use cred_record::{Cred, WORDS, is_credential, known_words, to_words};
+use cred_record::{Cred, is_credential, known_words, to_words};
 use cred_words::{Cells, cells};
 use std::alloc::Global;
 use std::marker::Model;
@@ -82,7 +82,7 @@ pub fn read(alloc: Global, cells: &Cells, hold: &mut Hold) -> Result<Cred, NoMem
     ensures value { IfOk result (λ c. c ≡ hold.old.cred) }
     ensures same { hold.new ≡ hold.old }
 {
-    let words = gather::<WORDS>(cells, &mut hold.inner, hold.slot, 0);
+    let words = gather_all(cells, &mut hold.inner, hold.slot);
     known_words(alloc, &words)
 }
 

@@ -85,6 +85,15 @@ impl Groups {
         Ok(Groups { ids })
     }
 
+    /// The groups of a list that is known to be one of groups: sorted, and at most 32. It takes no
+    /// memory.
+    pub fn from_sorted(ids: Vec<Id>) -> Groups
+        requires { IsGroupList ids.items }
+        ensures { result ≡ ids.items }
+    {
+        Groups { ids }
+    }
+
     /// Whether the group is one of these.
     pub fn has(&self, group: Id) -> bool
         ensures { IsTrue result ↔ Contains self.now group }

@@ -26,7 +26,7 @@ pub use gains::Gains;
 pub use id_call::IdCall;
 pub use layout::WORDS;
 pub use list::IdList;
-pub use reading::{ids_in, known_words, of_words};
+pub use reading::{group_count, ids_in, known_words, of_words};
 pub use refusal::{Denial, Refusal};
 pub use valid::is_credential;
 pub use want::Want;

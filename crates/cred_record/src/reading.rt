@@ -1,11 +1,11 @@
 //! A credential read from words.
-ghost use Rattle.std.specs.Prelude.{◌≡◌, ◌↔◌, IsTrue, ◌<◌, ◌-◌, ◌*◌, ◌/◌, ◌%◌, ◌^◌, drop, Some};
-ghost use Rattle.std.specs.Prelude.{true, IfOk, IfSome, IfNone, slice_index};
+ghost use Rattle.std.specs.Prelude.{◌≡◌, ◌↔◌, IsTrue, ◌<◌, ◌≤◌, ◌-◌, ◌*◌, ◌/◌, ◌%◌, ◌^◌, Some, true};
+ghost use Rattle.std.specs.Prelude.{ℕ, IfOk, IfSome, IfNone, take, drop, slice_index};
 ghost use Rattle.std.specs.Option.{SomeIff};
-ghost use Rattle.cred_ids.specs.Id.{IsId};
+ghost use Rattle.cred_ids.specs.Id.{IsId, NO_ID};
 ghost use Rattle.cred_record.specs.Credential.{Credential, AreValidSets};
 ghost use Rattle.cred_record.specs.Words.{are_ids, ids_of, unpaired, IsCredential, words_of};
-ghost use Rattle.cred_record.specs.Words.{credential_of, are_words, AreSetsOf};
+ghost use Rattle.cred_record.specs.Words.{credential_of, are_words, group_count, AreSetsOf};
 
 use crate::cred::Cred;
 use crate::layout::{
@@ -45,6 +45,13 @@ pub fn ids_in(first: u64, second: u64) -> Option<Ids4>
     })
 }
 
+/// How many groups there are, by the word of flags.
+pub fn group_count(flags: u64) -> usize
+    ensures { result ≡ group_count flags }
+{
+    (flags >> 16) as usize
+}
+
 /// The number at a place among the words of groups, two of which stand in each.
 fn group_number(words: &[u64; WORDS], place: usize) -> u32
     requires { place < 2 * (WORDS - GROUPS) }
@@ -58,16 +65,14 @@ fn group_number(words: &[u64; WORDS], place: usize) -> u32
     }
 }
 
-/// The groups, in order. `None` only where the words are no credential's.
-fn groups_in(alloc: Global, words: &[u64; WORDS]) -> Result<Option<Groups>, NoMemory>
+/// So many ids from the first of the words of groups on. `None` where one of them is none.
+fn group_ids(alloc: Global, words: &[u64; WORDS], count: usize) -> Result<Option<Vec<Id>>, NoMemory>
+    requires { count ≤ 2 * (WORDS - GROUPS) }
     ensures some { IfOk result (λ o. IfSome o
-        (λ g. are_words words.now ≡ true → g ≡ (credential_of words.now).groups)) }
-    ensures none { IfOk result (λ o. IfNone o (¬ (are_words words.now ≡ true))) }
+        (λ ids. ids.items ≡ take count (unpaired (drop GROUPS words.now)))) }
+    ensures none { IfOk result (λ o. IfNone o ((place : ℕ) × (place < count)
+        × (slice_index (unpaired (drop GROUPS words.now)) place ≡ NO_ID))) }
 {
-    let count = (words[FLAGS] >> 16) as usize;
-    if count > limits::GROUP_LIMIT {
-        return Ok(None);
-    }
     let mut ids = Vec::with_capacity(alloc, count)?;
     for place in 0..count {
         let Some(id) = Id::new(group_number(words, place)) else {
@@ -75,11 +80,38 @@ fn groups_in(alloc: Global, words: &[u64; WORDS]) -> Result<Option<Groups>, NoMe
         };
         ids.push(id)?;
     }
+    Ok(Some(ids))
+}
+
+/// The groups, in order. `None` only where the words are no credential's.
+fn groups_in(alloc: Global, words: &[u64; WORDS]) -> Result<Option<Groups>, NoMemory>
+    ensures some { IfOk result (λ o. IfSome o
+        (λ g. are_words words.now ≡ true → g ≡ (credential_of words.now).groups)) }
+    ensures none { IfOk result (λ o. IfNone o (¬ (are_words words.now ≡ true))) }
+{
+    let count = group_count(words[FLAGS]);
+    if count > limits::GROUP_LIMIT {
+        return Ok(None);
+    }
+    let Some(ids) = group_ids(alloc, words, count)? else {
+        return Ok(None);
+    };
     match Groups::from_list(alloc, ids.as_slice()) {
         Ok(groups) => Ok(Some(groups)),
         Err(GroupsRefusal::TooMany(_)) => Ok(None),
         Err(GroupsRefusal::Memory) => Err(NoMemory),
     }
+}
+
+/// The groups of words that are known to be a credential's.
+fn known_groups(alloc: Global, words: &[u64; WORDS]) -> Result<Groups, NoMemory>
+    requires { are_words words.now ≡ true }
+    ensures { IfOk result (λ g. g ≡ (credential_of words.now).groups) }
+{
+    let Some(ids) = group_ids(alloc, words, group_count(words[FLAGS]))? else {
+        unreachable!()
+    };
+    Ok(Groups::from_sorted(ids))
 }
 
 /// The five sets of a credential.
@@ -197,9 +229,7 @@ pub fn known_words(alloc: Global, words: &[u64; WORDS]) -> Result<Cred, NoMemory
     requires { are_words words.now ≡ true }
     ensures { IfOk result (λ c. c ≡ credential_of words.now) }
 {
-    let Some(groups) = groups_in(alloc, words)? else {
-        unreachable!()
-    };
+    let groups = known_groups(alloc, words)?;
     let Some(cred) = cred_in(words, groups) else {
         unreachable!()
     };

@@ -1,12 +1,9 @@
 //! A credential laid out in words.
-ghost use Rattle.std.specs.Prelude.{◌≡◌, ◌<◌, ◌^◌, slice_index};
-ghost use Rattle.cred_record.specs.Words.{IsCredential, pair, flags_word, words_of};
+ghost use Rattle.std.specs.Prelude.{◌≡◌, ◌<◌, ◌+◌, ◌-◌, ◌*◌, take, slice_index};
+ghost use Rattle.cred_record.specs.Words.{pair, flags_word, words_of};
 
 use crate::cred::Cred;
-use crate::layout::{
-    AMBIENT, BOUNDING, EFFECTIVE, FLAGS, GROUP, GROUPS, INHERITABLE, NAMESPACE, PERMITTED, ROOT,
-    SAVED_GROUP, SAVED_USER, USER, WORDS,
-};
+use crate::layout::{GROUPS, WORDS};
 use cred_ids::{Groups, Id};
 
 /// Two numbers in one word, the first in its low half.
@@ -41,41 +38,48 @@ fn flags(cred: &Cred) -> u64
     (cred.groups.len() as u64) << 16 | bits
 }
 
-/// The word at a place.
-#[tactic(auto, using(crate::proofs::WordLemmas::at_pair), unfolding(crate::specs::Words::words_of))]
-fn word_at(cred: &Cred, place: usize) -> u64
-    requires { place < WORDS }
-    ensures { result ≡ slice_index (words_of cred.now) place }
+/// The words before those of groups, in the order of `layout`'s places.
+#[tactic(auto, unfolding(crate::specs::Words::words_of))]
+fn head(cred: &Cred) -> [u64; GROUPS]
+    ensures { result ≡ take GROUPS (words_of cred.now) }
 {
-    match place {
-        USER => ids(cred.uid.real, cred.uid.effective),
-        SAVED_USER => ids(cred.uid.saved, cred.uid.fs),
-        GROUP => ids(cred.gid.real, cred.gid.effective),
-        SAVED_GROUP => ids(cred.gid.saved, cred.gid.fs),
-        PERMITTED => cred.perm.bits(),
-        INHERITABLE => cred.inh.bits(),
-        EFFECTIVE => cred.eff.bits(),
-        BOUNDING => cred.bound.bits(),
-        AMBIENT => cred.amb.bits(),
-        FLAGS => flags(cred),
-        NAMESPACE => u64::from(cred.ns),
-        ROOT => u64::from(cred.root.number()),
-        _ => {
-            let first = 2 * (place - GROUPS);
-            let low = group_or_zero(&cred.groups, first);
-            let high = group_or_zero(&cred.groups, first + 1);
-            pair(low, high)
-        }
-    }
+    [
+        ids(cred.uid.real, cred.uid.effective),
+        ids(cred.uid.saved, cred.uid.fs),
+        ids(cred.gid.real, cred.gid.effective),
+        ids(cred.gid.saved, cred.gid.fs),
+        cred.perm.bits(),
+        cred.inh.bits(),
+        cred.eff.bits(),
+        cred.bound.bits(),
+        cred.amb.bits(),
+        flags(cred),
+        u64::from(cred.ns),
+        u64::from(cred.root.number()),
+    ]
+}
+
+/// The word `i` of those of groups, with two groups, or one and 0.
+fn group_word(groups: &Groups, i: usize) -> u64
+    requires { i < WORDS - GROUPS }
+    ensures { result ≡ pair (slice_index groups.now (2 * i)) (slice_index groups.now (2 * i + 1)) }
+{
+    let low = group_or_zero(groups, 2 * i);
+    let high = group_or_zero(groups, 2 * i + 1);
+    pair(low, high)
 }
 
 /// The words of a credential. It takes no memory.
 pub fn to_words(cred: &Cred) -> [u64; WORDS]
     ensures { result ≡ words_of cred.now }
 {
+    let head = head(cred);
     let mut words = [0; WORDS];
-    for place in 0..WORDS {
-        words[place] = word_at(cred, place);
+    for place in 0..GROUPS {
+        words[place] = head[place];
+    }
+    for i in 0..cred.groups.len().div_ceil(2) {
+        words[GROUPS + i] = group_word(&cred.groups, i);
     }
     words
 }
