@@ -1,9 +1,9 @@
-"""Each refusal of an event, in the middle of a script: all that comes behind it is answered as if it
-had not been there.
+"""Each refusal of an event, in the middle of a script: all that comes behind it is answered as if
+it had not been there.
 
-docs/FORMATS.md, "The report": "A refusal changes nothing, with three exceptions. Before `table full`
-the sweep was made that looked for a slot, and it stands. `stale` gives up the label and its slot.
-`aborted` ends the process". So a script with the refused line must be reported as the one in whose
+docs/FORMATS.md, "The report": "A refusal changes nothing, with three exceptions. Before `table
+full` the sweep was made that looked for a slot, and it stands. `stale` gives up the label and its
+slot. `aborted` ends the process". So a script with the refused line must be reported as the one in whose
 place a comment stands, but for the entries of that line; in the first two exceptions as the one
 where a `sweep` or an `abort` stands in its place.
 """
@@ -23,7 +23,8 @@ def asking(line, label, *events):
 
 
 def report_of(lines):
-    """The script of these lines, and its report. In an entry `{0}` and `{1}` are the line's labels."""
+    """The script of these lines, and its report. In an entry `{0}` and `{1}` are the line's
+    labels."""
     entries = []
     for number, (_, events) in enumerate(lines, 1):
         labels = [f"h{100_000 + 10 * number + place}" for place in range(2)]
@@ -38,8 +39,8 @@ def cases_of(name, before, after, refused):
 
 
 # Of a process of root's two threads, p1, the first has begun a call that the second has yet to
-# make. The user 1000 acts with an override. There are an open file, three holds, and labels that are
-# prepared: changed, not yet changed, for access(2), and for a task that has ended.
+# make. The user 1000 acts with an override. There are an open file, three holds, and labels that
+# are prepared: changed, not yet changed, for access(2), and for a task that has ended.
 BEFORE = (
     ("file a reg 0 0 0600", ()),
     ("file b reg 0 0 0755 caps 0100", ()),
@@ -100,8 +101,8 @@ AFTER = (
     ("t9 exit", ("exit t9 -> ok",)),
 )
 
-# Each row of docs/FORMATS.md, "Where each answer is decided", with the refusals that this script can
-# ask about, in their order.
+# Each row of docs/FORMATS.md, "Where each answer is decided", with the refusals that this script
+# can ask about, in their order.
 REFUSED = (
     own("take h9 t9", "no task t9"),
     own("take h1 t1", "exists h1"),
@@ -201,7 +202,11 @@ def of_holds():
     before = [("file a reg 0 0 0600", ()), own(INIT, "ok c0 s0")]
     before.append(asking("t1 open a r f1", "ok c0 s0", "open {0} a r f1 -> ok"))
     before += [own(f"take h{label} t1", "ok c0 s0") for label in range(1, 513)]
-    after = (own("drop h7", "ok"), own("take h600 t1", "ok c0 s0"), own("drop h513", "no hold h513"))
+    after = (
+        own("drop h7", "ok"),
+        own("take h600 t1", "ok c0 s0"),
+        own("drop h513", "no hold h513"),
+    )
     refused = (
         own("take h513 t1", "too many holds"),
         own("takereal h513 t1", "too many holds"),
@@ -257,7 +262,8 @@ def of_files():
 
 
 def of_overrides():
-    """Eight overrides: there is no ninth, neither of a hold nor of what is prepared for access(2)."""
+    """Eight overrides: there is no ninth, neither of a hold nor of what is prepared for
+    access(2)."""
     before = [
         own(INIT, "ok c0 s0"),
         own("take h1 t1", "ok c0 s0"),
@@ -276,8 +282,8 @@ def of_overrides():
 
 
 def exceptions():
-    """256 slots are live, of which a sweep frees none: `table full` has made it. Then a commit comes
-    too late: what was prepared is given up, as by `abort`, and its slot is taken next."""
+    """256 slots are live, of which a sweep frees none: `table full` has made it. Then a commit
+    comes too late: what was prepared is given up, as by `abort`, and its slot is taken next."""
     before = [own(INIT, "ok c0 s0")]
     for number in range(255):
         before.append(own(f"take h{number + 1} t1", f"ok c{number} s{number}"))

@@ -1,7 +1,7 @@
 """Summaries of scripts of many sizes.
 
-docs/FORMATS.md, "A script that is made from a number": of N + 1 lines, the first makes a task, and for
-i from 1 to N the line behind the i-th is chosen by the remainder of i divided by 5.
+docs/FORMATS.md, "A script that is made from a number": of N + 1 lines, the first makes a task, and
+for i from 1 to N the line behind the i-th is chosen by the remainder of i divided by 5.
 """
 from suite import UNREAD, Case
 
