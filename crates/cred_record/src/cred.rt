@@ -108,6 +108,7 @@ pub fn first(alloc: Global, user: Id, group: Id, ns: u32, root: Id) -> Result<Cr
 /// # Errors
 ///
 /// `NoMemory` if the allocation of the groups fails.
+#[inline(always)]
 pub fn copy(cred: &Cred) -> Result<Cred, NoMemory>
     ensures { IfOk result (λ c. c ≡ cred.now) }
 {

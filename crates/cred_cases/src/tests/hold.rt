@@ -305,16 +305,16 @@ fn share<R: Threads + Sync>(
 /// A credential of 32 groups.
 fn many(alloc: Global) -> Result<Cred, Fail> {
     let groups = Groups::from_list(alloc, &[id(77)?; 32]).map_err(|_| "no groups")?;
-    let mut cred = first(alloc, id(8)?, id(9)?, 1)?;
+    let mut cred = first(alloc, id(8)?, id(9)?, 1, id(0)?)?;
     cred.groups = groups;
     Ok(cred)
 }
 
 fn four_creds(alloc: Global) -> Result<Creds, Fail> {
     Ok(Creds {
-        zero: first(alloc, id(0)?, id(1)?, 3)?,
-        one: first(alloc, id(1000)?, id(100)?, 0)?,
-        two: first(alloc, id(4294967294)?, id(7)?, 15)?,
+        zero: first(alloc, id(0)?, id(1)?, 3, id(0)?)?,
+        one: first(alloc, id(1000)?, id(100)?, 0, id(0)?)?,
+        two: first(alloc, id(4294967294)?, id(7)?, 15, id(4294967294)?)?,
         many: many(alloc)?,
     })
 }

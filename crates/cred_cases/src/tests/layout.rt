@@ -2,17 +2,17 @@
 use crate::tests::parts::{ALL, id};
 use cred_caps::SecureBits;
 use cred_ids::{Groups, Id, NoMemory};
-use cred_record::layout::{AMBIENT, FLAGS, GROUPS, NAMESPACE, PERMITTED, SAVED_GROUP, SPARE, USER};
+use cred_record::layout::{AMBIENT, FLAGS, GROUPS, NAMESPACE, PERMITTED, ROOT, SAVED_GROUP, USER};
 use cred_record::{Cred, WORDS, first, of_words, to_words};
 use std::alloc::Global;
 use std::test::Fail;
 
-/// Root's first credential, with all parts of the layout set.
+/// The first credential of a namespace's root, with all parts of the layout set.
 fn with_groups(alloc: Global, groups: &[Id]) -> Result<Cred, Fail> {
     let effective = id(1000)?;
     let bits = SecureBits::new(0x2f).ok_or("no bits")?;
     let groups = Groups::from_list(alloc, groups).map_err(|_| "no groups")?;
-    let mut cred = first(alloc, id(0)?, id(7)?, 3)?;
+    let mut cred = first(alloc, id(100000)?, id(7)?, 3, id(100000)?)?;
     cred.uid.effective = effective;
     cred.bits = bits;
     cred.nnp = true;
@@ -22,8 +22,8 @@ fn with_groups(alloc: Global, groups: &[Id]) -> Result<Cred, Fail> {
 
 /// The words of that credential with the groups 5, 4 and 9.
 const LAID_OUT: [u64; WORDS] = [
-    1000 << 32,
-    0,
+    1000 << 32 | 100000,
+    100000 << 32 | 100000,
     0x7_0000_0007,
     0x7_0000_0007,
     ALL,
@@ -33,7 +33,7 @@ const LAID_OUT: [u64; WORDS] = [
     0,
     0x3_012f,
     3,
-    0,
+    100000,
     0x5_0000_0004,
     9,
     0,
@@ -71,7 +71,7 @@ fn the_last_group_stands_in_the_last_word(rt: HostRuntime) -> Result<(), Fail> {
 }
 
 /// Words that stand in their places of no credential with the groups 4 and 5.
-const OTHERS: [(usize, u64); 12] = [
+const OTHERS: [(usize, u64); 13] = [
     (USER, 0xffff_ffff),
     (SAVED_GROUP, 0xffff_ffff_0000_0000),
     (PERMITTED, 0x3ff_ffff_ffff),
@@ -80,7 +80,8 @@ const OTHERS: [(usize, u64); 12] = [
     (FLAGS, 0x2_032f),
     (FLAGS, 0x21_012f),
     (NAMESPACE, 1 << 32),
-    (SPARE, 1),
+    (ROOT, 0xffff_ffff),
+    (ROOT, 1 << 32 | 100000),
     (GROUPS, 0x4_0000_0005),
     (GROUPS, 0xffff_ffff_0000_0004),
     (GROUPS + 1, 1),
