@@ -3,6 +3,8 @@
 setgroups(2): "EINVAL size is greater than NGROUPS_MAX (32 before Linux 2.6.4; 65536 since Linux
 2.6.4)"; docs/RULES.md has the 32.
 """
+from dataclasses import replace
+
 from reports import Script
 
 TASK = 1
@@ -22,4 +24,8 @@ def cases():
             groups = told
         made.ids(TASK, call, None if count <= MOST else "einval")
         made.asks(TASK, "groups", f"ok {groups}".rstrip())
-    yield made.case("0 to 40", len(COUNTS))
+    case = made.case("0 to 40", len(COUNTS))
+    yield case
+    # The same as events: a line that begins the call makes the entry that the call's line makes.
+    given = case.given.replace(b"t1 setgroups", b"begin t1 setgroups")
+    yield replace(case, name="0 to 40, as events", given=given)

@@ -1,19 +1,22 @@
 -- What sources and sinks in memory hold, and which of their calls fail.
-use Rattle.std.specs.Prelude.{ℕ, Bool, List, Contains}
+use Rattle.std.specs.Prelude.{ℕ, Bool, List, Contains, ◌-◌, ◌^◌}
 use Rattle.cred_io.specs.Causes.{next_count}
 
--- the bytes not yet read, how many reads there were, which reads fail, and how many have failed
+-- the bytes not yet read, how many of them a read moves at most, how many reads there were, which
+-- reads fail, and how many have failed
 pub record SourceState : Type 0 where
   pub left : List ℕ
+  pub piece : ℕ
   pub calls : ℕ
   pub failing : List ℕ
   pub faults : ℕ
 
--- the bytes written, whether they are handed on, how many writes there were, which writes fail,
--- and how many have failed
+-- the bytes written, whether they are handed on, how many a write takes at most, how many writes
+-- there were, which writes fail, and how many have failed
 pub record SinkState : Type 0 where
   pub bytes : List ℕ
   pub handed_on : Bool
+  pub piece : ℕ
   pub calls : ℕ
   pub failing : List ℕ
   pub faults : ℕ
@@ -22,6 +25,10 @@ pub record SinkState : Type 0 where
 pub record SureState : Type 0 where
   pub bytes : List ℕ
   pub handed_on : Bool
+
+-- the piece of an end that moves as much at a call as it is asked to
+abbrev pub WHOLE : ℕ
+WHOLE = 2 ^ 64 - 1
 
 -- after so many calls, the next is one of those that fail
 abbrev pub FailsNext : List ℕ → ℕ → Type 0

@@ -3,6 +3,10 @@ use Rattle.std.specs.Prelude.{ℕ, Bool}
 use Rattle.cred_io.specs.declared.standard.StdSource.{StdSource}
 use Rattle.cred_io.specs.declared.standard.StdSink.{StdSink}
 
+-- the most pieces of a text that are gathered for one write
+abbrev pub MOST_GATHERED : ℕ
+MOST_GATHERED = 1024
+
 -- the reader below
 abbrev pub std_reader : {R : Type 0} → StdSource R → R
 std_reader s = s.reader

@@ -1,10 +1,10 @@
 //! A sink in memory of which chosen calls fail, to try code at each fault of a sink.
-ghost use Rattle.std.specs.Prelude.{◌≡◌, ◌<◌, ◌↔◌, ◌++◌, [], true, false, length, Some, IfOk, OnOk};
-ghost use Rattle.std.specs.Prelude.{IsOk};
+ghost use Rattle.std.specs.Prelude.{◌≡◌, ◌<◌, ◌↔◌, ◌++◌, [], true, false, length, take, min, Some};
+ghost use Rattle.std.specs.Prelude.{IfOk, OnOk, IsOk};
 ghost use Rattle.std.specs.Io.{WritesAtMost};
 ghost use Rattle.std.specs.Io.KnownBytes.{WriteAppends, Keeps};
 ghost use Rattle.cred_io.specs.Causes.{CountsFaults, next_count};
-ghost use Rattle.cred_io.specs.Memory.{FailsNext};
+ghost use Rattle.cred_io.specs.Memory.{FailsNext, WHOLE};
 
 use crate::{Sink, SinkRefusal};
 use cred_ids::NoMemory;
@@ -16,12 +16,14 @@ use std::marker::Model;
 pub struct MemorySink {
     bytes: Vec<u8>,
     handed_on: bool,
+    piece: usize,
     calls: u64,
     failing: Vec<u64>,
     faults: u64,
 }
 
 impl Model for MemorySink {
+    ghost use Rattle.std.specs.Prelude.{◌<◌};
     ghost use Rattle.cred_io.specs.Memory.{SinkState};
 
     ghost Value = { SinkState };
@@ -29,10 +31,13 @@ impl Model for MemorySink {
     ghost view = { λ s. record {
       bytes = s.bytes.items;
       handed_on = s.handed_on;
+      piece = s.piece;
       calls = s.calls;
       failing = s.failing.items;
       faults = s.faults;
     } };
+
+    ghost invariant = { λ s. 0 < s.piece };
 }
 
 impl MemorySink {
@@ -46,6 +51,7 @@ impl MemorySink {
         ensures { IfOk result (λ s. s ≡ record {
           bytes = [];
           handed_on = true;
+          piece = WHOLE;
           calls = 0;
           failing = failing.now;
           faults = 0;
@@ -54,10 +60,22 @@ impl MemorySink {
         Ok(MemorySink {
             bytes: Vec::new(alloc),
             handed_on: true,
+            piece: usize::MAX,
             calls: 0,
             failing: failing.to_vec(alloc)?,
             faults: 0,
         })
+    }
+
+    /// The same sink, to which one call appends at most so many bytes, one at least.
+    pub fn with_piece(self, size: usize) -> Self
+        requires { 0 < size }
+        ensures { result ≡ record self { piece = size } }
+    {
+        MemorySink {
+            piece: size,
+            ..self
+        }
     }
 
     /// What was written.
@@ -75,8 +93,9 @@ impl Sink for MemorySink {
 
     ghost faults = { λ s. s.faults };
 
-    /// Appends the whole piece, unless an allocation fails, or this call is one of those that fail:
-    /// such a call is counted as a fault, and appends nothing.
+    /// Appends the whole piece, or as much of it as one call appends at most, unless an allocation
+    /// fails, or this call is one of those that fail: such a call is counted as a fault, and
+    /// appends nothing.
     fn write(&mut self, piece: &[u8]) -> Result<usize, SinkRefusal>
         ensures bound { WritesAtMost result piece.now }
         ensures some { IfOk result (λ n. 0 < length piece.now → 0 < n) }
@@ -86,9 +105,9 @@ impl Sink for MemorySink {
             self.old.faults self.new.faults }
         ensures fails { (result ≡ Err SinkRefusal.Failed)
             ↔ FailsNext self.old.failing self.old.calls }
-        ensures count { IfOk result (λ n. n ≡ length piece.now) }
-        ensures ok { OnOk result (self.new ≡ record self.old {
-          bytes = self.old.bytes ++ piece.now;
+        ensures count { IfOk result (λ n. n ≡ min self.old.piece (length piece.now)) }
+        ensures ok { IfOk result (λ n. self.new ≡ record self.old {
+          bytes = self.old.bytes ++ take n piece.now;
           handed_on = false;
           calls = next_count self.old.calls;
         }) }
@@ -105,9 +124,10 @@ impl Sink for MemorySink {
             self.faults = self.faults.saturating_add(1);
             return Err(SinkRefusal::Failed);
         }
-        self.bytes.extend_from_slice(piece)?;
+        let count = piece.len().min(self.piece);
+        self.bytes.extend_from_slice(&piece[..count])?;
         self.handed_on = false;
-        Ok(piece.len())
+        Ok(count)
     }
 
     fn pieces_a_write(&self) -> usize {

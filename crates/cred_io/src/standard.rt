@@ -6,7 +6,7 @@ ghost use Rattle.std.specs.Io.{ReadsAtMost, WritesAtMost};
 ghost use Rattle.std.specs.Io.KnownBytes.{ReadConsumes, WriteAppends, Keeps};
 ghost use Rattle.cred_io.specs.Causes.{CountsFaults, next_count};
 ghost use Rattle.cred_io.specs.Standard.{std_reader, std_source_faults, std_writer};
-ghost use Rattle.cred_io.specs.Standard.{std_sink_handed_on, std_sink_faults};
+ghost use Rattle.cred_io.specs.Standard.{MOST_GATHERED, std_sink_handed_on, std_sink_faults};
 
 use crate::{Failed, Sink, SinkRefusal, Source};
 use std::io::{Read, Write};
@@ -54,7 +54,7 @@ impl<R: Read> Source for StdSource<R> {
 }
 
 /// How many pieces of a text are gathered for one write to a writer of std.
-const GATHERED: usize = 1024;
+const GATHERED: usize = 1_024;
 
 /// A writer of std, with a count of the calls that failed. It never answers `Memory`.
 #[derive(Drop)]
@@ -125,8 +125,11 @@ impl<W: Write> Sink for StdSink<W> {
         }
     }
 
-    /// As many as fill some 40 KiB: they are gathered before they are written.
-    fn pieces_a_write(&self) -> usize {
+    /// As many as fill some 40 KiB: they are gathered before they are written. So a text of any
+    /// length goes through a buffer of some size.
+    fn pieces_a_write(&self) -> usize
+        ensures { (0 < result) × (result ≤ MOST_GATHERED) }
+    {
         GATHERED
     }
 

@@ -4,6 +4,7 @@ mod filecap;
 mod hold;
 mod ids;
 mod io;
+mod kinds;
 mod layout;
 mod parts;
 mod procs;
