@@ -19,7 +19,7 @@ use Rattle.cred_event.specs.declared.event.Change.TheVariants.{SetFs, Adjust, Ex
 use Rattle.cred_event.specs.declared.answer.Answer.{Answer}
 use Rattle.cred_event.specs.declared.answer.Answer.TheVariants.{Sealed, Kept, Began, Acted, Aborted, Stale}
 use Rattle.cred_event.specs.declared.answer.AbortCause.TheVariants as cause
-use Rattle.cred_model.specs.Script.{Script, info_of, chain_of}
+use Rattle.cred_model.specs.Script.{Script, info_of, chain_of, root_of}
 use Rattle.cred_model.specs.State.{State, Task, Broadcast, Prepared, Changed, Numbered, credential_of, opener_of, numbered, task_of, cast_of, cast_in, begun_by, open_of, hold_of, prepared_of, held_by}
 use Rattle.cred_model.specs.Named.{change_files}
 use Rattle.cred_model.specs.Answers.{checked}
@@ -106,7 +106,7 @@ prepares_override s owner label =
 
 by_event : (script : Script) (s : State) (line : ℕ) (event : Event) → Leaves s (step script s line event)
 by_event script s line (Init task process user group ns) =
-    let c = first_credential user group ns in
+    let c = first_credential user group ns (root_of script ns) in
     outcome_has (Leaves s) s _ (refuses s)
     (if_idle (Leaves s) (cast_in s process) _
     (λ idle. if_none (Leaves s) (task_of s task) _ _

@@ -95,8 +95,8 @@ ended_waits s event ends made (ByExit task is ending idle casts) =
 ended_waits s event ends made (ByAbort number task why cast is ending casts answer) =
     fewer_wait s event made (dropped cast.process s.casts) casts (drop_fewer cast.process s.casts)
 
-change_waits : (s : State) (event : Event) (made : Answer × State) → IsSound s → length s.tasks ≤ TASKS
-    → TasksChange s event made → Raises s event made
+change_waits : {script : Script} → (s : State) (event : Event) (made : Answer × State) → IsSound s → length s.tasks ≤ TASKS
+    → TasksChange script s event made → Raises s event made
 change_waits s event made sound few (SameTasks same casts) = no_more s event made casts
 change_waits s event made sound few (Creates task process user group ns slot is tasks creds new idle casts) = no_more s event made casts
 change_waits s event made sound few (Shares task child process parent tasks creds current new creation) =
