@@ -12,7 +12,7 @@ use Rattle.cred_caps.specs.Caps.{Caps, IsCaps, empty, full, union, meet, with}
 use Rattle.cred_caps.specs.Numbers.{LAST, SETPCAP}
 use Rattle.cred_caps.specs.Secure.{is_set, is_locked, with_flag}
 use Rattle.cred_caps.proofs.CapsLemmas.{IsCaps-union, IsCaps-one}
-use Rattle.cred_record.specs.Credential.{Credential, ROOT, capable, first_credential}
+use Rattle.cred_record.specs.Credential.{Credential, capable, first_credential, is_root}
 use Rattle.cred_record.specs.File.{File}
 use Rattle.cred_record.specs.declared.adj_call.AdjCall.{AdjCall}
 use Rattle.cred_record.specs.declared.adj_call.AdjCall.TheVariants as adj
@@ -38,14 +38,14 @@ use Rattle.cred_fits.proofs.RuleRows.{Changes, of_bits}
 all : IsCaps full
 all = omega arith
 
-pub first_fits : (user group ns : ℕ) → IsId user → IsId group → FitsCred (first_credential user group ns)
-first_fits user group ns u g = record {
+pub first_fits : (user group ns root : ℕ) → IsId user → IsId group → FitsCred (first_credential user group ns root)
+first_fits user group ns root u g = record {
   uid = four user u;
   gid = four group g;
   groups = All-nil IsId;
-  perm = either IsCaps (user == ROOT) full empty all none;
+  perm = either IsCaps (user == root) full empty all none;
   inh = none;
-  eff = either IsCaps (user == ROOT) full empty all none;
+  eff = either IsCaps (user == root) full empty all none;
   bound = all;
   amb = none;
   bits = omega arith;
@@ -148,14 +148,14 @@ given_fits c s old = IsCaps-union (meet c.inh s.inh) (meet s.perm c.bound) (left
 amb_fits : (c : Credential) (f : File) (a : Option Attribute) → FitsCred c → IsCaps (amb_after c f a)
 amb_fits c f a old = either IsCaps (is_privileged c f a) empty c.amb none old.amb
 
-perm_fits : (c : Credential) (f : File) (a : Option Attribute) → FitsCred c → IsCaps (perm_after ROOT c f a)
+perm_fits : (c : Credential) (f : File) (a : Option Attribute) → FitsCred c → IsCaps (perm_after c f a)
 perm_fits c f a old =
-    let given = given_by c (sets_taken ROOT c f a) in
+    let given = given_by c (sets_taken c f a) in
     let s = union given (amb_after c f a) in
-    let small : IsCaps s = IsCaps-union given (amb_after c f a) (given_fits c (sets_taken ROOT c f a) old) (amb_fits c f a old) in
+    let small : IsCaps s = IsCaps-union given (amb_after c f a) (given_fits c (sets_taken c f a) old) (amb_fits c f a old) in
     either IsCaps c.nnp (meet s c.perm) s (left_meet s c.perm small) small
 
-exec_cred_fits : (c : Credential) (f : File) (a : Option Attribute) → FitsCred c → FitsFile f → FitsCred (after_exec ROOT c f a)
+exec_cred_fits : (c : Credential) (f : File) (a : Option Attribute) → FitsCred c → FitsFile f → FitsCred (after_exec c f a)
 unfolding after_exec
 exec_cred_fits c f a old file =
     let user = either IsId (sets_user c f) f.owner c.uid.effective file.owner old.uid.1 in
@@ -166,18 +166,18 @@ exec_cred_fits c f a old file =
       groups = old.groups;
       perm = perm_fits c f a old;
       inh = old.inh;
-      eff = either IsCaps (sets_taken ROOT c f a).effective (perm_after ROOT c f a) (amb_after c f a) (perm_fits c f a old) (amb_fits c f a old);
+      eff = either IsCaps (sets_taken c f a).effective (perm_after c f a) (amb_after c f a) (perm_fits c f a old) (amb_fits c f a old);
       bound = old.bound;
       amb = amb_fits c f a old;
       bits = flag_fits c.bits false old.bits;
     }
 
-gains_fit : (c : Credential) (f : File) (a : Option Attribute) → FitsCred c → FitsGains (gains_of ROOT c f a)
+gains_fit : (c : Credential) (f : File) (a : Option Attribute) → FitsCred c → FitsGains (gains_of c f a)
 unfolding gains_of
 gains_fit c f a old =
-    let g : IsCaps (gained ROOT c f a) = fewer (perm_after ROOT c f a) c.perm (perm_fits c f a old) in
-    let by_file : IsCaps (gained_by_file ROOT c f a) = left_meet (gained ROOT c f a) (meet (sets_of a).perm c.bound) g in
-    either FitsGains (is_by_root ROOT c f a) _ _ (none, none, g) (by_file, fewer (gained ROOT c f a) (gained_by_file ROOT c f a) g, none)
+    let g : IsCaps (gained c f a) = fewer (perm_after c f a) c.perm (perm_fits c f a old) in
+    let by_file : IsCaps (gained_by_file c f a) = left_meet (gained c f a) (meet (sets_of a).perm c.bound) g in
+    either FitsGains (is_by_root c f a) _ _ (none, none, g) (by_file, fewer (gained c f a) (gained_by_file c f a) g, none)
 
 abbrev FitsExecuted : Executed → Type 0
 FitsExecuted e = FitsCred e.cred × FitsGains e.gains
@@ -186,11 +186,11 @@ exec_fits : (c : Credential) (f : File) (chain : List ℕ) → FitsCred c → Fi
 unfolding exec
 exec_fits c f chain old file = by (may_execute c f) (attribute_for c f chain)
   where
-    made : (a : Option Attribute) (b : Bool) → Holds FitsExecuted (let r : Result Executed NoExec = cond b (Ok (record { cred = after_exec ROOT c f a; gains = gains_of ROOT c f a })) (Err GivesTooLittle) in r)
+    made : (a : Option Attribute) (b : Bool) → Holds FitsExecuted (let r : Result Executed NoExec = cond b (Ok (record { cred = after_exec c f a; gains = gains_of c f a })) (Err GivesTooLittle) in r)
     made a true = (exec_cred_fits c f a old file, gains_fit c f a old)
     made a false = tt
 
-    by : (b : Bool) (r : Result (Option Attribute) NoExec) → Holds FitsExecuted (let e : Result Executed NoExec = cond b (executed_by ROOT c f r) (Err MayNotExecute) in e)
+    by : (b : Bool) (r : Result (Option Attribute) NoExec) → Holds FitsExecuted (let e : Result Executed NoExec = cond b (executed_by c f r) (Err MayNotExecute) in e)
     by false r = tt
     by true (Ok a) = made a (gives_all c a)
     by true (Err e) = tt
@@ -205,7 +205,7 @@ access_fits c old = record {
   groups = old.groups;
   perm = old.perm;
   inh = old.inh;
-  eff = either IsCaps (is_set c.bits NoSetuidFixup) c.eff _ old.eff (either IsCaps (c.uid.real == ROOT) c.perm empty old.perm none);
+  eff = either IsCaps (is_set c.bits NoSetuidFixup) c.eff _ old.eff (either IsCaps (is_root c c.uid.real) c.perm empty old.perm none);
   bound = old.bound;
   amb = old.amb;
   bits = old.bits;

@@ -16,7 +16,7 @@ use Rattle.cred_caps.specs.Caps.{Caps, IsCaps, empty, union, meet, less}
 use Rattle.cred_caps.specs.Numbers.{SETGID, SETUID}
 use Rattle.cred_caps.specs.Secure.{is_set}
 use Rattle.cred_caps.proofs.CapsLemmas.{IsCaps-union}
-use Rattle.cred_record.specs.Credential.{Credential, ROOT, capable}
+use Rattle.cred_record.specs.Credential.{Credential, capable, is_root}
 use Rattle.cred_record.specs.declared.id_call.IdCall.{IdCall}
 use Rattle.cred_record.specs.declared.id_call.IdCall.TheVariants as call
 use Rattle.cred_record.specs.declared.refusal.Denial.{Denial}
@@ -101,10 +101,10 @@ fixed_fits c new old ids =
       groups = old.groups;
       perm = perm;
       inh = old.inh;
-      eff = either IsCaps (clears_permitted c new || leaves_root c.uid new) empty _ none
-          (either IsCaps (enters_root c.uid new) (cond (clears_permitted c new) empty c.perm) c.eff perm old.eff);
+      eff = either IsCaps (clears_permitted c new || leaves_root c new) empty _ none
+          (either IsCaps (enters_root c new) (cond (clears_permitted c new) empty c.perm) c.eff perm old.eff);
       bound = old.bound;
-      amb = either IsCaps (loses_root c.uid new) empty c.amb none old.amb;
+      amb = either IsCaps (loses_root c new) empty c.amb none old.amb;
       bits = old.bits;
     }
 
@@ -184,8 +184,8 @@ fs_fits able ids (Set n) old h = either IsId (able || list_any (λ id. id == n) 
 
 fs_effective_fits : (c : Credential) (old new : ℕ) → FitsCred c → IsCaps (fs_effective c old new)
 fs_effective_fits c old new h =
-    either IsCaps ((old == ROOT) && not (new == ROOT)) (less c.eff FILE_CAPS) _ (fewer c.eff FILE_CAPS h.eff)
-    (either IsCaps (not (old == ROOT) && (new == ROOT)) (union c.eff (meet FILE_CAPS c.perm)) c.eff
+    either IsCaps (is_root c old && not (is_root c new)) (less c.eff FILE_CAPS) _ (fewer c.eff FILE_CAPS h.eff)
+    (either IsCaps (not (is_root c old) && is_root c new) (union c.eff (meet FILE_CAPS c.perm)) c.eff
     (IsCaps-union c.eff (meet FILE_CAPS c.perm) h.eff (right_meet FILE_CAPS c.perm h.perm)) h.eff)
 
 pub set_fs_fits : (c : Credential) (kind : Kind) (a : Arg) → FitsCred c → IsArg a → FitsCred (set_fs c kind a)

@@ -36,7 +36,7 @@ use Rattle.cred_model.specs.Ends.{ended, is_thread_of}
 use Rattle.cred_model.specs.Moves.{◌>>=◌, in_slot, table_full, first_task, created, replaced}
 use Rattle.cred_model.specs.Moves.{preparing, altered, committed, given_up}
 use Rattle.cred_model.specs.Named.{query_files, change_files}
-use Rattle.cred_model.specs.Script.{Script, info_of, chain_of}
+use Rattle.cred_model.specs.Script.{Script, info_of, chain_of, root_of}
 use Rattle.cred_model.specs.Slots.{swept_if_full, free}
 use Rattle.cred_model.specs.State.{State, Task, Numbered, Prepared, Changed, Broadcast, numbered, task_of, cast_of, cast_in, begun_by, open_of, hold_of, prepared_of, credential_of, opener_of, held_by}
 use Rattle.cred_model.specs.Step.{outcome, by_init, take_hold, by_take, by_take_file, by_release, by_ask, by_signal, by_prepare, by_alter, for_task, try_commit, ends_with, casts_after, committed_by, commit_answer, by_commit, by_abort, for_access, override_held, override_prepared, by_override, by_revert, by_begin, aborted, follow, by_act, by_open, by_close, by_spawn, by_fork, by_exit}
@@ -63,14 +63,14 @@ slot_tells row s full does none each = found_slot row (swept_if_full s) full doe
 
 -- ---- the events
 
-of_init : (s : State) (task process user group ns : ℕ) → Tells rows.init_row s (by_init s task process user group ns)
-of_init s task process user group ns =
+of_init : (s : State) (task process user group ns root : ℕ) → Tells rows.init_row s (by_init s task process user group ns root)
+of_init s task process user group ns root =
     let Q = Tells rows.init_row s in
     idle_case Q (cast_in s process) _ (λ number. refl) (λ idle.
     none_case Q (task_of s task) _ _ refl (λ new.
     test_case Q (nat_lt (length s.tasks) TASKS) _ _ refl
     (slot_tells rows.init_row s table_full
-    (λ t slot. (answer.Sealed (length t.creds) slot, created t (first_task task process (length t.creds)) (first_credential user group ns) slot))
+    (λ t slot. (answer.Sealed (length t.creds) slot, created t (first_task task process (length t.creds)) (first_credential user group ns root) slot))
     (λ t. refl) (λ t slot. refl))))
 
 of_hold : (row : Answer → Bool) (s : State) (label : ℕ) (taken : Numbered) → row (answer.Exists named.Label label) ≡ true
@@ -370,7 +370,7 @@ of_exit s task =
     own_case Q owner _ (λ depth. refl) refl))
 
 pub answers_are_of_their_rows : AnswersAreOfTheirRows
-answers_are_of_their_rows script s line (event.Init task process user group ns) = of_init s task process user group ns
+answers_are_of_their_rows script s line (event.Init task process user group ns) = of_init s task process user group ns (root_of script ns)
 answers_are_of_their_rows script s line (event.Take label task side) = of_take s label task side
 answers_are_of_their_rows script s line (event.TakeFile label fd) = of_take_file s label fd
 answers_are_of_their_rows script s line (event.Release label) = of_release s label

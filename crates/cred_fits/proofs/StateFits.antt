@@ -102,20 +102,20 @@ owner_fits s task t range is = some_fits FitsTask (task_of s task) t (find_each 
 
 -- ---- the events
 
-pub of_init : (s : State) (task process user group ns : ℕ) → IsKnown s → FitsEvent (event.Init task process user group ns)
-    → Gives s (by_init s task process user group ns)
-of_init s task process user group ns known fits =
+pub of_init : (s : State) (task process user group ns root : ℕ) → IsKnown s → FitsEvent (event.Init task process user group ns)
+    → Gives s (by_init s task process user group ns root)
+of_init s task process user group ns root known fits =
     let range = known.range in
     idle s (cast_in s process) _ (find_each FitsCast (λ b. b.process == process) s.casts range.casts) range
     (none_case (Gives s) (task_of s task) _ _ (fits.0, range) (λ new.
     test_case (Gives s) (nat_lt (length s.tasks) TASKS) _ _ (tt, range)
     (in_slots Good s table_full
-    (λ t slot. (answer.Sealed (length t.creds) slot, created t (first_task task process (length t.creds)) (first_credential user group ns) slot))
+    (λ t slot. (answer.Sealed (length t.creds) slot, created t (first_task task process (length t.creds)) (first_credential user group ns root) slot))
     (λ left less. (tt, range))
     (λ left slot less free. (
       (known.creds, slot_number slot free.below),
       record {
-        creds = with_cred s.creds _ slot range.creds (first_fits user group ns fits.2 fits.3) free.below;
+        creds = with_cred s.creds _ slot range.creds (first_fits user group ns root fits.2 fits.3) free.below;
         tasks = All-push FitsTask s.tasks _ range.tasks (fits.0, omega arith);
         casts = range.casts;
         prepared = range.prepared;

@@ -22,7 +22,7 @@ use Rattle.cred_model.specs.Casts.{others_of, with_cast, waits_no_more, is_open}
 use Rattle.cred_model.specs.Change.{by_rule}
 use Rattle.cred_model.specs.Ends.{is_thread_of, is_beside, is_task}
 use Rattle.cred_model.specs.Moves.{◌>>=◌, table_full, first_task, replaced}
-use Rattle.cred_model.specs.Script.{Script, info_of}
+use Rattle.cred_model.specs.Script.{Script, info_of, root_of}
 use Rattle.cred_model.specs.State.{State, Task, Numbered, Prepared, Changed, Broadcast, numbered, task_of, cast_of, cast_in, begun_by, open_of, hold_of, held_by}
 use Rattle.cred_model.specs.Step.{step, is_access, by_abort, for_access, override_held, override_prepared, by_override, by_revert, by_begin, aborted, follow, by_act, by_open, by_close, by_spawn, by_fork, by_exit}
 use Rattle.cred_model.proofs.Lists.{All-at, All-remove, find_each, slice_get_at}
@@ -287,7 +287,7 @@ of_exit s task known t =
 
 pub step_fits : (script : Script) (s : State) (line : ℕ) (event : Event) → All (λ file. FitsFile file.info) script.files → IsKnown s → IsNumber line
     → FitsEvent event → Good (step script s line event)
-step_fits script s line (event.Init task process user group ns) files known n fits = of_init s task process user group ns known fits
+step_fits script s line (event.Init task process user group ns) files known n fits = of_init s task process user group ns (root_of script ns) known fits
 step_fits script s line (event.Take label task side) files known n fits = of_take s label task side known fits.0 fits.1
 step_fits script s line (event.TakeFile label fd) files known n fits = of_take_file s label fd known fits.0
 step_fits script s line (event.Release label) files known n fits = of_release s label known fits
