@@ -1,8 +1,10 @@
 //! The program, over its words, its input and its output.
 #![tactic(auto)]
 
+mod process;
 mod program;
 mod words;
 
 pub use cred_commands::Status;
+pub use process::exit_code;
 pub use program::credtrace;

@@ -3,6 +3,7 @@ mod copies;
 mod cuts;
 mod declared;
 mod ends;
+mod faults;
 mod held;
 mod machine;
 mod reading;

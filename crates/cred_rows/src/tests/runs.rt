@@ -16,16 +16,35 @@ fn words_of(alloc: Global, texts: &[&str]) -> Result<Vec<String>, NoMemory> {
     Ok(words)
 }
 
-/// How the program ends on these words and this input, of which these reads fail.
+/// What stands on the input, how many bytes of it one read moves at most, and which read fails.
+/// There is no read 0.
+#[derive(Clone, Copy)]
+pub(crate) struct Given<'g> {
+    pub(crate) bytes: &'g [u8],
+    pub(crate) piece: usize,
+    pub(crate) failing: u64,
+}
+
+impl Given<'_> {
+    /// An input of which no read fails, and each moves all that it is asked to.
+    pub(crate) fn whole(bytes: &[u8]) -> Given<'_> {
+        Given {
+            bytes,
+            piece: usize::MAX,
+            failing: 0,
+        }
+    }
+}
+
+/// How the program ends on these words and this input.
 pub(crate) fn end_of<R: AllocGlobal + Threads + Wait + Sync, K: Sink>(
     rt: &R,
     texts: &[&str],
-    input: &[u8],
-    reads: &[u64],
+    given: &Given<'_>,
     sink: &mut K,
 ) -> Result<Status, NoMemory> {
     let words = words_of(rt.alloc(), texts)?;
-    let end = end_of_words(rt, &words, input, reads, sink);
+    let end = end_of_words(rt, &words, given, sink);
     // At one place, here and below: what is owned is dear to let go of, for the prover.
     drop(words);
     end
@@ -35,11 +54,11 @@ pub(crate) fn end_of<R: AllocGlobal + Threads + Wait + Sync, K: Sink>(
 fn end_of_words<R: AllocGlobal + Threads + Wait + Sync, K: Sink>(
     rt: &R,
     words: &[String],
-    input: &[u8],
-    reads: &[u64],
+    given: &Given<'_>,
     sink: &mut K,
 ) -> Result<Status, NoMemory> {
-    let mut source = MemorySource::of(rt.alloc(), input, reads)?;
+    let source = MemorySource::of(rt.alloc(), given.bytes, &[given.failing])?;
+    let mut source = source.with_piece(given.piece.max(1));
     let status = credtrace(rt, rt.alloc(), words, &mut source, sink, &NoGate);
     drop(source);
     Ok(status)
