@@ -34,6 +34,7 @@ use Rattle.cred_tables.specs.Kept.{Parts, state_of, IsKept, Seals}
 use Rattle.cred_state.proofs.Begins.{replaced_kept, replaced_made, counts_next}
 use Rattle.cred_state.proofs.Broadcasts.{kept_casts}
 use Rattle.cred_tables.proofs.Ending.{DropsAll, drops_all, ended_kept, ended_is}
+use Rattle.cred_tables.proofs.Filled.{filled_same, no_more_swept}
 use Rattle.cred_tables.proofs.InUse.{Differ}
 use Rattle.cred_model.proofs.Places.{if_some}
 use Rattle.cred_tables.proofs.Sealing.{Drops, roomy, in_free_or, in_none_or}
@@ -126,9 +127,9 @@ abort_table Full parts store t = refl
 
 pub abort_keeps : (cause : AbortCause) {parts : Parts} {store : List (Option Credential)} {t : Table} → IsKept parts store t → IsKept parts store (table_at cause t)
 abort_keeps Perm is = is
-abort_keeps Full is = record {
+abort_keeps Full {t = t} is = record {
   counted = record { counts = is.counted.counts; keeps = is.counted.keeps };
-  filled = is.filled;
+  filled = filled_same refl (no_more_swept t) is.filled;
 }
 
 -- what is held stays so

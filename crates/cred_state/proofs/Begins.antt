@@ -32,13 +32,14 @@ use Rattle.cred_procs.specs.Tasks.{those}
 use Rattle.cred_slots.specs.Table.{Table, IsSameBag, IsAlone}
 use Rattle.cred_slots.specs.Table as table
 use Rattle.cred_tables.specs.Begin.{MayBegin, MayWait, cast_begun}
-use Rattle.cred_tables.specs.Kept.{Parts, AreFilled, state_of, IsKept, Seals}
+use Rattle.cred_tables.specs.Kept.{Parts, state_of, IsKept, Seals}
+use Rattle.cred_tables.proofs.Filled.{filled_put, no_more_dropped, no_more_sealed}
 use Rattle.cred_tables.proofs.Bags.{bag-other}
 use Rattle.cred_state.proofs.Broadcasts.{kept_casts, like_casts}
 use Rattle.cred_tables.proofs.Owners.{own_none}
 use Rattle.cred_tables.proofs.Sealing.{roomy, in_free, in_none, keeps_same, Drops, alone_later}
 use Rattle.cred_tables.proofs.InUse.{Differ, in_use-updated}
-use Rattle.cred_tables.proofs.Stored.{does_made, length-creds_in, filled-put, stored_like}
+use Rattle.cred_tables.proofs.Stored.{does_made, length-creds_in, stored_like}
 
 begin_does : (task old : ℕ) (new : Credential) (cast : Broadcast) → State → ℕ → Answer × State
 begin_does task old new cast s slot =
@@ -146,7 +147,8 @@ module _ {parts : Parts} {store : List (Option Credential)} {t : Table} (is : Is
                 (in_use-updated s task number u.owner distinct u.is);
             keeps = keeps_same t after _ is.counted.keeps (late.kept ∙ seals.kept);
           };
-          filled = subst (λ (ss : List ℕ). AreFilled put ss) (sym sealed_is) (filled-put store slot new t.sealed long seals.in_table is.filled);
+          filled = filled_put store slot new long seals.in_table sealed_is
+              (λ n ne some. no_more_sealed seals n ne (no_more_dropped between after (old.number ∷ []) late.held late.deferred n some)) is.filled;
         }
 
     pub replaced_kept : (casts : List Broadcast) → IsKept (record parts { tasks = updated; casts = casts }) put after

@@ -30,6 +30,7 @@ use Rattle.cred_model.proofs.Places.{find-at, place-of_found}
 use Rattle.cred_state.proofs.Labelling.{abort_tests, slot-kept}
 use Rattle.cred_tables.proofs.Sealing.{Drops}
 use Rattle.cred_tables.proofs.Owners.{no_number}
+use Rattle.cred_tables.proofs.Filled.{NoMore, no_more_dropped}
 use Rattle.cred_tables.proofs.InUse.{Differ, in_use-updated, current-stands, base-stands_twice}
 use Rattle.cred_tables.proofs.Ending.{EndsWith, ended_kept, ended_is}
 use Rattle.cred_tables.proofs.Stored.{does_made, length-creds_in}
@@ -222,8 +223,11 @@ module _ {parts : Parts} {after : List Task} {store : List (Option Credential)} 
             omega (arith, both, less, more, on_is.counted.counts.counts test);
       }
 
+      fewer : NoMore t' mid
+      fewer = no_more_dropped t' mid (now ∷ []) drops.held drops.deferred
+
       on_kept : IsKept (record end { casts = parts.casts }) put last_table
-      on_kept = finish_kept on_is place p there own updated last_table number drops.sealed drops.kept refer long seals last.cred
+      on_kept = finish_kept on_is place p there own updated last_table number drops.sealed drops.kept fewer refer long seals last.cred
 
       pub commit_kept : IsKept end put last_table
       commit_kept = kept_casts on_kept (casts_left change e.owner.process parts.casts)
@@ -238,7 +242,7 @@ module _ {parts : Parts} {after : List Task} {store : List (Option Credential)} 
       commit_like : IsLike (state_of end put last_table) (made after (state_of on store t'))
       commit_like =
           like_casts
-          (finish_like on_is place p there own updated last_table number drops.sealed drops.kept refer long seals last.cred
+          (finish_like on_is place p there own updated last_table number drops.sealed drops.kept fewer refer long seals last.cred
           (record (made after (state_of on store t')) { casts = parts.casts }) refl
           (ap (λ (ds : List ℕ). ds ++ p.base ∷ []) drops.deferred ∙ append_assoc t'.deferred (now ∷ []) (p.base ∷ [])
           ∙ ap (λ (n : ℕ). t'.deferred ++ n ∷ p.base ∷ []) (sym e.current)) refl)

@@ -9,16 +9,17 @@ use Rattle.cred_model.specs.Slots.{in_use, kept}
 use Rattle.cred_model.specs.Like.{IsLike}
 use Rattle.cred_slots.specs.Table.{Table, IsSameBag, IsAlone}
 use Rattle.cred_slots.proofs.Counting.{count-cons}
-use Rattle.cred_tables.specs.Kept.{AreFilled, Parts, creds_in, state_of, IsKept, SealsKept}
+use Rattle.cred_tables.specs.Kept.{Parts, creds_in, state_of, IsKept, SealsKept}
+use Rattle.cred_tables.proofs.Filled.{NoMore, filled_put, no_more_finished}
 use Rattle.cred_tables.proofs.InUse.{in_use-unlabel}
 use Rattle.cred_state.proofs.Labelling.{keeps-less}
-use Rattle.cred_tables.proofs.Stored.{parts_in, filled-put, stored_like}
+use Rattle.cred_tables.proofs.Stored.{parts_in, stored_like}
 
 -- The tasks refer to the new number already, and so does the table `mid` when its references are
--- counted; what stands there and is kept is as before.
+-- counted; what stands there and is kept is as before, and nothing else is referred to than before.
 module _ {parts : Parts} {store : List (Option Credential)} {t : Table} (is : IsKept parts store t)
     (place : ℕ) (p : Prepared) (there : slice_get parts.prepared place ≡ Some p) (own : AllPairs (λ a b. a ≢ b) (kept (state_of parts store t)))
-    (tasks : List Task) {mid : Table} (after : Table) (number : ℕ) (sealed : mid.sealed ≡ t.sealed) (keeps : mid.kept ≡ t.kept)
+    (tasks : List Task) {mid : Table} (after : Table) (number : ℕ) (sealed : mid.sealed ≡ t.sealed) (keeps : mid.kept ≡ t.kept) (fewer : NoMore t mid)
     (refer : IsSameBag (number ∷ mid.held) (in_use (record (state_of parts store t) { tasks = tasks })))
     (long : length store ≡ SLOTS) (seals : SealsKept mid after number p.base p.slot) (c : Credential) where
   abbrev pub done_parts : Parts
@@ -46,7 +47,8 @@ module _ {parts : Parts} {store : List (Option Credential)} {t : Table} (is : Is
           ap (λ ks. slice_index_or ks slot false) (seals.kept ∙ ap (λ ks. slice_set ks p.slot false) keeps)
           ∙ keeps-less is place p there own slot;
     };
-    filled = subst (λ (ss : List ℕ). AreFilled put ss) (sym sealed_is) (filled-put store p.slot c t.sealed long seals.in_table is.filled);
+    filled = filled_put store p.slot c long seals.in_table sealed_is
+        (λ n ne some. fewer n (no_more_finished seals n (λ e. ne (e ∙ ap length sealed)) some)) is.filled;
   }
 
   -- so it is like a state in which the credential is sealed

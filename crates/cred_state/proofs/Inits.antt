@@ -1,23 +1,26 @@
 -- A first task is created.
-use Rattle.std.proofs.Common.{◌≡◌, ℕ, ◌<◌, Bool, true, false, not, ◌==◌, nat_lt, List, [], ◌∷◌, ◌++◌, find, length, slice_set, Option, None, Some, Ok, refl, sym, ap, ◌∙◌, subst, arith}
+use Rattle.std.proofs.Common.{◌≡◌, ℕ, ◌<◌, Bool, true, false, not, ◌==◌, nat_lt, List, [], ◌∷◌, ◌++◌, find, length, slice_set, count_by, Option, None, Some, Ok, refl, sym, ap, ◌∙◌, subst, arith}
 use Rattle.std.proofs.lemmas.Bool.Decides.{nat_tests}
 use Rattle.cred_ids.specs.Limits.{SLOTS}
 use Rattle.cred_record.specs.Credential.{Credential, first_credential}
 use Rattle.cred_event.specs.declared.answer.Answer.{Answer}
 use Rattle.cred_event.specs.declared.answer.Answer.TheVariants.{Sealed, TableFull}
-use Rattle.cred_model.specs.State.{State, Task, cast_in}
+use Rattle.cred_model.specs.State.{State, Task, Broadcast, cast_in}
 use Rattle.cred_model.specs.Casts.{not_busy}
+use Rattle.cred_model.specs.Slots.{in_use}
 use Rattle.cred_model.specs.Like.{IsOutcomeLike}
 use Rattle.cred_model.specs.Moves.{in_slot, table_full, first_task, created}
 use Rattle.cred_model.specs.Step.{by_init, outcome}
 use Rattle.cred_model.proofs.Likes.{does_same}
-use Rattle.cred_slots.specs.Table.{Table, IsAlone}
+use Rattle.cred_slots.specs.Table.{Table, IsAlone, IsSameBag}
 use Rattle.cred_slots.specs.Table as table
-use Rattle.cred_tables.specs.Kept.{Parts, AreFilled, state_of, IsKept, Seals}
+use Rattle.cred_tables.specs.Kept.{Parts, state_of, IsKept, Seals}
+use Rattle.cred_tables.proofs.Filled.{filled_put, no_more_sealed}
 use Rattle.cred_tables.proofs.Bags.{bag-more}
-use Rattle.cred_tables.proofs.Sealing.{roomy, in_free, in_none, keeps_same}
+use Rattle.cred_tables.proofs.Sealing.{roomy, in_free, in_none, keeps_same, kept_more}
+use Rattle.cred_state.proofs.Broadcasts.{kept_casts}
 use Rattle.cred_tables.proofs.InUse.{in_use-task}
-use Rattle.cred_tables.proofs.Stored.{does_made, length-creds_in, filled-put, stored_like}
+use Rattle.cred_tables.proofs.Stored.{does_made, length-creds_in, stored_like}
 
 -- ---- what the tests have found
 
@@ -66,8 +69,7 @@ module _ {parts : Parts} {store : List (Option Credential)} {t : Table} (is : Is
         counts = bag-more is.counted.counts seals.held (in_use-task s (first_task task process number) refl);
         keeps = keeps_same t after _ is.counted.keeps seals.kept;
       };
-      filled = subst (λ (ss : List ℕ). AreFilled put ss) (sym seals.sealed)
-          (filled-put store slot (first_credential user group ns root) t.sealed long seals.in_table is.filled);
+      filled = filled_put store slot (first_credential user group ns root) long seals.in_table seals.sealed (no_more_sealed seals) is.filled;
     }
 
     pub init_sealed : not_busy (cast_in s process) ≡ Ok tt → find (λ u. u.number == task) parts.tasks ≡ None → length parts.tasks < 64
@@ -81,3 +83,20 @@ module _ {parts : Parts} {store : List (Option Credential)} {t : Table} (is : Is
         ∙ ap (λ (n : ℕ). (Sealed n slot, created (roomy is) (first_task task process n) c slot)) count)
         (stored_like store after t.sealed c slot (created (roomy is) (first_task task process number) c slot) init_kept seals.sealed long seals.in_table
         (subst (λ (n : ℕ). IsAlone after n slot) seals.counted seals.alone) refl seals.deferred refl)
+
+-- ---- another task is created
+
+-- What is kept stays so where a task shares its creator's current credential, whatever broadcasts
+-- are open then.
+pub kept_child : {parts : Parts} {store : List (Option Credential)} {t r later : Table} {n m k : ℕ} → IsKept parts store t
+    → (tasks : List Task) (child process : ℕ) (owner : Task) → tasks ≡ parts.tasks ++ first_task child process owner.current ∷ [] → n ≡ owner.current
+    → r ≡ record t { spare = m } → IsSameBag later.held (n ∷ r.held) → later ≡ record r { held = later.held; spare = k }
+    → 0 < count_by (λ i. i == n) t.held → (casts : List Broadcast) → IsKept (record parts { tasks = tasks; casts = casts }) store later
+kept_child {parts} {store} {t} {r} {later} {n} is tasks child process owner grown number spared adds made has casts =
+    let s : State = state_of parts store t in
+    let new : Task = first_task child process owner.current in
+    let bag : IsSameBag (in_use (record s { tasks = parts.tasks ++ new ∷ [] })) (n ∷ in_use s)
+    = subst (λ (x : ℕ). IsSameBag (in_use (record s { tasks = parts.tasks ++ new ∷ [] })) (x ∷ in_use s)) (sym number) (in_use-task s new refl) in
+    kept_casts
+    (subst (λ (ts : List Task). IsKept (record parts { tasks = ts }) store later) (sym grown) (kept_more is spared adds made bag refl has))
+    casts

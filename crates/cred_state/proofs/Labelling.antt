@@ -16,8 +16,10 @@ use Rattle.cred_model.specs.Moves.{in_slot, table_full, with_change}
 use Rattle.cred_model.specs.Step.{by_abort, by_prepare, outcome}
 use Rattle.cred_slots.specs.Table.{Table, IsSameBag, is_kept}
 use Rattle.cred_slots.specs.Table as table
-use Rattle.cred_tables.specs.Kept.{AreFilled, Parts, state_of, IsCounted, IsKept}
+use Rattle.cred_slots.proofs.Tables.{held_is_referred}
+use Rattle.cred_tables.specs.Kept.{Parts, state_of, IsCounted, IsKept}
 use Rattle.cred_tables.proofs.Bags.{bag-more, bag-less, bag-has, bag-at}
+use Rattle.cred_tables.proofs.Filled.{filled_same, no_more_dropped, no_more_roomy}
 use Rattle.cred_tables.proofs.Keeps.{is_among, keeps-push, keeps-remove, among-at}
 use Rattle.cred_tables.proofs.Sealing.{in_free, in_none, over_later}
 use Rattle.cred_tables.proofs.InUse.{in_use-label, in_use-unlabel, in_use-altered, kept-altered}
@@ -99,8 +101,8 @@ module _ {parts : Parts} {store : List (Option Credential)} {t : Table} (is : Is
       prepare_tests s label task hold may ∙ in_none is (prepare_does label task may.base.number) after none makes
 
   module _ (after : Table) (p : Prepared) (claim : Claims t after p.base p.slot) where
-    pub prepare_kept : IsKept (record parts { prepared = parts.prepared ++ p ∷ [] }) store after
-    prepare_kept =
+    pub prepare_kept : 0 < count_by (λ m. m == p.base) t.held → IsKept (record parts { prepared = parts.prepared ++ p ∷ [] }) store after
+    prepare_kept has =
         let slots : kept (record s { prepared = parts.prepared ++ p ∷ [] }) ≡ kept s ++ p.slot ∷ [] = map-append (λ (q : Prepared). q.slot) parts.prepared (p ∷ []) in
         record {
           counted = record {
@@ -110,7 +112,7 @@ module _ {parts : Parts} {store : List (Option Credential)} {t : Table} (is : Is
                 ∙ keeps-push t.kept (kept s) p.slot is.counted.keeps (sym (ap (λ ks. slice_index_or ks p.slot false) claim.kept) ∙ claim.here) slot
                 ∙ ap (λ ks. is_among ks slot) (sym slots);
           };
-          filled = subst (λ (ss : List ℕ). AreFilled store ss) (sym claim.sealed) is.filled;
+          filled = filled_same claim.sealed (no_more_roomy t after p.base claim.held claim.deferred (held_is_referred t p.base has)) is.filled;
         }
 
   pub prepare_done : (after : Table) (label task hold slot : ℕ) (may : MayPrepare s label task hold) → Claims t after may.base.number slot
@@ -161,7 +163,7 @@ module _ {parts : Parts} {store : List (Option Credential)} {t : Table} (is : Is
           counts = bag-less is.counted.counts held (in_use-unlabel s place p there);
           keeps = λ slot. ap (λ ks. slice_index_or ks slot false) frees ∙ keeps-less own slot;
         };
-        filled = subst (λ (ss : List ℕ). AreFilled store ss) (sym sealed) is.filled;
+        filled = filled_same sealed (no_more_dropped t after (p.base ∷ []) held deferred) is.filled;
       }
 
       pub abort_done : (label : ℕ) → position (λ q. q.label == label) parts.prepared ≡ Some place

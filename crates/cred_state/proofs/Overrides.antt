@@ -12,7 +12,7 @@ use Rattle.cred_model.specs.Moves.{with_overrides, lent, overridden}
 use Rattle.cred_model.specs.Step.{by_override, by_revert, for_access, is_access, outcome}
 use Rattle.cred_model.proofs.Likes.{does_same}
 use Rattle.cred_model.proofs.Numbers.{owner_number}
-use Rattle.cred_slots.specs.Table.{Table, IsSameBag}
+use Rattle.cred_slots.specs.Table.{Table, IsSameBag, references_to}
 use Rattle.cred_procs.specs.Tasks.{task_in, overrides_of}
 use Rattle.cred_tables.specs.Prepared.{changed_of}
 use Rattle.cred_tables.specs.Kept.{Parts, creds_in, state_of, IsKept, SealsKept}
@@ -20,6 +20,7 @@ use Rattle.cred_slots.proofs.Counting.{count-cons}
 use Rattle.cred_tables.proofs.Bags.{one_if, bag-has, bag-at}
 use Rattle.cred_model.proofs.Places.{find-at, place-of_found}
 use Rattle.cred_tables.proofs.Sealing.{Drops, keeps_same, kept_less, kept_more, over_later}
+use Rattle.cred_tables.proofs.Filled.{NoMore}
 use Rattle.cred_tables.proofs.InUse.{Differ}
 use Rattle.cred_state.proofs.Overriding.{in_use-lent, in_use-reverted}
 use Rattle.cred_tables.proofs.Stored.{does_made, length-creds_in}
@@ -208,10 +209,10 @@ module _ {parts : Parts} {store : List (Option Credential)} {t : Table} (is : Is
 
     module _ (number : ℕ) (lent_to : Lends parts.tasks tasks task number) (r after : Table) {m k : ℕ} (spared : r ≡ record t { spare = m })
         (adds : IsSameBag after.held (number ∷ r.held)) (made : after ≡ record r { held = after.held; spare = k }) where
-      pub lent_kept : IsKept (record parts { tasks = tasks }) store after
-      lent_kept =
+      pub lent_kept : 0 < count_by (λ m. m == number) t.held → IsKept (record parts { tasks = tasks }) store after
+      lent_kept has =
           subst (λ (ts : List Task). IsKept (record parts { tasks = ts }) store after) (sym lent_to.gives)
-          (kept_more is spared adds made (in_use-lent s task lent_to.owner distinct lent_to.lives number) refl)
+          (kept_more is spared adds made (in_use-lent s task lent_to.owner distinct lent_to.lives number) refl has)
 
       pub lent_done : (label : ℕ) (c : Numbered) → held_by s label ≡ Some c → c.number ≡ number
           → IsOutcomeLike (outcome s (by_override s task label)) (Sealed number c.slot) (state_of (record parts { tasks = tasks }) store after)
@@ -251,15 +252,18 @@ module _ {parts : Parts} {store : List (Option Credential)} {t : Table} (is : Is
             omega (arith, lent_now, more, one, is.counted.counts.counts test);
       }
 
+      fewer : NoMore t mid
+      fewer n some = subst (λ (x : Table). 0 < references_to x n) spared some
+
       pub prepared_kept : IsKept end put after
-      prepared_kept = finish_kept is place p there slots tasks after number (ap (λ (x : Table). x.sealed) spared) (ap (λ (x : Table). x.kept) spared) refer long seals last.cred
+      prepared_kept = finish_kept is place p there slots tasks after number (ap (λ (x : Table). x.sealed) spared) (ap (λ (x : Table). x.kept) spared) fewer refer long seals last.cred
 
       abbrev made : List Task → State
       made ts = record (overridden s place p lent_to.owner last.cred) { tasks = ts }
 
       prepared_like : IsLike (state_of end put after) (made tasks)
       prepared_like =
-          finish_like is place p there slots tasks after number (ap (λ (x : Table). x.sealed) spared) (ap (λ (x : Table). x.kept) spared) refer long seals last.cred (made tasks) refl
+          finish_like is place p there slots tasks after number (ap (λ (x : Table). x.sealed) spared) (ap (λ (x : Table). x.kept) spared) fewer refer long seals last.cred (made tasks) refl
           (ap (λ (x : Table). x.deferred ++ p.base ∷ []) spared) refl
 
       pub prepared_done : position (λ q. q.label == label) parts.prepared ≡ Some place → for_access task p ≡ Some last → held_by s label ≡ None

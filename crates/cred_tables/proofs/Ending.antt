@@ -15,8 +15,9 @@ use Rattle.cred_model.proofs.Referred.{all_survive}
 use Rattle.cred_slots.specs.Table.{Table, IsSameBag}
 use Rattle.cred_slots.proofs.Counting.{count-cons, count-append}
 use Rattle.cred_procs.specs.Tasks.{Ends, those}
-use Rattle.cred_tables.specs.Kept.{Parts, AreFilled, AreHeld, state_of, IsKept}
+use Rattle.cred_tables.specs.Kept.{Parts, AreHeld, state_of, IsKept}
 use Rattle.cred_tables.proofs.Bags.{counts_itself}
+use Rattle.cred_tables.proofs.Filled.{filled_same, no_more_dropped}
 use Rattle.cred_tables.proofs.InUse.{in_use-ended}
 use Rattle.cred_tables.proofs.Owners.{IsOwn, own_owner}
 use Rattle.cred_tables.proofs.Sealing.{keeps_same, over_later}
@@ -155,7 +156,7 @@ module _ {parts : Parts} {store : List (Option Credential)} {t : Table} (is : Is
         };
         keeps = keeps_same t after _ is.counted.keeps all.kept;
       };
-      filled = subst (λ (ss : List ℕ). AreFilled store ss) (sym all.sealed) is.filled;
+      filled = filled_same all.sealed (no_more_dropped t after (left_by ends parts.tasks) all.held all.deferred) is.filled;
     }
 
     pub ended_is : ended ends s ≡ state_of (record parts { tasks = survivors ends parts.tasks }) store after

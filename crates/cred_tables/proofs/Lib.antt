@@ -6,6 +6,7 @@ pub mod Keeps
 pub mod Free
 pub mod InUse
 pub mod Owners
+pub mod Filled
 pub mod Stored
 pub mod Sealing
 pub mod Ending

@@ -13,8 +13,9 @@ use Rattle.cred_slots.specs.Table.{Table, IsSameBag, IsAlone, is_kept, stands_in
 use Rattle.cred_slots.proofs.Counting.{count-cons, count-append}
 use Rattle.cred_slots.specs.Table as table
 use Rattle.cred_slots.proofs.Tables.{held_is_referred}
-use Rattle.cred_tables.specs.Kept.{AreFilled, Parts, state_of, creds_in, IsKept, Seals}
+use Rattle.cred_tables.specs.Kept.{IsInUse, Parts, state_of, creds_in, IsKept, Seals}
 use Rattle.cred_tables.proofs.Bags.{bag-at, bag-more, bag-less}
+use Rattle.cred_tables.proofs.Filled.{filled_same, no_more_counted, no_more_dropped}
 use Rattle.cred_tables.proofs.Free.{full_swept, room-same, free-same}
 use Rattle.cred_tables.proofs.Keeps.{is_among}
 use Rattle.cred_tables.proofs.InUse.{current-stands}
@@ -98,6 +99,11 @@ module _ {parts : Parts} {store : List (Option Credential)} {t : Table} (is : Is
       subst (λ (n : ℕ). 0 < count_by (λ m. m == n) t.held) (sym u.number)
       (bag-at u.owner.current is.counted.counts (current-stands s task u.owner u.is))
 
+-- what is in use is referred to
+pub used_is_referred : {parts : Parts} {store : List (Option Credential)} {t : Table} (is : IsKept parts store t) (number : ℕ)
+    → IsInUse (state_of parts store t) number → 0 < table.references_to t number
+used_is_referred {t = t} is number used = held_is_referred t number (bag-at number is.counted.counts used)
+
 -- the room that was made is that of the table without the spare
 pub roomy_spare : (parts : Parts) (store : List (Option Credential)) (t r after : Table) (m : ℕ)
     → r ≡ record t { spare = m } → after ≡ table.swept_if_full r
@@ -139,26 +145,28 @@ drops held made = record {
 pub kept_less : {parts left : Parts} {store : List (Option Credential)} {t later : Table} {n : ℕ} → IsKept parts store t → Drops t later n
     → IsSameBag (in_use (state_of parts store t)) (n ∷ in_use (state_of left store later))
     → ((slot : ℕ) → is_kept later slot ≡ is_among (kept (state_of left store later)) slot) → IsKept left store later
-kept_less {store = store} is less bag keeps = record {
+kept_less {t = t} {later = later} {n = n} is less bag keeps = record {
   counted = record { counts = bag-less is.counted.counts less.held bag; keeps = keeps };
-  filled = subst (λ (ss : List ℕ). AreFilled store ss) (sym less.sealed) is.filled;
+  filled = filled_same less.sealed (no_more_dropped t later (n ∷ []) less.held less.deferred) is.filled;
 }
 
--- Parts that refer to one number more are kept once a reference to it is added.
+-- Parts that refer to one number more are kept once a reference to it is added, where it was
+-- referred to before.
 pub kept_more : {parts more : Parts} {store : List (Option Credential)} {t r later : Table} {n m k : ℕ} → IsKept parts store t
     → r ≡ record t { spare = m } → IsSameBag later.held (n ∷ r.held) → later ≡ record r { held = later.held; spare = k }
     → IsSameBag (in_use (state_of more store later)) (n ∷ in_use (state_of parts store t))
-    → kept (state_of more store later) ≡ kept (state_of parts store t) → IsKept more store later
-kept_more {store = store} {t = t} {later = later} {n = n} is spared adds made bag slots =
+    → kept (state_of more store later) ≡ kept (state_of parts store t) → 0 < count_by (λ m. m == n) t.held → IsKept more store later
+kept_more {t = t} {later = later} {n = n} is spared adds made bag slots has =
     let held : IsSameBag later.held (n ∷ t.held) = subst (λ (x : Table). IsSameBag later.held (n ∷ x.held)) spared adds in
     let sealed : later.sealed ≡ t.sealed = ap (λ (x : Table). x.sealed) made ∙ ap (λ (x : Table). x.sealed) spared in
+    let deferred : later.deferred ≡ t.deferred = ap (λ (x : Table). x.deferred) made ∙ ap (λ (x : Table). x.deferred) spared in
     let flags : later.kept ≡ t.kept = ap (λ (x : Table). x.kept) made ∙ ap (λ (x : Table). x.kept) spared in
     record {
       counted = record {
         counts = bag-more is.counted.counts held bag;
         keeps = λ slot. keeps_same t later _ is.counted.keeps flags slot ∙ ap (λ (ks : List ℕ). is_among ks slot) (sym slots);
       };
-      filled = subst (λ (ss : List ℕ). AreFilled store ss) (sym sealed) is.filled;
+      filled = filled_same sealed (no_more_counted t later n held deferred (held_is_referred t n has)) is.filled;
     }
 
 -- What was given up is still referred to, and nothing else is.

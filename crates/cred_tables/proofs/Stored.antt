@@ -14,7 +14,7 @@ use Rattle.cred_model.specs.Like.{IsLike, IsOutcomeLike}
 use Rattle.cred_model.proofs.Lists.{slice_get-left}
 use Rattle.cred_slots.specs.Table.{Table, IsAlone, stands_in, references_to}
 use Rattle.cred_slots.proofs.Counting.{count-append}
-use Rattle.cred_tables.specs.Kept.{Parts, parts_of, placed, creds_in, AreFilled, state_of, IsKept}
+use Rattle.cred_tables.specs.Kept.{Parts, parts_of, placed, creds_in, state_of, IsKept}
 use Rattle.cred_tables.proofs.Bags.{count-at}
 use Rattle.cred_tables.proofs.Free.{IsTable}
 
@@ -50,22 +50,6 @@ is_table {store = store} {t = t} is = record { counted = is.counted; slots = slo
 
 placed_some : (store : List (Option Credential)) (slot : ℕ) (c : Credential) → slot < length store → placed (slice_set store slot (Some c)) slot ≡ c
 placed_some store slot c lt = rw (get_or-set_same store slot (Some c) None lt) refl
-
-filled-set : (store : List (Option Credential)) (slot : ℕ) (c : Credential) (slots : List ℕ) → slot < length store → AreFilled store slots
-    → AreFilled (slice_set store slot (Some c)) slots
-filled-set store slot c slots within each k d lt = elim (cases_eq (get_or slots k d) slot) [
-  | inl same ↦ rw (same, get_or-set_same store slot (Some c) None within) refl
-  | inr ne ↦ rw (get_or-set_other store slot (get_or slots k d) (Some c) None ne) (each k d lt)
-]
-
--- each place that is to be filled stays so, and the new one is
-pub filled-put : (store : List (Option Credential)) (slot : ℕ) (c : Credential) (slots : List ℕ) → length store ≡ SLOTS → slot < SLOTS → AreFilled store slots
-    → AreFilled (slice_set store slot (Some c)) (slots ++ slot ∷ [])
-filled-put store slot c slots long in_table each =
-    let within : slot < length store = omega arith in
-    let P : ℕ → Type 0 = λ k. IsSome (get_or (slice_set store slot (Some c)) k None) in
-    let here : P slot = ap is_some (get_or-set_same store slot (Some c) None within) in
-    All-append P slots (slot ∷ []) (filled-set store slot c slots within each) (All-cons P slot [] here (All-nil P))
 
 -- Under a number that stands in another slot is what was there.
 module _ (store : List (Option Credential)) (slot : ℕ) (c : Credential) (within : slot < length store) where

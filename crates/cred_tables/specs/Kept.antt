@@ -2,9 +2,9 @@
 -- prepared labels as they are, the credentials in their slots' places, and a table of slots that
 -- counts references.
 use Rattle.std.specs.Prelude.{◌≡◌, ℕ, ◌<◌, ◌≤◌, ◌==◌, List, ◌∷◌, [], ◌++◌, count_by, length, map}
-use Rattle.std.specs.Prelude.{slice_index_or, slice_set, false, Some, None}
+use Rattle.std.specs.Prelude.{slice_get, slice_index_or, slice_set, false, Some, None}
 use Rattle.std.specs.declared.option.Option.{Option}
-use Rattle.std.specs.List.{All, list_any}
+use Rattle.std.specs.List.{list_any}
 use Rattle.std.specs.Option.{IsSome, option_map_or}
 use Rattle.cred_ids.specs.Limits.{SLOTS}
 use Rattle.cred_record.specs.Credential.{Credential, first_credential}
@@ -15,6 +15,7 @@ use Rattle.cred_event.specs.declared.event.Change.TheVariants.{Exec}
 use Rattle.cred_model.specs.Casts.{dropped}
 use Rattle.cred_model.specs.Slots.{in_use, kept}
 use Rattle.cred_slots.specs.Table.{Table, IsSameBag, IsAlone, is_kept, swept_if_full, free}
+use Rattle.cred_slots.specs.Table.{references_to}
 use Rattle.cred_tables.specs.declared.table.Numbered as table
 
 -- what stands for the credential of a place that has none
@@ -37,9 +38,11 @@ numbered_in number slot = record { number = number; cred = no_credential; slot =
 abbrev pub seen_numbered : table.Numbered → Numbered
 seen_numbered n = record { number = n.number; cred = n.cred.now; slot = n.slot }
 
--- a credential is in the place of each of these slots
-abbrev pub AreFilled : List (Option Credential) → List ℕ → Type 0
-AreFilled store slots = All (λ slot. IsSome (slice_index_or store slot None)) slots
+-- What is referred to can be read: a credential is in its slot's place. Of other numbers nothing
+-- is said.
+pub record AreFilled (store : List (Option Credential)) (t : Table) : Type 0 where
+  pub each : (n slot : ℕ) → slice_get t.sealed n ≡ Some slot → 0 < references_to t n
+      → IsSome (slice_index_or store slot None)
 
 -- What refers to credentials: a list for each kind of thing that does; and the open broadcasts,
 -- which refer to none.
@@ -92,12 +95,12 @@ pub record IsCounted (in_use kept : List ℕ) (table : Table) : Type 0 where
   pub counts : IsSameBag table.held in_use
   pub keeps : (slot : ℕ) → is_kept table slot ≡ list_any (λ kept. kept == slot) kept
 
--- The table counts what the parts refer to and keep, and each sealed credential is in its slot's
--- place, until another one is put there.
+-- The table counts what the parts refer to and keep, and each credential that is referred to is in
+-- its slot's place.
 pub record IsKept (parts : Parts) (store : List (Option Credential)) (table : Table) : Type 0 where
   pub counted :
       IsCounted (in_use (state_of parts store table)) (kept (state_of parts store table)) table
-  pub filled : AreFilled store table.sealed
+  pub filled : AreFilled store table
 
 -- The next number was sealed in the free slot, with one reference, after a sweep where one was
 -- needed, and the same slots are kept as before. Nothing else that stands in the slot is referred

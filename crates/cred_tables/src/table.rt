@@ -1,7 +1,8 @@
 //! The sealed credentials, and what is found among them.
-ghost use Rattle.std.specs.Prelude.{◌≡◌};
+ghost use Rattle.std.specs.Prelude.{◌≡◌, ◌<◌};
 ghost use Rattle.std.specs.Option.{option_map};
 ghost use Rattle.cred_model.specs.State as model;
+ghost use Rattle.cred_slots.specs.Table.{references_to};
 ghost use Rattle.cred_tables.specs.Kept.{creds_in, AreFilled, seen_numbered};
 
 use crate::store::Store;
@@ -16,10 +17,11 @@ pub struct Numbered<'a> {
     pub slot: u32,
 }
 
-/// The sealed credential of this number, which stands in its slot's place. Where nothing refers to
-/// the number any more, a later credential may stand there.
+/// The sealed credential of this number, which something refers to: so it stands in its slot's
+/// place.
 pub fn sealed_at<'a>(store: &'a Store, slots: &Slots, number: u64) -> Option<Numbered<'a>>
-    requires { AreFilled store.now slots.now.sealed }
+    requires filled { AreFilled store.now slots.now }
+    requires referred { 0 < references_to slots.now number }
     ensures { option_map seen_numbered result
         ≡ model.numbered (creds_in store.now slots.now.sealed) number }
 {
@@ -27,7 +29,7 @@ pub fn sealed_at<'a>(store: &'a Store, slots: &Slots, number: u64) -> Option<Num
         return None;
     }
     let slot = slots.slot_of(number);
-    // The place of each sealed number's slot is filled.
+    // The place of what is referred to is filled.
     let cred = store.get(slot).unwrap();
     Some(Numbered { number, cred, slot })
 }

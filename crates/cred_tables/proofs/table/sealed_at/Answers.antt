@@ -1,7 +1,6 @@
-use Rattle.std.proofs.Common.{◌≡◌, ◌∙◌, sym, ap, refl, is_some, slice_index_or, Option, None, Some, Bor}
-use Rattle.std.specs.Option.{IsSome, option_map}
+use Rattle.std.proofs.Common.{◌≡◌, ◌∙◌, sym, ap, refl, is_some, Option, None, Some, Bor}
+use Rattle.std.specs.Option.{option_map}
 use Rattle.cred_record.specs.Credential.{Credential}
-use Rattle.cred_model.proofs.Lists.{All-at}
 use Rattle.cred_tables.proofs.Stored.{numbered-creds_in}
 use Rattle.cred_tables.proofs.table.sealed_at.Goals as goal
 
@@ -12,8 +11,7 @@ read (Some cred) = refl
 pub unwrap-cred-requires : goal.unwrap-cred-requires
 unwrap-cred-requires c =
     sym (read c.get.result) ∙ ap is_some c.get.ensures
-    ∙ All-at (λ slot. IsSome (slice_index_or c.args.store.now slot None)) c.args.slots.now.sealed c.args.number c.slot_of-slot.result
-    c.slot_of-slot.ensures.slot c.requires
+    ∙ c.requires.filled.each c.args.number c.slot_of-slot.result c.slot_of-slot.ensures.slot c.requires.referred
 
 pub returns : goal.returns
 returns c =

@@ -1,15 +1,17 @@
-use Rattle.std.proofs.Common.{◌≡◌, ◌∙◌, Ok, refl, sym, rules, tests}
+use Rattle.std.proofs.Common.{◌≡◌, ◌∙◌, Ok, ap, refl, sym, rules, tests}
+use Rattle.std.specs.Option.{option_map}
 use Rattle.cred_rules.specs.SetId.{set_id}
 use Rattle.cred_cast.proofs.Conditions.{least_waits}
 use Rattle.cred_event.specs.declared.answer.AbortCause.TheVariants.{Perm, Full}
-use Rattle.cred_model.specs.State.{cast_of}
+use Rattle.cred_model.specs.State.{Task, cast_of}
 use Rattle.cred_tables.specs.Kept.{parts_of, state_of}
 use Rattle.cred_state.proofs.Acts.{next_is, next-lives, call_is, place_within, current_there, set_there, act_none, act_without, aborts_so, act_refused, denied, same_spare, act_full, act_kept, act_sealed}
 use Rattle.cred_tables.proofs.Bags.{bag-keeps}
 use Rattle.cred_model.proofs.Places.{if_some}
-use Rattle.cred_tables.proofs.Sealing.{current-held, drops, none_spare, seals_spare}
+use Rattle.cred_tables.proofs.Sealing.{current-held, drops, none_spare, seals_spare, used_is_referred}
 use Rattle.cred_state.proofs.Made.{rule_made}
 use Rattle.cred_state.proofs.Reserved.{kept_spare}
+use Rattle.cred_state.proofs.Standing.{current-used}
 use Rattle.cred_state.proofs.state.State.act.Goals as goal
 
 pub returns-in_default-clause-ok : goal.returns-in_default-clause-ok
@@ -31,6 +33,14 @@ current_at-requires c =
     let sound = rw (← c.self.view_is) at c.requires in
     let next = next_is (state_of (parts_of t.tasks t.casts t.files t.holds t.prepared) t.store t.slots) c.args.number c.in-Some.task sound c.in-Some.ensures.next in
     place_within next _ (if_some _ _ _ c.unwrap-place.ensures c.place.ensures.place)
+
+pub sealed_at-requires-clause-referred : goal.sealed_at-requires-clause-referred
+sealed_at-requires-clause-referred c =
+    let t = c.self.inside in
+    let s = state_of (parts_of t.tasks t.casts t.files t.holds t.prepared) t.store t.slots in
+    let there = if_some _ _ _ c.unwrap-place.ensures c.place.ensures.place in
+    used_is_referred c.self.invariant c.current_at.result
+    (current-used s c.in-Some.task _ (c.current_at.ensures ∙ ap (option_map (λ (t : Task). t.current)) there))
 
 pub returns-in_default-sealed_at-clause-ok : goal.returns-in_default-sealed_at-clause-ok
 returns-in_default-sealed_at-clause-ok c =

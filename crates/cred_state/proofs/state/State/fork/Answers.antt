@@ -1,5 +1,11 @@
-use Rattle.std.proofs.Common.{sym}
+use Rattle.std.proofs.Common.{[], ◌∷◌, ◌++◌, Option, sym, ap, ◌∙◌}
+use Rattle.std.specs.Option.{option_map_or}
+use Rattle.cred_model.specs.State.{Task}
+use Rattle.cred_model.specs.Moves.{first_task}
+use Rattle.cred_model.proofs.Numbers.{current_is}
+use Rattle.cred_tables.specs.Kept.{parts_of, state_of}
 use Rattle.cred_tables.proofs.Sealing.{current-held, referred_to}
+use Rattle.cred_state.proofs.Inits.{kept_child}
 use Rattle.cred_state.proofs.Reserved.{kept_spare}
 use Rattle.cred_state.proofs.state.State.fork.Goals as goal
 
@@ -13,3 +19,14 @@ invariant_of-self c = rw c.in_err-reserve.ensures.err c.self.invariant
 
 pub invariant_of-self-in_err-fork : goal.invariant_of-self-in_err-fork
 invariant_of-self-in_err-fork c = rw c.in_err-fork.ensures.err (kept_spare c.self.invariant c.in_ok-reserve.ensures.ok)
+
+pub invariant_of-self-2 : goal.invariant_of-self-2
+invariant_of-self-2 c =
+    let t = c.self.inside in
+    let s = state_of (parts_of t.tasks t.casts t.files t.holds t.prepared) t.store t.slots in
+    let has = rw (← c.self.view_is) at c.in-Some.ensures in
+    let u = current_is s c.args.task _ (sym has) in
+    let grown = c.in_ok-fork.ensures.ok
+    ∙ ap (λ (found : Option Task). option_map_or (λ o. t.tasks ++ first_task c.args.child c.args.process o.current ∷ []) found t.tasks) u.is in
+    kept_child c.self.invariant c.fork.new.self c.args.child c.args.process u.owner grown u.number c.in_ok-reserve.ensures.ok c.add.ensures.held c.add.ensures.table
+    (current-held c.self.invariant c.args.task _ (sym has)) t.casts

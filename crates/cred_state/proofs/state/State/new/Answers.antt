@@ -16,7 +16,7 @@ nothing-kept : (store : List (Option Credential)) → IsKept (parts_of [] [] [] 
 unfolding empty
 nothing-kept store = record {
   counted = record { counts = record { counts = λ test. refl }; keeps = none_set (range_with_len 0 SLOTS) };
-  filled = λ k d lt. absurd (omega arith);
+  filled = record { each = λ n slot at some. absurd (cc) };
 }
 
 nothing-state_of : (store : List (Option Credential)) → state_of (parts_of [] [] [] [] []) store empty ≡ opening

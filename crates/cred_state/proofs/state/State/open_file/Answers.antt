@@ -19,8 +19,10 @@ pub invariant_of-self-2 : goal.invariant_of-self-2
 invariant_of-self-2 c =
     let t = c.self.inside in
     let s = state_of (parts_of t.tasks t.casts t.files t.holds t.prepared) t.store t.slots in
+    let has = rw (← c.self.view_is) at c.in-Some.ensures in
     rw c.in_ok-add.ensures.ok
-    (kept_more c.self.invariant c.in_ok-reserve.ensures.ok c.add-2.ensures.held c.add-2.ensures.table (in_use-file s _) refl)
+    (kept_more c.self.invariant c.in_ok-reserve.ensures.ok c.add-2.ensures.held c.add-2.ensures.table (in_use-file s _) refl
+    (bag-at c.in-Some.field-0.number c.self.invariant.counted.counts (held-in_use s c.args.hold _ (sym has))))
 
 pub invariant_of-self : goal.invariant_of-self
 invariant_of-self c = rw c.in_err-reserve.ensures.err c.self.invariant

@@ -20,8 +20,12 @@ invariant_of-self-2 c =
     let number = c.in-Some.field-0.number in
     let lent = lends c.self.inside.tasks c.push_override.new.self c.args.task (sym c.alive.ensures ∙ c.if-not-alive.false) number c.push_override.result
     c.push_override.ensures.pushed c.push_override.ensures.tasks c.if-not-push_override.false in
+    let t = c.self.inside in
+    let has = rw (← c.self.view_is) at c.in-Some.ensures in
     lent_kept c.self.invariant c.args.task c.push_override.new.self sound.tasks number lent c.reserve.new.self c.add.new.self
     c.in_ok-reserve.ensures.ok c.add.ensures.held c.add.ensures.table
+    (bag-at number c.self.invariant.counted.counts
+    (held-in_use (state_of (parts_of t.tasks t.casts t.files t.holds t.prepared) t.store t.slots) c.args.label _ (sym has)))
 
 pub returns-clause-ok : goal.returns-clause-ok
 returns-clause-ok c =

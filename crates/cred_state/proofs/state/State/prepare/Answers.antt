@@ -42,11 +42,13 @@ pub invariant_of-self-2 : goal.invariant_of-self-2
 invariant_of-self-2 c =
     let t = c.self.inside in
     let slot = c.in-Some-free_slot.slot in
+    let base = held_hold _ c.in-Some-get.base c.in-Some-get.ensures in
     let claim = claims t.slots c.reserve.new.self c.claim.new.self c.add.new.self _ _ c.in-Some-get.base slot c.in_ok-reserve.ensures.ok
     c.in-Some-free_slot.ensures c.claim.ensures.table c.claim.ensures.kept c.add.ensures.held c.add.ensures.table in
     rw c.in_ok-prepare.ensures.ok
     (prepare_kept c.self.invariant c.add.new.self
-    (record { label = c.args.label; task = c.args.task; base = c.in-Some-get.base; slot = slot; changed = None }) claim)
+    (record { label = c.args.label; task = c.args.task; base = c.in-Some-get.base; slot = slot; changed = None }) claim
+    (rw (← base.2) (hold-held_found c.self.invariant c.args.hold base.0 base.1)))
 
 pub returns-clause-ok : goal.returns-clause-ok
 returns-clause-ok c =

@@ -1,8 +1,13 @@
-use Rattle.std.proofs.Common.{sym}
+use Rattle.std.proofs.Common.{[], ◌∷◌, ◌++◌, Option, sym, ap, ◌∙◌}
+use Rattle.std.specs.Option.{option_map_or}
+use Rattle.cred_model.specs.State.{Task}
+use Rattle.cred_model.specs.Moves.{first_task}
+use Rattle.cred_model.proofs.Numbers.{current_is}
 use Rattle.cred_cast.proofs.Conditions.{dead_waits_nowhere}
 use Rattle.cred_tables.specs.Kept.{parts_of, state_of}
 use Rattle.cred_model.proofs.Places.{none_by_test}
 use Rattle.cred_tables.proofs.Sealing.{current-held, referred_to}
+use Rattle.cred_state.proofs.Inits.{kept_child}
 use Rattle.cred_state.proofs.Reserved.{kept_spare}
 use Rattle.cred_state.proofs.state.State.spawn.Goals as goal
 
@@ -22,3 +27,14 @@ invariant_of-self c = rw c.in_err-reserve.ensures.err c.self.invariant
 
 pub invariant_of-self-in_err-spawn_in : goal.invariant_of-self-in_err-spawn_in
 invariant_of-self-in_err-spawn_in c = rw (c.in_err-spawn_in.ensures.no_tasks, c.in_err-spawn_in.ensures.no_casts) (kept_spare c.self.invariant c.in_ok-reserve.ensures.ok)
+
+pub invariant_of-self-2 : goal.invariant_of-self-2
+invariant_of-self-2 c =
+    let t = c.self.inside in
+    let s = state_of (parts_of t.tasks t.casts t.files t.holds t.prepared) t.store t.slots in
+    let has = rw (← c.self.view_is) at c.in-Some.ensures in
+    let u = current_is s c.args.task _ (sym has) in
+    let grown = c.in_ok-spawn_in.ensures.tasks
+    ∙ ap (λ (found : Option Task). option_map_or (λ o. t.tasks ++ first_task c.args.child o.process o.current ∷ []) found t.tasks) u.is in
+    kept_child c.self.invariant c.spawn_in.new.tasks c.args.child u.owner.process u.owner grown u.number c.in_ok-reserve.ensures.ok c.add.ensures.held c.add.ensures.table
+    (current-held c.self.invariant c.args.task _ (sym has)) c.spawn_in.new.casts
