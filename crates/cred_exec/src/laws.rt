@@ -40,8 +40,8 @@ pub fn other_securebits_stay()
     ensures { OtherSecurebitsStay }
 {}
 
-/// The real ids, the supplementary groups, the user namespace, root's id in it and no_new_privs stay
-/// (execve(2), prctl(2)).
+/// The real ids, the supplementary groups, the user namespace, root's id in it and no_new_privs
+/// stay (execve(2), prctl(2)).
 pub fn real_ids_and_groups_stay()
     ensures { RealIdsAndGroupsStay }
 {}

@@ -92,8 +92,8 @@ impl Source for MemorySource {
 
     ghost faults = { λ s. s.faults };
 
-    /// Moves as many bytes as are left and fit, and no more than one call moves at most, unless this
-    /// call is one of those that fail: such a call is counted as a fault, and moves nothing.
+    /// Moves as many bytes as are left and fit, and no more than one call moves at most, unless
+    /// this call is one of those that fail: such a call is counted as a fault, and moves nothing.
     fn read(&mut self, buf: &mut [u8]) -> Result<usize, Failed>
         ensures bound { ReadsAtMost result buf.new }
         ensures bytes { ReadConsumes (Some self.old.left) (Some self.new.left) result buf.new }

@@ -250,8 +250,8 @@ impl Slots {
         self.kept.union(&self.used).first_unset()
     }
 
-    /// Sweeps if all slots are live. The slot is the one that is taken then: all are live just where
-    /// something that was given up is counted in it.
+    /// Sweeps if all slots are live. The slot is the one that is taken then: all are live just
+    /// where something that was given up is counted in it.
     #[inline(always)]
     fn make_room(&mut self, slot: u32)
         requires { free self.old ≡ Some slot }
