@@ -81,9 +81,9 @@ pub fn after_setuid(able: bool, ids: Ids4, a: Arg) -> Result<Ids4, Denial>
 pub fn after_setreuid(able: bool, ids: Ids4, real: Arg, effective: Arg) -> Result<Ids4, Denial>
     ensures { result ≡ after_setreuid able ids real effective }
 {
-    let real_known = is_one_of(real, &[ids.real, ids.effective]);
-    let effective_known = is_one_of(effective, &[ids.real, ids.effective, ids.saved]);
-    if !able && !(real_known && effective_known) {
+    let two = [ids.real, ids.effective];
+    let three = [ids.real, ids.effective, ids.saved];
+    if !(able || is_one_of(real, &two) && is_one_of(effective, &three)) {
         return Err(Denial::Perm);
     }
     let new = id_or(effective, ids.effective);
@@ -117,10 +117,8 @@ pub fn after_setresuid(
     ensures { result ≡ after_setresuid able ids real effective saved }
 {
     let three = [ids.real, ids.effective, ids.saved];
-    let real_known = is_one_of(real, &three);
-    let effective_known = is_one_of(effective, &three);
-    let saved_known = is_one_of(saved, &three);
-    if !able && !(real_known && effective_known && saved_known) {
+    let known = |a| is_one_of(a, &three);
+    if !(able || known(real) && known(effective) && known(saved)) {
         return Err(Denial::Perm);
     }
     let new = id_or(effective, ids.effective);
