@@ -85,6 +85,7 @@ impl Cast {
     }
 
     /// A task has made the call, and waits no more. Mostly it is the least.
+    #[inline(always)]
     pub fn acted(&mut self, task: u32)
         requires { AllPairs (λ m n. m < n) self.old.waiting }
         ensures { self.new ≡ without task self.old }

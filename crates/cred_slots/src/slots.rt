@@ -124,6 +124,7 @@ impl Slots {
     /// # Errors
     ///
     /// `NoMemory` if an allocation fails: the table is as it was.
+    #[inline(always)]
     pub fn reserve(&mut self) -> Result<(), NoMemory>
         ensures ok { OnOk result (self.new ≡ record self.old { spare = max self.old.spare 1 }) }
         ensures err { OnErr result (self.new ≡ self.old) }
@@ -152,6 +153,8 @@ impl Slots {
           spare = self.old.spare - 1;
         } }
     {
+        self.kept.put(slot, false);
+        self.used.put(slot, true);
         let number = self.sealed.len() as u64;
         self.sealed.push_reserved(slot);
         self.rows[slot as usize] = Row {
@@ -159,8 +162,6 @@ impl Slots {
             held: 1,
             late: 0,
         };
-        self.kept.put(slot, false);
-        self.used.put(slot, true);
         self.held += 1;
         self.spare -= 1;
         number
