@@ -27,23 +27,22 @@ pub fn with_user_ids(cred: &Cred, ids: Ids4) -> Result<Cred, Refusal>
 {
     let mut new = copy(cred)?;
     new.uid = ids;
-    if cred.bits.flag(Flag::NoSetuidFixup) {
-        return Ok(new);
-    }
-    let was_root = cred.is_root(cred.uid.effective);
-    let is_root = cred.is_root(ids.effective);
-    let lost = has_root(cred, &cred.uid) && !has_root(cred, &ids);
-    let cleared = lost && !cred.bits.flag(Flag::KeepCaps);
-    if cleared {
-        new.perm = CapSet::empty();
-    }
-    if lost {
-        new.amb = CapSet::empty();
-    }
-    if cleared || was_root && !is_root {
-        new.eff = CapSet::empty();
-    } else if !was_root && is_root {
-        new.eff = new.perm;
+    if !cred.bits.flag(Flag::NoSetuidFixup) {
+        let was_root = cred.is_root(cred.uid.effective);
+        let is_root = cred.is_root(ids.effective);
+        let lost = has_root(cred, &cred.uid) && !has_root(cred, &ids);
+        let cleared = lost && !cred.bits.flag(Flag::KeepCaps);
+        if cleared {
+            new.perm = CapSet::empty();
+        }
+        if lost {
+            new.amb = CapSet::empty();
+        }
+        if cleared || was_root && !is_root {
+            new.eff = CapSet::empty();
+        } else if !was_root && is_root {
+            new.eff = new.perm;
+        }
     }
     Ok(new)
 }
