@@ -36,6 +36,7 @@ def files():
     declared = "".join(f"file f{number} reg 0 0 0644\n" for number in range(1, 257))
     answer = "257 take h102570 t1 -> no task t1\n"
     yield suite.script("256 files", f"{declared}t1 check f256 r\n", answer)
+    yield suite.script("a 257th", f"{declared}file f257 reg 0 0 0644\n", "bad 257 count\n")
     for line in ("file f257 reg 0 0 0644", "file f1", "file"):
         text = f"{declared}t1 check f256 r\n{line}"
         yield suite.script(f"then `{line}`", text, "bad 258 count\n")

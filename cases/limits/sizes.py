@@ -9,6 +9,7 @@ import suite
 TOO_LARGE = 6
 INIT = "init t1 p1 0 0 n0\n"
 INIT_ENTRY = "1 init t1 p1 0 0 n0 -> ok c0 s0\n"
+GROUP = " 4294967294"
 
 
 def too_large(name, text):
@@ -42,13 +43,16 @@ def question(line):
 
 
 def long_reports():
-    """As many questions as there may be lines, and one entry of more than 4,096 bytes."""
+    """As many questions as there may be lines, and entries of more than 4,096 bytes, more than
+    65,536, and nearly as many as a script may have."""
     questions = "".join(question(line) for line in range(2, 20_001))
     report = INIT_ENTRY + questions
     yield suite.script("19,999 questions", INIT + "t1 ids\n" * 19_999, report, calls=19_999)
-    groups = " 4294967294" * 400
-    refused = f"2 begin t1 setgroups{groups} -> einval\n"
-    yield suite.script("400 groups", f"{INIT}t1 setgroups{groups}", INIT_ENTRY + refused)
+    # Of groups that can't be set there may be as many as the bytes of a script spell.
+    call = "t1 setgroups"
+    for count in (400, 6_000, (1_048_576 - len(INIT) - len(call)) // len(GROUP)):
+        refused = f"2 begin {call}{GROUP * count} -> einval\n"
+        yield suite.script(f"{count} groups", f"{INIT}{call}{GROUP * count}", INIT_ENTRY + refused)
 
 
 def audited(name, given, written, status=None):
