@@ -2,3 +2,4 @@
 mod books;
 mod casts;
 mod counted;
+mod refused;

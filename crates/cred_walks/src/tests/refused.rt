@@ -1,0 +1,342 @@
+//! What no script reaches of an event's refusals, or none without lanes, by the book's own call:
+//! behind each of them all is answered as in a book that had none.
+ghost use Rattle.std.specs.Prelude.{◌<◌, length, IfOk};
+ghost use Rattle.cred_model.specs.Named.{IsEventOf};
+
+use crate::tests::books::{Walk, run_whole, walk_in_book};
+use cred_book::Book;
+use cred_event::{Event, Side};
+use cred_ids::{Arg, Id};
+use cred_record::{IdCall, Want};
+use cred_report::{Text, print};
+use cred_script::Script;
+use std::alloc::Global;
+use std::test::Fail;
+
+/// Two processes of two threads each, and one of one. The second thread of the first process waits
+/// for its step in the call of the last line.
+const SCRIPT: &str = "file a reg 0 0 0600\n\
+    init t1 p1 0 0 n0\ninit t2 p1 0 0 n0\ninit t3 p2 0 0 n0\ninit t4 p2 0 0 n0\ninit t5 p3 0 0 n0\n\
+    take h1 t1\ntake h3 t3\nt5 open a r f1\nbegin t1 setgid 7\n";
+
+/// An event, by what it names; `Begin` with its line.
+#[derive(Clone, Copy)]
+enum Call {
+    Init {
+        task: u32,
+        process: u32,
+    },
+    Take {
+        label: u32,
+        task: u32,
+    },
+    Release {
+        label: u32,
+    },
+    Signal {
+        from: u32,
+        hold: u32,
+        to: u32,
+        target: u32,
+    },
+    Open {
+        hold: u32,
+        fd: u32,
+    },
+    Begin {
+        line: u32,
+        task: u32,
+    },
+    Act,
+    Sweep,
+}
+
+/// To be read.
+const READ: Want = Want {
+    r: true,
+    w: false,
+    x: false,
+};
+
+/// The line that began the call which is open.
+const CAST: u32 = 10;
+
+/// An event that is refused, whether all slots are live then, and the text of its entry.
+type Row = (Call, bool, &'static str);
+
+/// No task 8 or 9 and no label 8 or 9 is there. What is asked first is told.
+const ROWS: [Row; 9] = [
+    (
+        Call::Init {
+            task: 6,
+            process: 1,
+        },
+        false,
+        "11 init t6 p1 0 0 n0 -> busy 10\n",
+    ),
+    (
+        Call::Init {
+            task: 1,
+            process: 1,
+        },
+        false,
+        "11 init t1 p1 0 0 n0 -> busy 10\n",
+    ),
+    (
+        Call::Init {
+            task: 6,
+            process: 6,
+        },
+        true,
+        "11 init t6 p6 0 0 n0 -> table full\n",
+    ),
+    (
+        Call::Begin {
+            line: CAST,
+            task: 3,
+        },
+        false,
+        "10 begin t3 setgid 7 -> exists k10\n",
+    ),
+    (
+        Call::Signal {
+            from: 8,
+            hold: 8,
+            to: 9,
+            target: 9,
+        },
+        false,
+        "11 signal t8 h8 t9 h9 -> no task t8\n",
+    ),
+    (
+        Call::Signal {
+            from: 1,
+            hold: 8,
+            to: 9,
+            target: 9,
+        },
+        false,
+        "11 signal t1 h8 t9 h9 -> no task t9\n",
+    ),
+    (
+        Call::Signal {
+            from: 1,
+            hold: 8,
+            to: 3,
+            target: 9,
+        },
+        false,
+        "11 signal t1 h8 t3 h9 -> no hold h8\n",
+    ),
+    (
+        Call::Signal {
+            from: 1,
+            hold: 1,
+            to: 3,
+            target: 9,
+        },
+        false,
+        "11 signal t1 h1 t3 h9 -> no hold h9\n",
+    ),
+    (
+        Call::Open { hold: 9, fd: 1 },
+        false,
+        "11 open h9 a r f1 -> no hold h9\n",
+    ),
+];
+
+/// What has made the sweep that a slot is looked for by, where that is refused.
+const SWEEP: (Call, &str) = (Call::Sweep, "11 sweep -> ok\n");
+
+/// What comes then: each of the tasks, labels and files is named, and two slots are looked for.
+const NEXT: [Call; 9] = [
+    Call::Take { label: 2, task: 2 },
+    Call::Release { label: 1 },
+    Call::Init {
+        task: 7,
+        process: 6,
+    },
+    Call::Act,
+    Call::Init {
+        task: 6,
+        process: 1,
+    },
+    Call::Signal {
+        from: 3,
+        hold: 3,
+        to: 4,
+        target: 2,
+    },
+    Call::Open { hold: 3, fd: 2 },
+    Call::Begin {
+        line: CAST,
+        task: 3,
+    },
+    Call::Sweep,
+];
+
+fn line_of(call: Call) -> u32 {
+    match call {
+        Call::Begin { line, .. } => line,
+        _ => 11,
+    }
+}
+
+/// The place of the script's first file.
+fn first_file(script: &Script) -> Result<u32, Fail>
+    ensures { IfOk result (λ place. place < length script.now.files) }
+{
+    match script.file(0) {
+        Some(_) => Ok(0),
+        None => Err(Fail::from("a file")),
+    }
+}
+
+/// The event in a script, whose first file is opened.
+fn event_of(script: &Script, call: Call) -> Result<Event, Fail>
+    ensures { IfOk result
+        (IsEventOf (length script.now.files) script.now.namespaces) }
+{
+    let root = Id::new(0).ok_or("root")?;
+    let file = first_file(script)?;
+    Ok(match call {
+        Call::Init { task, process } => Event::Init {
+            task,
+            process,
+            user: root,
+            group: root,
+            ns: 0,
+        },
+        Call::Take { label, task } => Event::Take {
+            label,
+            task,
+            side: Side::Subjective,
+        },
+        Call::Release { label } => Event::Release { label },
+        Call::Signal {
+            from,
+            hold,
+            to,
+            target,
+        } => Event::Signal {
+            from,
+            hold,
+            to,
+            target,
+        },
+        Call::Open { hold, fd } => Event::OpenFile {
+            hold,
+            file,
+            want: READ,
+            fd,
+        },
+        Call::Begin { task, .. } => Event::Begin {
+            task,
+            call: IdCall::SetGid(Arg::of(7)),
+        },
+        Call::Act => Event::Act { cast: CAST },
+        Call::Sweep => Event::Sweep,
+    })
+}
+
+/// The text of the entry that an event gets.
+fn entered(alloc: Global, book: &mut Book, call: Call) -> Result<Text, Fail> {
+    let event = event_of(book.script(), call)?;
+    book.event(line_of(call), event)?;
+    let entry = book.journal().last().ok_or("an entry")?;
+    Ok(print(alloc, book.script(), entry)?)
+}
+
+/// Whether that is this text.
+fn is_entered(
+    alloc: Global,
+    book: &mut Book,
+    (call, text): (Call, &'static str),
+) -> Result<bool, Fail> {
+    let told = entered(alloc, book, call)?;
+    Ok(told.items() == text.as_bytes())
+}
+
+/// Has the fifth task take all slots, one after another, and holds what stands in each.
+fn fill(alloc: Global, book: &mut Book) -> Result<(), Fail> {
+    for label in 100..350 {
+        entered(alloc, book, Call::Take { label, task: 5 })?;
+        entered(alloc, book, Call::Begin { line: 12, task: 5 })?;
+    }
+    Ok(())
+}
+
+/// Adds the texts of the entries that come then.
+fn tell_next(alloc: Global, book: &mut Book, told: &mut Vec<u8>) -> Result<(), Fail> {
+    for call in NEXT {
+        let text = entered(alloc, book, call)?;
+        told.extend_from_slice(text.items())?;
+    }
+    Ok(())
+}
+
+/// Adds how many references there are to each slot.
+fn tell_uses(book: &Book, told: &mut Vec<u8>) -> Result<(), Fail> {
+    for slot in 0..256 {
+        told.push(u8::try_from(book.uses(slot)).unwrap_or(u8::MAX))?;
+    }
+    Ok(())
+}
+
+/// What is told of a book that may have had an event more than another, whose entry has a text.
+#[derive(Drop)]
+struct Behind {
+    is_full: bool,
+    more: Option<(Call, &'static str)>,
+    is_entered: bool,
+    told: Vec<u8>,
+}
+
+impl Walk for Behind {
+    fn walk(&mut self, alloc: Global, book: &mut Book) -> Result<(), Fail> {
+        run_whole(book)?;
+        if self.is_full {
+            fill(alloc, book)?;
+        }
+        if let Some(more) = self.more {
+            self.is_entered = is_entered(alloc, book, more)?;
+        }
+        tell_uses(book, &mut self.told)?;
+        tell_next(alloc, book, &mut self.told)?;
+        tell_uses(book, &mut self.told)
+    }
+}
+
+/// The walk behind this event, or behind none, which has told what it has found.
+fn walked(
+    alloc: Global,
+    is_full: bool,
+    more: Option<(Call, &'static str)>,
+) -> Result<Behind, Fail> {
+    let mut walk = Behind {
+        is_full,
+        more,
+        is_entered: more.is_none(),
+        told: Vec::new(alloc),
+    };
+    walk_in_book(alloc, SCRIPT, &mut walk)?;
+    Ok(walk)
+}
+
+/// Whether the event of a row is refused, and all behind it is told as if it had not been there.
+fn is_alike(alloc: Global, (call, is_full, text): Row) -> Result<bool, Fail> {
+    let in_place = if is_full { Some(SWEEP) } else { None };
+    let without = walked(alloc, is_full, in_place)?;
+    let with = walked(alloc, is_full, Some((call, text)))?;
+    Ok(with.is_entered && without.is_entered && with.told == without.told)
+}
+
+#[test]
+fn behind_a_refusal_all_is_as_if_it_were_not_there(rt: HostRuntime) -> Result<(), Fail> {
+    for row in ROWS {
+        let is_alike = is_alike(rt.alloc(), row)?;
+        let (_, _, text) = row;
+        assert!(rt; is_alike, "{text}");
+    }
+    Ok(())
+}
