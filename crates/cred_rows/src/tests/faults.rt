@@ -81,10 +81,11 @@ type Asked = (
     Status,
 );
 
-const ASKED: [Asked; 9] = [
+const ASKED: [Asked; 10] = [
     (&["run"], true, &[SCRIPT], REPORT, Status::Done),
     (&["lanes"], true, &[SCRIPT], REPORT, Status::Done),
     (&["run"], true, &[SERVICE], SERVICE_REPORT, Status::Done),
+    (&["lanes"], true, &[SERVICE], SERVICE_REPORT, Status::Done),
     (
         &["audit"],
         true,

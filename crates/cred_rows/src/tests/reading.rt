@@ -160,8 +160,8 @@ static ID_CALLS: [(&str, [bool; 3]); 18] = [
     ("begin t1 setresgid -1 -1 -1", [true, false, false]),
     ("begin t1 setgroups 7 7", [true, true, false]),
     (
-        "begin t1 setgroups 1 2 3 4 5 6 7 8 9 10 11 12 13 14 15 16 17 18 19 20 21 22 23 24 25 26 27 \
-         28 29 30 31 32 33",
+        "begin t1 setgroups 1 2 3 4 5 6 7 8 9 10 11 12 13 14 15 16 17 18 19 20 21 22 23 24 25 26 \
+         27 28 29 30 31 32 33",
         [false, true, true],
     ),
 ];
