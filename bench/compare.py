@@ -31,7 +31,8 @@ def id_call(pick):
     name = pick(["setuid", "seteuid", "setgid", "setegid", "setreuid", "setregid", "setresuid",
                  "setresgid", "setgroups"])
     if name == "setgroups":
-        return " ".join([name] + [pick(["0", "1", "5", "1000"]) for _ in range(pick([0, 1, 3, 32, 33]))])
+        count = pick([0, 1, 2, 3, 33] * 5 + [1024, 1025])
+        return " ".join([name] + [pick(["0", "1", "5", "1000"]) for _ in range(count)])
     count = 3 if "res" in name else 2 if "setre" in name else 1
     return " ".join([name] + [pick(IDS) for _ in range(count)])
 

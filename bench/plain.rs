@@ -507,7 +507,7 @@ fn apply_id(c: &Cred, call: &IdCall) -> Result<Cred, &'static str> {
             if !has(c, SETGID) {
                 return Err("eperm");
             }
-            if list.len() > 32 {
+            if list.len() > 1024 {
                 return Err("einval");
             }
             new = c.clone();

@@ -1,7 +1,7 @@
 """Inputs at the limits of bytes and of lines, and others that may seem to want much memory.
 
 docs/FORMATS.md, status 6: "the script has more than 1,048,576 bytes or more than 20,000 lines, or
-an input of `audit` more than 134,217,728 bytes; nothing was written. Where no line of an input of
+an input of `audit` more than 402,653,184 bytes; nothing was written. Where no line of an input of
 `audit` is `report`, its script is all of it".
 """
 import suite
@@ -10,6 +10,7 @@ TOO_LARGE = 6
 INIT = "init t1 p1 0 0 n0\n"
 INIT_ENTRY = "1 init t1 p1 0 0 n0 -> ok c0 s0\n"
 GROUP = " 4294967294"
+GROUPS = 1024
 
 
 def too_large(name, text):
@@ -48,11 +49,12 @@ def long_reports():
     questions = "".join(question(line) for line in range(2, 20_001))
     report = INIT_ENTRY + questions
     yield suite.script("19,999 questions", INIT + "t1 ids\n" * 19_999, report, calls=19_999)
-    # Of groups that can't be set there may be as many as the bytes of a script spell.
+    # More groups than may be set are refused, up to as many as the bytes of a script spell.
     call = "t1 setgroups"
     for count in (400, 6_000, (1_048_576 - len(INIT) - len(call)) // len(GROUP)):
-        refused = f"2 begin {call}{GROUP * count} -> einval\n"
-        yield suite.script(f"{count} groups", f"{INIT}{call}{GROUP * count}", INIT_ENTRY + refused)
+        answer = "ok c1 s1 left 0" if count <= GROUPS else "einval"
+        entry = f"2 begin {call}{GROUP * count} -> {answer}\n"
+        yield suite.script(f"{count} groups", f"{INIT}{call}{GROUP * count}", INIT_ENTRY + entry)
 
 
 def audited(name, given, written, status=None):

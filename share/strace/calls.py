@@ -42,7 +42,7 @@ SECUREBITS = {
 }
 
 # The limit of groups (docs/FORMATS.md).
-GROUPS = 32
+GROUPS = 1024
 
 
 @dataclass(frozen=True)
@@ -115,7 +115,9 @@ def setgroups(args: Args, result: Result) -> Said | None:
             return None
         raise Unheld("the list of groups is shortened: strace writes all of it with -v")
     if len(listed) > GROUPS and result.error is None:
-        raise Unheld(f"{len(listed)} groups (docs/LINUX.md: at most {GROUPS} groups, else EINVAL)")
+        raise Unheld(
+            f"{len(listed)} groups (docs/LINUX.md: at most {GROUPS:,} groups, else EINVAL)"
+        )
     words = [identity(word) for word in listed]
     if None in words or "-1" in words:
         return None

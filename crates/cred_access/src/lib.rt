@@ -11,4 +11,4 @@ mod rights;
 pub use file::may;
 pub use mode::has_bit;
 pub use real::access_cred;
-pub use rights::{capable, may_signal};
+pub use rights::{capable, may_signal, may_signal_by};

@@ -1,9 +1,9 @@
 //! What a task may do by its capabilities, and to another task.
 ghost use Rattle.std.specs.Prelude.{◌≡◌};
-ghost use Rattle.cred_record.specs.Credential.{capable};
+ghost use Rattle.cred_record.specs.Credential.{Credential, capable};
 ghost use Rattle.cred_rules.specs.Access.{owns, may_signal};
 
-use cred_caps::Cap;
+use cred_caps::{Cap, CapSet};
 use cred_ids::{Id, Ids4};
 use cred_record::Cred;
 
@@ -30,7 +30,14 @@ fn owns(user: Id, target: &Ids4) -> bool
 pub fn may_signal(from: &Cred, to: &Cred, same: bool) -> bool
     ensures { result ≡ may_signal from.now to.now same }
 {
-    same || capable(from, Cap::KILL)
-        || owns(from.uid.real, &to.uid)
-        || owns(from.uid.effective, &to.uid)
+    may_signal_by(&from.uid, from.eff, &to.uid, same)
+}
+
+/// Whether a task with these user ids and this effective set may send a signal to one with the user
+/// ids `to`: all that `may_signal` asks of the two credentials.
+pub fn may_signal_by(from: &Ids4, effective: CapSet, to: &Ids4, same: bool) -> bool
+    ensures { (sender target : Credential) → sender.uid ≡ from.now → sender.eff ≡ effective
+        → target.uid ≡ to.now → result ≡ may_signal sender target same }
+{
+    same || effective.has(Cap::KILL) || owns(from.real, to) || owns(from.effective, to)
 }

@@ -8,14 +8,17 @@ use Rattle.cred_model.specs.Script.{Script}
 use Rattle.cred_model.specs.Course.{Course}
 use Rattle.cred_model.specs.Step.{step}
 use Rattle.cred_model.specs.Journal.{replay, entry_of}
+use Rattle.cred_tables.specs.Kept.{Words}
 
 -- A script, the journal of its run so far, and for each lane a cursor, the course of a line or
--- none, and the number of its lines that have ended.
+-- none, and the number of its lines that have ended; and the shared words that the credentials
+-- stand in.
 pub record Recorded : Type 0 where
   pub script : Script
   pub journal : List Entry
   pub cursors : List (Option Course)
   pub ended : List ℕ
+  pub words : Words
 
 -- the book in which an event of a line is entered, with its answer
 abbrev pub with_event : Recorded → ℕ → Event → Recorded

@@ -21,6 +21,7 @@ use crate::step::Step;
 use cred_course::Course;
 use cred_cursor::{Cursors, cursor_after, next_event};
 use cred_event::{Answer, Entry, Event, copy_answer};
+use cred_hold::Cells;
 use cred_ids::NoMemory;
 use cred_script::Script;
 use cred_state::State;
@@ -31,7 +32,8 @@ use std::marker::Model;
 /// event can tell the two apart. And for each lane a cursor, the course of a line or none, and how
 /// many of its lines have ended.
 ///
-/// Every entry has the answer that its event gets in the state after the entries before it.
+/// Every entry has the answer that its event gets in the state after the entries before it. The
+/// credentials stand in the shared words alone, of which nothing is lent between two calls.
 #[derive(Drop)]
 pub struct Book {
     script: Script,
@@ -42,6 +44,7 @@ pub struct Book {
 }
 
 impl Model for Book {
+    ghost use Rattle.std.specs.Prelude.{◌≡◌, []};
     ghost use Rattle.cred_model.specs.Journal.{replay, IsAnswered};
     ghost use Rattle.cred_model.specs.Like.{IsLike};
     ghost use Rattle.cred_book.specs.Book.{Recorded};
@@ -53,35 +56,39 @@ impl Model for Book {
       journal = b.journal.items;
       cursors = b.cursors;
       ended = b.ended.items;
+      words = b.state.words;
     } };
 
     ghost invariant = { λ b.
-        IsLike b.state (replay b.script b.journal.items)
-        × IsAnswered b.script b.journal.items };
+        (IsLike b.state.state (replay b.script b.journal.items)
+        × IsAnswered b.script b.journal.items)
+        × (b.state.words.out ≡ []) };
 }
 
 impl Book {
-    /// The book of a script of which nothing has run. Its cursors and its counts of ended lines are
-    /// the journal's.
+    /// The book of a script of which nothing has run, and the cells that its credentials stand in.
+    /// Its cursors and its counts of ended lines are the journal's.
     ///
     /// # Errors
     ///
     /// `NoMemory` if an allocation of the state, of the cursors or of the counts fails.
-    pub fn new(alloc: Global, script: Script) -> Result<Book, NoMemory>
-        ensures script { IfOk result (λ book. book.script ≡ script) }
-        ensures journal { IfOk result (λ book. book.journal ≡ []) }
-        ensures stands { IfOk result (λ book. Stands book) }
+    pub fn new(alloc: Global, script: Script) -> Result<(Book, Cells), NoMemory>
+        ensures script { IfOk result (λ made. made.0.script ≡ script) }
+        ensures journal { IfOk result (λ made. made.0.journal ≡ []) }
+        ensures stands { IfOk result (λ made. Stands made.0) }
+        ensures own { IfOk result (λ made. made.0.words.id ≡ made.1) }
     {
         let cursors = Cursors::new(alloc, &script)?;
         let ended = lines_without_events(alloc, &script)?;
-        let state = State::new(alloc)?;
-        Ok(Book {
+        let (cells, state) = State::new(alloc)?;
+        let book = Book {
             script,
             state,
             journal: Vec::new(alloc),
             cursors,
             ended,
-        })
+        };
+        Ok((book, cells))
     }
 
     /// The script that it is the book of.
@@ -139,14 +146,16 @@ impl Book {
     ///
     /// `NoMemory` if an allocation of the state, the entry or the copy fails: the book is as it
     /// was.
-    pub fn event(&mut self, line: u32, event: Event) -> Result<Answer, NoMemory>
+    pub fn event(&mut self, cells: &Cells, line: u32, event: Event) -> Result<Answer, NoMemory>
+        requires own { self.old.words.id ≡ cells.now }
         requires kind { IsEventOf (length self.old.script.files) self.old.script.namespaces event }
+        ensures words { self.new.words ≡ self.old.words }
         ensures entered { OnOk result (self.new ≡ with_event self.old line event) }
         ensures answer { IfOk result (λ answer. answer ≡ answer_of self.old line event) }
         ensures err { OnErr result (self.new ≡ self.old) }
     {
         self.journal.reserve(1)?;
-        let answer = self.state.step(&self.script, line, &event)?;
+        let answer = self.state.step(cells, &self.script, line, &event)?;
         let copied = copy_answer(&answer)?;
         self.journal.push(Entry {
             line,
@@ -165,9 +174,11 @@ impl Book {
     ///
     /// `NoMemory` if an allocation of the event, the state or the entry fails: the book is as it
     /// was.
-    pub fn next(&mut self, lane: u32) -> Result<Step, NoMemory>
-        requires { Stands self.old }
+    pub fn next(&mut self, cells: &Cells, lane: u32) -> Result<Step, NoMemory>
+        requires own { self.old.words.id ≡ cells.now }
+        requires stands { Stands self.old }
         ensures script { self.new.script ≡ self.old.script }
+        ensures words { self.new.words ≡ self.old.words }
         ensures stands { Stands self.new }
         ensures made { IfOk result (λ step.
             Makes self.old self.new (model.next self.old.script self.old.journal lane) step) }
@@ -181,7 +192,7 @@ impl Book {
         let Some(event) = next_event(&self.script, course)? else {
             return Ok(Step::Ended);
         };
-        let cursor = self.enter(lane, course, event)?;
+        let cursor = self.enter(cells, lane, course, event)?;
         self.move_on(lane, course.line(), cursor);
         Ok(Step::More)
     }
@@ -197,7 +208,14 @@ impl Book {
 
     /// Enters the next event of a lane's course, and answers the lane's cursor after it; the book's
     /// own stay. The answer moves into the entry, where `event` makes a copy of it.
-    fn enter(&mut self, lane: u32, course: Course, event: Event) -> Result<Option<Course>, NoMemory>
+    fn enter(
+        &mut self,
+        cells: &Cells,
+        lane: u32,
+        course: Course,
+        event: Event,
+    ) -> Result<Option<Course>, NoMemory>
+        requires own { self.old.words.id ≡ cells.now }
         requires kind { IsEventOf (length self.old.script.files) self.old.script.namespaces event }
         requires line { IsOfLine self.old.script course }
         requires going { is_some course.stage ≡ true }
@@ -210,7 +228,7 @@ impl Book {
     {
         self.journal.reserve(1)?;
         let line = course.line();
-        let answer = self.state.step(&self.script, line, &event)?;
+        let answer = self.state.step(cells, &self.script, line, &event)?;
         let cursor = cursor_after(&self.script, lane, course, &answer);
         self.journal.push_reserved(Entry {
             line,

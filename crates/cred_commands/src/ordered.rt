@@ -1,6 +1,6 @@
 //! Running a script's lines in order, and writing the entries of each as they come: no journal is
 //! kept.
-ghost use Rattle.std.specs.Prelude.{◌≡◌, ◌≤◌, ◌⊎◌, true, OnOk, OnErr, length};
+ghost use Rattle.std.specs.Prelude.{◌≡◌, ◌≤◌, ◌⊎◌, [], true, OnOk, OnErr, length};
 ghost use Rattle.std.specs.Io.KnownBytes.{Appends};
 ghost use Rattle.cred_ids.specs.Limits.{BYTE_LIMIT, LINE_LIMIT};
 ghost use Rattle.cred_model.specs.Journal.{IsSequence};
@@ -17,6 +17,7 @@ use crate::report::{write_entries, write_last};
 use crate::said::tell_said;
 use crate::status::{Status, finish};
 use cred_event::Entry;
+use cred_hold::Cells;
 use cred_ids::limits;
 use cred_io::{ReadRefusal, Sink, SinkRefusal, Source, read_all};
 use cred_order::run_line;
@@ -63,8 +64,11 @@ fn write_lines<K: Sink>(
     sink: &mut K,
     script: &Script,
     state: &mut State,
+    cells: &Cells,
 ) -> Result<(), SinkRefusal>
-    requires { state.old ≡ opening }
+    requires own { state.old.words.id ≡ cells.now }
+    requires out { state.old.words.out ≡ [] }
+    requires opening { state.old.state ≡ opening }
     ensures ok { OnOk result
         (AppendsSequence script.now (K.written sink.old) (K.written sink.new)) }
     ensures err { OnErr result
@@ -77,7 +81,7 @@ fn write_lines<K: Sink>(
     let mut entries = Vec::new(alloc);
     let mut past = 0;
     'lines: while past < script.lines() {
-        let Ok(()) = run_line(state, script, past, &mut entries) else {
+        let Ok(()) = run_line(state, cells, script, past, &mut entries) else {
             return Err(SinkRefusal::Memory);
         };
         past += 1;
@@ -100,10 +104,10 @@ fn write_in_order<K: Sink>(alloc: Global, sink: &mut K, script: &Script) -> Resu
     ensures cause { CountsFaults (result ≡ Err SinkRefusal.Failed)
         (K.faults sink.old) (K.faults sink.new) }
 {
-    let Ok(mut state) = State::new(alloc) else {
+    let Ok((cells, mut state)) = State::new(alloc) else {
         return Err(SinkRefusal::Memory);
     };
-    let written = write_lines(alloc, sink, script, &mut state);
+    let written = write_lines(alloc, sink, script, &mut state, &cells);
     drop(state);
     written
 }

@@ -1,5 +1,5 @@
 //! The summary of a script that is made from a number.
-ghost use Rattle.std.specs.Prelude.{◌≡◌, IfOk, string_bytes};
+ghost use Rattle.std.specs.Prelude.{◌≡◌, [], IfOk, string_bytes};
 ghost use Rattle.cred_model.specs.State.{opening};
 ghost use Rattle.cred_commands.specs.Leaves.{IsWriting};
 ghost use Rattle.cred_commands.specs.Summing.{IsCount, LeavesSummary, SaysSummary, TellsSequence};
@@ -8,6 +8,7 @@ ghost use Rattle.cred_commands.specs.Texts as spec;
 use crate::said::{Said, tell_said};
 use crate::status::Status;
 use cred_generate::{Summary, generate};
+use cred_hold::Cells;
 use cred_ids::NoMemory;
 use cred_io::Sink;
 use cred_order::run_line;
@@ -38,15 +39,22 @@ fn say(alloc: Global, n: u32) -> Result<Said, NoMemory>
 
 /// What is told of the run in which all lines of the script run whole and in order, on this state,
 /// in which nothing has run. No journal is kept.
-fn tell_lines(alloc: Global, script: &Script, state: &mut State) -> Result<Summary, NoMemory>
-    requires { state.old ≡ opening }
+fn tell_lines(
+    alloc: Global,
+    script: &Script,
+    state: &mut State,
+    cells: &Cells,
+) -> Result<Summary, NoMemory>
+    requires own { state.old.words.id ≡ cells.now }
+    requires out { state.old.words.out ≡ [] }
+    requires opening { state.old.state ≡ opening }
     ensures { IfOk result (λ told. TellsSequence script.now told) }
 {
     let mut told = Summary::new(script);
     let mut entries = Vec::new(alloc);
     let mut past = 0;
     'lines: while past < script.lines() {
-        run_line(state, script, past, &mut entries)?;
+        run_line(state, cells, script, past, &mut entries)?;
         told.add(&entries);
         entries.clear();
         past += 1;
@@ -58,8 +66,8 @@ fn tell_lines(alloc: Global, script: &Script, state: &mut State) -> Result<Summa
 fn told_in_order(alloc: Global, script: &Script) -> Result<Summary, NoMemory>
     ensures { IfOk result (λ told. TellsSequence script.now told) }
 {
-    let mut state = State::new(alloc)?;
-    let told = tell_lines(alloc, script, &mut state);
+    let (cells, mut state) = State::new(alloc)?;
+    let told = tell_lines(alloc, script, &mut state, &cells);
     drop(state);
     told
 }

@@ -1,12 +1,11 @@
 -- The slots and entries of a master, as contracts see them.
-use Rattle.std.proofs.Common.{length-append, ◌≡◌, ◌≢◌, zero, suc, add-one, ◌+◌, ◌<◌, ◌≤◌, ℕ, List, ◌++◌, ◌∷◌, [], map, replicate, take, drop, length, set, Some, None, Bool, true, false, true≢false, refl, sym, ap, ◌∙◌, subst, ⊎_elim, arith}
+use Rattle.std.proofs.Common.{length-append, ◌≡◌, ◌≢◌, zero, suc, ◌+◌, ◌<◌, ℕ, List, ◌∷◌, [], map, replicate, take, drop, length, set, Some, None, Bool, true, false, true≢false, refl, sym, ap, ◌∙◌, subst, ⊎_elim, arith}
 use Rattle.std.specs.Prelude.{slice_get, slice_index, not, ◌&&◌, if◌then◌else◌}
 use Rattle.std.specs.List.{AllByRecursion}
-use Rattle.std.proofs.lemmas.List.{drop_all, get_or-drop, get_or-take, append-nil, take_all, map-append}
+use Rattle.std.proofs.lemmas.List.{get_or-drop, get_or-take, map-append}
 use Rattle.std.proofs.lemmas.Option.{same_Some}
 use Rattle.cred_record.specs.Credential.{Credential}
 use Rattle.cred_record.specs.Words.{are_words, credential_of}
-use Rattle.cred_record.specs.declared.layout.TheConstants.{WORDS}
 use Rattle.cred_words.specs.Size.{width}
 use Rattle.cred_words.specs.Lists.{IsTaken}
 use Rattle.cred_words.specs.declared.view.Slot.{Slot}
@@ -15,7 +14,6 @@ use Rattle.cred_words.specs.declared.view.Ledger.{Ledger}
 use Rattle.cred_words.specs.Words.{slot_of, words_at, entry_of, FitsAs, EntryFits}
 use Rattle.cred_words.specs.Seen as words
 use Rattle.cred_words.proofs.Lists.{words_at-get, get_set}
-use Rattle.cred_words.proofs.Opens.{width_is}
 use Rattle.cred_words.proofs.Seats.{slot_there}
 use Rattle.cred_hold.specs.Tokens.{entry, seen_if, entry_seen, slot_seen, AreSlots, IsAlone}
 
@@ -92,23 +90,6 @@ pub slot-there : (slots : List Slot) (t : Token) → t.writes ≡ true → Entry
 slot-there slots t is h =
     let f : FitsAs true slots (entry_of t) = subst (λ b. FitsAs b slots (entry_of t)) is h in
     (slot_of f.0 false, f.1)
-
--- ---- a loop over the words of a slot
-
-next : (words ws : List ℕ) (i x : ℕ) → i < length words → i < length ws → x ≡ slice_index words i → set (take i words ++ drop i ws) i x ≡ take (suc i) words ++ drop (suc i) ws
-next [] ws i x a b is = absurd (omega arith)
-next (w ∷ words) [] i x a b is = absurd (omega arith)
-next (w ∷ words) (y ∷ ws) zero x a b is = ap (λ v. v ∷ ws) is
-next (w ∷ words) (y ∷ ws) (suc i) x a b is = ap (λ l. w ∷ l) (next words ws i x (omega arith) (omega arith) is)
-
-pub scattered : (words ws : List ℕ) (i x : ℕ) → i < length words → i < length ws → x ≡ slice_index words i → set (take i words ++ drop i ws) i x ≡ take (i + 1) words ++ drop (i + 1) ws
-scattered words ws i x a b is = rw add-one (next words ws i x a b is)
-
-pub all_scattered : (words ws : List ℕ) (i : ℕ) → length words ≤ i → length ws ≤ i → take i words ++ drop i ws ≡ words
-all_scattered words ws i a b = ap (λ l. take i words ++ l) (drop_all i ws b) ∙ ap (λ l. l ++ []) (take_all i words a) ∙ append-nil words
-
-pub whole-words : (ws : List ℕ) → length ws ≡ width → take WORDS (drop 0 ws) ≡ ws
-whole-words ws wide = let w = width_is in take_all WORDS ws (omega arith)
 
 -- a word among those that were read
 pub part-at : (ws part : List ℕ) (n first i : ℕ) → part ≡ take n (drop first ws) → i < n → slice_index part i ≡ slice_index ws (first + i)

@@ -1,6 +1,6 @@
 -- What contracts see of the tokens: labels, slots, credentials, and the identity of the cells.
 use Rattle.std.specs.Prelude.{◌≡◌, ◌≢◌, ℕ, List, length, replicate, Option, Some, None, Bool, true}
-use Rattle.std.specs.Prelude.{false, not, slice_get}
+use Rattle.std.specs.Prelude.{false, not, slice_get, slice_index, ◌≤◌, ◌<◌}
 use Rattle.std.specs.List.{AllByRecursion}
 use Rattle.cred_ids.specs.Limits.{SLOTS}
 use Rattle.atomic_table.specs.Seated.{TableId}
@@ -71,6 +71,10 @@ abbrev pub AreSlots : List Slot → Type 0
 AreSlots slots =
     (s : ℕ) (x : Slot) → slice_get slots s ≡ Some x →
     (length x.words ≡ width) × (x.sealed ≡ true → are_words x.words ≡ true)
+
+-- the words of a slot from the first on are 0
+abbrev pub AreZeros : ℕ → List ℕ → Type 0
+AreZeros first ws = (i : ℕ) → first ≤ i → i < width → slice_index ws i ≡ 0
 
 -- the ledger is as before, but for its next ticket
 pub record IsAgain (before after : Ledger) : Type 0 where

@@ -1,5 +1,6 @@
 //! The master of the shared words: what it lends, and what it takes back.
-ghost use Rattle.std.specs.Prelude.{◌≡◌, ◌<◌, [], ◌∷◌, Some, None, IfOk, slice_get, slice_set};
+ghost use Rattle.std.specs.Prelude.{◌≡◌, ◌<◌, [], ◌∷◌, Some, None, IfOk, length, slice_get};
+ghost use Rattle.std.specs.Prelude.{slice_set};
 ghost use Rattle.cred_ids.specs.Limits.{SLOTS};
 ghost use Rattle.cred_words.specs.Lists.{IsTaken};
 ghost use Rattle.cred_record.specs.Credential.{Credential};
@@ -7,11 +8,11 @@ ghost use Rattle.cred_hold.specs.Tokens.{entry, none_sealed, IsSealed, IsAlone};
 
 use crate::parts::{known_caps, known_ids};
 use crate::tokens::{Hold, Writer, put};
-use crate::words::{peek, peek_all};
+use crate::words::{peek, peek_whole};
 use cred_caps::CapSet;
 use cred_ids::{Ids4, NoMemory};
+use cred_record::Cred;
 use cred_record::layout::{PERMITTED, USER};
-use cred_record::{Cred, known_words};
 use cred_words::{Cells, cells};
 use std::alloc::Global;
 use std::marker::Model;
@@ -95,6 +96,7 @@ impl Master {
             × (result.slot ≡ slot) × (result.put ≡ None) }
         ensures entries { self.new.entries ≡ entry label slot None ∷ self.old.entries }
         ensures slots { self.new.slots ≡ slice_set self.old.slots slot None }
+        ensures long { length self.old.slots ≡ SLOTS }
         ensures same { self.new.id ≡ self.old.id }
     {
         Writer {
@@ -135,8 +137,7 @@ impl Master {
         ensures cred { IfOk result (λ c. slice_get self.old.slots slot ≡ Some (Some c)) }
         ensures same { self.new ≡ self.old }
     {
-        let words = peek_all(&mut self.inner, cells, slot);
-        known_words(alloc, &words)
+        peek_whole(alloc, &mut self.inner, cells, slot)
     }
 
     /// The user ids and the group ids of the credential of a sealed slot. It takes no memory. What
@@ -169,9 +170,10 @@ impl Master {
         requires own { self.old.id ≡ cells.now }
         requires within { slot < SLOTS }
         requires alone { IsAlone self.old.entries slot }
-        ensures { self.new ≡ record self.old {
+        ensures made { self.new ≡ record self.old {
           slots = slice_set self.old.slots slot (Some cred.now);
         } }
+        ensures long { length self.old.slots ≡ SLOTS }
     {
         let mut writer = self.lend_writer(cells, 0, slot);
         put(cells, &mut writer, cred);

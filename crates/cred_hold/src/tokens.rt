@@ -2,11 +2,11 @@
 ghost use Rattle.std.specs.Prelude.{◌≡◌, Some, IfOk, [], ◌∷◌};
 
 use crate::parts::{known_caps, known_ids};
-use crate::words::{gather, gather_all, scatter};
+use crate::words::{gather, read_whole, scatter};
 use cred_caps::CapSet;
 use cred_ids::{Ids4, NoMemory};
 use cred_record::layout::{PERMITTED, USER};
-use cred_record::{Cred, is_credential, known_words, to_words};
+use cred_record::{Cred, is_credential};
 use cred_words::{Cells, cells};
 use std::alloc::Global;
 use std::marker::Model;
@@ -82,8 +82,7 @@ pub fn read(alloc: Global, cells: &Cells, hold: &mut Hold) -> Result<Cred, NoMem
     ensures value { IfOk result (λ c. c ≡ hold.old.cred) }
     ensures same { hold.new ≡ hold.old }
 {
-    let words = gather_all(cells, &mut hold.inner, hold.slot);
-    known_words(alloc, &words)
+    read_whole(alloc, cells, &mut hold.inner, hold.slot)
 }
 
 /// The user ids and the group ids of the credential that is held. It takes no memory and waits for
@@ -113,7 +112,6 @@ pub fn put(cells: &Cells, writer: &mut Writer, cred: &Cred)
     ensures { writer.new ≡ record writer.old { put = Some cred.now } }
 {
     is_credential(cred);
-    let words = to_words(cred);
-    scatter(cells, &mut writer.inner, writer.slot, &words);
+    scatter(cells, &mut writer.inner, writer.slot, cred);
     writer.put = true;
 }

@@ -1,14 +1,20 @@
 //! The words of a slot, read or put one step after another.
-ghost use Rattle.std.specs.Prelude.{◌≡◌, ◌+◌, ◌<◌, ◌≤◌, None, true, length, take, drop};
-ghost use Rattle.cred_record.specs.Words.{are_words};
+ghost use Rattle.std.specs.Prelude.{◌≡◌, ◌↔◌, ◌+◌, ◌<◌, ◌≤◌, None, true, IfOk, IsTrue, length};
+ghost use Rattle.std.specs.Prelude.{take, drop, slice_index};
+ghost use Rattle.cred_record.specs.Words.{are_words, credential_of, group_count, words_of};
+ghost use Rattle.cred_record.specs.declared.layout.TheConstants.{FLAGS};
 ghost use Rattle.cred_words.specs.Seen.{IsSealed};
 ghost use Rattle.cred_words.specs.Size.{width};
 ghost use Rattle.cred_words.specs.Words.{put_words, words_at};
-ghost use Rattle.cred_hold.specs.Tokens.{IsAgain};
+ghost use Rattle.cred_hold.specs.Tokens.{IsAgain, AreZeros};
 
+use cred_ids::{Groups, NoMemory};
 use cred_record::layout::{FLAGS, GROUPS};
-use cred_record::{WORDS, group_count};
-use cred_words::cells::{Cells, Hold, Master, Writer, read_word, settle_word};
+use cred_record::{
+    Cred, WORDS, group_count, group_in, head, known_head, word_of_groups, words_of_groups,
+};
+use cred_words::cells::{Cells, Hold, Master, Writer, read_word, see_word, settle_word};
+use std::alloc::Global;
 
 /// So many words of the slot that is held, from `first` on. Each is loaded at a moment of its own.
 pub(crate) fn gather<const N: usize>(
@@ -31,23 +37,69 @@ pub(crate) fn gather<const N: usize>(
     words
 }
 
-/// All words of the slot that is held, which are a credential's. Those past its groups are 0, and
-/// aren't loaded.
-pub(crate) fn gather_all(cells: &Cells, hold: &mut Hold, slot: u32) -> [u64; WORDS]
+/// Whether the words of the slot that is held are 0 from `first` on. Each is loaded.
+fn read_zeros(cells: &Cells, hold: &mut Hold, slot: u32, first: usize) -> bool
+    requires own { hold.old.id ≡ cells.now }
+    requires slot { slot ≡ hold.old.token.slot }
+    requires within { first ≤ width }
+    ensures value { IsTrue result ↔ AreZeros first hold.old.token.words }
+    ensures same { hold.new ≡ hold.old }
+{
+    let mut bits = 0;
+    for i in first..WORDS {
+        bits |= read_word(cells, hold, slot, i);
+    }
+    bits == 0
+}
+
+/// The groups of the slot that is held, whose words are a credential's. There are `count`.
+fn read_groups(
+    alloc: Global,
+    cells: &Cells,
+    hold: &mut Hold,
+    slot: u32,
+    count: usize,
+) -> Result<Groups, NoMemory>
     requires own { hold.old.id ≡ cells.now }
     requires slot { slot ≡ hold.old.token.slot }
     requires known { are_words hold.old.token.words ≡ true }
-    ensures words { result ≡ hold.old.token.words }
+    requires count { count ≡ group_count (slice_index hold.old.token.words FLAGS) }
+    ensures groups { IfOk result (λ g. g ≡ (credential_of hold.old.token.words).groups) }
     ensures same { hold.new ≡ hold.old }
 {
-    let mut words = [0; WORDS];
-    for place in 0..GROUPS {
-        words[place] = read_word(cells, hold, slot, place);
+    let mut ids = Vec::with_capacity(alloc, count)?;
+    for place in 0..count {
+        let word = read_word(cells, hold, slot, GROUPS + place / 2);
+        let Some(id) = group_in(word, place) else {
+            unreachable!()
+        };
+        ids.push(id)?;
     }
-    for i in 0..group_count(words[FLAGS]).div_ceil(2) {
-        words[GROUPS + i] = read_word(cells, hold, slot, GROUPS + i);
+    Ok(Groups::from_sorted(ids))
+}
+
+/// The credential of the slot that is held, whose words are a credential's. All of them are read,
+/// and those past its groups are 0.
+pub(crate) fn read_whole(
+    alloc: Global,
+    cells: &Cells,
+    hold: &mut Hold,
+    slot: u32,
+) -> Result<Cred, NoMemory>
+    requires own { hold.old.id ≡ cells.now }
+    requires slot { slot ≡ hold.old.token.slot }
+    requires known { are_words hold.old.token.words ≡ true }
+    ensures cred { IfOk result (λ c. c ≡ credential_of hold.old.token.words) }
+    ensures same { hold.new ≡ hold.old }
+{
+    let first = gather::<GROUPS>(cells, hold, slot, 0);
+    let count = group_count(first[FLAGS]);
+    let groups = read_groups(alloc, cells, hold, slot, count)?;
+    if read_zeros(cells, hold, slot, GROUPS + count.div_ceil(2)) {
+        Ok(known_head(&first, groups))
+    } else {
+        unreachable!()
     }
-    words
 }
 
 /// So many words of a sealed slot, from `first` on, by a hold that is lent and comes back. What
@@ -74,33 +126,80 @@ pub(crate) fn peek<const N: usize>(
     words
 }
 
-/// The same for all words of a slot whose words are a credential's.
-pub(crate) fn peek_all(master: &mut Master, cells: &Cells, slot: u32) -> [u64; WORDS]
+/// The credential of a sealed slot whose words are a credential's, likewise.
+pub(crate) fn peek_whole(
+    alloc: Global,
+    master: &mut Master,
+    cells: &Cells,
+    slot: u32,
+) -> Result<Cred, NoMemory>
     requires own { master.old.id ≡ cells.now }
     requires empty { master.old.ledger.kept ≡ None }
     requires sealed { IsSealed master.old.ledger slot }
     requires known { are_words (words_at master.old.ledger.slots slot) ≡ true }
-    ensures words { result ≡ words_at master.old.ledger.slots slot }
+    ensures cred { IfOk result
+        (λ c. c ≡ credential_of (words_at master.old.ledger.slots slot)) }
     ensures same { (master.new.id ≡ master.old.id)
         × IsAgain master.old.ledger master.new.ledger }
 {
     let mut hold = master.lend_hold(cells, 0, slot);
-    let words = gather_all(cells, &mut hold, slot);
+    let cred = read_whole(alloc, cells, &mut hold, slot);
     master.return_hold(cells, hold);
     master.load_after_return(cells, false);
-    words
+    cred
 }
 
-/// Puts all words of the slot that is written.
-pub(crate) fn scatter(cells: &Cells, writer: &mut Writer, slot: u32, words: &[u64; WORDS])
+/// Whether the words of the slot that is written are 0 from `first` on. Each is loaded.
+fn see_zeros(cells: &Cells, writer: &mut Writer, slot: u32, first: usize) -> bool
+    requires own { writer.old.id ≡ cells.now }
+    requires slot { slot ≡ writer.old.token.slot }
+    requires within { first ≤ width }
+    ensures value { IsTrue result ↔ AreZeros first writer.old.token.words }
+    ensures same { writer.new ≡ writer.old }
+{
+    let mut bits = 0;
+    for i in first..WORDS {
+        bits |= see_word(cells, writer, slot, i);
+    }
+    bits == 0
+}
+
+/// Puts 0 in each word of the slot that is written, from `first` on. Mostly they are 0 already: few
+/// tasks have many groups.
+fn clear(cells: &Cells, writer: &mut Writer, slot: u32, first: usize)
     requires own { writer.old.id ≡ cells.now }
     requires slot { slot ≡ writer.old.token.slot }
     requires wide { length writer.old.token.words ≡ width }
-    ensures wide { length words.now ≡ width }
-    ensures put { (writer.new.id ≡ writer.old.id)
-        × (writer.new.token ≡ put_words writer.old.token words.now) }
+    requires within { first ≤ width }
+    ensures same { (writer.new.id ≡ writer.old.id)
+        × (writer.new.token ≡ put_words writer.old.token writer.new.token.words) }
+    ensures words { (length writer.new.token.words ≡ width)
+        × (take first writer.new.token.words ≡ take first writer.old.token.words)
+        × AreZeros first writer.new.token.words }
 {
-    for i in 0..WORDS {
-        settle_word(cells, writer, slot, i, words[i]);
+    if see_zeros(cells, writer, slot, first) {
+        return;
     }
+    for i in first..WORDS {
+        settle_word(cells, writer, slot, i, 0);
+    }
+}
+
+/// Puts all words of a credential in the slot that is written.
+pub(crate) fn scatter(cells: &Cells, writer: &mut Writer, slot: u32, cred: &Cred)
+    requires own { writer.old.id ≡ cells.now }
+    requires slot { slot ≡ writer.old.token.slot }
+    requires wide { length writer.old.token.words ≡ width }
+    ensures { (writer.new.id ≡ writer.old.id)
+        × (writer.new.token ≡ put_words writer.old.token (words_of cred.now)) }
+{
+    let first = head(cred);
+    for place in 0..GROUPS {
+        settle_word(cells, writer, slot, place, first[place]);
+    }
+    let end = words_of_groups(cred);
+    for i in 0..end {
+        settle_word(cells, writer, slot, GROUPS + i, word_of_groups(cred, i));
+    }
+    clear(cells, writer, slot, GROUPS + end);
 }

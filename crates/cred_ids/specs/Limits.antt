@@ -14,7 +14,7 @@ LINE_LIMIT = 20000
 
 -- the bytes of an input of `audit`: a script and its report, the longest of which fits
 abbrev pub AUDIT_LIMIT : ℕ
-AUDIT_LIMIT = 134217728
+AUDIT_LIMIT = 402653184
 
 -- the files that it declares
 abbrev pub FILES : ℕ
@@ -45,9 +45,9 @@ TRIES = 8
 
 -- ---- of a run
 
--- the supplementary groups of a task, as on Linux before 2.6.4 (setgroups(2))
+-- the supplementary groups of a task (setgroups(2)), where Linux has 65536
 abbrev pub GROUP_LIMIT : ℕ
-GROUP_LIMIT = 32
+GROUP_LIMIT = 1024
 
 -- the tasks that are alive
 abbrev pub TASKS : ℕ

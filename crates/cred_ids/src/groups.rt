@@ -10,7 +10,7 @@ use crate::memory::NoMemory;
 use std::alloc::{AllocError, Global};
 use std::marker::Model;
 
-/// The supplementary groups of a task (setgroups(2)): at most 32 ids, sorted, a repeated one as
+/// The supplementary groups of a task (setgroups(2)): at most 1,024 ids, sorted, a repeated one as
 /// often as it was given. Contracts see the list of their numbers.
 #[derive(Drop, Debug)]
 pub struct Groups {
@@ -31,7 +31,7 @@ impl Model for Groups {
 /// Why `Groups::from_list` makes no groups.
 #[derive(Clone, Copy, PartialEq, Eq, Debug)]
 pub enum GroupsRefusal {
-    /// The list has this many ids, which is more than 32.
+    /// The list has this many ids, which is more than 1,024.
     TooMany(usize),
     /// Memory ran out.
     Memory,
@@ -61,8 +61,8 @@ impl Groups {
     ///
     /// # Errors
     ///
-    /// `TooMany` with the length of the list where it has more than 32 ids, and for no other list;
-    /// then `Memory` if an allocation of the groups fails.
+    /// `TooMany` with the length of the list where it has more than 1,024 ids, and for no other
+    /// list; then `Memory` if an allocation of the groups fails.
     pub fn from_list(alloc: Global, list: &[Id]) -> Result<Groups, GroupsRefusal>
         ensures sorted { IfOk result (λ g. g ≡ in_order list.now) }
         ensures too_many { IsErrOf result (GroupsRefusal.TooMany (length list.now))
@@ -85,8 +85,8 @@ impl Groups {
         Ok(Groups { ids })
     }
 
-    /// The groups of a list that is known to be one of groups: sorted, and at most 32. It takes no
-    /// memory.
+    /// The groups of a list that is known to be one of groups: sorted, and at most 1,024. It takes
+    /// no memory.
     pub fn from_sorted(ids: Vec<Id>) -> Groups
         requires { IsGroupList ids.items }
         ensures { result ≡ ids.items }
@@ -101,7 +101,7 @@ impl Groups {
         self.ids.contains(&group)
     }
 
-    /// The number of groups, each repeat counted: 0 to 32.
+    /// The number of groups, each repeat counted: 0 to 1,024.
     pub fn len(&self) -> usize
         ensures value { result ≡ length self.now }
         ensures limit { result ≤ GROUP_LIMIT }
@@ -130,7 +130,7 @@ impl Groups {
         self.ids.as_slice()
     }
 
-    /// That these are groups: sorted, each an id, and at most 32. There is nothing to run.
+    /// That these are groups: sorted, each an id, and at most 1,024. There is nothing to run.
     pub fn are_groups(&self)
         ensures { IsGroupList self.now }
     {

@@ -10,7 +10,7 @@ pub const BYTE_LIMIT: u32 = 1_048_576;
 pub const LINE_LIMIT: usize = 20_000;
 
 /// How many bytes an input of `audit` may have, its report among them.
-pub const AUDIT_LIMIT: u32 = 134_217_728;
+pub const AUDIT_LIMIT: u32 = 402_653_184;
 
 /// How many files a script may declare.
 pub const FILES: usize = 256;
@@ -33,8 +33,8 @@ pub const LABELS_A_LINE: u32 = 10;
 /// How often a line tries to change a credential, where another change comes before its commit.
 pub const TRIES: u8 = 8;
 
-/// How many supplementary groups a task may have, as on Linux before 2.6.4 (setgroups(2)).
-pub const GROUP_LIMIT: usize = 32;
+/// How many supplementary groups a task may have (setgroups(2)), where Linux has 65,536.
+pub const GROUP_LIMIT: usize = 1024;
 
 /// How many tasks may be alive.
 pub const TASKS: usize = 64;

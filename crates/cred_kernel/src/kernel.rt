@@ -15,8 +15,8 @@ use std::alloc::Global;
 use std::marker::PhantomData;
 use std::sync::{Mutex, MutexGuard, Wait};
 
-/// A book and a roll behind one lock, which the threads of all lanes share. Whenever the lock is
-/// free, the book is of the name's script and the roll is the name's.
+/// A book, its cells and a roll behind one lock, which the threads of all lanes share. Whenever the
+/// lock is free, the book is of the name's script and the roll is the name's.
 #[derive(Drop)]
 pub struct Kernel<K: Name> {
     lock: Mutex<Locked<K>>,
@@ -34,13 +34,18 @@ impl<K: Name> Kernel<K> {
         requires roll { parts.roll ≡ K.roll }
         ensures { IfOk result (λ made. AreFresh K.script made.1) }
     {
-        let Parts { book, mut roll } = parts;
+        let Parts {
+            book,
+            cells,
+            mut roll,
+        } = parts;
         let Ok(turns) = lend_all(alloc, &book, &mut roll) else {
             drop(book);
             return Err(NoMemory);
         };
         let locked = Locked {
             book,
+            cells,
             roll,
             of: PhantomData,
         };
@@ -87,6 +92,7 @@ impl<K: Name> Kernel<K> {
         let Kernel { lock } = self;
         let Locked {
             book,
+            cells: _,
             mut roll,
             of: _,
         } = lock.into_inner();

@@ -1,4 +1,4 @@
-//! The kernel: one lock round the book and the roll, and a turn for each lane.
+//! The kernel: one lock round the book, its cells and the roll, and a turn for each lane.
 //!
 //! Under the lock stand the journal, which is one that the script may have so far, and the roll,
 //! each of whose rows has its lane's numbers in that journal. Each row is lent to the lane's turn.

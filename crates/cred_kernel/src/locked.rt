@@ -6,6 +6,7 @@ use crate::name::Name;
 use crate::token::Turn;
 use cred_book::{Book, Step};
 use cred_event::Entry;
+use cred_hold::Cells;
 use cred_ids::NoMemory;
 use cred_turn::Roll;
 use std::marker::{Model, PhantomData};
@@ -14,18 +15,21 @@ use std::marker::{Model, PhantomData};
 #[derive(Drop)]
 pub(crate) struct Locked<K: Name> {
     pub(crate) book: Book,
+    pub(crate) cells: Cells,
     pub(crate) roll: Roll,
     pub(crate) of: PhantomData<K>,
 }
 
 impl<K: Name> Model for Locked<K> {
+    ghost use Rattle.std.specs.Prelude.{◌≡◌};
     ghost use Rattle.cred_kernel.specs.Locks.{Contents, IsLocked};
 
     ghost Value = { Contents };
 
     ghost view = { λ s. record { journal = s.book.journal; rows = s.roll.rows } };
 
-    ghost invariant = { λ s. IsLocked K.script K.roll s.book s.roll };
+    ghost invariant = { λ s. IsLocked K.script K.roll s.book s.roll
+        × (s.book.words.id ≡ s.cells) };
 }
 
 impl<K: Name> Locked<K> {
@@ -47,7 +51,7 @@ impl<K: Name> Locked<K> {
         self.roll.take(pass);
         // A lane has no more entries than the journal, for whose length there is room.
         let _entries = count(self.book.journal());
-        let step = self.book.next(turn.lane);
+        let step = self.book.next(&self.cells, turn.lane);
         if let Ok(Step::More) = &step {
             turn.numbers.entered += 1;
         }

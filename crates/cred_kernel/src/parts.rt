@@ -4,28 +4,31 @@ ghost use Rattle.cred_book.specs.Cursor.{Stands};
 ghost use Rattle.cred_kernel.specs.Locks.{IsReady};
 
 use cred_book::{Book, Step};
+use cred_hold::Cells;
 use cred_ids::NoMemory;
 use cred_script::Script;
 use cred_turn::Roll;
 use std::alloc::Global;
 use std::marker::Model;
 
-/// A book whose setup has run, and a roll with a row for each of the script's other lanes. Nobody
-/// shares them yet.
+/// A book whose setup has run, its cells, and a roll with a row for each of the script's other
+/// lanes. Nobody shares them yet.
 #[derive(Drop)]
 pub struct Parts {
     pub(crate) book: Book,
+    pub(crate) cells: Cells,
     pub(crate) roll: Roll,
 }
 
 impl Model for Parts {
+    ghost use Rattle.std.specs.Prelude.{◌≡◌};
     ghost use Rattle.cred_kernel.specs.Locks.{IsMade, KernelParts};
 
     ghost Value = { KernelParts };
 
     ghost view = { λ p. record { script = p.book.script; roll = p.roll.id } };
 
-    ghost invariant = { λ p. IsMade p.book p.roll };
+    ghost invariant = { λ p. IsMade p.book p.roll × (p.book.words.id ≡ p.cells) };
 }
 
 impl Parts {
@@ -41,19 +44,20 @@ impl Parts {
             drop(script);
             return Err(NoMemory);
         };
-        let book = set_up(alloc, script)?;
-        Ok(Parts { book, roll })
+        let (book, cells) = set_up(alloc, script)?;
+        Ok(Parts { book, cells, roll })
     }
 }
 
-/// The book of the script after the setup, lane 0.
-fn set_up(alloc: Global, script: Script) -> Result<Book, NoMemory>
-    ensures script { IfOk result (λ book. book.script ≡ script) }
-    ensures ready { IfOk result (λ book. IsReady book) }
+/// The book of the script after the setup, lane 0, and its cells.
+fn set_up(alloc: Global, script: Script) -> Result<(Book, Cells), NoMemory>
+    ensures script { IfOk result (λ made. made.0.script ≡ script) }
+    ensures ready { IfOk result (λ made. IsReady made.0) }
+    ensures own { IfOk result (λ made. made.0.words.id ≡ made.1) }
 {
-    let mut book = Book::new(alloc, script)?;
-    match run_setup(&mut book) {
-        Ok(()) => Ok(book),
+    let (mut book, cells) = Book::new(alloc, script)?;
+    match run_setup(&mut book, &cells) {
+        Ok(()) => Ok((book, cells)),
         Err(NoMemory) => {
             drop(book);
             Err(NoMemory)
@@ -66,12 +70,14 @@ fn set_up(alloc: Global, script: Script) -> Result<Book, NoMemory>
 /// # Errors
 ///
 /// `NoMemory` if an allocation of an event, of the state or of an entry fails.
-fn run_setup(book: &mut Book) -> Result<(), NoMemory>
+fn run_setup(book: &mut Book, cells: &Cells) -> Result<(), NoMemory>
+    requires own { book.old.words.id ≡ cells.now }
     requires stands { Stands book.old }
     requires empty { book.old.journal ≡ [] }
     ensures script { book.new.script ≡ book.old.script }
+    ensures words { book.new.words ≡ book.old.words }
     ensures ready { OnOk result (IsReady book.new) }
 {
-    'setup: while let Step::More = book.next(0)? {}
+    'setup: while let Step::More = book.next(cells, 0)? {}
     Ok(())
 }

@@ -1,9 +1,10 @@
 //! One line of a run in order.
-ghost use Rattle.std.specs.Prelude.{◌≡◌, ◌<◌, ◌+◌, length, OnOk};
+ghost use Rattle.std.specs.Prelude.{◌≡◌, ◌<◌, ◌+◌, [], length, OnOk};
 ghost use Rattle.cred_order.specs.Order.{HasRun, RunsOn};
 
 use cred_course::Course;
 use cred_event::Entry;
+use cred_hold::Cells;
 use cred_ids::NoMemory;
 use cred_script::Script;
 use cred_state::State;
@@ -16,14 +17,18 @@ use cred_state::State;
 /// `NoMemory` if an allocation of an event, of the state or of an entry fails.
 pub fn run_line(
     state: &mut State,
+    cells: &Cells,
     script: &Script,
     past: u32,
     entries: &mut Vec<Entry>,
 ) -> Result<(), NoMemory>
+    requires own { state.old.words.id ≡ cells.now }
+    requires out { state.old.words.out ≡ [] }
     requires within { past < length script.now.lines }
-    requires run { HasRun script.now past state.old }
-    ensures { OnOk result (RunsOn script.now past state.old state.new
+    requires run { HasRun script.now past state.old.state }
+    ensures runs { OnOk result (RunsOn script.now past state.old.state state.new.state
         entries.old.items entries.new.items) }
+    ensures words { state.new.words ≡ state.old.words }
 {
     // It is asked for its limit alone: the number after `past` is no greater.
     let _ = script.lines();
@@ -34,7 +39,7 @@ pub fn run_line(
     let mut course = Course::start(number, content);
     'events: while let Some(event) = course.event(content)? {
         entries.reserve(1)?;
-        let answer = state.step(script, number, &event)?;
+        let answer = state.step(cells, script, number, &event)?;
         course.took(content, &answer);
         entries.push_reserved(Entry {
             line: number,

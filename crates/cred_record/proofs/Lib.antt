@@ -1,1 +1,3 @@
+pub mod Blank
+pub mod Halves
 pub mod WordLemmas

@@ -1,20 +1,19 @@
 -- The words of a credential give the credential again.
-use Rattle.std.proofs.Common.{◌≡◌, ℕ, zero, suc, ◌+◌, ◌-◌, ◌*◌, ◌/◌, ◌%◌, ◌^◌, ◌<◌, ◌≤◌, Bool, true, false, true≢false, ◌&&◌, ◌==◌, nat_eq, nat_lt, List, [], ◌∷◌, length, take, drop, replicate, slice_index, All, ⊎_elim, refl, sym, ap, ◌∙◌, subst, arith, add-one, bit_and, bit_or, set, ◌++◌}
+use Rattle.std.proofs.Common.{◌≡◌, ℕ, zero, suc, ◌+◌, ◌-◌, ◌*◌, ◌/◌, ◌%◌, ◌^◌, ◌<◌, ◌≤◌, Bool, true, false, true≢false, ◌&&◌, ◌==◌, nat_eq, nat_lt, List, [], ◌∷◌, length, take, drop, slice_index, All, refl, sym, ap, ◌∙◌, subst, arith, add-one, bit_and, bit_or, set, ◌++◌}
 use Rattle.std.specs.Int.{from_bool}
-use Rattle.std.proofs.lemmas.List.{get_or-drop, get_or-take, get_or-set_other, take_all, take_more, take_more_set}
+use Rattle.std.proofs.lemmas.List.{get_or-drop, get_or-take, take_all, take_more, take_more_set}
 use Rattle.std.proofs.lemmas.Nat.{and_mask, or_shifted, shl_whole}
 use Rattle.std.specs.Prelude.{Option, Some, None, IfNone}
 use Rattle.std.specs.List.{list_all, AllByRecursion}
 use Rattle.std.specs.Cmp.Derive.{both_true}
 use Rattle.std.specs.Cmp.Lexicographic.{pointwise, same_text}
-use Rattle.std.proofs.lemmas.Bool.{cases_lt, ltb-true, lt-ltb, leb-true, le-leb, eqb-true, eq-eqb}
-use Rattle.std.specs.List.Sorted.{IsNonDecreasing}
+use Rattle.std.proofs.lemmas.Bool.{ltb-true, lt-ltb, leb-true, le-leb, eqb-true, eq-eqb}
 use Rattle.std.proofs.lemmas.List.Sorted.{IsPermutation-refl}
 use Rattle.cred_ids.specs.declared.id.Ids4.{Ids4}
 use Rattle.cred_ids.specs.Id.{NO_ID, IsId}
 use Rattle.cred_ids.specs.Groups.{IsGroupList}
 use Rattle.cred_ids.specs.Ordered.{in_order}
-use Rattle.cred_ids.proofs.InOrder.{in_order-is, in_order-rises}
+use Rattle.cred_ids.proofs.InOrder.{in_order-is}
 use Rattle.cred_ids.specs.Limits.{GROUP_LIMIT}
 use Rattle.cred_record.specs.Credential.{Credential, AreValidSets}
 use Rattle.cred_record.specs.Words.{pair, low, high, group_words, unpaired, words_of, credential_of, ids_of, group_count, are_ids, are_groups, are_sets, is_credential, IsCredential, are_words}
@@ -331,10 +330,10 @@ pub record WordFacts (ws : List ℕ) : Type 0 where
   pub ns : slice_index ws NAMESPACE < 2 ^ 32
   pub root : slice_index ws ROOT < NO_ID
 
-pub word-facts : (ws : List ℕ) → are_words ws ≡ true → WordFacts ws
+pub head-facts : (ws : List ℕ) → IsCredential (credential_of ws) → WordFacts ws
 unfolding credential_of
-word-facts ws is =
-    let h = credential-is (credential_of ws) (words-are ws is).0 in
+head-facts ws is =
+    let h = credential-is (credential_of ws) is in
     record {
       uid = ids-test _ h.uid;
       gid = ids-test _ h.gid;
@@ -348,6 +347,9 @@ word-facts ws is =
       root = h.root;
     }
 
+pub word-facts : (ws : List ℕ) → are_words ws ≡ true → WordFacts ws
+word-facts ws is = head-facts ws (words-are ws is).0
+
 -- the number of groups that stands in the words
 pub count-is : (ws : List ℕ) → are_words ws ≡ true → group_count (slice_index ws FLAGS) ≡ length (credential_of ws).groups
 unfolding words_of
@@ -357,7 +359,7 @@ count-is ws is =
     let v = credential-is d h.0 in
     ap (λ (xs : List ℕ). group_count (slice_index xs FLAGS)) h.1 ∙ count-again (length d.groups) (from_bool d.nnp) d.bits (from_bool-small d.nnp) v.bits
 
-pub none-is : {T : Type 0} (o : Option T) (ws : List ℕ) → (are_words ws ≡ true → ⊥) → IfNone o (are_words ws ≡ true → ⊥)
+pub none-is : {T : Type 0} (o : Option T) (ws : List ℕ) → (IsCredential (credential_of ws) → ⊥) → IfNone o (IsCredential (credential_of ws) → ⊥)
 none-is None ws p = p
 none-is (Some x) ws p = tt
 
@@ -390,73 +392,3 @@ groups-few ws is =
 -- words that are said to be a credential's
 pub spelled : (ws : List ℕ) (d : Credential) → IsCredential d → ws ≡ words_of d → (are_words ws ≡ true) × (credential_of ws ≡ d)
 spelled ws d is same = (ap are_words same ∙ words-test d is, ap credential_of same ∙ words-again d is)
-
--- ---- words that are 0 from a place on
-
-abbrev pub Blank : ℕ → List ℕ → Type 0
-Blank from ws = (k : ℕ) → from ≤ k → slice_index ws k ≡ 0
-
-pub blank-replicate : (n : ℕ) → Blank 0 (replicate n 0)
-blank-replicate zero k from = refl
-blank-replicate (suc n) zero from = refl
-blank-replicate (suc n) (suc k) from = blank-replicate n k (omega arith)
-
-pub blank-set : (ws : List ℕ) (i r : ℕ) → Blank i ws → Blank (i + 1) (set ws i r)
-blank-set ws i r blank k from = get_or-set_other ws i k r 0 (λ same. omega (arith, same)) ∙ blank k (omega arith)
-
--- two lists that are the same up to a place, and 0 from there on
-pub completed : (xs ys : List ℕ) (i : ℕ) → length xs ≡ length ys → take i xs ≡ take i ys → Blank i xs → Blank i ys → xs ≡ ys
-completed [] [] i long alike bx by = refl
-completed [] (y ∷ ys) i long alike bx by = absurd (omega arith)
-completed (x ∷ xs) [] i long alike bx by = absurd (omega arith)
-completed (x ∷ xs) (y ∷ ys) zero long alike bx by =
-    let head = bx 0 (omega arith) ∙ sym (by 0 (omega arith)) in
-    let rest = completed xs ys zero (omega arith) refl (λ n from. bx (suc n) (omega arith)) (λ n from. by (suc n) (omega arith)) in
-    (λ k. head k ∷ rest k)
-completed (x ∷ xs) (y ∷ ys) (suc i) long alike bx by =
-    let head : x ≡ y = cc in
-    let more : take i xs ≡ take i ys = cc in
-    let rest = completed xs ys i (omega arith) more (λ n from. bx (suc n) (omega arith)) (λ n from. by (suc n) (omega arith)) in
-    (λ k. head k ∷ rest k)
-
-past : (gs : List ℕ) (k : ℕ) → length gs ≤ k → slice_index gs k ≡ 0
-past [] k few = refl
-past (g ∷ gs) zero few = absurd (omega arith)
-past (g ∷ gs) (suc k) few = past gs k (omega arith)
-
-blank-group : (c : Credential) (i : ℕ) → length c.groups ≤ 2 * i → i < WORDS - GROUPS → slice_index (words_of c) (GROUPS + i) ≡ 0
-blank-group c i few within =
-    at_group c i within ∙
-    (λ j. pair (past c.groups (2 * i) few j) (past c.groups (2 * i + 1) (omega arith) j))
-
--- the words of a credential past its last group
-pub blank-words_of : (c : Credential) (i : ℕ) → length c.groups ≤ 2 * i → Blank (GROUPS + i) (words_of c)
-blank-words_of c i few k from =
-    ⊎_elim
-    (λ (within : k < WORDS).
-    let n : ℕ = k - GROUPS in
-    let at : GROUPS + n ≡ k = omega arith in
-    subst (λ (m : ℕ). slice_index (words_of c) m ≡ 0) at (blank-group c n (omega arith) (omega arith)))
-    (λ (out : WORDS ≤ k). let wide = length-words_of c in past (words_of c) k (omega arith))
-    (cases_lt k WORDS)
-
--- ---- the groups of words that are known to be a credential's
-
-each-list : (gs : List ℕ) → AllByRecursion (λ g. g < NO_ID) gs → All IsId gs
-each-list [] h k d below = absurd (omega arith)
-each-list (g ∷ gs) h zero d below = h.0
-each-list (g ∷ gs) h (suc k) d below = each-list gs h.1 k d (omega arith)
-
-pub group-list : (gs : List ℕ) → AllGroups gs → IsGroupList gs
-group-list gs h = record {
-  ordered = subst IsNonDecreasing h.ordered (in_order-rises gs);
-  each = each-list gs h.each;
-  few = h.few;
-}
-
-pub groups-there : (ws : List ℕ) → take (group_count (slice_index ws FLAGS)) (unpaired (drop GROUPS ws)) ≡ (credential_of ws).groups
-unfolding credential_of
-groups-there ws = refl
-
-pub groups-listed : (ws : List ℕ) → are_words ws ≡ true → IsGroupList (credential_of ws).groups
-groups-listed ws is = group-list _ (credential-is (credential_of ws) (words-are ws is).0).groups

@@ -1,7 +1,7 @@
 -- A credential laid out in words of 64 bits, and what words are a credential's.
 use Rattle.std.specs.Prelude.{◌≡◌, ◌==◌, ℕ, zero, suc, ◌+◌, ◌-◌, ◌*◌, ◌/◌, ◌%◌, ◌^◌, Bool, true}
 use Rattle.std.specs.Prelude.{◌&&◌, nat_eq, nat_lt, nat_le, List, [], ◌∷◌, length, take, drop}
-use Rattle.std.specs.Prelude.{slice_index}
+use Rattle.std.specs.Prelude.{slice_index, if◌then◌else◌}
 use Rattle.std.specs.Int.{from_bool}
 use Rattle.std.specs.List.{list_all}
 use Rattle.std.specs.Cmp.Lexicographic.{pointwise}
@@ -116,6 +116,10 @@ ids_of first second = record {
 abbrev pub unpaired : List ℕ → List ℕ
 unpaired [] = []
 unpaired (word ∷ words) = low word ∷ high word ∷ unpaired words
+
+-- the number at a place among those in words that hold two each, by the word where it stands
+abbrev pub half : ℕ → ℕ → ℕ
+half word place = if place % 2 == 0 then low word else high word
 
 -- the number of groups, by the word of flags
 abbrev pub group_count : ℕ → ℕ

@@ -2,7 +2,7 @@
 //! `specs/Words.antt` says what each word holds.
 
 /// The number of words of a credential.
-pub const WORDS: usize = 28;
+pub const WORDS: usize = 524;
 
 /// The real and the effective user id.
 pub const USER: usize = 0;

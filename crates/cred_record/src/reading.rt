@@ -1,11 +1,11 @@
 //! A credential read from words.
-ghost use Rattle.std.specs.Prelude.{◌≡◌, ◌↔◌, IsTrue, ◌<◌, ◌≤◌, ◌-◌, ◌*◌, ◌/◌, ◌%◌, ◌^◌, Some, true};
-ghost use Rattle.std.specs.Prelude.{ℕ, IfOk, IfSome, IfNone, take, drop, slice_index};
+ghost use Rattle.std.specs.Prelude.{◌≡◌, ◌↔◌, IsTrue, ◌<◌, ◌≤◌, ◌-◌, ◌*◌, ◌/◌, ◌%◌, ◌^◌};
+ghost use Rattle.std.specs.Prelude.{Some, true, ℕ, IfOk, IfSome, IfNone, take, drop, slice_index};
 ghost use Rattle.std.specs.Option.{SomeIff};
-ghost use Rattle.cred_ids.specs.Id.{IsId, NO_ID};
+ghost use Rattle.cred_ids.specs.Id.{IsId};
 ghost use Rattle.cred_record.specs.Credential.{Credential, AreValidSets};
 ghost use Rattle.cred_record.specs.Words.{are_ids, ids_of, unpaired, IsCredential, words_of};
-ghost use Rattle.cred_record.specs.Words.{credential_of, are_words, group_count, AreSetsOf};
+ghost use Rattle.cred_record.specs.Words.{credential_of, are_words, group_count, half, AreSetsOf};
 
 use crate::cred::Cred;
 use crate::layout::{
@@ -52,17 +52,23 @@ pub fn group_count(flags: u64) -> usize
     (flags >> 16) as usize
 }
 
-/// The number at a place among the words of groups, two of which stand in each.
-fn group_number(words: &[u64; WORDS], place: usize) -> u32
-    requires { place < 2 * (WORDS - GROUPS) }
-    ensures { result ≡ slice_index (unpaired (drop GROUPS words.now)) place }
+/// The number at a place among those in words that hold two each, by the word where it stands.
+fn half(word: u64, place: usize) -> u32
+    ensures { result ≡ half word place }
 {
-    let word = words[GROUPS + place / 2];
     if place % 2 == 0 {
         low(word)
     } else {
         high(word)
     }
+}
+
+/// The group at a place, by the word where it stands with another. `None` exactly where that number
+/// is 4294967295.
+pub fn group_in(word: u64, place: usize) -> Option<Id>
+    ensures { SomeIff result (IsId (half word place)) (half word place) }
+{
+    Id::new(half(word, place))
 }
 
 /// So many ids from the first of the words of groups on. `None` where one of them is none.
@@ -71,11 +77,11 @@ fn group_ids(alloc: Global, words: &[u64; WORDS], count: usize) -> Result<Option
     ensures some { IfOk result (λ o. IfSome o
         (λ ids. ids.items ≡ take count (unpaired (drop GROUPS words.now)))) }
     ensures none { IfOk result (λ o. IfNone o ((place : ℕ) × (place < count)
-        × (slice_index (unpaired (drop GROUPS words.now)) place ≡ NO_ID))) }
+        × (¬ (IsId (slice_index (unpaired (drop GROUPS words.now)) place))))) }
 {
     let mut ids = Vec::with_capacity(alloc, count)?;
     for place in 0..count {
-        let Some(id) = Id::new(group_number(words, place)) else {
+        let Some(id) = group_in(words[GROUPS + place / 2], place) else {
             return Ok(None);
         };
         ids.push(id)?;
@@ -103,17 +109,6 @@ fn groups_in(alloc: Global, words: &[u64; WORDS]) -> Result<Option<Groups>, NoMe
     }
 }
 
-/// The groups of words that are known to be a credential's.
-fn known_groups(alloc: Global, words: &[u64; WORDS]) -> Result<Groups, NoMemory>
-    requires { are_words words.now ≡ true }
-    ensures { IfOk result (λ g. g ≡ (credential_of words.now).groups) }
-{
-    let Some(ids) = group_ids(alloc, words, group_count(words[FLAGS]))? else {
-        unreachable!()
-    };
-    Ok(Groups::from_sorted(ids))
-}
-
 /// The five sets of a credential.
 #[derive(Clone, Copy)]
 struct Sets {
@@ -131,17 +126,17 @@ fn are_valid(sets: &Sets) -> bool
     sets.eff.within(&sets.perm) && sets.amb.within(&sets.perm) && sets.amb.within(&sets.inh)
 }
 
-/// The sets. `None` only where the words are no credential's.
-fn sets_in(words: &[u64; WORDS]) -> Option<Sets>
-    ensures some { IfSome result (λ s. AreSetsOf words.now s.perm s.inh s.eff s.bound s.amb) }
-    ensures none { IfNone result (¬ (are_words words.now ≡ true)) }
+/// The sets. `None` only where the words before those of groups are no credential's.
+fn sets_in(head: &[u64; GROUPS]) -> Option<Sets>
+    ensures some { IfSome result (λ s. AreSetsOf head.now s.perm s.inh s.eff s.bound s.amb) }
+    ensures none { IfNone result (¬ (IsCredential (credential_of head.now))) }
 {
     let sets = Sets {
-        perm: CapSet::of_bits(words[PERMITTED])?,
-        inh: CapSet::of_bits(words[INHERITABLE])?,
-        eff: CapSet::of_bits(words[EFFECTIVE])?,
-        bound: CapSet::of_bits(words[BOUNDING])?,
-        amb: CapSet::of_bits(words[AMBIENT])?,
+        perm: CapSet::of_bits(head[PERMITTED])?,
+        inh: CapSet::of_bits(head[INHERITABLE])?,
+        eff: CapSet::of_bits(head[EFFECTIVE])?,
+        bound: CapSet::of_bits(head[BOUNDING])?,
+        amb: CapSet::of_bits(head[AMBIENT])?,
     };
     if are_valid(&sets) { Some(sets) } else { None }
 }
@@ -167,33 +162,44 @@ fn root_in(word: u64) -> Option<Id>
     Id::new(u32::try_from(word).ok()?)
 }
 
-/// The credential of the words but for its groups, which are given. `None` only where the words
-/// are no credential's. What the layout leaves out is not looked at.
-fn cred_in(words: &[u64; WORDS], groups: Groups) -> Option<Cred>
-    requires { are_words words.now ≡ true → groups ≡ (credential_of words.now).groups }
-    ensures some { IfSome result (λ c. are_words words.now ≡ true → c ≡ credential_of words.now) }
-    ensures none { IfNone result (¬ (are_words words.now ≡ true)) }
+/// The credential of these groups whose words before those of groups are given. `None` only where
+/// these are no credential's. What the layout leaves out is not looked at.
+fn cred_in(head: &[u64; GROUPS], groups: Groups) -> Option<Cred>
+    ensures some { IfSome result
+        (λ c. c ≡ record (credential_of head.now) { groups = groups }) }
+    ensures none { IfNone result (¬ (IsCredential (credential_of head.now))) }
 {
-    let sets = sets_in(words)?;
+    let sets = sets_in(head)?;
     Some(Cred {
-        uid: ids_in(words[USER], words[SAVED_USER])?,
-        gid: ids_in(words[GROUP], words[SAVED_GROUP])?,
+        uid: ids_in(head[USER], head[SAVED_USER])?,
+        gid: ids_in(head[GROUP], head[SAVED_GROUP])?,
         groups,
         perm: sets.perm,
         inh: sets.inh,
         eff: sets.eff,
         bound: sets.bound,
         amb: sets.amb,
-        bits: bits_in(words[FLAGS])?,
-        nnp: words[FLAGS] >> 8 & 1 == 1,
-        ns: namespace_in(words[NAMESPACE])?,
-        root: root_in(words[ROOT])?,
+        bits: bits_in(head[FLAGS])?,
+        nnp: head[FLAGS] >> 8 & 1 == 1,
+        ns: namespace_in(head[NAMESPACE])?,
+        root: root_in(head[ROOT])?,
     })
+}
+
+/// The words before those of groups.
+fn head_of(words: &[u64; WORDS]) -> [u64; GROUPS]
+    ensures { result ≡ take GROUPS words.now }
+{
+    let mut head = [0; GROUPS];
+    for place in 0..GROUPS {
+        head[place] = words[place];
+    }
+    head
 }
 
 /// The credential of the words. `None` exactly where they are no credential's: where an id, a group
 /// or root's id is 4294967295, a set has a bit above 40, the sets are not those of a credential,
-/// the groups are not sorted or are more than 32, or a bit is set that the layout leaves out.
+/// the groups are not sorted or are more than 1,024, or a bit is set that the layout leaves out.
 ///
 /// # Errors
 ///
@@ -209,7 +215,7 @@ pub fn of_words(alloc: Global, words: &[u64; WORDS]) -> Result<Option<Cred>, NoM
     let Some(groups) = groups_in(alloc, words)? else {
         return Ok(None);
     };
-    let Some(cred) = cred_in(words, groups) else {
+    let Some(cred) = cred_in(&head_of(words), groups) else {
         return Ok(None);
     };
     is_credential(&cred);
@@ -220,18 +226,14 @@ pub fn of_words(alloc: Global, words: &[u64; WORDS]) -> Result<Option<Cred>, NoM
     }
 }
 
-/// The credential of words that are known to be one's.
-///
-/// # Errors
-///
-/// `NoMemory` if the allocation of the groups fails.
-pub fn known_words(alloc: Global, words: &[u64; WORDS]) -> Result<Cred, NoMemory>
-    requires { are_words words.now ≡ true }
-    ensures { IfOk result (λ c. c ≡ credential_of words.now) }
+/// The credential of these groups whose words before those of groups are given, and are known to be
+/// a credential's.
+pub fn known_head(head: &[u64; GROUPS], groups: Groups) -> Cred
+    requires { IsCredential (credential_of head.now) }
+    ensures { result ≡ record (credential_of head.now) { groups = groups } }
 {
-    let groups = known_groups(alloc, words)?;
-    let Some(cred) = cred_in(words, groups) else {
+    let Some(cred) = cred_in(head, groups) else {
         unreachable!()
     };
-    Ok(cred)
+    cred
 }

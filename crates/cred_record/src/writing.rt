@@ -1,5 +1,6 @@
 //! A credential laid out in words.
-ghost use Rattle.std.specs.Prelude.{◌≡◌, ◌<◌, ◌+◌, ◌-◌, ◌*◌, take, slice_index};
+ghost use Rattle.std.specs.Prelude.{◌≡◌, ◌<◌, ◌≤◌, ◌+◌, ◌-◌, ◌*◌, length, replicate, take};
+ghost use Rattle.std.specs.Prelude.{slice_index};
 ghost use Rattle.cred_record.specs.Words.{pair, flags_word, words_of};
 
 use crate::cred::Cred;
@@ -40,7 +41,7 @@ fn flags(cred: &Cred) -> u64
 
 /// The words before those of groups, in the order of `layout`'s places.
 #[tactic(auto, unfolding(crate::specs::Words::words_of))]
-fn head(cred: &Cred) -> [u64; GROUPS]
+pub fn head(cred: &Cred) -> [u64; GROUPS]
     ensures { result ≡ take GROUPS (words_of cred.now) }
 {
     [
@@ -69,17 +70,41 @@ fn group_word(groups: &Groups, i: usize) -> u64
     pair(low, high)
 }
 
+/// How many words the groups take: two groups stand in each.
+pub fn words_of_groups(cred: &Cred) -> usize
+    ensures value { (length cred.now.groups ≤ 2 * result)
+        × (2 * result ≤ length cred.now.groups + 1) }
+    ensures within { result ≤ WORDS - GROUPS }
+{
+    cred.groups.len().div_ceil(2)
+}
+
+/// The word `i` of those of groups.
+pub fn word_of_groups(cred: &Cred, i: usize) -> u64
+    requires { i < WORDS - GROUPS }
+    ensures { result ≡ slice_index (words_of cred.now) (GROUPS + i) }
+{
+    group_word(&cred.groups, i)
+}
+
+/// So many words that are 0.
+fn blank<const N: usize>() -> [u64; N]
+    ensures { result ≡ replicate N 0 }
+{
+    [0; N]
+}
+
 /// The words of a credential. It takes no memory.
 pub fn to_words(cred: &Cred) -> [u64; WORDS]
     ensures { result ≡ words_of cred.now }
 {
-    let head = head(cred);
-    let mut words = [0; WORDS];
+    let first = head(cred);
+    let mut words = blank::<WORDS>();
     for place in 0..GROUPS {
-        words[place] = head[place];
+        words[place] = first[place];
     }
-    for i in 0..cred.groups.len().div_ceil(2) {
-        words[GROUPS + i] = group_word(&cred.groups, i);
+    for i in 0..words_of_groups(cred) {
+        words[GROUPS + i] = word_of_groups(cred, i);
     }
     words
 }

@@ -96,7 +96,7 @@ abbrev pub for_groups : Credential → Result Ids4 Denial → Result Credential 
 for_groups c (Ok ids) = Ok (record c { gid = ids })
 for_groups c (Err e) = Err e
 
--- setgroups(2): with CAP_SETGID at most 32 groups, kept in order with their repeats. All ids stay
+-- setgroups(2): with CAP_SETGID at most 1024 groups, kept in order with their repeats. All ids stay
 unfoldable pub after_setgroups : Credential → List ℕ → Result Credential Denial
 after_setgroups c list =
     if not (capable c SETGID) then Err Perm

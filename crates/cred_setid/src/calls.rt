@@ -17,7 +17,7 @@ use std::alloc::Global;
 /// # Errors
 ///
 /// `Invalid` where setuid, seteuid, setgid or setegid is given no id, tested first, and where
-/// setgroups is given more than 32 groups, tested last. `Perm` where a caller without the
+/// setgroups is given more than 1,024 groups, tested last. `Perm` where a caller without the
 /// capability, CAP_SETUID or CAP_SETGID, gives an id that the call lets it have only with it, and
 /// for setgroups where the caller is without it. `Memory` if an allocation of the groups fails,
 /// where neither of the others comes.

@@ -41,6 +41,15 @@ use Rattle.cred_tables.proofs.Sealing.{Drops, roomy, in_free_or, in_none_or}
 
 -- ---- what was found
 
+pub some_mapped : {X Y Z : Type 0} (f : X → Z) (g : Y → Z) (x : Option X) (y : Option Y) (b : Y) → option_map f x ≡ option_map g y → y ≡ Some b → IsSome x
+some_mapped f g None y b is at = let none : None ≡ Some (g b) = is ∙ ap (option_map g) at in cc
+some_mapped f g (Some x) y b is at = refl
+
+pub mapped_is : {X Y Z : Type 0} (f : X → Z) (g : Y → Z) (x : Option X) (y : Option Y) (a : X) (b : Y) → option_map f x ≡ option_map g y → x ≡ Some a → y ≡ Some b
+    → f a ≡ g b
+mapped_is f g x y a b is here there =
+    let both : Some (f a) ≡ Some (g b) = sym (ap (option_map f) here) ∙ is ∙ ap (option_map g) there in cc
+
 -- The least task that waits in the broadcast of this number is this one, which is alive and of the
 -- broadcast's process.
 pub record IsNext (s : State) (number task : ℕ) : Type 0 where

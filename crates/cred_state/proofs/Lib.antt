@@ -6,6 +6,9 @@ pub mod Begins
 pub mod Acts
 pub mod Made
 pub mod Reserved
+pub mod Reading
+pub mod Alters
+pub mod Signals
 pub mod Standing
 pub mod Holding
 pub mod Opening

@@ -1,11 +1,10 @@
 -- What a task, an open file or a label refers to is in use.
 use Rattle.std.proofs.Common.{◌≡◌, ℕ, ◌==◌, Bool, List, [], find, Option, None, Some, refl, sym, subst}
 use Rattle.std.specs.List.{All}
-use Rattle.std.specs.Option.{option_and_then, option_map}
+use Rattle.std.specs.Option.{option_and_then}
 use Rattle.std.proofs.lemmas.List.Elements.{All-append, All-nil}
-use Rattle.std.proofs.lemmas.Option.{same_Some}
 use Rattle.cred_event.specs.declared.event.Side.{Side}
-use Rattle.cred_model.specs.State.{State, Task, OpenFile, Hold, Prepared, Numbered, numbered, number_on, task_of, open_of, hold_of, prepared_of, credential_of, opener_of, held_by}
+use Rattle.cred_model.specs.State.{State, Task, OpenFile, Hold, Prepared, Numbered, numbered, number_on, prepared_of, current_of, credential_of, opener_of, held_by}
 use Rattle.cred_model.specs.Slots.{in_use, swept}
 use Rattle.cred_model.proofs.Lists.{found}
 use Rattle.cred_model.proofs.Numbers.{numbered_is}
@@ -29,31 +28,6 @@ module _ (s : State) where
           let same : c.number ≡ number x = (numbered_is s.creds (number x) c is).0 in
           subst (λ (n : ℕ). IsInUse s n) (sym same) (found (λ (y : X). IsInUse s (number y)) test xs x at each).0
 
-  -- a number that is found by it
-  number-in_use : {X : Type 0} (number : X → ℕ) (test : X → Bool) (xs : List X) (n : ℕ) → All (λ x. IsInUse s (number x)) xs
-      → Some n ≡ option_map number (find test xs) → IsInUse s n
-  number-in_use {X} number test xs n each is = by (find test xs) refl is
-    where
-      by : (here : Option X) → find test xs ≡ here → Some n ≡ option_map number here → IsInUse s n
-      by None at is = cc
-      by (Some x) at is =
-          subst (λ (n : ℕ). IsInUse s n) (same_Some (number x) n (sym is)) (found (λ (y : X). IsInUse s (number y)) test xs x at each).0
-
-  pub current-used : (task n : ℕ) → Some n ≡ option_map (λ t. t.current) (task_of s task) → IsInUse s n
-  current-used task n is = number-in_use (λ (t : Task). t.current) (λ (t : Task). t.number == task) s.tasks n in_use-each.currents is
-
-  pub side-used : (task : ℕ) (side : Side) (n : ℕ) → Some n ≡ option_map (number_on side) (task_of s task) → IsInUse s n
-  side-used task side n is = number-in_use (λ (t : Task). number_on side t) (λ (t : Task). t.number == task) s.tasks n (each_side side in_use-each) is
-
-  pub opener-used : (fd n : ℕ) → Some n ≡ option_map (λ f. f.opener) (open_of s fd) → IsInUse s n
-  opener-used fd n is = number-in_use (λ (f : OpenFile). f.opener) (λ (f : OpenFile). f.fd == fd) s.files n in_use-each.openers is
-
-  pub hold-used : (label n : ℕ) → Some n ≡ option_map (λ h. h.number) (hold_of s label) → IsInUse s n
-  hold-used label n is = number-in_use (λ (h : Hold). h.number) (λ (h : Hold). h.label == label) s.holds n in_use-each.holds is
-
-  pub base-used : (label : ℕ) (p : Prepared) → prepared_of s label ≡ Some p → IsInUse s p.base
-  base-used label p is = (found (λ (q : Prepared). IsInUse s q.base) (λ (q : Prepared). q.label == label) s.prepared p is in_use-each.bases).0
-
   pub credential-in_use : (task : ℕ) (side : Side) (c : Numbered) → credential_of s task side ≡ Some c → IsInUse s c.number
   credential-in_use task side c is =
       seen-in_use (λ (t : Task). number_on side t) (λ (t : Task). t.number == task) s.tasks c (each_side side in_use-each) is
@@ -63,3 +37,10 @@ module _ (s : State) where
 
   pub held-in_use : (label : ℕ) (c : Numbered) → held_by s label ≡ Some c → IsInUse s c.number
   held-in_use label c is = seen-in_use (λ (h : Hold). h.number) (λ (h : Hold). h.label == label) s.holds c in_use-each.holds is
+
+  pub current-in_use : (task : ℕ) (c : Numbered) → current_of s task ≡ Some c → IsInUse s c.number
+  current-in_use task c is = seen-in_use (λ (t : Task). t.current) (λ (t : Task). t.number == task) s.tasks c in_use-each.currents is
+
+  pub base-in_use : (label : ℕ) (c : Numbered) → option_and_then (λ (p : Prepared). numbered s.creds p.base) (prepared_of s label) ≡ Some c
+      → IsInUse s c.number
+  base-in_use label c is = seen-in_use (λ (p : Prepared). p.base) (λ (p : Prepared). p.label == label) s.prepared c in_use-each.bases is

@@ -1,16 +1,16 @@
 //! The state of a run: the tasks, the open broadcasts, the open files, the holds, the prepared
-//! labels, and the credentials in their slots' places, with a table of slots that counts the
-//! references to them.
-ghost use Rattle.std.specs.Prelude.{◌≡◌, ◌||◌, is_some, length, IfOk, OnErr};
+//! labels, the master of the shared words that the credentials stand in, and a table of slots that
+//! counts the references to them.
+ghost use Rattle.std.specs.Prelude.{◌≡◌, ◌||◌, [], Some, is_some, length, IfOk, OnErr};
 ghost use Rattle.std.specs.Option.{option_map};
 ghost use Rattle.cred_model.specs.State.{opening, hold_of, prepared_of, current_of, credential_of};
-ghost use Rattle.cred_model.specs.State.{held_by};
+ghost use Rattle.cred_model.specs.State.{held_by, numbered};
 ghost use Rattle.cred_model.specs.Slots as model;
 ghost use Rattle.cred_model.specs.Step.{by_ask, by_release, by_signal, by_take, done, take_hold};
 ghost use Rattle.cred_model.specs.Named.{IsEventOf};
 ghost use Rattle.cred_model.specs.Like.{Gives, GivesLike};
 ghost use Rattle.cred_sound.specs.Sound.{IsSound};
-ghost use Rattle.cred_tables.specs.Kept.{numbered_in, seen_numbered, IsInUse};
+ghost use Rattle.cred_tables.specs.Kept.{cred_under, numbered_in, seen_in, AreInPlace, IsInUse};
 
 mod casts;
 mod files;
@@ -18,57 +18,76 @@ mod overrides;
 mod prepare;
 mod tasks;
 
-use cred_access::may_signal;
+use cred_access::may_signal_by;
+use cred_caps::CapSet;
 use cred_cast::Casts;
 use cred_decide::reply;
 use cred_declared::{asked_file, root_of};
 use cred_event::{Answer, Counted, Event, Named, Query, Side};
 use cred_files::Files;
-use cred_ids::{NoMemory, limits};
+use cred_hold::{Cells, Master, make};
+use cred_ids::{Ids4, NoMemory, limits};
 use cred_procs::Procs;
+use cred_record::Cred;
 use cred_script::Script;
 use cred_slots::Slots;
-use cred_tables::{Holds, Numbered, Preparing, Store, sealed_at};
+use cred_tables::{Holds, Numbered, Preparing, sealed_at};
 use std::alloc::Global;
 use std::marker::Model;
 
-/// The state of a run. Contracts see under each sealed number what stands in its slot's place:
-/// where nothing refers to the number any more, that may be a later credential.
-#[derive(Drop, Debug)]
+/// The state of a run. Its credentials stand in the shared words alone. Contracts see under each
+/// sealed number what stands in the words of its slot: where nothing refers to the number any more,
+/// that may be a later credential. They see which cells the words are in, and what is lent of them.
+#[derive(Drop)]
 pub struct State {
     tasks: Procs,
     casts: Casts,
     files: Files,
     holds: Holds,
     prepared: Preparing,
-    store: Store,
+    master: Master,
     slots: Slots,
     alloc: Global,
 }
 
 impl Model for State {
-    ghost use Rattle.cred_model.specs.State as model;
-    ghost use Rattle.cred_tables.specs.Kept.{parts_of, state_of, IsKept};
+    ghost use Rattle.cred_tables.specs.Kept.{parts_of, state_of, IsKept, Standing};
 
-    ghost Value = { model.State };
+    ghost Value = { Standing };
 
-    ghost view = { λ s.
-        state_of (parts_of s.tasks s.casts s.files s.holds s.prepared) s.store s.slots };
+    ghost view = { λ s. record {
+      state = state_of (parts_of s.tasks s.casts s.files s.holds s.prepared) s.master.slots s.slots;
+      words = record { id = s.master.id; out = s.master.entries };
+      places = s.master.slots;
+    } };
 
     ghost invariant = { λ s.
-        IsKept (parts_of s.tasks s.casts s.files s.holds s.prepared) s.store s.slots };
+        IsKept (parts_of s.tasks s.casts s.files s.holds s.prepared) s.master.slots s.slots };
 }
 
 impl State {
-    /// The state before the first event.
+    /// The cells of the shared words, and the state before the first event over them. Nothing is
+    /// lent.
     ///
     /// # Errors
     ///
-    /// `NoMemory` if an allocation of the places or of the slots fails.
-    pub fn new(alloc: Global) -> Result<State, NoMemory>
-        ensures { IfOk result (λ state. state ≡ opening) }
+    /// `NoMemory` if an allocation of the cells or of the slots fails.
+    pub fn new(alloc: Global) -> Result<(Cells, State), NoMemory>
+        ensures state { IfOk result (λ made. made.1.state ≡ opening) }
+        ensures own { IfOk result (λ made. made.1.words.id ≡ made.0) }
+        ensures out { IfOk result (λ made. made.1.words.out ≡ []) }
     {
-        let store = Store::new(alloc)?;
+        let (cells, master) = make(alloc)?;
+        let state = State::over(alloc, master)?;
+        Ok((cells, state))
+    }
+
+    /// The state before the first event, over these words.
+    fn over(alloc: Global, master: Master) -> Result<State, NoMemory>
+        ensures state { IfOk result (λ state. state.state ≡ opening) }
+        ensures own { IfOk result (λ state. state.words.id ≡ master.id) }
+        ensures out { IfOk result (λ state. state.words.out ≡ master.entries) }
+    {
         let slots = Slots::new(alloc)?;
         Ok(State {
             tasks: Procs::new(alloc),
@@ -76,24 +95,34 @@ impl State {
             files: Files::new(alloc),
             holds: Holds::new(alloc),
             prepared: Preparing::new(alloc),
-            store,
+            master,
             slots,
             alloc,
         })
     }
 
-    /// Makes one event of a line of the script, and answers it.
+    /// Makes one event of a line of the script, and answers it. No label is out.
     ///
     /// # Errors
     ///
     /// `NoMemory` if an allocation of a credential, of a list or of room for what is entered fails:
     /// the state is as it was.
-    pub fn step(&mut self, script: &Script, line: u32, event: &Event) -> Result<Answer, NoMemory>
+    pub fn step(
+        &mut self,
+        cells: &Cells,
+        script: &Script,
+        line: u32,
+        event: &Event,
+    ) -> Result<Answer, NoMemory>
+        requires own { self.old.words.id ≡ cells.now }
+        requires out { self.old.words.out ≡ [] }
         requires kind { IsEventOf (length script.now.files) script.now.namespaces event.now }
-        requires sound { IsSound self.old }
+        requires sound { IsSound self.old.state }
         ensures ok { IfOk result (λ answer.
-            GivesLike self.old (done script.now self.old line event.now) answer self.new) }
+            GivesLike self.old.state (done script.now self.old.state line event.now) answer
+            self.new.state) }
         ensures err { OnErr result (self.new ≡ self.old) }
+        ensures words { self.new.words ≡ self.old.words }
     {
         match event {
             Event::Init {
@@ -102,31 +131,39 @@ impl State {
                 user,
                 group,
                 ns,
-            } => self.init(*task, *process, *user, *group, *ns, root_of(script, *ns)),
+            } => self.init(
+                cells,
+                *task,
+                *process,
+                *user,
+                *group,
+                *ns,
+                root_of(script, *ns),
+            ),
             Event::Take { label, task, side } => self.take(*label, *task, *side),
             Event::TakeFile { label, fd } => self.take_file(*label, *fd),
             Event::Release { label } => Ok(self.release(*label)),
-            Event::Ask { label, query } => self.ask(script, *label, *query),
+            Event::Ask { label, query } => self.ask(cells, script, *label, *query),
             Event::Signal {
                 from,
                 hold,
                 to,
                 target,
-            } => Ok(self.signal(*from, *hold, *to, *target)),
+            } => Ok(self.signal(cells, *from, *hold, *to, *target)),
             Event::Prepare { label, task, hold } => self.prepare(*label, *task, *hold),
-            Event::Alter { label, change } => self.alter(script, *label, *change),
-            Event::Commit { label } => self.commit(*label),
+            Event::Alter { label, change } => self.alter(cells, script, *label, *change),
+            Event::Commit { label } => self.commit(cells, *label),
             Event::Abort { label } => Ok(self.abort(*label)),
-            Event::Override { task, label } => self.override_with(*task, *label),
+            Event::Override { task, label } => self.override_with(cells, *task, *label),
             Event::Revert { task } => Ok(self.revert(*task)),
-            Event::Begin { task, call } => self.begin(line, *task, call),
-            Event::Act { cast } => self.act(*cast),
+            Event::Begin { task, call } => self.begin(cells, line, *task, call),
+            Event::Act { cast } => self.act(cells, *cast),
             Event::OpenFile {
                 hold,
                 file,
                 want,
                 fd,
-            } => self.open_file(script, *hold, *file, *want, *fd),
+            } => self.open_file(cells, script, *hold, *file, *want, *fd),
             Event::CloseFile { fd } => Ok(self.close_file(*fd)),
             Event::Spawn { task, child } => self.spawn(*task, *child),
             Event::Fork {
@@ -145,53 +182,104 @@ impl State {
     /// How many references there are to credentials in the slot, those that were given up since the
     /// last sweep among them.
     pub fn uses(&self, slot: u32) -> u64
-        ensures { result ≡ model.uses self.now slot }
+        ensures { result ≡ model.uses self.now.state slot }
     {
         self.slots.uses(slot)
     }
 
+    /// Each credential that something refers to stands in the words of its slot.
+    pub fn stands(&self)
+        ensures { AreInPlace self.now.state self.now.places }
+    {
+        // The table is read for its invariant alone.
+        let _ = self.slots.next_number();
+    }
+
+    /// The sealed credential of this number.
+    fn sealed_at(&self, number: u64) -> Option<Numbered>
+        ensures { option_map (seen_in self.now.state.creds) result
+            ≡ numbered self.now.state.creds number }
+    {
+        sealed_at(&self.slots, number)
+    }
+
+    /// The credential that was found, read from the words of its slot. Something refers to it.
+    ///
+    /// # Errors
+    ///
+    /// `NoMemory` if the allocation of its groups fails.
+    fn read(&mut self, cells: &Cells, found: Numbered) -> Result<Cred, NoMemory>
+        requires own { self.old.words.id ≡ cells.now }
+        requires found { numbered self.old.state.creds found.number
+            ≡ Some (seen_in self.old.state.creds found) }
+        requires used { IsInUse self.old.state found.number }
+        ensures cred { IfOk result (λ cred. cred ≡ cred_under self.old.state.creds found.number) }
+        ensures same { self.new ≡ self.old }
+    {
+        self.master.look(self.alloc, cells, found.slot)
+    }
+
+    /// The user ids of the credential that was found, and its effective set, without memory.
+    fn rights(&mut self, cells: &Cells, found: Numbered) -> (Ids4, CapSet)
+        requires own { self.old.words.id ≡ cells.now }
+        requires found { numbered self.old.state.creds found.number
+            ≡ Some (seen_in self.old.state.creds found) }
+        requires used { IsInUse self.old.state found.number }
+        ensures user { result.0 ≡ (cred_under self.old.state.creds found.number).uid }
+        ensures effective { result.1 ≡ (cred_under self.old.state.creds found.number).eff }
+        ensures same { self.new ≡ self.old }
+    {
+        let (user, _) = self.master.look_ids(cells, found.slot);
+        let [_, _, effective, _, _] = self.master.look_caps(cells, found.slot);
+        (user, effective)
+    }
+
     /// The current credential of a task.
     #[inline(always)]
-    fn current(&self, task: u32) -> Option<Numbered<'_>>
-        ensures { option_map seen_numbered result ≡ current_of self.now task }
+    fn current(&self, task: u32) -> Option<Numbered>
+        ensures { option_map (seen_in self.now.state.creds) result
+            ≡ current_of self.now.state task }
     {
         let number = self.tasks.current(task)?;
-        sealed_at(&self.store, &self.slots, number)
+        self.sealed_at(number)
     }
 
     /// The credential that a task acts with, or the one that it is acted on by.
-    fn credential(&self, task: u32, side: Side) -> Option<Numbered<'_>>
-        ensures { option_map seen_numbered result ≡ credential_of self.now task side }
+    fn credential(&self, task: u32, side: Side) -> Option<Numbered>
+        ensures { option_map (seen_in self.now.state.creds) result
+            ≡ credential_of self.now.state task side }
     {
         let number = match side {
             Side::Subjective => self.tasks.subjective(task)?,
             Side::Objective => self.tasks.current(task)?,
         };
-        sealed_at(&self.store, &self.slots, number)
+        self.sealed_at(number)
     }
 
     /// The credential that a label holds.
-    fn held(&self, label: u32) -> Option<Numbered<'_>>
-        ensures { option_map seen_numbered result ≡ held_by self.now label }
+    fn held(&self, label: u32) -> Option<Numbered>
+        ensures { option_map (seen_in self.now.state.creds) result ≡ held_by self.now.state label }
     {
         let number = self.holds.get(label)?;
-        sealed_at(&self.store, &self.slots, number)
+        self.sealed_at(number)
     }
 
     /// Whether a hold or a prepared label has this label.
     fn has_label(&self, label: u32) -> bool
         ensures { result
-            ≡ (is_some (hold_of self.now label) || is_some (prepared_of self.now label)) }
+            ≡ (is_some (hold_of self.now.state label)
+            || is_some (prepared_of self.now.state label)) }
     {
         self.holds.get(label).is_some() || self.prepared.get(label).is_some()
     }
 
     fn take(&mut self, label: u32, task: u32, side: Side) -> Result<Answer, NoMemory>
         ensures ok { IfOk result (λ answer.
-            Gives self.old (by_take self.old label task side) answer self.new) }
+            Gives self.old.state (by_take self.old.state label task side) answer self.new.state) }
         ensures err { OnErr result (self.new ≡ self.old) }
+        ensures words { self.new.words ≡ self.old.words }
     {
-        let Some(Numbered { number, slot, .. }) = self.credential(task, side) else {
+        let Some(Numbered { number, slot }) = self.credential(task, side) else {
             return Ok(Answer::NoTask(task));
         };
         self.take_hold(label, number, slot)
@@ -199,10 +287,12 @@ impl State {
 
     /// The label takes hold of the credential of this number, which stands in this slot.
     fn take_hold(&mut self, label: u32, number: u64, slot: u32) -> Result<Answer, NoMemory>
-        requires { IsInUse self.old number }
+        requires { IsInUse self.old.state number }
         ensures ok { IfOk result (λ answer.
-            Gives self.old (take_hold self.old label (numbered_in number slot)) answer self.new) }
+            Gives self.old.state (take_hold self.old.state label (numbered_in number slot)) answer
+            self.new.state) }
         ensures err { OnErr result (self.new ≡ self.old) }
+        ensures words { self.new.words ≡ self.old.words }
     {
         if self.has_label(label) {
             return Ok(Answer::Exists {
@@ -220,7 +310,9 @@ impl State {
     }
 
     fn release(&mut self, label: u32) -> Answer
-        ensures { Gives self.old (by_release self.old label) result self.new }
+        ensures made { Gives self.old.state (by_release self.old.state label) result
+            self.new.state }
+        ensures words { self.new.words ≡ self.old.words }
     {
         let Some(number) = self.holds.release(label) else {
             return Answer::NoHold(label);
@@ -229,20 +321,33 @@ impl State {
         Answer::Done
     }
 
-    fn ask(&self, script: &Script, label: u32, query: Query) -> Result<Answer, NoMemory>
-        ensures { IfOk result (λ answer.
-            Gives self.now (by_ask script.now self.now label query) answer self.now) }
+    fn ask(
+        &mut self,
+        cells: &Cells,
+        script: &Script,
+        label: u32,
+        query: Query,
+    ) -> Result<Answer, NoMemory>
+        requires own { self.old.words.id ≡ cells.now }
+        ensures ok { IfOk result (λ answer.
+            Gives self.old.state (by_ask script.now self.old.state label query) answer
+            self.new.state) }
+        ensures same { self.new ≡ self.old }
     {
-        match self.held(label) {
-            Some(held) => reply(self.alloc, asked_file(script, query), held.cred, query),
-            None => Ok(Answer::NoHold(label)),
-        }
+        let Some(held) = self.held(label) else {
+            return Ok(Answer::NoHold(label));
+        };
+        let cred = self.read(cells, held)?;
+        reply(self.alloc, asked_file(script, query), &cred, query)
     }
 
     /// May a task signal another, where one label holds the sender's credential and another the
     /// target's (kill(2))?
-    fn signal(&self, from: u32, hold: u32, to: u32, target: u32) -> Answer
-        ensures { Gives self.now (by_signal self.now from hold to target) result self.now }
+    fn signal(&mut self, cells: &Cells, from: u32, hold: u32, to: u32, target: u32) -> Answer
+        requires own { self.old.words.id ≡ cells.now }
+        ensures made { Gives self.old.state (by_signal self.old.state from hold to target) result
+            self.new.state }
+        ensures same { self.new ≡ self.old }
     {
         let Some(sender) = self.tasks.process_of(from) else {
             return Answer::NoTask(from);
@@ -256,7 +361,9 @@ impl State {
         let Some(other) = self.held(target) else {
             return Answer::NoHold(target);
         };
-        if may_signal(own.cred, other.cred, sender == receiver) {
+        let (user, effective) = self.rights(cells, own);
+        let (owner, _) = self.rights(cells, other);
+        if may_signal_by(&user, effective, &owner, sender == receiver) {
             Answer::Done
         } else {
             Answer::Eperm

@@ -1,14 +1,13 @@
 -- A state whose credentials stand in their slots' places, when one more is put there.
-use Rattle.std.proofs.Common.{◌≡◌, ◌≢◌, ℕ, zero, suc, ◌<◌, ◌==◌, Bool, true, false, List, [], ◌∷◌, ◌++◌, map, length, Option, None, Some, slice_get, slice_set, get_or, get_or-set_same, get_or-set_other, refl, sym, ap, ◌∙◌, subst, inl, inr, arith}
+use Rattle.std.proofs.Common.{◌≡◌, ◌≢◌, ℕ, zero, suc, ◌<◌, ◌==◌, Bool, true, false, List, [], ◌∷◌, ◌++◌, map, length, Option, None, Some, slice_get, slice_set, get_or, get_or-set_same, get_or-set_other, refl, sym, ap, ◌∙◌, subst, arith}
 use Rattle.std.specs.List.{count_by}
-use Rattle.std.specs.Option.{IsSome, is_some, option_map, option_map_or}
-use Rattle.std.proofs.lemmas.Bool.{cases_eq, eq-eqb}
-use Rattle.std.proofs.lemmas.List.Elements.{All-append, All-nil, All-cons}
-use Rattle.std.proofs.lemmas.Option.{slice_get_within, slice_get-map}
+use Rattle.std.specs.Option.{option_map_or}
+use Rattle.std.proofs.lemmas.Bool.{eq-eqb}
+use Rattle.std.proofs.lemmas.Option.{slice_get_within}
 use Rattle.cred_ids.specs.Limits.{SLOTS}
 use Rattle.cred_record.specs.Credential.{Credential}
 use Rattle.cred_event.specs.declared.answer.Answer.{Answer}
-use Rattle.cred_model.specs.State.{State, SealedCred, numbered}
+use Rattle.cred_model.specs.State.{State, SealedCred}
 use Rattle.cred_model.specs.Slots.{in_use, refs}
 use Rattle.cred_model.specs.Like.{IsLike, IsOutcomeLike}
 use Rattle.cred_model.proofs.Lists.{slice_get-left}
@@ -33,14 +32,6 @@ slots-creds_in store (slot ∷ slots) = ap (λ (rest : List ℕ). slot ∷ rest)
 pub length-creds_in : (store : List (Option Credential)) (slots : List ℕ) → length (creds_in store slots) ≡ length slots
 length-creds_in store [] = refl
 length-creds_in store (slot ∷ slots) = ap suc (length-creds_in store slots)
-
-pub numbered-creds_in : (store : List (Option Credential)) (slots : List ℕ) (n slot : ℕ) (c : Credential) → slice_get slots n ≡ Some slot
-    → get_or store slot None ≡ Some c → numbered (creds_in store slots) n ≡ Some (record { number = n; cred = c; slot = slot })
-numbered-creds_in store slots n slot c stands there =
-    ap (option_map (λ (x : SealedCred). record { number = n; cred = x.cred; slot = x.slot }))
-    (slice_get-map (λ (k : ℕ). record { cred = placed store k; slot = k }) slots n
-    ∙ ap (option_map (λ (k : ℕ). record { cred = placed store k; slot = k })) stands
-    ∙ ap (λ (o : Option Credential). Some (record { cred = option_map_or (λ (x : Credential). x) o (placed [] 0); slot = slot })) there)
 
 pub is_table : {parts : Parts} {store : List (Option Credential)} {t : Table}
     → IsKept parts store t → IsTable (state_of parts store t) t

@@ -1,6 +1,8 @@
--- When a task may make an id call that its process's other threads follow (nptl(7)).
-use Rattle.std.specs.Prelude.{◌≡◌, ◌≢◌, ℕ, List, All, Ok, Some, None, length}
+-- When a task may make an id call that its process's other threads follow (nptl(7)), and which of
+-- these makes its step next.
+use Rattle.std.specs.Prelude.{◌≡◌, ◌≢◌, ℕ, List, All, Ok, Some, None, length, slice_get}
 use Rattle.std.specs.List.{AllPairs}
+use Rattle.std.specs.Option.{option_and_then}
 use Rattle.cred_record.specs.declared.id_call.IdCall.{IdCall}
 use Rattle.cred_event.specs.declared.answer.AbortCause.{AbortCause}
 use Rattle.cred_event.specs.declared.answer.AbortCause.TheVariants.{Perm, Full}
@@ -24,6 +26,13 @@ pub record MayBegin (s : State) (line task : ℕ) (now : Numbered) : Type 0 wher
   pub idle : cast_in s owner.process ≡ None
   pub new : cast_of s line ≡ None
   pub own : not_overridden owner ≡ Ok tt
+
+-- The least thread that waits in the broadcast of this number is this one. It stands in this place
+-- among the tasks, and this is its current credential.
+pub record ActsNext (s : State) (number task place : ℕ) (now : Numbered) : Type 0 where
+  pub least : Some task ≡ option_and_then (λ b. slice_get b.waiting 0) (cast_of s number)
+  pub there : slice_get s.tasks place ≡ task_of s task
+  pub has : current_of s task ≡ Some now
 
 -- the state that a task which couldn't follow a call left: a sweep is made before a want of a slot
 abbrev pub at_abort : AbortCause → State → State

@@ -1,19 +1,21 @@
 -- How the state of a run is kept: the tasks, the open broadcasts, the open files, the holds and the
--- prepared labels as they are, the credentials in their slots' places, and a table of slots that
--- counts references.
+-- prepared labels as they are, the credentials in the shared words of their slots, and a table of
+-- slots that counts references.
 use Rattle.std.specs.Prelude.{◌≡◌, ℕ, ◌<◌, ◌≤◌, ◌==◌, List, ◌∷◌, [], ◌++◌, count_by, length, map}
 use Rattle.std.specs.Prelude.{slice_get, slice_index_or, slice_set, false, Some, None}
 use Rattle.std.specs.declared.option.Option.{Option}
 use Rattle.std.specs.List.{list_any}
 use Rattle.std.specs.Option.{IsSome, option_map_or}
 use Rattle.cred_ids.specs.Limits.{SLOTS}
+use Rattle.atomic_table.specs.Seated.{TableId}
 use Rattle.cred_record.specs.Credential.{Credential, first_credential}
 use Rattle.cred_model.specs.State.{State, Task, Broadcast, OpenFile, Hold, Prepared, SealedCred}
 use Rattle.cred_model.specs.State.{Numbered}
 use Rattle.cred_event.specs.declared.event.Change.{Change}
 use Rattle.cred_event.specs.declared.event.Change.TheVariants.{Exec}
 use Rattle.cred_model.specs.Casts.{dropped}
-use Rattle.cred_model.specs.Slots.{in_use, kept}
+use Rattle.cred_model.specs.Slots.{in_use, kept, refs}
+use Rattle.cred_hold.specs.Tokens.{Entry}
 use Rattle.cred_slots.specs.Table.{Table, IsSameBag, IsAlone, is_kept, swept_if_full, free}
 use Rattle.cred_slots.specs.Table.{references_to}
 use Rattle.cred_tables.specs.declared.table.Numbered as table
@@ -34,9 +36,14 @@ creds_in store slots = map (λ slot. record { cred = placed store slot; slot = s
 abbrev pub numbered_in : ℕ → ℕ → Numbered
 numbered_in number slot = record { number = number; cred = no_credential; slot = slot }
 
--- a sealed credential with its number, wherever it lies
-abbrev pub seen_numbered : table.Numbered → Numbered
-seen_numbered n = record { number = n.number; cred = n.cred.now; slot = n.slot }
+-- the credential under a number
+abbrev pub cred_under : List SealedCred → ℕ → Credential
+cred_under creds number =
+    option_map_or (λ sealed. sealed.cred) (slice_get creds number) no_credential
+
+-- a sealed credential with its number, among these
+abbrev pub seen_in : List SealedCred → table.Numbered → Numbered
+seen_in creds n = record { number = n.number; cred = cred_under creds n.number; slot = n.slot }
 
 -- What is referred to can be read: a credential is in its slot's place. Of other numbers nothing
 -- is said.
@@ -68,6 +75,23 @@ parts_of tasks casts files holds prepared = record {
 abbrev pub casts_left : Change → ℕ → List Broadcast → List Broadcast
 casts_left (Exec file) process casts = dropped process casts
 casts_left change process casts = casts
+
+-- the shared words that credentials stand in: the identity of the cells, and what is lent of them
+pub record Words : Type 0 where
+  pub id : TableId
+  pub out : List Entry
+
+-- a state, the shared words, and for each slot the credential that stands in its words, if one does
+pub record Standing : Type 0 where
+  pub state : State
+  pub words : Words
+  pub places : List (Option Credential)
+
+-- Each credential that something refers to stands in the words of its slot.
+abbrev pub AreInPlace : State → List (Option Credential) → Type 0
+AreInPlace s places =
+    (n : ℕ) (sealed : SealedCred) → 0 < count_by (λ m. m == n) (refs s)
+    → slice_get s.creds n ≡ Some sealed → slice_get places sealed.slot ≡ Some (Some sealed.cred)
 
 -- the state that is kept so
 abbrev pub state_of : Parts → List (Option Credential) → Table → State

@@ -1,6 +1,6 @@
 //! The tables that the state of a run is made of, beside those of tasks, broadcasts and open files:
-//! the holds, the prepared labels, and the sealed credentials in the places of their slots. Where
-//! one call changes several of them, or tasks and broadcasts together, it stands here too.
+//! the holds and the prepared labels, and where the sealed credentials stand in the shared words.
+//! Where one call changes several of them, or tasks and broadcasts together, it stands here too.
 #![tactic(auto)]
 
 mod casts;
@@ -9,7 +9,6 @@ mod holds;
 mod labelled;
 mod prepared;
 mod seal;
-mod store;
 mod table;
 
 pub use casts::{begin_in, spawn_in};
@@ -17,5 +16,4 @@ pub use ends::{committed_by, drop_cast, end_with};
 pub use holds::Holds;
 pub use prepared::{Changed, Ended, Preparation, Preparing, Ready};
 pub use seal::{drop_all, seal_kept, seal_next, sweep_at};
-pub use store::Store;
 pub use table::{Numbered, sealed_at};

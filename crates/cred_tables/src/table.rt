@@ -1,35 +1,30 @@
-//! The sealed credentials, and what is found among them.
-ghost use Rattle.std.specs.Prelude.{◌≡◌, ◌<◌};
+//! The sealed credentials, by their numbers.
+ghost use Rattle.std.specs.Prelude.{◌≡◌, List};
+ghost use Rattle.std.specs.declared.option.Option.{Option};
 ghost use Rattle.std.specs.Option.{option_map};
+ghost use Rattle.cred_record.specs.Credential.{Credential};
 ghost use Rattle.cred_model.specs.State as model;
-ghost use Rattle.cred_slots.specs.Table.{references_to};
-ghost use Rattle.cred_tables.specs.Kept.{creds_in, AreFilled, seen_numbered};
+ghost use Rattle.cred_tables.specs.Kept.{creds_in, seen_in};
 
-use crate::store::Store;
-use cred_record::Cred;
 use cred_slots::Slots;
 
-/// A sealed credential, with its number and its slot.
+/// A sealed credential, by its number and its slot. What it says is read from the slot's words.
 #[derive(Clone, Copy)]
-pub struct Numbered<'a> {
+pub struct Numbered {
     pub number: u64,
-    pub cred: &'a Cred,
     pub slot: u32,
 }
 
-/// The sealed credential of this number, which something refers to: so it stands in its slot's
-/// place.
-pub fn sealed_at<'a>(store: &'a Store, slots: &Slots, number: u64) -> Option<Numbered<'a>>
-    requires filled { AreFilled store.now slots.now }
-    requires referred { 0 < references_to slots.now number }
-    ensures { option_map seen_numbered result
-        ≡ model.numbered (creds_in store.now slots.now.sealed) number }
+/// The sealed credential of this number, whatever stands in the words. Where nothing refers to the
+/// number any more, a later credential may stand in its slot.
+pub fn sealed_at(slots: &Slots, number: u64) -> Option<Numbered>
+    ensures { (places : List (Option Credential)) →
+        option_map (seen_in (creds_in places slots.now.sealed)) result
+        ≡ model.numbered (creds_in places slots.now.sealed) number }
 {
     if number >= slots.next_number() {
         return None;
     }
     let slot = slots.slot_of(number);
-    // The place of what is referred to is filled.
-    let cred = store.get(slot).unwrap();
-    Some(Numbered { number, cred, slot })
+    Some(Numbered { number, slot })
 }

@@ -41,4 +41,5 @@ pub record HasPoints (words : List ℕ) (views : List View) : Type 0 where
 
 -- where the rule holds, so do the points
 abbrev pub RuleHasPoints : Type 0
-RuleHasPoints = (words : List ℕ) (views : List View) → PassRuleHolds words views → HasPoints words views
+RuleHasPoints =
+    (words : List ℕ) (views : List View) → PassRuleHolds words views → HasPoints words views

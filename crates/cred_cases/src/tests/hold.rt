@@ -7,7 +7,7 @@ ghost use Rattle.cred_ids.specs.Limits.{SLOTS};
 use crate::tests::parts::id;
 use cred_caps::CapSet;
 use cred_hold::{Cells, Hold, Master, Writer, make, put, read, read_caps, read_ids};
-use cred_ids::{Groups, Ids4, NoMemory};
+use cred_ids::{Groups, Ids4, NoMemory, limits};
 use cred_record::{Cred, first, to_words};
 use std::alloc::Global;
 use std::mem::size_of;
@@ -21,7 +21,7 @@ fn tokens_have_no_room_for_a_credential(rt: HostRuntime) -> Result<(), Fail> {
 }
 
 /// Puts a credential on a slot.
-fn seal(cells: &Cells, master: &mut Master, slot: u32, cred: &Cred)
+pub(crate) fn seal(cells: &Cells, master: &mut Master, slot: u32, cred: &Cred)
     requires own { master.old.id ≡ cells.now }
     requires within { slot < SLOTS }
     requires none { master.old.entries ≡ [] }
@@ -302,9 +302,10 @@ fn share<R: Threads + Sync>(
     (found, last)
 }
 
-/// A credential of 32 groups.
-fn many(alloc: Global) -> Result<Cred, Fail> {
-    let groups = Groups::from_list(alloc, &[id(77)?; 32]).map_err(|_| "no groups")?;
+/// A credential of as many groups as one may have.
+pub(crate) fn many(alloc: Global) -> Result<Cred, Fail> {
+    let list = vec![in alloc; id(77)?; limits::GROUP_LIMIT]?;
+    let groups = Groups::from_list(alloc, list.as_slice()).map_err(|_| "no groups")?;
     let mut cred = first(alloc, id(8)?, id(9)?, 1, id(0)?)?;
     cred.groups = groups;
     Ok(cred)

@@ -21,7 +21,8 @@ fn minus_one_is_no_id_and_keeps_the_old_one(rt: HostRuntime) -> Result<(), Fail>
 
 #[test]
 fn too_many_groups_are_counted(rt: HostRuntime) -> Result<(), Fail> {
-    let refusal = Groups::from_list(rt.alloc(), &[id(7)?; 33]).err();
-    assert!(rt; refusal == Some(GroupsRefusal::TooMany(33)));
+    let list = vec![in rt.alloc(); id(7)?; 1025]?;
+    let refusal = Groups::from_list(rt.alloc(), list.as_slice()).err();
+    assert!(rt; refusal == Some(GroupsRefusal::TooMany(1025)));
     Ok(())
 }

@@ -1,7 +1,7 @@
 //! A credential as words, and the words that are none.
 use crate::tests::parts::{ALL, id};
 use cred_caps::SecureBits;
-use cred_ids::{Groups, Id, NoMemory};
+use cred_ids::{Groups, Id, NoMemory, limits};
 use cred_record::layout::{AMBIENT, FLAGS, GROUPS, NAMESPACE, PERMITTED, ROOT, SAVED_GROUP, USER};
 use cred_record::{Cred, WORDS, first, of_words, to_words};
 use std::alloc::Global;
@@ -20,8 +20,8 @@ fn with_groups(alloc: Global, groups: &[Id]) -> Result<Cred, Fail> {
     Ok(cred)
 }
 
-/// The words of that credential with the groups 5, 4 and 9.
-const LAID_OUT: [u64; WORDS] = [
+/// The first words of that credential with the groups 5, 4 and 9. The others are 0.
+const LAID_OUT: [u64; 14] = [
     1000 << 32 | 100000,
     100000 << 32 | 100000,
     0x7_0000_0007,
@@ -36,36 +36,33 @@ const LAID_OUT: [u64; WORDS] = [
     100000,
     0x5_0000_0004,
     9,
-    0,
-    0,
-    0,
-    0,
-    0,
-    0,
-    0,
-    0,
-    0,
-    0,
-    0,
-    0,
-    0,
-    0,
 ];
+
+/// Whether these are the words of that credential.
+fn are_laid_out(words: &[u64; WORDS]) -> bool {
+    for (place, word) in words.iter().enumerate() {
+        if *word != LAID_OUT.get(place).copied().unwrap_or(0) {
+            return false;
+        }
+    }
+    true
+}
 
 #[test]
 fn words_have_the_layout_and_are_read_again(rt: HostRuntime) -> Result<(), Fail> {
     let cred = with_groups(rt.alloc(), &[id(5)?, id(4)?, id(9)?])?;
     let words = to_words(&cred);
-    assert!(rt; words == LAID_OUT);
+    assert!(rt; are_laid_out(&words));
     let again = of_words(rt.alloc(), &words)?.ok_or("no credential")?;
-    assert!(rt; to_words(&again) == LAID_OUT);
+    assert!(rt; are_laid_out(&to_words(&again)));
     Ok(())
 }
 
 #[test]
 fn the_last_group_stands_in_the_last_word(rt: HostRuntime) -> Result<(), Fail> {
-    let most = to_words(&with_groups(rt.alloc(), &[id(8)?; 32])?);
-    assert_eq!(rt; most[27], 0x8_0000_0008);
+    let groups = vec![in rt.alloc(); id(8)?; limits::GROUP_LIMIT]?;
+    let most = to_words(&with_groups(rt.alloc(), groups.as_slice())?);
+    assert_eq!(rt; most[GROUPS + limits::GROUP_LIMIT / 2 - 1], 0x8_0000_0008);
     assert!(rt; of_words(rt.alloc(), &most)?.is_some());
     Ok(())
 }
@@ -78,7 +75,7 @@ const OTHERS: [(usize, u64); 13] = [
     (PERMITTED, 0),
     (AMBIENT, 1),
     (FLAGS, 0x2_032f),
-    (FLAGS, 0x21_012f),
+    (FLAGS, 0x401_012f),
     (NAMESPACE, 1 << 32),
     (ROOT, 0xffff_ffff),
     (ROOT, 1 << 32 | 100000),

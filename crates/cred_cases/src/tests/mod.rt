@@ -11,3 +11,4 @@ mod procs;
 mod record;
 mod slots;
 mod turns;
+mod works;

@@ -141,7 +141,7 @@ static ANSWERS: [(&str, &str); 3] = [
 
 /// The calls that set ids, and whether some caller is answered `ok`, `eperm` and `einval` for these
 /// arguments (setuid(2), seteuid(2), setreuid(2), setresuid(2), setgroups(2)).
-static ID_CALLS: [(&str, [bool; 3]); 18] = [
+static ID_CALLS: [(&str, [bool; 3]); 17] = [
     ("begin t1 setuid 5", [true, true, false]),
     ("begin t1 setuid -1", [false, false, true]),
     ("begin t1 seteuid 5", [true, true, false]),
@@ -159,11 +159,6 @@ static ID_CALLS: [(&str, [bool; 3]); 18] = [
     ("begin t1 setresgid 5 -1 -1", [true, true, false]),
     ("begin t1 setresgid -1 -1 -1", [true, false, false]),
     ("begin t1 setgroups 7 7", [true, true, false]),
-    (
-        "begin t1 setgroups 1 2 3 4 5 6 7 8 9 10 11 12 13 14 15 16 17 18 19 20 21 22 23 24 25 26 \
-         27 28 29 30 31 32 33",
-        [false, true, true],
-    ),
 ];
 
 /// The same of changes of sets and securebits (capset(2), prctl(2), capabilities(7)).

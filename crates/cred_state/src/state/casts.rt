@@ -1,24 +1,35 @@
 //! The id calls, which every thread of a process makes, one after another, and the open broadcasts,
 //! which refuse other events while threads still wait in them (nptl(7)).
-ghost use Rattle.std.specs.Prelude.{◌≡◌, Ok, Err, IfOk, IfSome, MatchOption, MatchResult, OnOk};
-ghost use Rattle.std.specs.Prelude.{OnErr};
+ghost use Rattle.std.specs.Prelude.{◌≡◌, [], Ok, Err, IfOk, IfSome, MatchOption, MatchResult};
+ghost use Rattle.std.specs.Prelude.{OnOk, OnErr};
 ghost use Rattle.std.specs.Option.{IsSome};
 ghost use Rattle.cred_event.specs.declared.answer.Answer.TheVariants.{Aborted, Busy};
+ghost use Rattle.cred_event.specs.declared.answer.Answer.TheVariants.{NoBroadcast};
 ghost use Rattle.cred_record.specs.declared.id_call.IdCall.{IdCall as Call};
 ghost use Rattle.cred_model.specs.State.{Broadcast, begun_by, cast_in, task_of};
 ghost use Rattle.cred_model.specs.Casts.{not_busy};
 ghost use Rattle.cred_model.specs.Like.{Gives, GivesLike};
 ghost use Rattle.cred_model.specs.Step.{aborted, by_act, by_begin};
 ghost use Rattle.cred_sound.specs.Sound.{IsSound};
-ghost use Rattle.cred_tables.specs.Begin.{MayBegin, at_abort};
-ghost use Rattle.cred_tables.specs.Kept.{seen_numbered};
+ghost use Rattle.cred_tables.specs.Begin.{ActsNext, MayBegin, at_abort};
+ghost use Rattle.cred_tables.specs.Kept.{seen_in};
 
 use crate::state::State;
 use cred_event::{AbortCause, Answer, Named};
+use cred_hold::Cells;
 use cred_ids::NoMemory;
 use cred_record::{IdCall, Refusal};
 use cred_setid::apply;
-use cred_tables::{Numbered, begin_in, drop_all, seal_next, sealed_at, sweep_at};
+use cred_tables::{Numbered, begin_in, drop_all, seal_next, sweep_at};
+
+/// The least thread that waits in a broadcast, its place among the tasks, and its current
+/// credential.
+#[derive(Clone, Copy)]
+struct Next {
+    task: u32,
+    place: usize,
+    now: Numbered,
+}
 
 impl State {
     /// A task makes an id call. The other threads of its process then wait for their step; where it
@@ -29,18 +40,29 @@ impl State {
     ///
     /// `NoMemory` if an allocation of the credential, of room for its reference, of a list or of
     /// the call's copy fails: the state is as it was.
-    pub fn begin(&mut self, line: u32, task: u32, call: &IdCall) -> Result<Answer, NoMemory>
-        requires { IsSound self.old }
+    pub fn begin(
+        &mut self,
+        cells: &Cells,
+        line: u32,
+        task: u32,
+        call: &IdCall,
+    ) -> Result<Answer, NoMemory>
+        requires own { self.old.words.id ≡ cells.now }
+        requires out { self.old.words.out ≡ [] }
+        requires sound { IsSound self.old.state }
         ensures ok { IfOk result (λ answer.
-            GivesLike self.old (by_begin self.old line task call.now) answer self.new) }
+            GivesLike self.old.state (by_begin self.old.state line task call.now) answer
+            self.new.state) }
         ensures err { OnErr result (self.new ≡ self.old) }
+        ensures words { self.new.words ≡ self.old.words }
     {
         let now = match self.may_begin(line, task) {
             Ok(now) => now,
             Err(answer) => return Ok(answer),
         };
         let old = now.number;
-        let cred = match apply(self.alloc, now.cred, call) {
+        let own = self.read(cells, now)?;
+        let cred = match apply(self.alloc, &own, call) {
             Ok(cred) => cred,
             Err(Refusal::Perm) => return Ok(Answer::Eperm),
             Err(Refusal::Invalid) => return Ok(Answer::Einval),
@@ -54,7 +76,7 @@ impl State {
         // The others wait before the credential is sealed, since that may want memory.
         let left = begin_in(&self.tasks, &mut self.casts, line, task, call)?;
         let number = seal_next(&mut self.slots, slot);
-        self.store.put(slot, cred);
+        self.master.set(cells, slot, &cred);
         self.tasks.set_current(task, number);
         self.slots.drop_later(old);
         Ok(Answer::Began {
@@ -72,22 +94,24 @@ impl State {
     ///
     /// `NoMemory` if an allocation of the credential, of room for its reference or of a list fails:
     /// the state is as it was.
-    pub fn act(&mut self, number: u32) -> Result<Answer, NoMemory>
-        requires { IsSound self.old }
+    pub fn act(&mut self, cells: &Cells, number: u32) -> Result<Answer, NoMemory>
+        requires own { self.old.words.id ≡ cells.now }
+        requires out { self.old.words.out ≡ [] }
+        requires sound { IsSound self.old.state }
         ensures ok { IfOk result (λ answer.
-            GivesLike self.old (by_act self.old number) answer self.new) }
+            GivesLike self.old.state (by_act self.old.state number) answer self.new.state) }
         ensures err { OnErr result (self.new ≡ self.old) }
+        ensures words { self.new.words ≡ self.old.words }
     {
-        let Some((task, call)) = self.casts.next(number) else {
+        let Some(next) = self.next_in(number) else {
             return Ok(Answer::NoBroadcast(number));
         };
-        // It is there: who waits in a broadcast is alive.
-        let place = self.tasks.place(task).unwrap();
-        let Some(now) = sealed_at(&self.store, &self.slots, self.tasks.current_at(place)) else {
-            return Ok(Answer::NoBroadcast(number));
-        };
-        let replaced = now.number;
-        let cred = match apply(self.alloc, now.cred, call) {
+        let task = next.task;
+        let replaced = next.now.number;
+        let own = self.read(cells, next.now)?;
+        // It is there: a thread waits in the broadcast.
+        let (_, call) = self.casts.next(number).unwrap();
+        let cred = match apply(self.alloc, &own, call) {
             Ok(cred) => cred,
             // Whether a call is valid is the call's alone, and its caller has made it: what the
             // thread lacks is the right.
@@ -101,8 +125,8 @@ impl State {
             return self.end_process_of(task, AbortCause::Full);
         };
         let new = seal_next(&mut self.slots, slot);
-        self.store.put(slot, cred);
-        self.tasks.set_current_at(place, new);
+        self.master.set(cells, slot, &cred);
+        self.tasks.set_current_at(next.place, new);
         self.slots.drop_later(replaced);
         let left = self.casts.acted(number, task);
         Ok(Answer::Acted {
@@ -113,16 +137,39 @@ impl State {
         })
     }
 
+    /// The thread that makes its step next in a broadcast. `None` where none of that number is
+    /// open.
+    fn next_in(&self, number: u32) -> Option<Next>
+        requires { IsSound self.now.state }
+        ensures { MatchOption result
+            (GivesLike self.now.state (by_act self.now.state number) (NoBroadcast number)
+            self.now.state)
+            (λ next. ActsNext self.now.state number next.task next.place
+            (seen_in self.now.state.creds next.now)) }
+    {
+        let Some((task, _)) = self.casts.next(number) else {
+            return None;
+        };
+        // It is there: who waits in a broadcast is alive.
+        let place = self.tasks.place(task).unwrap();
+        let Some(now) = self.sealed_at(self.tasks.current_at(place)) else {
+            return None;
+        };
+        Some(Next { task, place, now })
+    }
+
     /// A task that waits in a broadcast can't follow: all threads of its process end, and the
     /// broadcast of the process is dropped. Where it found no slot, the sweep that was made to find
     /// one stands.
     #[inline(never)]
     fn end_process_of(&mut self, task: u32, cause: AbortCause) -> Result<Answer, NoMemory>
-        requires { IsSome (task_of self.old task) }
+        requires { IsSome (task_of self.old.state task) }
         ensures answer { IfOk result (λ answer. answer ≡ Aborted task cause) }
-        ensures state { OnOk result (IfSome (task_of self.old task) (λ owner. (cast : Broadcast)
-            → cast.process ≡ owner.process → self.new ≡ aborted cast (at_abort cause self.old))) }
+        ensures state { OnOk result (IfSome (task_of self.old.state task) (λ owner.
+            (cast : Broadcast) → cast.process ≡ owner.process
+            → self.new.state ≡ aborted cast (at_abort cause self.old.state))) }
         ensures err { OnErr result (self.new ≡ self.old) }
+        ensures words { self.new.words ≡ self.old.words }
     {
         // It is there: who waits in a broadcast is alive.
         let process = self.tasks.process_of(task).unwrap();
@@ -135,11 +182,11 @@ impl State {
 
     /// The current credential of a task that makes an id call. `Err` with what refuses the call
     /// before its own rule is asked.
-    fn may_begin(&self, line: u32, task: u32) -> Result<Numbered<'_>, Answer>
+    fn may_begin(&self, line: u32, task: u32) -> Result<Numbered, Answer>
         ensures { MatchResult result
-            (λ now. MayBegin self.now line task (seen_numbered now))
-            (λ answer. (call : Call) → Gives self.now (by_begin self.now line task call) answer
-            self.now) }
+            (λ now. MayBegin self.now.state line task (seen_in self.now.state.creds now))
+            (λ answer. (call : Call) →
+            Gives self.now.state (by_begin self.now.state line task call) answer self.now.state) }
     {
         let Some(now) = self.current(task) else {
             return Err(Answer::NoTask(task));
@@ -165,8 +212,8 @@ impl State {
     /// commits nothing, creates no task and doesn't end. `None` where it has begun none.
     pub fn begun(&self, task: u32) -> Option<u32>
         ensures { MatchOption result
-            (not_busy (begun_by self.now task) ≡ Ok tt)
-            (λ number. not_busy (begun_by self.now task) ≡ Err (Busy number)) }
+            (not_busy (begun_by self.now.state task) ≡ Ok tt)
+            (λ number. not_busy (begun_by self.now.state task) ≡ Err (Busy number)) }
     {
         self.casts.begun_by(task)
     }
@@ -175,8 +222,8 @@ impl State {
     /// begins another, and no other task is put in it. `None` where none is open there.
     pub fn open_in(&self, process: u32) -> Option<u32>
         ensures { MatchOption result
-            (not_busy (cast_in self.now process) ≡ Ok tt)
-            (λ number. not_busy (cast_in self.now process) ≡ Err (Busy number)) }
+            (not_busy (cast_in self.now.state process) ≡ Ok tt)
+            (λ number. not_busy (cast_in self.now.state process) ≡ Err (Busy number)) }
     {
         self.casts.open_in(process)
     }

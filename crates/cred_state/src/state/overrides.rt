@@ -1,5 +1,5 @@
 //! The events by which a task acts with another credential than its current one, and goes back.
-ghost use Rattle.std.specs.Prelude.{◌≡◌, Ok, Err, None, IfOk, IfSome, MatchOption, OnErr};
+ghost use Rattle.std.specs.Prelude.{◌≡◌, [], Ok, Err, None, IfOk, IfSome, MatchOption, OnErr};
 ghost use Rattle.std.specs.Option.{IsSome};
 ghost use Rattle.cred_event.specs.declared.answer.Answer.TheVariants.{Overridden};
 ghost use Rattle.cred_model.specs.State.{held_by, task_of};
@@ -10,6 +10,7 @@ ghost use Rattle.cred_sound.specs.Sound.{IsSound};
 
 use crate::state::State;
 use cred_event::Answer;
+use cred_hold::Cells;
 use cred_ids::NoMemory;
 use cred_tables::{Numbered, seal_kept};
 
@@ -22,17 +23,26 @@ impl State {
     /// # Errors
     ///
     /// `NoMemory` if an allocation of room for the reference fails: the state is as it was.
-    pub fn override_with(&mut self, task: u32, label: u32) -> Result<Answer, NoMemory>
-        requires { IsSound self.old }
+    pub fn override_with(
+        &mut self,
+        cells: &Cells,
+        task: u32,
+        label: u32,
+    ) -> Result<Answer, NoMemory>
+        requires own { self.old.words.id ≡ cells.now }
+        requires out { self.old.words.out ≡ [] }
+        requires sound { IsSound self.old.state }
         ensures ok { IfOk result (λ answer.
-            GivesLike self.old (by_override self.old task label) answer self.new) }
+            GivesLike self.old.state (by_override self.old.state task label) answer
+            self.new.state) }
         ensures err { OnErr result (self.new ≡ self.old) }
+        ensures words { self.new.words ≡ self.old.words }
     {
         if !self.tasks.alive(task) {
             return Ok(Answer::NoTask(task));
         }
-        let Some(Numbered { number, slot, .. }) = self.held(label) else {
-            return self.override_prepared(task, label);
+        let Some(Numbered { number, slot }) = self.held(label) else {
+            return self.override_prepared(cells, task, label);
         };
         self.slots.reserve()?;
         if !self.tasks.push_override(task, number) {
@@ -44,13 +54,22 @@ impl State {
 
     /// A live task acts with what it prepared under the label for access(2), where the label holds
     /// nothing: that is sealed in the slot that was kept for it, and its base is given up.
-    fn override_prepared(&mut self, task: u32, label: u32) -> Result<Answer, NoMemory>
-        requires sound { IsSound self.old }
-        requires alive { IsSome (task_of self.old task) }
-        requires unheld { held_by self.old label ≡ None }
+    fn override_prepared(
+        &mut self,
+        cells: &Cells,
+        task: u32,
+        label: u32,
+    ) -> Result<Answer, NoMemory>
+        requires own { self.old.words.id ≡ cells.now }
+        requires out { self.old.words.out ≡ [] }
+        requires sound { IsSound self.old.state }
+        requires alive { IsSome (task_of self.old.state task) }
+        requires unheld { held_by self.old.state label ≡ None }
         ensures ok { IfOk result (λ answer.
-            GivesLike self.old (by_override self.old task label) answer self.new) }
+            GivesLike self.old.state (by_override self.old.state task label) answer
+            self.new.state) }
         ensures err { OnErr result (self.new ≡ self.old) }
+        ensures words { self.new.words ≡ self.old.words }
     {
         if !self.prepared.is_for_access(label, task) {
             return Ok(Answer::NoHold(label));
@@ -62,7 +81,7 @@ impl State {
             return Ok(Answer::TooDeep);
         }
         let (kept, last) = self.prepared.finish(label);
-        let number = seal_kept(&mut self.slots, &mut self.store, kept, last.cred);
+        let number = seal_kept(&mut self.slots, &mut self.master, cells, kept, &last.cred);
         Ok(Answer::Sealed {
             cred: number,
             slot: kept.slot,
@@ -73,8 +92,9 @@ impl State {
     /// `revert_creds`), and that override's credential is given up. `NoTask` and `NotOverridden`
     /// leave the state.
     pub fn revert(&mut self, task: u32) -> Answer
-        requires { IsSound self.old }
-        ensures { Gives self.old (by_revert self.old task) result self.new }
+        requires { IsSound self.old.state }
+        ensures made { Gives self.old.state (by_revert self.old.state task) result self.new.state }
+        ensures words { self.new.words ≡ self.old.words }
     {
         if !self.tasks.alive(task) {
             return Answer::NoTask(task);
@@ -89,7 +109,7 @@ impl State {
     /// How many overrides a live task has, where it has some: then its current credential can't be
     /// replaced or shared, and it can't end. `None` where it has none.
     pub fn overridden(&self, task: u32) -> Option<u32>
-        ensures { IfSome (task_of self.now task) (λ owner. MatchOption result
+        ensures { IfSome (task_of self.now.state task) (λ owner. MatchOption result
             (not_overridden owner ≡ Ok tt)
             (λ depth. not_overridden owner ≡ Err (Overridden depth))) }
     {

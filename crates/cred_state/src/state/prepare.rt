@@ -1,21 +1,22 @@
 //! The events on prepared labels.
-ghost use Rattle.std.specs.Prelude.{◌≡◌, IfOk, OnErr};
+ghost use Rattle.std.specs.Prelude.{◌≡◌, [], IfOk, OnErr};
 ghost use Rattle.std.specs.Option.{option_map, option_and_then};
 ghost use Rattle.cred_model.specs.State.{prepared_of, numbered};
 ghost use Rattle.cred_model.specs.Like.{Gives, GivesLike};
 ghost use Rattle.cred_sound.specs.Sound.{IsSound};
 ghost use Rattle.cred_model.specs.Step.{by_abort, by_alter, by_commit, by_prepare};
-ghost use Rattle.cred_tables.specs.Kept.{seen_numbered};
+ghost use Rattle.cred_tables.specs.Kept.{seen_in};
 
 use crate::state::State;
 use cred_decide::{Made, change as change_of};
 use cred_declared::{chain_of, executed_file};
 use cred_event::{Answer, Change, Counted, Named};
+use cred_hold::Cells;
 use cred_ids::{NoMemory, limits};
 use cred_script::Script;
 use cred_tables::{
     Changed, Ended, Numbered, Preparation, Ready, committed_by, drop_all, drop_cast, end_with,
-    seal_kept, sealed_at,
+    seal_kept,
 };
 
 impl State {
@@ -29,8 +30,10 @@ impl State {
     /// as it was.
     pub fn prepare(&mut self, label: u32, task: u32, hold: u32) -> Result<Answer, NoMemory>
         ensures ok { IfOk result (λ answer.
-            Gives self.old (by_prepare self.old label task hold) answer self.new) }
+            Gives self.old.state (by_prepare self.old.state label task hold) answer
+            self.new.state) }
         ensures err { OnErr result (self.new ≡ self.old) }
+        ensures words { self.new.words ≡ self.old.words }
     {
         if !self.tasks.alive(task) {
             return Ok(Answer::NoTask(task));
@@ -76,22 +79,31 @@ impl State {
     /// # Errors
     ///
     /// `NoMemory` if the credential could not be copied: the state is as it was.
-    pub fn alter(&mut self, script: &Script, label: u32, change: Change) -> Result<Answer, NoMemory>
+    pub fn alter(
+        &mut self,
+        cells: &Cells,
+        script: &Script,
+        label: u32,
+        change: Change,
+    ) -> Result<Answer, NoMemory>
+        requires own { self.old.words.id ≡ cells.now }
         ensures ok { IfOk result (λ answer.
-            Gives self.old (by_alter script.now self.old label change) answer self.new) }
+            Gives self.old.state (by_alter script.now self.old.state label change) answer
+            self.new.state) }
         ensures err { OnErr result (self.new ≡ self.old) }
+        ensures words { self.new.words ≡ self.old.words }
     {
         let Some(base) = self.base(label) else {
             return Ok(Answer::NoPrepared(label));
         };
-        let base = base.cred;
+        let base = self.read(cells, base)?;
         let file = executed_file(script, change);
         let chain = chain_of(script, base.ns);
         let Made {
             answer,
             cred,
             gains,
-        } = match change_of(base, file, chain, &change)? {
+        } = match change_of(&base, file, chain, &change)? {
             Ok(made) => made,
             Err(answer) => return Ok(answer),
         };
@@ -118,11 +130,14 @@ impl State {
     ///
     /// `NoMemory` if an allocation of room for the reference or of a list fails: the state is as it
     /// was.
-    pub fn commit(&mut self, label: u32) -> Result<Answer, NoMemory>
-        requires { IsSound self.old }
+    pub fn commit(&mut self, cells: &Cells, label: u32) -> Result<Answer, NoMemory>
+        requires own { self.old.words.id ≡ cells.now }
+        requires out { self.old.words.out ≡ [] }
+        requires sound { IsSound self.old.state }
         ensures ok { IfOk result (λ answer.
-            GivesLike self.old (by_commit self.old label) answer self.new) }
+            GivesLike self.old.state (by_commit self.old.state label) answer self.new.state) }
         ensures err { OnErr result (self.new ≡ self.old) }
+        ensures words { self.new.words ≡ self.old.words }
     {
         let Some(Ready { task, base, change }) = self.prepared.ready(label) else {
             return Ok(Answer::NoPrepared(label));
@@ -149,7 +164,7 @@ impl State {
         let (kept, last) = self.prepared.finish(label);
         drop_cast(&mut self.casts, last.change, process);
         let (change, gains) = (last.change, last.gains);
-        let number = seal_kept(&mut self.slots, &mut self.store, kept, last.cred);
+        let number = seal_kept(&mut self.slots, &mut self.master, cells, kept, &last.cred);
         self.tasks.set_current(task, number);
         let ended = ended.tasks.items().len() as u32;
         Ok(committed_by(change, &gains, number, kept.slot, ended))
@@ -158,8 +173,9 @@ impl State {
     /// The label gives up what it prepared, with its slot and the reference to its base.
     /// `NoPrepared` leaves the state.
     pub fn abort(&mut self, label: u32) -> Answer
-        requires { IsSound self.old }
-        ensures { Gives self.old (by_abort self.old label) result self.new }
+        requires { IsSound self.old.state }
+        ensures made { Gives self.old.state (by_abort self.old.state label) result self.new.state }
+        ensures words { self.new.words ≡ self.old.words }
     {
         let Some(Ended { base, slot }) = self.prepared.give_up(label) else {
             return Answer::NoPrepared(label);
@@ -170,12 +186,13 @@ impl State {
     }
 
     /// The base of a label. `None` where the label isn't prepared.
-    fn base(&self, label: u32) -> Option<Numbered<'_>>
-        ensures { option_map seen_numbered result
-            ≡ option_and_then (λ p. numbered self.now.creds p.base)
-            (prepared_of self.now label) }
+    fn base(&self, label: u32) -> Option<Numbered>
+        ensures { option_map (seen_in self.now.state.creds) result
+            ≡ option_and_then (λ p. numbered self.now.state.creds p.base)
+            (prepared_of self.now.state label) }
     {
         let preparation = self.prepared.get(label)?;
-        sealed_at(&self.store, &self.slots, preparation.base)
+        let base = preparation.base;
+        self.sealed_at(base)
     }
 }

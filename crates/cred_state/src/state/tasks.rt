@@ -1,11 +1,12 @@
 //! The events by which tasks are created and end.
-ghost use Rattle.std.specs.Prelude.{◌≡◌, IfOk, OnErr};
+ghost use Rattle.std.specs.Prelude.{◌≡◌, [], IfOk, OnErr};
 ghost use Rattle.cred_model.specs.Like.{Gives, GivesLike};
 ghost use Rattle.cred_model.specs.Step.{by_exit, by_fork, by_init, by_spawn};
 ghost use Rattle.cred_sound.specs.Sound.{IsSound};
 
 use crate::state::State;
 use cred_event::{Answer, Counted, Named};
+use cred_hold::Cells;
 use cred_ids::{Id, NoMemory};
 use cred_record::first;
 use cred_tables::{Numbered, drop_all, seal_next, spawn_in};
@@ -20,6 +21,7 @@ impl State {
     /// it was.
     pub fn init(
         &mut self,
+        cells: &Cells,
         number: u32,
         process: u32,
         user: Id,
@@ -27,9 +29,13 @@ impl State {
         ns: u32,
         root: Id,
     ) -> Result<Answer, NoMemory>
+        requires own { self.old.words.id ≡ cells.now }
+        requires out { self.old.words.out ≡ [] }
         ensures ok { IfOk result (λ answer.
-            GivesLike self.old (by_init self.old number process user group ns root) answer self.new) }
+            GivesLike self.old.state (by_init self.old.state number process user group ns root)
+            answer self.new.state) }
         ensures err { OnErr result (self.new ≡ self.old) }
+        ensures words { self.new.words ≡ self.old.words }
     {
         if let Some(cast) = self.open_in(process) {
             return Ok(Answer::Busy(cast));
@@ -53,7 +59,7 @@ impl State {
         let next = self.slots.next_number();
         self.tasks.start(number, process, next)?;
         let current = seal_next(&mut self.slots, slot);
-        self.store.put(slot, cred);
+        self.master.set(cells, slot, &cred);
         Ok(Answer::Sealed {
             cred: current,
             slot,
@@ -68,12 +74,13 @@ impl State {
     /// `NoMemory` if an allocation of room for the child, for its reference or for its place among
     /// those that wait fails: the state is as it was.
     pub fn spawn(&mut self, task: u32, child: u32) -> Result<Answer, NoMemory>
-        requires { IsSound self.old }
+        requires { IsSound self.old.state }
         ensures ok { IfOk result (λ answer.
-            Gives self.old (by_spawn self.old task child) answer self.new) }
+            Gives self.old.state (by_spawn self.old.state task child) answer self.new.state) }
         ensures err { OnErr result (self.new ≡ self.old) }
+        ensures words { self.new.words ≡ self.old.words }
     {
-        let Some(Numbered { number, slot, .. }) = self.current(task) else {
+        let Some(Numbered { number, slot }) = self.current(task) else {
             return Ok(Answer::NoTask(task));
         };
         if let Some(cast) = self.begun(task) {
@@ -106,10 +113,12 @@ impl State {
     /// as it was.
     pub fn fork(&mut self, task: u32, child: u32, process: u32) -> Result<Answer, NoMemory>
         ensures ok { IfOk result (λ answer.
-            Gives self.old (by_fork self.old task child process) answer self.new) }
+            Gives self.old.state (by_fork self.old.state task child process) answer
+            self.new.state) }
         ensures err { OnErr result (self.new ≡ self.old) }
+        ensures words { self.new.words ≡ self.old.words }
     {
-        let Some(Numbered { number, slot, .. }) = self.current(task) else {
+        let Some(Numbered { number, slot }) = self.current(task) else {
             return Ok(Answer::NoTask(task));
         };
         if let Some(cast) = self.begun(task) {
@@ -148,8 +157,9 @@ impl State {
     /// `NoMemory` if the allocation of a list fails: the state is as it was.
     pub fn exit(&mut self, task: u32) -> Result<Answer, NoMemory>
         ensures ok { IfOk result (λ answer.
-            Gives self.old (by_exit self.old task) answer self.new) }
+            Gives self.old.state (by_exit self.old.state task) answer self.new.state) }
         ensures err { OnErr result (self.new ≡ self.old) }
+        ensures words { self.new.words ≡ self.old.words }
     {
         if !self.tasks.alive(task) {
             return Ok(Answer::NoTask(task));

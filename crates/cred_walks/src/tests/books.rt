@@ -1,8 +1,10 @@
 //! The one owner of the books that the tests walk in. Making a book and letting it go is dear to
 //! prove, so a test lends its walk to the owner, which lends the book to the walk.
+ghost use Rattle.std.specs.Prelude.{◌≡◌};
 ghost use Rattle.cred_book.specs.Cursor.{Stands};
 
 use cred_book::{Book, Step};
+use cred_hold::Cells;
 use cred_ids::limits;
 use cred_script::{line_count, read};
 use std::alloc::Global;
@@ -15,8 +17,9 @@ pub(crate) trait Walk {
     /// # Errors
     ///
     /// What kept the walk from its end.
-    fn walk(&mut self, alloc: Global, book: &mut Book) -> Result<(), Fail>
-        requires { Stands book.old };
+    fn walk(&mut self, alloc: Global, cells: &Cells, book: &mut Book) -> Result<(), Fail>
+        requires own { book.old.words.id ≡ cells.now }
+        requires stands { Stands book.old };
 }
 
 /// Lends the book of a script to a walk.
@@ -29,8 +32,8 @@ pub(crate) fn walk_in_book<W: Walk>(alloc: Global, text: &str, walk: &mut W) -> 
         return Err(Fail::from("too many lines"));
     }
     let script = read(alloc, text.as_bytes())?;
-    let mut book = Book::new(alloc, script)?;
-    let walked = walk.walk(alloc, &mut book);
+    let (mut book, cells) = Book::new(alloc, script)?;
+    let walked = walk.walk(alloc, &cells, &mut book);
     drop(book);
     walked
 }
@@ -40,12 +43,14 @@ pub(crate) fn walk_in_book<W: Walk>(alloc: Global, text: &str, walk: &mut W) -> 
 /// # Errors
 ///
 /// Want of memory, or a lane whose line is the least one left and which makes no step.
-pub(crate) fn run_whole(book: &mut Book) -> Result<(), Fail>
-    requires { Stands book.old }
-    ensures { Stands book.new }
+pub(crate) fn run_whole(cells: &Cells, book: &mut Book) -> Result<(), Fail>
+    requires own { book.old.words.id ≡ cells.now }
+    requires stands { Stands book.old }
+    ensures stands { Stands book.new }
+    ensures words { book.new.words ≡ book.old.words }
 {
     'steps: while let Some(lane) = book.least() {
-        match book.next(lane)? {
+        match book.next(cells, lane)? {
             Step::More => (),
             Step::Ended => return Err(Fail::from("the least line makes no step")),
         }

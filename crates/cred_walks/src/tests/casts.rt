@@ -1,12 +1,13 @@
 //! What an open broadcast refuses and no script reaches, by the book's own call: a first task in
 //! its process, and another broadcast under its number.
-ghost use Rattle.std.specs.Prelude.{ℕ, List, IfOk};
+ghost use Rattle.std.specs.Prelude.{◌≡◌, ℕ, List, IfOk};
 ghost use Rattle.cred_model.specs.Named.{IsEventOf};
 ghost use Rattle.cred_model.specs.Script.{Namespace};
 
 use crate::tests::books::{Walk, run_whole, walk_in_book};
 use cred_book::Book;
 use cred_event::Event;
+use cred_hold::Cells;
 use cred_ids::{Arg, Id};
 use cred_record::IdCall;
 use cred_report::print;
@@ -116,12 +117,16 @@ fn event_of(call: Call) -> Result<Event, Fail>
 /// Whether the entry that the event of a line gets has this text.
 fn is_entered(
     alloc: Global,
+    cells: &Cells,
     book: &mut Book,
     line: u32,
     call: Call,
     text: &str,
-) -> Result<bool, Fail> {
-    book.event(line, event_of(call)?)?;
+) -> Result<bool, Fail>
+    requires own { book.old.words.id ≡ cells.now }
+    ensures words { book.new.words ≡ book.old.words }
+{
+    book.event(cells, line, event_of(call)?)?;
     let entry = book.journal().last().ok_or("an entry")?;
     let printed = print(alloc, book.script(), entry)?;
     Ok(printed.items() == text.as_bytes())
@@ -136,9 +141,11 @@ fn are_used(book: &Book, first: [u64; 8]) -> bool {
 }
 
 /// The text of the first row that goes otherwise.
-fn first_other(alloc: Global, book: &mut Book) -> Result<Option<&'static str>, Fail> {
-    for (line, call, text, first) in &ROWS {
-        let is_entered = is_entered(alloc, book, *line, *call, text)?;
+fn first_other(alloc: Global, cells: &Cells, book: &mut Book) -> Result<Option<&'static str>, Fail>
+    requires { book.old.words.id ≡ cells.now }
+{
+    'rows: for (line, call, text, first) in &ROWS {
+        let is_entered = is_entered(alloc, cells, book, *line, *call, text)?;
         if !is_entered || !are_used(book, *first) {
             return Ok(Some(*text));
         }
@@ -153,9 +160,9 @@ struct Rows {
 }
 
 impl Walk for Rows {
-    fn walk(&mut self, alloc: Global, book: &mut Book) -> Result<(), Fail> {
-        run_whole(book)?;
-        self.other = first_other(alloc, book)?;
+    fn walk(&mut self, alloc: Global, cells: &Cells, book: &mut Book) -> Result<(), Fail> {
+        run_whole(cells, book)?;
+        self.other = first_other(alloc, cells, book)?;
         Ok(())
     }
 }

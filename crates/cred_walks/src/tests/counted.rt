@@ -15,6 +15,7 @@ use crate::tests::counted::lists::{Lists, SLOTS};
 use crate::tests::counted::scripts::script_of;
 use cred_book::Book;
 use cred_event::{AbortCause, Answer, Entry, Event};
+use cred_hold::Cells;
 use cred_ids::NoMemory;
 use std::alloc::Global;
 use std::test::Fail;
@@ -175,8 +176,8 @@ struct Comparison {
 }
 
 impl Walk for Comparison {
-    fn walk(&mut self, alloc: Global, book: &mut Book) -> Result<(), Fail> {
-        run_whole(book)?;
+    fn walk(&mut self, alloc: Global, cells: &Cells, book: &mut Book) -> Result<(), Fail> {
+        run_whole(cells, book)?;
         self.other = first_other(alloc, book, &mut self.reached)?;
         Ok(())
     }

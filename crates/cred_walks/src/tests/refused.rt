@@ -1,11 +1,12 @@
 //! What no script reaches of an event's refusals, or none without lanes, by the book's own call:
 //! behind each of them all is answered as in a book that had none.
-ghost use Rattle.std.specs.Prelude.{◌<◌, length, IfOk};
+ghost use Rattle.std.specs.Prelude.{◌≡◌, ◌<◌, length, IfOk};
 ghost use Rattle.cred_model.specs.Named.{IsEventOf};
 
 use crate::tests::books::{Walk, run_whole, walk_in_book};
 use cred_book::Book;
 use cred_event::{Event, Side};
+use cred_hold::Cells;
 use cred_ids::{Arg, Id};
 use cred_record::{IdCall, Want};
 use cred_report::{Text, print};
@@ -240,36 +241,55 @@ fn event_of(script: &Script, call: Call) -> Result<Event, Fail>
 }
 
 /// The text of the entry that an event gets.
-fn entered(alloc: Global, book: &mut Book, call: Call) -> Result<Text, Fail> {
+fn entered(alloc: Global, cells: &Cells, book: &mut Book, call: Call) -> Result<Text, Fail>
+    requires own { book.old.words.id ≡ cells.now }
+    ensures words { book.new.words ≡ book.old.words }
+{
     let event = event_of(book.script(), call)?;
-    book.event(line_of(call), event)?;
+    book.event(cells, line_of(call), event)?;
     let entry = book.journal().last().ok_or("an entry")?;
     Ok(print(alloc, book.script(), entry)?)
 }
 
-/// Whether that is this text.
+/// Whether that of an event more is this text. Without one nothing is entered.
 fn is_entered(
     alloc: Global,
+    cells: &Cells,
     book: &mut Book,
-    (call, text): (Call, &'static str),
-) -> Result<bool, Fail> {
-    let told = entered(alloc, book, call)?;
+    more: Option<(Call, &'static str)>,
+) -> Result<bool, Fail>
+    requires own { book.old.words.id ≡ cells.now }
+    ensures words { book.new.words ≡ book.old.words }
+{
+    let Some((call, text)) = more else {
+        return Ok(true);
+    };
+    let told = entered(alloc, cells, book, call)?;
     Ok(told.items() == text.as_bytes())
 }
 
-/// Has the fifth task take all slots, one after another, and holds what stands in each.
-fn fill(alloc: Global, book: &mut Book) -> Result<(), Fail> {
+/// Has the fifth task take all slots, one after another, and holds what stands in each, where they
+/// are to be live.
+fn fill(alloc: Global, cells: &Cells, book: &mut Book, is_full: bool) -> Result<(), Fail>
+    requires own { book.old.words.id ≡ cells.now }
+    ensures words { book.new.words ≡ book.old.words }
+{
+    if !is_full {
+        return Ok(());
+    }
     for label in 100..350 {
-        entered(alloc, book, Call::Take { label, task: 5 })?;
-        entered(alloc, book, Call::Begin { line: 12, task: 5 })?;
+        entered(alloc, cells, book, Call::Take { label, task: 5 })?;
+        entered(alloc, cells, book, Call::Begin { line: 12, task: 5 })?;
     }
     Ok(())
 }
 
 /// Adds the texts of the entries that come then.
-fn tell_next(alloc: Global, book: &mut Book, told: &mut Vec<u8>) -> Result<(), Fail> {
+fn tell_next(alloc: Global, cells: &Cells, book: &mut Book, told: &mut Vec<u8>) -> Result<(), Fail>
+    requires { book.old.words.id ≡ cells.now }
+{
     for call in NEXT {
-        let text = entered(alloc, book, call)?;
+        let text = entered(alloc, cells, book, call)?;
         told.extend_from_slice(text.items())?;
     }
     Ok(())
@@ -293,16 +313,12 @@ struct Behind {
 }
 
 impl Walk for Behind {
-    fn walk(&mut self, alloc: Global, book: &mut Book) -> Result<(), Fail> {
-        run_whole(book)?;
-        if self.is_full {
-            fill(alloc, book)?;
-        }
-        if let Some(more) = self.more {
-            self.is_entered = is_entered(alloc, book, more)?;
-        }
+    fn walk(&mut self, alloc: Global, cells: &Cells, book: &mut Book) -> Result<(), Fail> {
+        run_whole(cells, book)?;
+        fill(alloc, cells, book, self.is_full)?;
+        self.is_entered = is_entered(alloc, cells, book, self.more)?;
         tell_uses(book, &mut self.told)?;
-        tell_next(alloc, book, &mut self.told)?;
+        tell_next(alloc, cells, book, &mut self.told)?;
         tell_uses(book, &mut self.told)
     }
 }
@@ -316,7 +332,7 @@ fn walked(
     let mut walk = Behind {
         is_full,
         more,
-        is_entered: more.is_none(),
+        is_entered: false,
         told: Vec::new(alloc),
     };
     walk_in_book(alloc, SCRIPT, &mut walk)?;

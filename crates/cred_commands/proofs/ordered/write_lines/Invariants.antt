@@ -6,7 +6,8 @@ abbrev pub invariant-lines : goal.invariant-lines
 invariant-lines g l = record {
   within : l.past ≤ length l.script.lines;
   faults : g.K.Sink.faults l.sink ≡ g.K.Sink.faults l.initial.sink;
-  kept : Kept l.script l.past l.state l.entries.items (g.K.Sink.written l.initial.sink) (g.K.Sink.written l.sink);
+  words : l.state.words ≡ l.initial.state.words;
+  kept : Kept l.script l.past l.state.state l.entries.items (g.K.Sink.written l.initial.sink) (g.K.Sink.written l.sink);
 }
 
 abbrev pub decreases-lines : goal.decreases-lines

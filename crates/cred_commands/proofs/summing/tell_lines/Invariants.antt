@@ -6,7 +6,8 @@ abbrev pub invariant-lines : goal.invariant-lines
 invariant-lines l = record {
   within : l.past ≤ length l.script.lines;
   empty : l.entries.items ≡ [];
-  told : Told l.script l.past l.state l.told;
+  words : l.state.words ≡ l.initial.state.words;
+  told : Told l.script l.past l.state.state l.told;
 }
 
 abbrev pub decreases-lines : goal.decreases-lines

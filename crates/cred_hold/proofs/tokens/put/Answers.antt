@@ -1,20 +1,21 @@
 use Rattle.std.proofs.Common.{Some, length, sym, ap, ◌∙◌}
 use Rattle.cred_record.specs.Words.{are_words, credential_of}
-use Rattle.cred_record.proofs.WordLemmas.{words-again, words-test}
+use Rattle.cred_record.proofs.WordLemmas.{length-words_of, words-again, words-test}
+use Rattle.cred_words.proofs.Opens.{width_is}
 use Rattle.cred_hold.proofs.tokens.put.Goals as goal
 
 pub invariant_of-writer : goal.invariant_of-writer
 invariant_of-writer c =
     let i = c.writer.invariant in
-    let t = c.scatter.ensures.put.1 in
-    let test = ap (λ t. are_words t.words) t ∙ ap are_words c.to_words-words.ensures ∙ words-test _ c.is_credential.ensures in
-    (i.0 ∙ sym (ap (λ t. t.slot) t), ap (λ t. t.writes) t ∙ i.1, ap (λ t. length t.words) t ∙ c.scatter.ensures.wide, λ _. test)
+    let t = c.scatter.ensures.1 in
+    let test = ap (λ t. are_words t.words) t ∙ words-test _ c.is_credential.ensures in
+    (i.0 ∙ sym (ap (λ t. t.slot) t), ap (λ t. t.writes) t ∙ i.1, ap (λ t. length t.words) t ∙ length-words_of c.args.cred.now ∙ sym width_is, λ _. test)
 
 pub returns : goal.returns
 returns c =
-    let e = c.scatter.ensures.put in
+    let e = c.scatter.ensures in
     let v = c.writer.view_is in
-    let again = ap credential_of c.to_words-words.ensures ∙ words-again _ c.is_credential.ensures in
+    let again = words-again _ c.is_credential.ensures in
     λ k. record {
       id = (e.0 ∙ ap (λ w. w.id) v) k;
       label = (ap (λ t. t.label) e.1 ∙ ap (λ w. w.label) v) k;

@@ -46,6 +46,7 @@ setup-preserved c =
     = rw c.in-More.is at c.in_ok-next.ensures.counts in
     record {
       script = c.next.ensures.script ∙ c.setup.invariant.script;
+      words = c.next.ensures.words ∙ c.setup.invariant.words;
       stands = c.next.ensures.stands;
       entered = λ lane some. counts.0.entered lane (λ (e : lane ≡ 0). omega (arith, some, e))
           ∙ c.setup.invariant.entered lane some;

@@ -6,6 +6,7 @@ use Rattle.cred_kernel.proofs.parts.run_setup.Given as goal
 abbrev pub invariant-setup : goal.invariant-setup
 invariant-setup l = record {
   script : l.book.script ≡ l.initial.book.script;
+  words : l.book.words ≡ l.initial.book.words;
   stands : Stands l.book;
   entered : (lane : ℕ) → 0 < lane → entered_of l.book.script l.book.journal lane ≡ 0;
 }

@@ -3,6 +3,7 @@ use Rattle.std.specs.Option.{option_map}
 use Rattle.cred_event.specs.declared.entry.Entry.{Entry}
 use Rattle.cred_model.proofs.Names.{event_named}
 use Rattle.cred_cursor.proofs.Courses.{line_at-place}
+use Rattle.cred_tables.specs.Kept.{Words}
 use Rattle.cred_order.proofs.Goes.{goes_first, goes_sound, goes_by, goes_out}
 use Rattle.cred_order.proofs.line.run_line.Goals as goal
 
@@ -11,9 +12,11 @@ events-init c =
     let found = c.line.ensures.found in
     let is = c.in-Some.is in
     let here : slice_get c.args.script.now.lines c.args.past ≡ Some (record { lane = c.in-Some.field-0-0; content = c.in-Some.content.now })
-    = sym (line_at-place c.args.script.now c.args.past) ∙ sym found ∙ ap (option_map _) is in
-    goes_first c.args.script.now c.args.past c.args.state.now c.args.entries.now.items _ c.in-Some.content.now c.start-course.result here refl
-    c.start-course.ensures.value
+    = sym (line_at-place c.args.script.now c.args.past) ∙ sym found ∙ ap (option_map _) is in (
+      goes_first c.args.script.now c.args.past c.args.state.now.state c.args.entries.now.items _ c.in-Some.content.now c.start-course.result here refl
+          c.start-course.ensures.value,
+      refl,
+    )
 
 pub step-requires-clause-kind : goal.step-requires-clause-kind
 step-requires-clause-kind c =
@@ -21,29 +24,37 @@ step-requires-clause-kind c =
     c.in-Some.ensures.kind (sym c.in_ok-event.ensures.event ∙ c.in-Some-2.is)
 
 pub step-requires-clause-sound : goal.step-requires-clause-sound
-step-requires-clause-sound c = goes_sound _ _ _ _ _ _ _ _ c.requires.run c.events.invariant
+step-requires-clause-sound c = goes_sound _ _ _ _ _ _ _ _ c.requires.run c.events.invariant.0
+
+pub step-requires-clause-own : goal.step-requires-clause-own
+step-requires-clause-own c = ap (λ (w : Words). w.id) c.events.invariant.1 ∙ c.requires.own
+
+pub step-requires-clause-out : goal.step-requires-clause-out
+step-requires-clause-out c = ap (λ (w : Words). w.out) c.events.invariant.1 ∙ c.requires.out
 
 pub events-smaller : goal.events-smaller
 events-smaller c =
-    (goes_by c.args.script.now c.args.past c.args.state.now c.events.state c.step.new.self c.args.entries.now.items c.events.entries.items
+    (goes_by c.args.script.now c.args.past c.args.state.now.state c.events.state.state c.step.new.self.state c.args.entries.now.items c.events.entries.items
     c.push_reserved.new.self.items c.in-Some.content.now c.events.course c.took.new.self c.in-Some-2.event (c.args.past + 1) c.in_ok-answer.answer
-    c.requires.run c.events.invariant
+    c.requires.run c.events.invariant.0
     (sym c.in_ok-event.ensures.ended ∙ ap is_some c.in-Some-2.is) (sym c.in_ok-event.ensures.event ∙ c.in-Some-2.is) refl
     c.in_ok-answer.ensures.ok c.took.ensures.after
     (c.push_reserved.ensures.items
     ∙ ap (λ (js : List Entry). js ++ record { line = c.args.past + 1; event = c.in-Some-2.event; answer = c.in_ok-answer.answer } ∷ []) c.in_ok-reserve.ensures.items)).falls
 
 pub events-preserved : goal.events-preserved
-events-preserved c =
-    (goes_by c.args.script.now c.args.past c.args.state.now c.events.state c.step.new.self c.args.entries.now.items c.events.entries.items
-    c.push_reserved.new.self.items c.in-Some.content.now c.events.course c.took.new.self c.in-Some-2.event (c.args.past + 1) c.in_ok-answer.answer
-    c.requires.run c.events.invariant
-    (sym c.in_ok-event.ensures.ended ∙ ap is_some c.in-Some-2.is) (sym c.in_ok-event.ensures.event ∙ c.in-Some-2.is) refl
-    c.in_ok-answer.ensures.ok c.took.ensures.after
-    (c.push_reserved.ensures.items
-    ∙ ap (λ (js : List Entry). js ++ record { line = c.args.past + 1; event = c.in-Some-2.event; answer = c.in_ok-answer.answer } ∷ []) c.in_ok-reserve.ensures.items)).goes
+events-preserved c = (
+  (goes_by c.args.script.now c.args.past c.args.state.now.state c.events.state.state c.step.new.self.state c.args.entries.now.items c.events.entries.items
+      c.push_reserved.new.self.items c.in-Some.content.now c.events.course c.took.new.self c.in-Some-2.event (c.args.past + 1) c.in_ok-answer.answer
+      c.requires.run c.events.invariant.0
+      (sym c.in_ok-event.ensures.ended ∙ ap is_some c.in-Some-2.is) (sym c.in_ok-event.ensures.event ∙ c.in-Some-2.is) refl
+      c.in_ok-answer.ensures.ok c.took.ensures.after
+      (c.push_reserved.ensures.items
+      ∙ ap (λ (js : List Entry). js ++ record { line = c.args.past + 1; event = c.in-Some-2.event; answer = c.in_ok-answer.answer } ∷ []) c.in_ok-reserve.ensures.items)).goes,
+  c.step.ensures.words ∙ c.events.invariant.1,
+)
 
-pub returns : goal.returns
-returns c =
-    goes_out c.args.script.now c.args.past c.args.state.now c.events.state c.args.entries.now.items c.events.entries.items c.in-Some.content.now c.events.course
-    c.events.invariant (sym c.in_ok-event.ensures.ended ∙ ap is_some c.in_default-2.is)
+pub returns-clause-runs : goal.returns-clause-runs
+returns-clause-runs c =
+    goes_out c.args.script.now c.args.past c.args.state.now.state c.events.state.state c.args.entries.now.items c.events.entries.items c.in-Some.content.now c.events.course
+    c.events.invariant.0 (sym c.in_ok-event.ensures.ended ∙ ap is_some c.in_default-2.is)

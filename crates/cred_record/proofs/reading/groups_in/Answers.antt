@@ -10,9 +10,7 @@ pub returns-in_default-clause-none : goal.returns-in_default-clause-none
 returns-in_default-clause-none c is =
     let none = rw c.in_default.is at c.in_ok-ids.ensures.none in
     let below = none.1 in
-    let same = none.2 in
-    let at = group-at _ none.0 is (omega (arith, c.group_count-count.ensures)) in
-    omega arith
+    none.2 (group-at _ none.0 is (omega (arith, c.group_count-count.ensures)))
 
 pub returns-in-Ok-clause-some : goal.returns-in-Ok-clause-some
 returns-in-Ok-clause-some c is =

@@ -1,7 +1,7 @@
 use Rattle.std.proofs.Common.{◌≡◌, ◌+◌, take, length}
 use Rattle.cred_record.specs.declared.layout.TheConstants.{WORDS, GROUPS}
 use Rattle.cred_record.specs.Words.{words_of}
-use Rattle.cred_record.proofs.WordLemmas.{Blank}
+use Rattle.cred_record.proofs.Blank.{Blank}
 use Rattle.cred_record.proofs.writing.to_words.Given as goal
 
 abbrev pub invariant-loop-place : goal.invariant-loop-place

@@ -5,8 +5,9 @@ use Rattle.cred_book.specs.Book.{Recorded}
 use Rattle.cred_book.proofs.Cursors.{nothing_run}
 use Rattle.cred_book.proofs.book.Book.new.Goals as goal
 
-pub invariant_of-result : goal.invariant_of-result
-invariant_of-result c = rw (c.in_ok-state.ensures, c.new-3.ensures.items) (like_self opening, λ k lt. absurd (omega arith))
+pub invariant_of-book : goal.invariant_of-book
+invariant_of-book c =
+    (rw (c.in_ok-cells.ensures.state, c.new-3.ensures.items) (like_self opening, λ k lt. absurd (omega arith)), c.in_ok-cells.ensures.out)
 
 pub returns-clause-stands : goal.returns-clause-stands
 returns-clause-stands c =
@@ -15,6 +16,7 @@ returns-clause-stands c =
       journal = c.new-3.result.items;
       cursors = c.in_ok-cursors.cursors;
       ended = c.in_ok-ended.ended.items;
+      words = c.in_ok-cells.state.words;
     } in
     nothing_run book c.new-3.ensures.items c.in_ok-cursors.ensures.cursors c.in_ok-ended.ensures.ended c.in_ok-ended.ensures.places
     c.lines_without_events.ensures.few c.lines_without_events.ensures.setup

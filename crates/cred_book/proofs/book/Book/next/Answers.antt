@@ -22,10 +22,11 @@ returns-in_default c =
     = due_found _ book c.args.lane _ _ c.self.view_is c.due.ensures c.in_default.is in
     record {
       script = refl;
-      stands = c.requires;
-      made = none_made book c.args.lane c.requires none;
+      words = refl;
+      stands = c.requires.stands;
+      made = none_made book c.args.lane c.requires.stands none;
       falls = λ more. cc;
-      counts = none_counted book c.args.lane c.requires none;
+      counts = none_counted book c.args.lane c.requires.stands none;
       err = tt;
     }
 
@@ -35,7 +36,7 @@ next_event-requires c =
     let here : due_of book.cursors c.args.lane ≡ Some c.in-Some.course
     = due_found _ book c.args.lane _ _ c.self.view_is c.due.ensures c.in-Some.is in
     record {
-      line = subst (λ (b : Recorded). IsOfLine b.script c.in-Some.course) (sym c.self.view_is) (due_of_line book c.args.lane c.in-Some.course c.requires here);
+      line = subst (λ (b : Recorded). IsOfLine b.script c.in-Some.course) (sym c.self.view_is) (due_of_line book c.args.lane c.in-Some.course c.requires.stands here);
     }
 
 pub enter-requires-clause-kind : goal.enter-requires-clause-kind
@@ -49,14 +50,14 @@ enter-requires-clause-line c =
     let book : Recorded = c.args.self.now in
     let here : due_of book.cursors c.args.lane ≡ Some c.in-Some.course
     = due_found _ book c.args.lane _ _ c.self.view_is c.due.ensures c.in-Some.is in
-    due_of_line book c.args.lane c.in-Some.course c.requires here
+    due_of_line book c.args.lane c.in-Some.course c.requires.stands here
 
 pub enter-requires-clause-going : goal.enter-requires-clause-going
 enter-requires-clause-going c =
     let book : Recorded = c.args.self.now in
     let here : due_of book.cursors c.args.lane ≡ Some c.in-Some.course
     = due_found _ book c.args.lane _ _ c.self.view_is c.due.ensures c.in-Some.is in
-    due_goes_on book c.args.lane c.in-Some.course c.requires here
+    due_goes_on book c.args.lane c.in-Some.course c.requires.stands here
 
 pub returns-in_default-2 : goal.returns-in_default-2
 returns-in_default-2 c =
@@ -67,7 +68,7 @@ returns-in_default-2 c =
     let script : c.self.inside.script ≡ book.script = ap (λ (b : Recorded). b.script) c.self.view_is in
     let event = ap is_some (sym c.in_default-2.is ∙ c.in_ok-event.ensures.event)
     ∙ ap (λ (s : Script). is_some (option_and_then (λ (l : Line). event_at l.content course) (line_at s course.line))) script
-    ∙ due_makes book c.args.lane course c.requires here in
+    ∙ due_makes book c.args.lane course c.requires.stands here in
     cc
 
 pub move_on-requires : goal.move_on-requires
@@ -76,7 +77,7 @@ move_on-requires c =
     let course : Course = c.in-Some.course in
     let here : due_of book.cursors c.args.lane ≡ Some course
     = due_found _ book c.args.lane _ _ c.self.view_is c.due.ensures c.in-Some.is in
-    let may = due_counts book c.args.lane course c.requires here in
+    let may = due_counts book c.args.lane course c.requires.stands here in
     let same : with_event book course.line c.in-Some-2.event ≡ c.enter.new.self = sym c.in_ok-cursor.ensures.entered in
     record {
       cursors = subst (λ (b : Recorded). c.args.lane < length b.cursors) same (lane_has_place book.cursors c.args.lane course here);
@@ -101,9 +102,10 @@ returns c =
     = sym (c.move_on.ensures ∙ ap (λ (b : Recorded). moved_on b lane c.line.result to) c.in_ok-cursor.ensures.entered
     ∙ ap (λ n. moved_on (with_event book course.line c.in-Some-2.event) lane n to) c.line.ensures.value) in
     let m : Moves book after lane
-    = subst (λ b. Moves book b lane) same (moves book lane course c.in-Some-2.event to c.requires here has c.in_ok-cursor.ensures.passes) in
+    = subst (λ b. Moves book b lane) same (moves book lane course c.in-Some-2.event to c.requires.stands here has c.in_ok-cursor.ensures.passes) in
     record {
       script = m.script;
+      words = sym (ap (λ (b : Recorded). b.words) same);
       stands = m.stands;
       made = makes_more book after (next book.script book.journal lane) m.entry m.next m.entered;
       falls = λ more. m.falls;

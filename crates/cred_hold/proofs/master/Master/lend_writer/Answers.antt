@@ -1,4 +1,5 @@
 use Rattle.std.proofs.Common.{None, map, set, sym, ap, ◌∙◌, subst, arith, true≢false, length, length-set}
+use Rattle.std.proofs.lemmas.List.{length-map}
 use Rattle.cred_words.specs.declared.view.Ledger.{Ledger}
 use Rattle.cred_words.proofs.Opens.{count_is}
 use Rattle.cred_hold.specs.Tokens.{AreSlots, IsAlone, slot_seen}
@@ -37,3 +38,7 @@ returns-clause-slots c =
     ap (λ (d : Ledger). map slot_seen d.slots) e.1 ∙
     map-set slot_seen c.self.inside.inner.ledger.slots c.args.slot _ ∙
     ap (λ m. set m.slots c.args.slot None) c.self.view_is
+
+pub returns-clause-long : goal.returns-clause-long
+returns-clause-long c =
+    ap (λ m. length m.slots) (sym c.self.view_is) ∙ length-map c.self.inside.inner.ledger.slots slot_seen ∙ c.self.invariant.2 ∙ count_is

@@ -5,8 +5,8 @@ use Rattle.cred_hold.specs.Tokens.{Entry, Written, entry}
 use Rattle.cred_hold.proofs.Within.{taken_alone}
 use Rattle.cred_hold.proofs.master.Master.set.Goals as goal
 
-pub returns : goal.returns
-returns c =
+pub returns-clause-made : goal.returns-clause-made
+returns-clause-made c =
     let lent = c.lend_writer-writer.ensures in
     let label = ap (λ (w : Written). w.label) c.put.ensures ∙ lent.writer.1 in
     let slot = ap (λ (w : Written). w.slot) c.put.ensures ∙ lent.writer.2 in

@@ -11,7 +11,7 @@ overflow_add-turn g c =
     let back : c.in-Some.pass ≡ pass g.K.Name.roll c.turn.inside.lane c.turn.inside.numbers
     = is_back c.take.result c.in-Some.pass _ c.in-Some.is (c.take.ensures.value ∙ c.turn.invariant.pass_is) in
     let was : c.turn.inside.numbers ≡ numbers_in book.script book.journal c.turn.inside.lane
-    = its_numbers book c.self.inside.roll.rows g.K.Name.roll c.turn.inside.lane c.turn.inside.numbers c.in-Some.pass c.self.invariant.lent back
+    = its_numbers book c.self.inside.roll.rows g.K.Name.roll c.turn.inside.lane c.turn.inside.numbers c.in-Some.pass c.self.invariant.0.lent back
     c.take-2.ensures.lane c.take-2.ensures.was in
     let few = entered_few book.script book.journal c.turn.inside.lane c.turn.inside.numbers was in
     let all : c.count-entries.result ≡ length book.journal = c.count-entries.ensures.count ∙ ap length c.journal.ensures in

@@ -26,8 +26,8 @@ invariant_of-self-2 c =
     sound.slots.own
     (ap (λ (x : Table). x.kept) c.drop_later.ensures.table ∙ ap (λ (x : Table). x.kept) c.give_up-2.ensures))
 
-pub returns : goal.returns
-returns c =
+pub returns-clause-made : goal.returns-clause-made
+returns-clause-made c =
     let gives = c.in-Some.ensures.gives in
     let base = c.in-Some.field-0.base in
     let after = c.drop_later.new.self in

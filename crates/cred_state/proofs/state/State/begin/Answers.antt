@@ -1,67 +1,81 @@
 use Rattle.std.proofs.Common.{◌≡◌, Ok, is_some, sym, ap, ◌∙◌}
 use Rattle.cred_rules.specs.SetId.{set_id}
+use Rattle.cred_model.specs.State.{Task, task_of}
 use Rattle.cred_model.proofs.Places.{if_some}
 use Rattle.cred_procs.specs.Tasks.{task_in}
-use Rattle.cred_tables.specs.Kept.{parts_of, state_of}
+use Rattle.cred_tables.specs.Kept.{cred_under, parts_of, state_of}
 use Rattle.cred_tables.proofs.Bags.{bag-keeps}
 use Rattle.cred_tables.proofs.Free.{full_swept}
 use Rattle.cred_tables.proofs.Sealing.{current-held, drops, none_spare, roomy_spare, seals_spare}
 use Rattle.cred_state.proofs.Begins.{may_wait, begin_full, replaced_kept, begin_sealed}
 use Rattle.cred_state.proofs.Made.{rule_made}
+use Rattle.cred_state.proofs.Reading.{is_found, none_lent}
 use Rattle.cred_state.proofs.Reserved.{kept_spare, kept_swept}
+use Rattle.cred_state.proofs.Standing.{current-in_use}
 use Rattle.cred_state.proofs.state.State.begin.Goals as goal
 
 pub returns-in_default-clause-ok : goal.returns-in_default-clause-ok
 returns-in_default-clause-ok c =
     let t = c.self.inside in
-    let may = rw (← c.self.view_is) at c.in-Ok.ensures in
-    let rule : set_id c.in-Ok.now.cred.now c.args.call.now ≡ Ok c.in-Ok-apply.cred = rule_made _ c.in-Ok-apply.cred c.in-Ok-apply.ensures in
+    let may = rw (← (c.self.view_is ∙ c.read.ensures.same)) at c.in-Ok.ensures in
+    let rule : set_id (cred_under (state_of (parts_of t.tasks t.casts t.files t.holds t.prepared) t.master.slots t.slots).creds c.in-Ok.now.number) c.args.call.now ≡ Ok c.in-Ok-apply.cred = rule_made _ c.in-Ok-apply.cred (rw (c.in_ok-own.ensures.cred, ← (c.self.view_is ∙ c.read.ensures.same)) at c.in-Ok-apply.ensures) in
     let none = sym c.in_default.ensures in
-    rw (← c.self.view_is)
+    rw (← (c.self.view_is ∙ c.read.ensures.same))
     (begin_full c.self.invariant c.sweep.new.self c.args.task _ c.in-Ok-apply.cred may.has c.args.line c.args.call.now may rule
     (none_spare t.slots c.in_ok-reserve.ensures.ok none)
-    (roomy_spare (parts_of t.tasks t.casts t.files t.holds t.prepared) t.store t.slots _ _ _ c.in_ok-reserve.ensures.ok
+    (roomy_spare (parts_of t.tasks t.casts t.files t.holds t.prepared) t.master.slots t.slots _ _ _ c.in_ok-reserve.ensures.ok
     (c.sweep.ensures ∙ sym (full_swept c.reserve.new.self none))))
 
 pub begin_in-requires : goal.begin_in-requires
 begin_in-requires c =
     let t = c.self.inside in
-    let may = rw (← c.self.view_is) at c.in-Ok.ensures in
-    let sound = rw (← c.self.view_is) at c.requires in
-    may_wait (state_of (parts_of t.tasks t.casts t.files t.holds t.prepared) t.store t.slots) c.args.line c.args.task _ may sound
+    let may = rw (← (c.self.view_is ∙ c.read.ensures.same)) at c.in-Ok.ensures in
+    let sound = rw (← (c.self.view_is ∙ c.read.ensures.same)) at c.requires.sound in
+    may_wait (state_of (parts_of t.tasks t.casts t.files t.holds t.prepared) t.master.slots t.slots) c.args.line c.args.task _ may sound
+
+pub read-requires-clause-found : goal.read-requires-clause-found
+read-requires-clause-found c =
+    let s = c.args.self.now.state in
+    is_found s.creds (λ (t : Task). t.current) (task_of s c.args.task) _ c.in-Ok.ensures.has
+
+pub read-requires-clause-used : goal.read-requires-clause-used
+read-requires-clause-used c = current-in_use c.args.self.now.state c.args.task _ c.in-Ok.ensures.has
+
+pub set-requires-clause-alone : goal.set-requires-clause-alone
+set-requires-clause-alone c = none_lent c.in-Some.slot (rw (← (c.self.view_is ∙ c.read.ensures.same)) at c.requires.out)
 
 pub seal_next-number-requires-clause-free : goal.seal_next-number-requires-clause-free
 seal_next-number-requires-clause-free c = sym c.in-Some.ensures
 
 pub set_current-requires : goal.set_current-requires
 set_current-requires c =
-    let may = rw (← c.self.view_is) at c.in-Ok.ensures in
+    let may = rw (← (c.self.view_is ∙ c.read.ensures.same)) at c.in-Ok.ensures in
     ap is_some may.lives
 
 pub drop_later-requires : goal.drop_later-requires
 drop_later-requires c =
-    let may = rw (← c.self.view_is) at c.in-Ok.ensures in
+    let may = rw (← (c.self.view_is ∙ c.read.ensures.same)) at c.in-Ok.ensures in
     let seals = seals_spare {t = c.self.inside.slots} c.in_ok-reserve.ensures.ok c.seal_next-number.ensures in
     bag-keeps c.in-Ok.now.number seals.held (current-held c.self.invariant c.args.task _ may.has)
 
 pub invariant_of-self-2 : goal.invariant_of-self-2
 invariant_of-self-2 c =
-    let may = rw (← c.self.view_is) at c.in-Ok.ensures in
-    let sound = rw (← c.self.view_is) at c.requires in
-    rw (c.set_current.ensures.tasks, c.put.ensures.set)
-    (replaced_kept c.self.invariant c.drop_later.new.self c.args.task _ c.in-Ok-apply.cred may.has c.put.ensures.long
+    let may = rw (← (c.self.view_is ∙ c.read.ensures.same)) at c.in-Ok.ensures in
+    let sound = rw (← (c.self.view_is ∙ c.read.ensures.same)) at c.requires.sound in
+    rw (c.set_current.ensures.tasks, c.set.ensures.made)
+    (replaced_kept c.self.invariant c.drop_later.new.self c.args.task _ c.in-Ok-apply.cred may.has c.set.ensures.long
     (seals_spare c.in_ok-reserve.ensures.ok c.seal_next-number.ensures) sound.tasks (drops c.drop_later.ensures.held c.drop_later.ensures.table)
     c.begin_in.new.casts)
 
 pub returns-clause-ok : goal.returns-clause-ok
 returns-clause-ok c =
     let t = c.self.inside in
-    let may = rw (← c.self.view_is) at c.in-Ok.ensures in
-    let sound = rw (← c.self.view_is) at c.requires in
-    let rule : set_id c.in-Ok.now.cred.now c.args.call.now ≡ Ok c.in-Ok-apply.cred = rule_made _ c.in-Ok-apply.cred c.in-Ok-apply.ensures in
+    let may = rw (← (c.self.view_is ∙ c.read.ensures.same)) at c.in-Ok.ensures in
+    let sound = rw (← (c.self.view_is ∙ c.read.ensures.same)) at c.requires.sound in
+    let rule : set_id (cred_under (state_of (parts_of t.tasks t.casts t.files t.holds t.prepared) t.master.slots t.slots).creds c.in-Ok.now.number) c.args.call.now ≡ Ok c.in-Ok-apply.cred = rule_made _ c.in-Ok-apply.cred (rw (c.in_ok-own.ensures.cred, ← (c.self.view_is ∙ c.read.ensures.same)) at c.in-Ok-apply.ensures) in
     let begun = if_some _ (task_in t.tasks c.args.task) may.owner may.lives c.in_ok-left.ensures.ok in
-    rw (← c.self.view_is, c.set_current.ensures.tasks, c.put.ensures.set, begun.casts)
-    (begin_sealed c.self.invariant c.drop_later.new.self c.args.task _ c.in-Ok-apply.cred may.has c.put.ensures.long
+    rw (← (c.self.view_is ∙ c.read.ensures.same), c.set_current.ensures.tasks, c.set.ensures.made, begun.casts)
+    (begin_sealed c.self.invariant c.drop_later.new.self c.args.task _ c.in-Ok-apply.cred may.has c.set.ensures.long
     (seals_spare c.in_ok-reserve.ensures.ok c.seal_next-number.ensures) sound.tasks (drops c.drop_later.ensures.held c.drop_later.ensures.table)
     c.args.line c.args.call.now may c.in_ok-left.left rule begun.waiting)
 

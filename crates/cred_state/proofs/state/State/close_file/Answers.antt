@@ -11,8 +11,8 @@ invariant_of-self-2 c =
     rw gone.left
     (close_kept c.self.invariant c.drop_later.new.self gone.place _ gone.there (drops c.drop_later.ensures.held c.drop_later.ensures.table))
 
-pub returns : goal.returns
-returns c =
+pub returns-clause-made : goal.returns-clause-made
+returns-clause-made c =
     let gone = c.in-Some.ensures in
     rw (← c.self.view_is, gone.left)
     (close_done c.self.invariant c.drop_later.new.self gone.place _ gone.there (drops c.drop_later.ensures.held c.drop_later.ensures.table)

@@ -4,6 +4,7 @@ use Rattle.cred_model.specs.State.{Changed}
 use Rattle.cred_model.specs.Moves.{with_current}
 use Rattle.cred_model.specs.Step.{is_access}
 use Rattle.cred_slots.specs.Table.{Table}
+use Rattle.cred_hold.specs.Tokens.{Mastered}
 use Rattle.cred_procs.specs.Tasks.{task_in}
 use Rattle.cred_tables.specs.Kept.{SealsKept, casts_left, parts_of, state_of}
 use Rattle.cred_state.proofs.Commits.{commit_none, commit_no_task, commit_busy, commit_overridden, commit_stale, goes_on, owner-held, base-held_still, slot-kept_still, commit_kept, commit_done}
@@ -11,6 +12,7 @@ use Rattle.cred_tables.proofs.Ending.{EndsWith, ends_so, ended-held}
 use Rattle.cred_tables.proofs.Labels.{same_label}
 use Rattle.cred_tables.proofs.Owners.{has_process_of, owner_of, owner_process, own_owner, over_owner}
 use Rattle.cred_tables.proofs.Sealing.{drops}
+use Rattle.cred_state.proofs.Reading.{none_lent}
 use Rattle.cred_state.proofs.Reserved.{kept_spare}
 use Rattle.cred_state.proofs.state.State.commit.Goals as goal
 
@@ -27,7 +29,7 @@ returns-in-Some-begun-clause-ok c =
     let ready = c.in-Some.ensures in
     let busy = rw (← c.self.view_is) at c.in-Some-begun.ensures in
     let t = c.self.inside in
-    let s = state_of (parts_of t.tasks t.casts t.files t.holds t.prepared) t.store t.slots in
+    let s = state_of (parts_of t.tasks t.casts t.files t.holds t.prepared) t.master.slots t.slots in
     rw (← c.self.view_is)
     (let own = owner_of s c.in-Some.field-0.task c.in-Some-current.now c.in-Some-current.ensures in
     commit_busy s c.args.label _ ready.last ready.found refl (ap is_access ready.by ∙ ready.for_task) c.in-Some-begun.cast own.0 own.1 busy)
@@ -38,7 +40,7 @@ returns-in-Some-overridden-clause-ok c =
     let over = rw (← c.self.view_is) at c.in-Some-overridden.ensures in
     let idle = rw (← c.self.view_is) at c.in_default-begun.ensures in
     let t = c.self.inside in
-    let s = state_of (parts_of t.tasks t.casts t.files t.holds t.prepared) t.store t.slots in
+    let s = state_of (parts_of t.tasks t.casts t.files t.holds t.prepared) t.master.slots t.slots in
     rw (← c.self.view_is)
     (let own = owner_of s c.in-Some.field-0.task c.in-Some-current.now c.in-Some-current.ensures in
     commit_overridden s c.args.label _ ready.last ready.found refl (ap is_access ready.by ∙ ready.for_task) c.in-Some-overridden.depth own.0 own.1 idle
@@ -49,12 +51,12 @@ returns-then-now-base-clause-ok c =
     let ready = c.in-Some.ensures in
     let allowed = rw (← c.self.view_is) at c.in_default-overridden.ensures in
     let idle = rw (← c.self.view_is) at c.in_default-begun.ensures in
-    let aborts = rw (← c.self.view_is) at c.abort.ensures in
+    let aborts = rw (← c.self.view_is) at c.abort.ensures.made in
     let t = c.self.inside in
-    let s = state_of (parts_of t.tasks t.casts t.files t.holds t.prepared) t.store t.slots in
+    let s = state_of (parts_of t.tasks t.casts t.files t.holds t.prepared) t.master.slots t.slots in
     rw (← c.self.view_is)
     (let own = owner_of s c.in-Some.field-0.task c.in-Some-current.now c.in-Some-current.ensures in
-    commit_stale s c.args.label _ ready.last ready.found refl (ap is_access ready.by ∙ ready.for_task) c.abort.new.self c.abort.result c.in-Some-current.now own.0 own.1 own.2 idle
+    commit_stale s c.args.label _ ready.last ready.found refl (ap is_access ready.by ∙ ready.for_task) c.abort.new.self.state c.abort.result c.in-Some-current.now own.0 own.1 own.2 idle
     (own_owner s c.in-Some.field-0.task own.0 own.1 allowed) c.if-now-base.true aborts)
 
 pub unwrap-process-requires : goal.unwrap-process-requires
@@ -103,6 +105,9 @@ seal_kept-number-requires-clause-base c =
     let less = drops c.drop_later.ensures.held c.drop_later.ensures.table in
     base-held_still c.self.invariant gives.gives.place _ gives.gives.there ready.change now own less (c.if-now-base.false ∙ sym same.1)
 
+pub seal_kept-number-requires-clause-alone : goal.seal_kept-number-requires-clause-alone
+seal_kept-number-requires-clause-alone c = none_lent c.finish-last.result.0.slot (rw (← c.self.view_is) at c.requires.out)
+
 pub set_current-requires : goal.set_current-requires
 set_current-requires c =
     let t = c.self.inside in
@@ -124,12 +129,12 @@ invariant_of-self-2 c =
     c.finish-last.result.1 c.in-Some.ensures gives in
     let own = subst (λ (n : ℕ). EndsWith ready.change t.tasks c.end_with.new.tasks t.slots c.drop_all.new.slots n now c.in_ok-ended.ended.tasks) (sym same.0) e in
     let less = drops c.drop_later.ensures.held c.drop_later.ensures.table in
-    let sound = rw (← c.self.view_is) at c.requires in
+    let sound = rw (← c.self.view_is) at c.requires.sound in
     let seals : SealsKept c.drop_later.new.self c.seal_kept-number.new.slots c.seal_kept-number.result c.finish-last.result.0.base c.finish-last.result.0.slot
     = c.seal_kept-number.ensures.sealed in
     let tasks : c.set_current.new.self ≡ with_current c.end_with.new.tasks gives.task c.seal_kept-number.result
     = c.set_current.ensures.tasks ∙ ap (λ (n : ℕ). with_current c.end_with.new.tasks n c.seal_kept-number.result) (sym same.0) in
-    let store = c.seal_kept-number.ensures.stored ∙ ap (λ (x : Changed). slice_set t.store c.finish-last.result.0.slot (Some x.cred)) c.last.view_is in
+    let store = ap (λ (m : Mastered). m.slots) c.seal_kept-number.ensures.stored ∙ ap (λ (x : Changed). slice_set t.master.slots c.finish-last.result.0.slot (Some x.cred)) c.last.view_is in
     let change : c.last.inside.change ≡ ready.change = ap (λ (x : Changed). x.change) c.last.view_is ∙ same.2 in
     let process = owner_process t.tasks ready.task c.unwrap-process.result e.owner e.lives c.unwrap-process.ensures c.process_of.ensures in
     let casts : c.drop_cast.new.casts ≡ casts_left ready.change e.owner.process t.casts
@@ -150,12 +155,12 @@ returns-clause-ok c =
     c.finish-last.result.1 c.in-Some.ensures gives in
     let own = subst (λ (n : ℕ). EndsWith ready.change t.tasks c.end_with.new.tasks t.slots c.drop_all.new.slots n now c.in_ok-ended.ended.tasks) (sym same.0) e in
     let less = drops c.drop_later.ensures.held c.drop_later.ensures.table in
-    let sound = rw (← c.self.view_is) at c.requires in
+    let sound = rw (← c.self.view_is) at c.requires.sound in
     let seals : SealsKept c.drop_later.new.self c.seal_kept-number.new.slots c.seal_kept-number.result c.finish-last.result.0.base c.finish-last.result.0.slot
     = c.seal_kept-number.ensures.sealed in
     let tasks : c.set_current.new.self ≡ with_current c.end_with.new.tasks gives.task c.seal_kept-number.result
     = c.set_current.ensures.tasks ∙ ap (λ (n : ℕ). with_current c.end_with.new.tasks n c.seal_kept-number.result) (sym same.0) in
-    let store = c.seal_kept-number.ensures.stored ∙ ap (λ (x : Changed). slice_set t.store c.finish-last.result.0.slot (Some x.cred)) c.last.view_is in
+    let store = ap (λ (m : Mastered). m.slots) c.seal_kept-number.ensures.stored ∙ ap (λ (x : Changed). slice_set t.master.slots c.finish-last.result.0.slot (Some x.cred)) c.last.view_is in
     let allowed = rw (← c.self.view_is) at c.in_default-overridden.ensures in
     let idle = rw (← c.self.view_is) at c.in_default-begun.ensures in
     let gains : c.last.inside.gains ≡ c.finish-last.result.1.gains = ap (λ (x : Changed). x.gains) c.last.view_is in
@@ -166,7 +171,7 @@ returns-clause-ok c =
     rw (← c.self.view_is, tasks, casts, gives.gives.left, store, c.committed_by.ensures, gains, change)
     (commit_done c.self.invariant gives.gives.place _ gives.gives.there ready.change now own less c.seal_kept-number.new.slots c.seal_kept-number.ensures.places
     c.finish-last.result.1 seals sound.tasks sound.slots.own c.args.label (length c.items-2.result.now) gives.gives.found refl
-    (ap is_access same.2 ∙ c.in-Some.ensures.for_task) (rw same.0 idle) (own_owner (state_of (parts_of t.tasks t.casts t.files t.holds t.prepared) t.store t.slots) gives.task own.owner own.lives (rw same.0 allowed)) same.2 (c.if-now-base.false ∙ sym same.1)
+    (ap is_access same.2 ∙ c.in-Some.ensures.for_task) (rw same.0 idle) (own_owner (state_of (parts_of t.tasks t.casts t.files t.holds t.prepared) t.master.slots t.slots) gives.task own.owner own.lives (rw same.0 allowed)) same.2 (c.if-now-base.false ∙ sym same.1)
     (ap length c.items-2.ensures))
 
 pub invariant_of-self : goal.invariant_of-self

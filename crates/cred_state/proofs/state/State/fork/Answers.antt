@@ -23,7 +23,7 @@ invariant_of-self-in_err-fork c = rw c.in_err-fork.ensures.err (kept_spare c.sel
 pub invariant_of-self-2 : goal.invariant_of-self-2
 invariant_of-self-2 c =
     let t = c.self.inside in
-    let s = state_of (parts_of t.tasks t.casts t.files t.holds t.prepared) t.store t.slots in
+    let s = state_of (parts_of t.tasks t.casts t.files t.holds t.prepared) t.master.slots t.slots in
     let has = rw (← c.self.view_is) at c.in-Some.ensures in
     let u = current_is s c.args.task _ (sym has) in
     let grown = c.in_ok-fork.ensures.ok

@@ -1,10 +1,12 @@
 use Rattle.std.proofs.Common.{◌≡◌, length, slice_set, Some, sym, ap, ◌∙◌}
 use Rattle.cred_record.specs.Credential.{Credential, first_credential}
+use Rattle.cred_hold.specs.Tokens.{Mastered}
 use Rattle.cred_tables.specs.Kept.{parts_of}
 use Rattle.cred_tables.proofs.Free.{full_swept}
 use Rattle.cred_state.proofs.Inits.{init_full, init_kept, init_sealed, few_by_test, started}
 use Rattle.cred_model.proofs.Places.{none_by_test}
 use Rattle.cred_tables.proofs.Sealing.{none_spare, roomy_spare, seals_spare}
+use Rattle.cred_state.proofs.Reading.{none_lent}
 use Rattle.cred_state.proofs.Reserved.{kept_spare, kept_swept}
 use Rattle.cred_state.proofs.state.State.init.Goals as goal
 
@@ -18,35 +20,38 @@ returns-in_default-free_slot-clause-ok c =
     rw (← c.self.view_is)
     (init_full c.self.invariant c.sweep.new.self c.args.number c.args.process c.args.user c.args.group c.args.ns c.args.root idle new few
     (none_spare t.slots c.in_ok-reserve.ensures.ok none)
-    (roomy_spare (parts_of t.tasks t.casts t.files t.holds t.prepared) t.store t.slots _ _ _ c.in_ok-reserve.ensures.ok (c.sweep.ensures ∙ sym (full_swept c.reserve.new.self none))))
+    (roomy_spare (parts_of t.tasks t.casts t.files t.holds t.prepared) t.master.slots t.slots _ _ _ c.in_ok-reserve.ensures.ok (c.sweep.ensures ∙ sym (full_swept c.reserve.new.self none))))
 
 pub seal_next-current-requires-clause-free : goal.seal_next-current-requires-clause-free
 seal_next-current-requires-clause-free c = sym c.in-Some-free_slot.ensures
+
+pub set-requires-clause-alone : goal.set-requires-clause-alone
+set-requires-clause-alone c = none_lent c.in-Some-free_slot.slot (rw (← c.self.view_is) at c.requires.out)
 
 pub invariant_of-self-2 : goal.invariant_of-self-2
 invariant_of-self-2 c =
     let t = c.self.inside in
     let seals = c.seal_next-current.ensures in
     let tasks = started t.tasks c.start.new.self c.args.number c.args.process _ _ c.in_ok-start.ensures.ok (c.next_number-next.ensures ∙ sym seals.counted) in
-    let store : c.put.new.self ≡ slice_set t.store c.in-Some-free_slot.slot (Some (first_credential c.args.user c.args.group c.args.ns c.args.root))
-    = c.put.ensures.set ∙ ap (λ (x : Credential). slice_set t.store c.in-Some-free_slot.slot (Some x)) c.in_ok-cred.ensures in
+    let store : c.set.new.self.slots ≡ slice_set t.master.slots c.in-Some-free_slot.slot (Some (first_credential c.args.user c.args.group c.args.ns c.args.root))
+    = ap (λ (m : Mastered). m.slots) c.set.ensures.made ∙ ap (λ (x : Credential). slice_set t.master.slots c.in-Some-free_slot.slot (Some x)) c.in_ok-cred.ensures in
     rw (tasks, store)
     (init_kept c.self.invariant c.seal_next-current.new.slots c.args.number c.args.process c.args.user c.args.group c.args.ns c.args.root
-    c.put.ensures.long (seals_spare c.in_ok-reserve.ensures.ok seals))
+    c.set.ensures.long (seals_spare c.in_ok-reserve.ensures.ok seals))
 
 pub returns-clause-ok : goal.returns-clause-ok
 returns-clause-ok c =
     let t = c.self.inside in
     let seals = c.seal_next-current.ensures in
     let tasks = started t.tasks c.start.new.self c.args.number c.args.process _ _ c.in_ok-start.ensures.ok (c.next_number-next.ensures ∙ sym seals.counted) in
-    let store : c.put.new.self ≡ slice_set t.store c.in-Some-free_slot.slot (Some (first_credential c.args.user c.args.group c.args.ns c.args.root))
-    = c.put.ensures.set ∙ ap (λ (x : Credential). slice_set t.store c.in-Some-free_slot.slot (Some x)) c.in_ok-cred.ensures in
+    let store : c.set.new.self.slots ≡ slice_set t.master.slots c.in-Some-free_slot.slot (Some (first_credential c.args.user c.args.group c.args.ns c.args.root))
+    = ap (λ (m : Mastered). m.slots) c.set.ensures.made ∙ ap (λ (x : Credential). slice_set t.master.slots c.in-Some-free_slot.slot (Some x)) c.in_ok-cred.ensures in
     let idle = rw (← c.self.view_is) at c.in_default.ensures in
     let new = none_by_test _ c.alive.result c.alive.ensures c.if-alive.false in
     let few = few_by_test (length t.tasks) c.full.result c.full.ensures.full c.if-full.false in
     rw (← c.self.view_is, tasks, store)
     (init_sealed c.self.invariant c.seal_next-current.new.slots c.args.number c.args.process c.args.user c.args.group c.args.ns c.args.root
-    c.put.ensures.long (seals_spare c.in_ok-reserve.ensures.ok seals) idle new few)
+    c.set.ensures.long (seals_spare c.in_ok-reserve.ensures.ok seals) idle new few)
 
 pub invariant_of-self : goal.invariant_of-self
 invariant_of-self c = rw c.in_err-reserve.ensures.err c.self.invariant

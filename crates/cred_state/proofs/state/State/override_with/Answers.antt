@@ -12,11 +12,11 @@ add-requires-clause-referred c =
     let has = rw (← c.self.view_is) at c.in-Some.ensures in
     referred_to t.slots c.reserve.new.self _ _ c.in_ok-reserve.ensures.ok
     (bag-at c.in-Some.field-0.number c.self.invariant.counted.counts
-    (held-in_use (state_of (parts_of t.tasks t.casts t.files t.holds t.prepared) t.store t.slots) c.args.label _ (sym has)))
+    (held-in_use (state_of (parts_of t.tasks t.casts t.files t.holds t.prepared) t.master.slots t.slots) c.args.label _ (sym has)))
 
 pub invariant_of-self-2 : goal.invariant_of-self-2
 invariant_of-self-2 c =
-    let sound = rw (← c.self.view_is) at c.requires in
+    let sound = rw (← c.self.view_is) at c.requires.sound in
     let number = c.in-Some.field-0.number in
     let lent = lends c.self.inside.tasks c.push_override.new.self c.args.task (sym c.alive.ensures ∙ c.if-not-alive.false) number c.push_override.result
     c.push_override.ensures.pushed c.push_override.ensures.tasks c.if-not-push_override.false in
@@ -25,11 +25,11 @@ invariant_of-self-2 c =
     lent_kept c.self.invariant c.args.task c.push_override.new.self sound.tasks number lent c.reserve.new.self c.add.new.self
     c.in_ok-reserve.ensures.ok c.add.ensures.held c.add.ensures.table
     (bag-at number c.self.invariant.counted.counts
-    (held-in_use (state_of (parts_of t.tasks t.casts t.files t.holds t.prepared) t.store t.slots) c.args.label _ (sym has)))
+    (held-in_use (state_of (parts_of t.tasks t.casts t.files t.holds t.prepared) t.master.slots t.slots) c.args.label _ (sym has)))
 
 pub returns-clause-ok : goal.returns-clause-ok
 returns-clause-ok c =
-    let sound = rw (← c.self.view_is) at c.requires in
+    let sound = rw (← c.self.view_is) at c.requires.sound in
     let has = rw (← c.self.view_is) at c.in-Some.ensures in
     let number = c.in-Some.field-0.number in
     let lent = lends c.self.inside.tasks c.push_override.new.self c.args.task (sym c.alive.ensures ∙ c.if-not-alive.false) number c.push_override.result

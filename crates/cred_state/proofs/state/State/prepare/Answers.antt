@@ -24,7 +24,7 @@ returns-in_default-free_slot-clause-ok c =
     (prepare_full c.self.invariant c.sweep.new.self c.args.label c.args.task c.args.hold
     (record { owner = owner.0; lives = owner.1; idle = idle; base = base.0; has = base.1; new = new.0; unprepared = new.1; few = few })
     (none_spare t.slots c.in_ok-reserve.ensures.ok none)
-    (roomy_spare (parts_of t.tasks t.casts t.files t.holds t.prepared) t.store t.slots _ _ _ c.in_ok-reserve.ensures.ok
+    (roomy_spare (parts_of t.tasks t.casts t.files t.holds t.prepared) t.master.slots t.slots _ _ _ c.in_ok-reserve.ensures.ok
     (c.sweep.ensures ∙ sym (full_swept c.reserve.new.self none))))
 
 pub claim-requires : goal.claim-requires

@@ -15,7 +15,7 @@ pub spawn_in-requires-clause-nowhere : goal.spawn_in-requires-clause-nowhere
 spawn_in-requires-clause-nowhere c =
     let t = c.self.inside in
     let sound = rw (← c.self.view_is) at c.requires in
-    dead_waits_nowhere (state_of (parts_of t.tasks t.casts t.files t.holds t.prepared) t.store t.slots) c.args.child sound (none_by_test _ c.alive.result c.alive.ensures c.if-alive.false)
+    dead_waits_nowhere (state_of (parts_of t.tasks t.casts t.files t.holds t.prepared) t.master.slots t.slots) c.args.child sound (none_by_test _ c.alive.result c.alive.ensures c.if-alive.false)
 
 pub add-requires-clause-referred : goal.add-requires-clause-referred
 add-requires-clause-referred c =
@@ -31,7 +31,7 @@ invariant_of-self-in_err-spawn_in c = rw (c.in_err-spawn_in.ensures.no_tasks, c.
 pub invariant_of-self-2 : goal.invariant_of-self-2
 invariant_of-self-2 c =
     let t = c.self.inside in
-    let s = state_of (parts_of t.tasks t.casts t.files t.holds t.prepared) t.store t.slots in
+    let s = state_of (parts_of t.tasks t.casts t.files t.holds t.prepared) t.master.slots t.slots in
     let has = rw (← c.self.view_is) at c.in-Some.ensures in
     let u = current_is s c.args.task _ (sym has) in
     let grown = c.in_ok-spawn_in.ensures.tasks

@@ -1,15 +1,15 @@
 use Rattle.std.proofs.Common.{refl, sym}
 use Rattle.cred_model.specs.Step.{by_take}
-use Rattle.cred_tables.specs.Kept.{seen_numbered}
+use Rattle.cred_tables.specs.Kept.{seen_in}
 use Rattle.cred_state.proofs.Holding.{takes_hold}
 use Rattle.cred_state.proofs.Standing.{credential-in_use}
 use Rattle.cred_state.proofs.state.State.take.Goals as goal
 
 pub take_hold-requires : goal.take_hold-requires
-take_hold-requires c = credential-in_use c.args.self.now c.args.task c.args.side _ (sym c.in-Some.ensures)
+take_hold-requires c = credential-in_use c.args.self.now.state c.args.task c.args.side _ (sym c.in-Some.ensures)
 
 pub returns-clause-ok : goal.returns-clause-ok
 returns-clause-ok c =
-    let s = c.args.self.now in
-    takes_hold s c.take_hold.new.self (by_take s c.args.label c.args.task c.args.side) c.args.label (seen_numbered c.in-Some.field-0) (rw (← c.in-Some.ensures) refl)
+    let s = c.args.self.now.state in
+    takes_hold s c.take_hold.new.self.state (by_take s c.args.label c.args.task c.args.side) c.args.label (seen_in s.creds c.in-Some.field-0) (rw (← c.in-Some.ensures) refl)
     c.take_hold.result c.take_hold.ensures.ok

@@ -1,0 +1,6 @@
+use Rattle.std.proofs.Common.{◌≡◌}
+use Rattle.cred_hold.proofs.Whole.{Cleared}
+use Rattle.cred_hold.proofs.words.clear.Given as goal
+
+abbrev pub invariant-loop-i : goal.invariant-loop-i
+invariant-loop-i l = (l.writer.id ≡ l.fn.writer.id) × Cleared l.fn.writer.token l.writer.token l.first l.i

@@ -1,0 +1,80 @@
+//! Questions about a credential that is held.
+ghost use Rattle.std.specs.Prelude.{◌≡◌, true, IfOk, OnErr};
+ghost use Rattle.std.specs.Option.{option_map};
+ghost use Rattle.cred_rules.specs.Adjust.{read_in};
+ghost use Rattle.cred_model.specs.Answers.{flag, reply};
+ghost use Rattle.cred_lent.specs.Questions.{is_on_whole};
+
+use cred_caps::{Cap, CapSet};
+use cred_decide::reply;
+use cred_event::{Answer, Query, Told};
+use cred_hold::{Cells, Hold, read, read_caps, read_ids};
+use cred_ids::NoMemory;
+use cred_record::FileInfo;
+use std::alloc::Global;
+
+/// The answer to a question about the credential that is held, as `cred_decide::reply` has it.
+/// `file` is the file that the question names, if it names one. The opening of a file is decided as
+/// its check is. The hold stays as it was. It waits for nobody.
+///
+/// # Errors
+///
+/// `NoMemory` where the whole credential is read, as `is_on_whole` of `specs/Questions.antt` says,
+/// and an allocation fails. A question about ids or about capability sets takes no memory.
+pub fn decide(
+    alloc: Global,
+    cells: &Cells,
+    hold: &mut Hold,
+    query: Query,
+    file: Option<&FileInfo>,
+) -> Result<Answer, NoMemory>
+    requires own { hold.old.id ≡ cells.now }
+    ensures told { IfOk result (λ answer. answer
+        ≡ reply (option_map (λ file. file.now) file.entry) hold.old.cred query) }
+    ensures memory { OnErr result (is_on_whole query ≡ true) }
+    ensures same { hold.new ≡ hold.old }
+{
+    let told = match query {
+        Query::Ids => {
+            let (uid, gid) = read_ids(cells, hold);
+            Told::Ids { uid, gid }
+        }
+        Query::Caps => {
+            let [perm, inh, eff, bound, amb] = read_caps(cells, hold);
+            Told::Caps {
+                perm,
+                inh,
+                eff,
+                bound,
+                amb,
+            }
+        }
+        Query::Capable(n) => {
+            let [_, _, eff, _, _] = read_caps(cells, hold);
+            return Ok(flag(eff, n));
+        }
+        Query::Bset(n) => {
+            let [_, _, _, bound, _] = read_caps(cells, hold);
+            return Ok(flag(bound, n));
+        }
+        Query::AmbIs(n) => {
+            let [_, _, _, _, amb] = read_caps(cells, hold);
+            return Ok(flag(amb, n));
+        }
+        Query::Groups | Query::Bits | Query::Check { .. } => {
+            let cred = read(alloc, cells, hold)?;
+            return reply(alloc, file, &cred, query);
+        }
+    };
+    Ok(Answer::Told(told))
+}
+
+/// The answer to the question whether capability n is in the set: a number of none is refused.
+fn flag(set: CapSet, n: u32) -> Answer
+    ensures { result ≡ flag (read_in set n) }
+{
+    match Cap::new(n) {
+        Some(cap) => Answer::Told(Told::Flag(set.has(cap))),
+        None => Answer::Einval,
+    }
+}
