@@ -1,15 +1,17 @@
 -- The numbers of a script of which nothing has run, counted line by line.
-use Rattle.std.proofs.Common.{◌≡◌, ℕ, zero, suc, ◌+◌, ◌-◌, ◌<◌, ◌≤◌, ◌==◌, ◌&&◌, Bool, true, false, List, [], ◌∷◌, length, set, drop, get_or, replicate, slice_get, Option, Some, None, is_none, is_some, refl, sym, ap, ◌∙◌, subst, inl, inr, arith}
+use Rattle.std.proofs.Common.{◌≡◌, ℕ, zero, suc, ◌+◌, ◌-◌, ◌<◌, ◌≤◌, ◌==◌, ◌&&◌, Bool, true, false, List, [], ◌∷◌, length, set, drop, get_or, replicate, slice_get, All, Option, Some, None, is_none, is_some, refl, sym, ap, ◌∙◌, subst, inl, inr, arith}
 use Rattle.std.proofs.lemmas.Bool.{cases_eq, cases_lt}
 use Rattle.std.proofs.lemmas.Bool.Decides.{nat_tests}
 use Rattle.std.proofs.lemmas.List.{get_or-replicate, get_or-set_other, get_or-set_same, get_or_past, length-replicate, length-set}
-use Rattle.std.proofs.lemmas.Option.{slice_get_within}
-use Rattle.cred_ids.specs.Limits.{LINE_LIMIT}
+use Rattle.std.proofs.lemmas.Option.{get_or_from_slice_get, slice_get_within}
+use Rattle.cred_ids.specs.Limits.{LAST_NUMBER, LINE_LIMIT}
 use Rattle.cred_event.specs.declared.content.Content.{Content}
 use Rattle.cred_model.specs.Script.{Script, Line}
 use Rattle.cred_model.specs.Course.{event_at, start}
 use Rattle.cred_model.specs.Journal.{next_event}
 use Rattle.cred_model.proofs.Courses.{makes_event}
+use Rattle.cred_model.proofs.Lists.{slice_get_at}
+use Rattle.cred_names.specs.Labels.{labels}
 use Rattle.cred_script.specs.Grammar.{line_at}
 use Rattle.cred_script.specs.Lanes.{lanes}
 use Rattle.cred_book.specs.Counts.{AreEnded, count_of, ended_from, ended_of}
@@ -36,11 +38,16 @@ replicated n i d = elim (cases_lt i n) [
 
 -- ---- lines
 
--- the lines before this number are counted
+-- no label of its words is one that a line takes for itself
+abbrev pub HasSmall : Line → Type 0
+HasSmall line = All (λ label. label ≤ LAST_NUMBER) (labels line.content)
+
+-- the lines before this number are counted, and have such labels alone
 pub record IsCounted (script : Script) (ended : List ℕ) (number : ℕ) : Type 0 where
   pub first : 1 ≤ number
   pub places : length ended ≡ lanes script.lines + 1
   pub sums : (lane : ℕ) → get_or ended lane 0 + ended_from [] lane number (drop (number - 1) script.lines) ≡ ended_of script [] lane
+  pub small : (k : ℕ) (line : Line) → k + 1 < number → slice_get script.lines k ≡ Some line → HasSmall line
 
 pub counted_first : (script : Script) (ended : List ℕ) → ended ≡ replicate (lanes script.lines + 1) 0 → IsCounted script ended 1
 counted_first script ended is = record {
@@ -49,6 +56,7 @@ counted_first script ended is = record {
   sums = λ lane.
       let none = ap (λ (ns : List ℕ). get_or ns lane 0) is ∙ replicated (lanes script.lines + 1) lane 0 in
       omega (arith, none);
+  small = λ k line lt at. absurd (omega (arith, lt));
 }
 
 -- the line of a number that is not 0
@@ -86,26 +94,40 @@ term_other : (a b : Bool) → b ≡ false → count_of (a && b) ≡ 0
 term_other true b is = ap count_of is
 term_other false b is = refl
 
+small_more : (script : Script) (ended : List ℕ) (number : ℕ) (line : Line) → IsCounted script ended number → line_at script number ≡ Some line → HasSmall line
+    → (k : ℕ) (other : Line) → k + 1 < number + 1 → slice_get script.lines k ≡ Some other → HasSmall other
+small_more script ended number line so at small k other lt there = elim (cases_lt (k + 1) number) [
+  | inl before ↦ so.small k other before there
+  | inr after ↦
+      let first = so.first in
+      let here : number - 1 ≡ k = omega (arith, lt, after, first) in
+      let same : Some line ≡ Some other = sym (line_place script number line so.first at) ∙ ap (slice_get script.lines) here ∙ there in
+      let is : line ≡ other = cc in
+      subst HasSmall is small
+]
+
 -- a line that makes events
 pub counted_on : (script : Script) (ended : List ℕ) (number : ℕ) (line : Line) → IsCounted script ended number → line_at script number ≡ Some line
-    → is_none (start number line.content).stage ≡ false → IsCounted script ended (number + 1)
-counted_on script ended number line so at going = record {
+    → HasSmall line → is_none (start number line.content).stage ≡ false → IsCounted script ended (number + 1)
+counted_on script ended number line so at small going = record {
   first = omega arith;
   places = so.places;
   sums = λ lane.
       let left = left_by script number lane line so.first at in
       let none = term_other (line.lane == lane) (is_none (start number line.content).stage) going in
       omega (arith, so.sums lane, left, none);
+  small = small_more script ended number line so at small;
 }
 
 -- one that makes none
 pub counted_one : (script : Script) (ended : List ℕ) (number : ℕ) (line : Line) → IsCounted script ended number → line_at script number ≡ Some line
-    → is_none (start number line.content).stage ≡ true → line.lane < length ended
+    → HasSmall line → is_none (start number line.content).stage ≡ true → line.lane < length ended
     → IsCounted script (set ended line.lane (get_or ended line.lane 0 + 1)) (number + 1)
-counted_one script ended number line so at over within = record {
+counted_one script ended number line so at small over within = record {
   first = omega arith;
   places = length-set ended line.lane (get_or ended line.lane 0 + 1) ∙ so.places;
   sums = by;
+  small = small_more script ended number line so at small;
 }
   where
     by : (lane : ℕ) → get_or (set ended line.lane (get_or ended line.lane 0 + 1)) lane 0 + ended_from [] lane (number + 1) (drop (number + 1 - 1) script.lines) ≡ ended_of script [] lane
@@ -133,6 +155,18 @@ pub counted_all : (script : Script) (ended : List ℕ) (number : ℕ) → IsCoun
 counted_all script ended number so none lane =
     let left = ap (ended_from [] lane number) (drop_past script.lines (number - 1) (sym (place_of script number so.first) ∙ none)) in
     omega (arith, so.sums lane, left)
+
+pub counted_small : (script : Script) (ended : List ℕ) (number : ℕ) → IsCounted script ended number → line_at script number ≡ None → All HasSmall script.lines
+counted_small script ended number so none k d lt =
+    let it = slice_get_at script.lines k lt in
+    let before : k + 1 < number = elim (cases_lt (k + 1) number) [
+      | inl before ↦ before
+      | inr after ↦
+          let last = slice_get_at script.lines (number - 1) (omega (arith, lt, after, so.first)) in
+          let both : None ≡ Some last.0 = sym (sym (place_of script number so.first) ∙ none) ∙ last.1 in
+          absurd (cc)
+    ] in
+    subst HasSmall (sym (get_or_from_slice_get script.lines k it.0 d it.1)) (so.small k it.0 before it.1)
 
 -- ---- bounds
 

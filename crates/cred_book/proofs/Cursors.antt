@@ -1,8 +1,8 @@
 -- A step of a lane, and what it makes.
-use Rattle.std.proofs.Common.{◌≡◌, ℕ, ◌+◌, ◌<◌, ◌≤◌, List, [], ◌∷◌, ◌++◌, get_or, length, set, Option, Some, None, is_some, Bool, true, false, MatchOption, refl, sym, ap, ◌∙◌, subst, inl, inr, arith}
-use Rattle.std.specs.List.{sum_by}
+use Rattle.std.proofs.Common.{◌≡◌, ℕ, zero, suc, ◌+◌, ◌<◌, ◌≤◌, List, [], ◌∷◌, ◌++◌, get_or, length, replicate, set, Option, Some, None, is_some, Bool, true, false, MatchOption, refl, sym, ap, ◌∙◌, subst, inl, inr, arith}
+use Rattle.std.specs.List.{count_by, flat_map, range_with_len, sum_by}
 use Rattle.std.specs.Option.{IfSome, option_map, option_and_then}
-use Rattle.std.proofs.lemmas.List.{length-set}
+use Rattle.std.proofs.lemmas.List.{length-replicate, length-set}
 use Rattle.std.proofs.lemmas.List.Sums.{sum_by-set}
 use Rattle.std.proofs.lemmas.Option.{get_or_from_slice_get, slice_get_within}
 use Rattle.cred_ids.specs.Limits.{LINE_LIMIT}
@@ -12,8 +12,7 @@ use Rattle.cred_event.specs.declared.entry.Entry.{Entry}
 use Rattle.cred_model.specs.Script.{Script, Line, SetupFirst}
 use Rattle.cred_model.specs.Course as model
 use Rattle.cred_model.specs.Course.{Course, Leads, event_at}
-use Rattle.cred_model.specs.Journal.{SoFar, entry_of, next, replay, IsInOrder, IsSequence}
-use Rattle.cred_model.proofs.Journals.{IsInOrder-push}
+use Rattle.cred_model.specs.Journal.{SoFar, entry_of, next, replay}
 use Rattle.cred_script.specs.Grammar.{line_at}
 use Rattle.cred_script.specs.Lanes.{lanes}
 use Rattle.cred_cursor.specs.Cursor.{IsLaneCursor, IsOfLine, MovesOnTo, left_at}
@@ -23,28 +22,34 @@ use Rattle.cred_cursor.proofs.Courses.{line_is, of_line}
 use Rattle.cred_cursor.proofs.Lanes.{SoFar-push, due_here, lane_goes_on, lane_makes_due, lane_of_course, lane_of_line}
 use Rattle.cred_cursor.proofs.Least.{least_due, least_is_due, none_due}
 use Rattle.cred_cursor.proofs.Turns.{due_is, lanes_go_on, next_none, next_some, stands_at}
-use Rattle.cred_book.specs.Book.{Recorded, with_event, answer_of}
-use Rattle.cred_book.specs.Counts.{AreEnded, Counts, IsSameOrNext, count_of}
+use Rattle.cred_hold.specs.Tokens as token
+use Rattle.cred_tables.specs.Kept.{Words}
+use Rattle.cred_tables.specs.Out.{waits_in}
+use Rattle.cred_book.specs.Book.{Recorded, out_of}
+use Rattle.cred_book.specs.Counts.{AreEnded, Counts, HasEntered, IsSameOrNext, count_of, ended_of, lines_in}
 use Rattle.cred_book.specs.Cursor.{NoLineIsLeft, IsLeastLane, left, waiting, Stands, Makes}
-use Rattle.cred_book.specs.Cursor.{has_left, moved_on}
-use Rattle.cred_book.specs.declared.step.Step.{Step}
+use Rattle.cred_book.specs.Cursor.{has_left}
+use Rattle.cred_book.specs.Works.{AreNamedApart, IsOutOf, lane_tokens}
 use Rattle.cred_book.specs.declared.step.Step.TheVariants as step
 use Rattle.cred_book.specs.declared.step.Step.TheVariants.{More}
 use Rattle.cred_book.proofs.Counts.{entered_other, entered_own, lines_few}
+use Rattle.cred_book.proofs.Decided.{decided_other, decided_own}
 use Rattle.cred_book.proofs.Left.{all_grow, all_have_ended, lane_in, one_left, others_stay, own_grows, set_up_stays}
+use Rattle.cred_book.proofs.Lent.{lane_tokens_none}
 use Rattle.cred_book.proofs.Measure.{step_falls}
+use Rattle.cred_book.proofs.Works.{GoesOn, IsNowOut, after, grown, lent_stays, out_in, where_some, works_stay}
 
 -- ---- a step
 
--- one event more of the lane was entered, and its cursor went on
-pub record Moves (before after : Recorded) (lane : ℕ) : Type 0 where
+-- one event more of the lane was entered, which was so many works', and its cursor went on
+pub record Moves (before after : Recorded) (lane works : ℕ) : Type 0 where
   pub script : after.script ≡ before.script
   pub stands : Stands after
   pub entry : Entry
   pub next : next before.script before.journal lane ≡ Some entry
   pub entered : after.journal ≡ before.journal ++ entry ∷ []
   pub falls : left after < left before
-  pub counts : Counts before after lane More
+  pub counts : HasEntered before after lane works
 
 pub record HasStage (course : Course) : Type 0 where
   pub stage : Stage
@@ -93,39 +98,46 @@ same_or_next was is true more = inr more
 same_or_next was is false same = inl (omega (arith, same))
 
 -- the numbers after it
-entry_counts : (book : Recorded) (lane : ℕ) (course : Course) (event : Event) (to : Option Course)
-    → Stands book → due_of book.cursors lane ≡ Some course
-    → let after : Recorded = with_event book course.line event in
-    IsLaneCursor book.script after.journal lane to
-    → AreCursors book.script after.journal (set book.cursors lane to)
-    → Counts book (moved_on after lane course.line to) lane More
-entry_counts book lane course event to stands due own now =
+entry_counts : {book : Recorded} {lane : ℕ} {course : Course} {event : Event} {to : Option Course} (goes : GoesOn book lane course event to)
+    (outs : List (Option ℕ)) (words : Words) → IsNowOut book.outs outs lane None
+    → IsLaneCursor book.script (grown book lane course event to) lane to
+    → AreCursors book.script (grown book lane course event to) (set book.cursors lane to)
+    → HasEntered book (after book lane course event to outs words) lane (count_of (waits_in (replay book.script book.journal) event))
+entry_counts {book = book} {lane = lane} {course = course} {event = event} {to = to} goes outs words out own now =
     let entry : Entry = entry_of book.script book.journal (record { line = course.line; event = event }) in
-    let at = stands_at book.script book.journal book.cursors lane course stands.cursors due in
-    let of = lane_of_course book.script book.journal lane course at in (
-      record {
-        own = entered_own book.script book.journal entry lane of;
-        own_ended = same_or_next _ _ (has_left to course.line)
-            (own_grows book.script book.journal lane course entry to at refl own);
-        entered = λ other differ. entered_other book.script book.journal entry lane other of differ;
-        ended = λ other differ. others_stay book.script book.journal lane other course entry at refl differ;
-        set_up = set_up_stays book.script book.journal (book.journal ++ entry ∷ []) book.cursors lane course to stands.cursors due now;
-      },
-      one_left book.script book.journal lane course at,
-    )
+    let at = stands_at book.script book.journal book.cursors lane course goes.stands.cursors goes.due in
+    let of = lane_of_course book.script book.journal lane course at in
+    record {
+      left = one_left book.script book.journal lane course at;
+      own = entered_own book.script book.journal entry lane of;
+      own_decided = decided_own book.script book.journal entry lane of;
+      own_ended = same_or_next _ _ (has_left to course.line)
+          (own_grows book.script book.journal lane course entry to at refl own);
+      entered = λ other differ. entered_other book.script book.journal entry lane other of differ;
+      decided = λ other differ. decided_other book.script book.journal entry lane other of differ;
+      ended = λ other differ. others_stay book.script book.journal lane other course entry at refl differ;
+      set_up = set_up_stays book.script book.journal (book.journal ++ entry ∷ []) book.cursors lane course to goes.stands.cursors goes.due now;
+      outs = record { own = out.own; others = out.others };
+    }
 
-pub moves : (book : Recorded) (lane : ℕ) (course : Course) (event : Event) (to : Option Course)
-    → Stands book → due_of book.cursors lane ≡ Some course
-    → option_and_then (λ (line : Line). event_at line.content course) (line_at book.script course.line) ≡ Some event
-    → IfSome (line_at book.script course.line) (λ line. MovesOnTo book.script lane (model.after line.content course (answer_of book course.line event)) to)
-    → Moves book (moved_on (with_event book course.line event) lane course.line to) lane
-moves book lane course event to stands due has passes =
+-- the lane has a place among those whose works may be out
+pub lane_has_out : (book : Recorded) (lane : ℕ) (course : Course) → Stands book → due_of book.cursors lane ≡ Some course → lane < length book.outs
+lane_has_out book lane course stands due =
+    let within = lane_in book.script book.journal lane course (stands_at book.script book.journal book.cursors lane course stands.cursors due) in
+    omega (arith, within, stands.outs)
+
+pub moves : {book : Recorded} {lane : ℕ} {course : Course} {event : Event} {to : Option Course} (goes : GoesOn book lane course event to)
+    (outs : List (Option ℕ)) (words : Words) → IsNowOut book.outs outs lane None
+    → ((test : token.Entry → Bool) → count_by test book.words.out ≡ count_by test (lane_tokens book lane) + count_by test words.out)
+    → Moves book (after book lane course event to outs words) lane (count_of (waits_in (replay book.script book.journal) event))
+moves {book = book} {lane = lane} {course = course} {event = event} {to = to} goes outs words out back =
     let script = book.script in
+    let stands = goes.stands in
     let entry : Entry = entry_of script book.journal (record { line = course.line; event = event }) in
-    let at = stands_at script book.journal book.cursors lane course stands.cursors due in
-    let comes = next_some script book.journal book.cursors lane course event stands.cursors due has in
-    let now = lanes_go_on script book.journal book.cursors lane course entry to stands.cursors due refl passes in
-    let own = lane_goes_on script book.journal lane course entry to at refl passes in
+    let at = stands_at script book.journal book.cursors lane course stands.cursors goes.due in
+    let comes = next_some script book.journal book.cursors lane course event stands.cursors goes.due goes.has in
+    let now = lanes_go_on script book.journal book.cursors lane course entry to stands.cursors goes.due refl goes.passes in
+    let own = lane_goes_on script book.journal lane course entry to at refl goes.passes in
     let within = lane_in script book.journal lane course at in
     record {
       script = refl;
@@ -136,24 +148,61 @@ moves book lane course event to stands due has passes =
         places = length-set book.ended lane (get_or book.ended lane 0 + count_of (has_left to course.line)) ∙ stands.places;
         few = stands.few;
         setup = stands.setup;
+        named = stands.named;
+        outs = out.long ∙ stands.outs;
+        works = works_stay goes outs words out;
+        lent = lent_stays goes outs words out (lane_has_out book lane course stands goes.due) back;
       };
       entry = entry;
       next = comes;
       entered = refl;
-      falls = entry_falls script book.journal book.cursors lane course event to stands.cursors due has passes;
-      counts = entry_counts book lane course event to stands due own now;
+      falls = entry_falls script book.journal book.cursors lane course event to stands.cursors goes.due goes.has goes.passes;
+      counts = entry_counts goes outs words out own now;
     }
 
-pub nothing_run : (book : Recorded) → book.journal ≡ [] → AreCursors book.script [] book.cursors → AreEnded book.script [] book.ended
-    → length book.ended ≡ lanes book.script.lines + 1 → length book.script.lines ≤ LINE_LIMIT → SetupFirst book.script → Stands book
-nothing_run book none at ended places few setup = record {
-  so_far = subst (SoFar book.script) (sym none) (λ k lt. absurd (omega (arith, lt)));
-  cursors = subst (λ (j : List Entry). AreCursors book.script j book.cursors) (sym none) at;
-  ended = subst (λ (j : List Entry). AreEnded book.script j book.ended) (sym none) ended;
-  places = places;
-  few = few;
-  setup = setup;
-}
+none_out : (outs : List (Option ℕ)) (n lane : ℕ) → outs ≡ replicate n None → out_in outs lane ≡ None
+none_out outs n lane is = ap (λ (os : List (Option ℕ)). out_in os lane) is ∙ by n lane
+  where
+    by : (n lane : ℕ) → out_in (replicate n None) lane ≡ None
+    by zero lane = refl
+    by (suc n) zero = refl
+    by (suc n) (suc lane) = by n lane
+
+-- where nothing has run no work is out
+pub no_work : (book : Recorded) (n lane : ℕ) → book.outs ≡ replicate n None → out_of book lane ≡ None
+no_work book n lane is = none_out book.outs n lane is
+
+no_tokens : (book : Recorded) (lanes : List ℕ) → ((lane : ℕ) → out_of book lane ≡ None) → flat_map (λ lane. lane_tokens book lane) lanes ≡ []
+no_tokens book [] none = refl
+no_tokens book (lane ∷ lanes) none = ap (λ es. es ++ flat_map (λ lane. lane_tokens book lane) lanes) (lane_tokens_none book lane (none lane)) ∙ no_tokens book lanes none
+
+-- what is so of a book of which nothing has run
+pub record IsNew (book : Recorded) : Type 0 where
+  pub journal : book.journal ≡ []
+  pub cursors : AreCursors book.script [] book.cursors
+  pub ended : AreEnded book.script [] book.ended
+  pub places : length book.ended ≡ lanes book.script.lines + 1
+  pub few : length book.script.lines ≤ LINE_LIMIT
+  pub setup : SetupFirst book.script
+  pub named : AreNamedApart book.script.lines
+  pub outs : book.outs ≡ replicate (lanes book.script.lines + 1) None
+  pub lent : book.words.out ≡ []
+
+pub nothing_run : (book : Recorded) → IsNew book → Stands book
+nothing_run book is =
+    let none : (lane : ℕ) → out_of book lane ≡ None = λ lane. no_work book (lanes book.script.lines + 1) lane is.outs in
+    record {
+      so_far = subst (SoFar book.script) (sym is.journal) (λ k lt. absurd (omega (arith, lt)));
+      cursors = subst (λ (j : List Entry). AreCursors book.script j book.cursors) (sym is.journal) is.cursors;
+      ended = subst (λ (j : List Entry). AreEnded book.script j book.ended) (sym is.journal) is.ended;
+      places = is.places;
+      few = is.few;
+      setup = is.setup;
+      named = is.named;
+      outs = ap length is.outs ∙ length-replicate (lanes book.script.lines + 1) None;
+      works = λ lane. where_some (IsOutOf book lane) (out_of book lane) (λ line out. let both : Some line ≡ None = sym out ∙ none lane in absurd (cc));
+      lent = λ test. ap (count_by test) (is.lent ∙ sym (no_tokens book (range_with_len 0 (length book.outs)) none));
+    }
 
 -- ---- where a lane stands
 
@@ -188,72 +237,32 @@ due_counts book lane course stands due =
     let is = stands.ended lane in
     (omega (arith, within, stands.places), omega (arith, fewer, most, is, stands.few))
 
+-- one of its lines has not ended
+pub due_left : (book : Recorded) (lane : ℕ) (course : Course) → Stands book → due_of book.cursors lane ≡ Some course
+    → ended_of book.script book.journal lane < lines_in book.script lane
+due_left book lane course stands due =
+    one_left book.script book.journal lane course (stands_at book.script book.journal book.cursors lane course stands.cursors due)
+
 -- ---- what a step makes
 
-pub makes_more : (before after : Recorded) (next : Option Entry) (entry : Entry) → next ≡ Some entry
-    → after.journal ≡ before.journal ++ entry ∷ [] → Makes before after next More
-makes_more before after next entry is grown = rw is grown
+-- an entry that waited for no decision
+pub makes_more : (before after : Recorded) (lane : ℕ) (next : Option Entry) (entry : Entry) → next ≡ Some entry
+    → waits_in (replay before.script before.journal) entry.event ≡ false → after.journal ≡ before.journal ++ entry ∷ []
+    → after.outs ≡ before.outs → after.words ≡ before.words → Makes before after lane next More
+makes_more before after lane next entry is free grown outs words = rw is (free, grown, outs, words)
 
-pub makes_ended : (before after : Recorded) (next : Option Entry) → next ≡ None → after ≡ before
-    → Makes before after next step.Ended
-makes_ended before after next is same = rw is same
+pub makes_ended : (before after : Recorded) (lane : ℕ) (next : Option Entry) → next ≡ None → after ≡ before
+    → Makes before after lane next step.Ended
+makes_ended before after lane next is same = rw is same
 
 pub none_made : (book : Recorded) (lane : ℕ) → Stands book → due_of book.cursors lane ≡ None
-    → Makes book book (next book.script book.journal lane) step.Ended
+    → Makes book book lane (next book.script book.journal lane) step.Ended
 none_made book lane stands none =
-    makes_ended book book (next book.script book.journal lane) (next_none book.script book.journal book.cursors lane stands.cursors none) refl
+    makes_ended book book lane (next book.script book.journal lane) (next_none book.script book.journal book.cursors lane stands.cursors none) refl
 
 pub none_counted : (book : Recorded) (lane : ℕ) → Stands book → due_of book.cursors lane ≡ None → Counts book book lane step.Ended
 none_counted book lane stands none set_up =
     all_have_ended book.script book.journal book.cursors lane stands.cursors none set_up
-
--- ---- the least line
-
--- where a lane has a next entry it is entered
-pub record Enters (before after : Recorded) (entry : Entry) (came : Step) : Type 0 where
-  pub more : came ≡ More
-  pub entered : after.journal ≡ before.journal ++ entry ∷ []
-
-enters_by : (before after : Recorded) (entry : Entry) (came : Step) → Makes before after (Some entry) came → Enters before after entry came
-enters_by before after entry More made = record { more = refl; entered = made }
-enters_by before after entry step.Ended made = absurd made
-
-pub enters_next : (before after : Recorded) (lane : ℕ) (came : Step) → (is : IsLeastLane before lane)
-    → Makes before after (next before.script before.journal lane) came → Enters before after is.entry came
-enters_next before after lane came is made =
-    enters_by before after is.entry came (subst (λ o. Makes before after o came) is.next made)
-
--- ---- a run in order
-
--- All lines have run in order so far.
-pub record Runs (given : Script) (book : Recorded) : Type 0 where
-  pub script : book.script ≡ given
-  pub stands : Stands book
-  pub order : IsInOrder book.script book.journal
-
-pub runs_first : (book : Recorded) → book.journal ≡ [] → Stands book → Runs book.script book
-runs_first book none stands = record {
-  script = refl;
-  stands = stands;
-  order = subst (IsInOrder book.script) (sym none) (λ k lt. absurd (omega (arith, lt)));
-}
-
--- the entry of the least line's lane is the next in order
-pub runs_on : (script : Script) (before after : Recorded) (lane : ℕ) (came : Step) → Runs script before → (is : IsLeastLane before lane)
-    → Makes before after (next before.script before.journal lane) came → after.script ≡ before.script → Stands after
-    → Runs script after
-runs_on script before after lane came so is made same stands =
-    let grown = (enters_next before after lane came is made).entered in
-    record {
-      script = same ∙ so.script;
-      stands = stands;
-      order = subst (λ s. IsInOrder s after.journal) (sym same)
-          (subst (IsInOrder before.script) (sym grown) (IsInOrder-push before.script before.journal is.entry so.order is.first));
-    }
-
--- where every line has ended the journal is the sequence
-pub is_sequence : (script : Script) (book : Recorded) → Runs script book → NoLineIsLeft book → IsSequence book.script book.journal
-is_sequence script book so ended = record { in_order = so.order; ended = ended }
 
 -- ---- the lane that is the least
 

@@ -1,9 +1,11 @@
 -- A book when an event is made and entered.
-use Rattle.std.proofs.Common.{◌≡◌, ℕ, ◌==◌, false, List, [], ◌∷◌, ◌++◌, slice_get, Option, None, Some, refl, sym, ap, ◌∙◌, subst}
+use Rattle.std.proofs.Common.{◌≡◌, ℕ, ◌==◌, true, false, List, [], ◌∷◌, ◌++◌, slice_get, Option, None, Some, refl, sym, ap, ◌∙◌, subst}
 use Rattle.std.specs.List.{count_by}
 use Rattle.std.specs.Option.{option_map, option_map_or}
 use Rattle.std.proofs.lemmas.Option.{slice_get-map}
 use Rattle.cred_event.specs.declared.entry.Entry.{Entry}
+use Rattle.cred_event.specs.declared.event.Event.{Event}
+use Rattle.cred_event.specs.declared.event.Event.TheVariants.{Commit, Override}
 use Rattle.cred_event.specs.Lists.{HoldsList}
 use Rattle.cred_model.specs.Script.{Script}
 use Rattle.cred_model.specs.State.{State, SealedCred}
@@ -15,7 +17,13 @@ use Rattle.cred_model.proofs.Journals.{replay-push, IsAnswered-push}
 use Rattle.cred_model.proofs.Likes.{does_like, like_trans, refs_same}
 use Rattle.cred_sound.specs.Sound.{IsSound}
 use Rattle.cred_sound.proofs.Sound.{like_sound, sound_after}
+use Rattle.cred_words.specs.Lists.{Has}
+use Rattle.cred_hold.specs.Tokens as token
+use Rattle.cred_tables.specs.Out.{AreHome, AreOut}
 use Rattle.cred_tables.proofs.Bags.{count-same}
+use Rattle.cred_tables.proofs.Outs.{has_out, out_has}
+use Rattle.cred_state.proofs.Lines.{may_wait}
+use Rattle.cred_state.proofs.Stays.{EndsLabel, LetsGo, SealsIt, GivesUp, out_stays, token_stays}
 use Rattle.cred_book.proofs.ListAnswers.{list_stays}
 
 -- the state is like the one that the journal leads to
@@ -48,6 +56,34 @@ left_out script before after journal entry follows does list = (
   like_trans after before (replay script journal) (list_stays script before after entry.line entry.event entry.answer does list) follows.0,
   follows.1,
 )
+
+-- ---- what is lent
+
+-- under labels that the event doesn't name, is their labels' after it too
+pub out_after : (script : Script) (journal grown : List Entry) (entry : Entry) (out : List token.Entry) → AreHome entry.event out
+    → AreOut (replay script journal) out → grown ≡ journal ++ entry ∷ [] → AreOut (replay script grown) out
+out_after script journal grown entry out home are is =
+    rw is
+    (subst (λ (s : State). AreOut s out) (sym (replay-push script journal entry))
+    (out_stays script (replay script journal) entry.line entry.event out home are))
+
+ends_none : (event : Event) (label : ℕ) → may_wait event ≡ true → EndsLabel event label → ⊥
+ends_none event label may (LetsGo is) = let not = sym may ∙ ap may_wait is in cc
+ends_none event label may (GivesUp is) = let not = sym may ∙ ap may_wait is in cc
+ends_none (Commit name) label may (SealsIt is) = cc
+ends_none (Override task name) label may (SealsIt is) = cc
+ends_none event label may (SealsIt is) = absurd is
+
+-- and so is what is left of it where an event is entered that was decided: such an event ends no label
+pub out_left : (script : Script) (journal grown : List Entry) (entry : Entry) (old new : List token.Entry) → may_wait entry.event ≡ true
+    → ((e : token.Entry) → Has new e → Has old e) → AreOut (replay script journal) old → grown ≡ journal ++ entry ∷ []
+    → AreOut (replay script grown) new
+out_left script journal grown entry old new may there are is =
+    rw is
+    (subst (λ (s : State). AreOut s new) (sym (replay-push script journal entry))
+    (has_out (step script (replay script journal) entry.line entry.event).1 new
+    (λ e has. token_stays script (replay script journal) entry.line entry.event e (ends_none entry.event e.label may)
+    (out_has (replay script journal) old e are (there e has)))))
 
 -- ---- uses
 

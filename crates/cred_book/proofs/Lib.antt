@@ -1,7 +1,15 @@
 pub mod Counts
 pub mod Before
+pub mod Decided
 pub mod Left
+pub mod Joined
+pub mod Apart
+pub mod Nexts
+pub mod Lent
+pub mod Works
 pub mod Cursors
+pub mod Finished
+pub mod Handed
 pub mod ListAnswers
 pub mod Entered
 pub mod Waiting

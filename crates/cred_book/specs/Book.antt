@@ -1,6 +1,7 @@
 -- What a book keeps.
-use Rattle.std.specs.Prelude.{ℕ, List, [], ◌∷◌, ◌++◌}
+use Rattle.std.specs.Prelude.{ℕ, List, [], ◌∷◌, ◌++◌, slice_get}
 use Rattle.std.specs.declared.option.Option.{Option}
+use Rattle.std.specs.Option.{option_and_then}
 use Rattle.cred_event.specs.declared.event.Event.{Event}
 use Rattle.cred_event.specs.declared.answer.Answer.{Answer}
 use Rattle.cred_event.specs.declared.entry.Entry.{Entry}
@@ -11,14 +12,19 @@ use Rattle.cred_model.specs.Journal.{replay, entry_of}
 use Rattle.cred_tables.specs.Kept.{Words}
 
 -- A script, the journal of its run so far, and for each lane a cursor, the course of a line or
--- none, and the number of its lines that have ended; and the shared words that the credentials
--- stand in.
+-- none, the number of its lines that have ended, and the line whose work is out, or none; and the
+-- shared words that the credentials stand in.
 pub record Recorded : Type 0 where
   pub script : Script
   pub journal : List Entry
   pub cursors : List (Option Course)
   pub ended : List ℕ
+  pub outs : List (Option ℕ)
   pub words : Words
+
+-- the line of the lane whose work is out
+abbrev pub out_of : Recorded → ℕ → Option ℕ
+out_of book lane = option_and_then (λ line. line) (slice_get book.outs lane)
 
 -- the book in which an event of a line is entered, with its answer
 abbrev pub with_event : Recorded → ℕ → Event → Recorded

@@ -1,6 +1,6 @@
 -- A book's cursors, and the steps that they are moved on by.
 use Rattle.std.specs.Prelude.{◌≡◌, ◌≤◌, ◌==◌, ℕ, ◌+◌, List, [], ◌∷◌, ◌++◌, length, set, Some, None}
-use Rattle.std.specs.Prelude.{Bool, true, not, slice_index_or}
+use Rattle.std.specs.Prelude.{Bool, true, false, not, slice_index_or, IfSome}
 use Rattle.std.specs.declared.option.Option.{Option}
 use Rattle.std.specs.List.{sum_by}
 use Rattle.std.specs.Option.{option_map_or}
@@ -13,14 +13,20 @@ use Rattle.cred_model.specs.Journal.{SoFar, lane_of, next, next_in_order, replay
 use Rattle.cred_script.specs.Lanes.{lanes}
 use Rattle.cred_cursor.specs.Cursor.{left_at}
 use Rattle.cred_cursor.specs.Cursors.{AreCursors}
-use Rattle.cred_book.specs.Book.{Recorded}
+use Rattle.cred_tables.specs.Out.{AreSameTokens, waits_in}
+use Rattle.cred_work.specs.declared.work.Work.{Work}
+use Rattle.cred_book.specs.Book.{Recorded, out_of}
 use Rattle.cred_book.specs.Counts.{AreEnded, count_of}
+use Rattle.cred_book.specs.Works.{AreNamedApart, IsBack, IsLanes, IsOutOf, tokens_out}
+use Rattle.cred_book.specs.Works.{with_work}
 use Rattle.cred_book.specs.declared.step.Step.{Step}
 use Rattle.cred_book.specs.declared.step.Step.TheVariants.{More, Ended}
+use Rattle.cred_book.specs.declared.step.Step.TheVariants as step
 
 -- Each entry is the next one of its line's lane after the entries before it, and each lane's cursor
 -- and its count of ended lines are the journal's. The script has no more lines than one may have,
--- and the setup's come first.
+-- the setup's come first, and no label stands in the lines of two lanes. Each work that is out is
+-- that of its lane's next event, and what is lent is just the tokens of these works.
 pub record Stands (book : Recorded) : Type 0 where
   pub so_far : SoFar book.script book.journal
   pub cursors : AreCursors book.script book.journal book.cursors
@@ -28,6 +34,10 @@ pub record Stands (book : Recorded) : Type 0 where
   pub places : length book.ended ≡ lanes book.script.lines + 1
   pub few : length book.script.lines ≤ LINE_LIMIT
   pub setup : SetupFirst book.script
+  pub named : AreNamedApart book.script.lines
+  pub outs : length book.outs ≡ lanes book.script.lines + 1
+  pub works : (lane : ℕ) → IfSome (out_of book lane) (IsOutOf book lane)
+  pub lent : AreSameTokens book.words.out (tokens_out book)
 
 -- The lane's cursor doesn't stand on the line of this number any more, so the line has ended.
 abbrev pub has_left : Option Course → ℕ → Bool
@@ -54,11 +64,34 @@ abbrev pub left : Recorded → ℕ
 left book =
     sum_by (left_at book.script) book.cursors + waiting (replay book.script book.journal)
 
--- The next entry, where there is one, was entered and answered by More. Else the book is as it was.
-abbrev pub Makes : Recorded → Recorded → Option Entry → Step → Type 0
-Makes before after (Some entry) More = after.journal ≡ before.journal ++ entry ∷ []
-Makes before after None Ended = after ≡ before
-Makes before after next step = ⊥
+-- What a step of the lane makes, where this is its next entry. One whose event waits for a decision
+-- isn't entered: its work goes out, which isn't decided yet. Where there is none the book is as it
+-- was.
+abbrev pub Makes : Recorded → Recorded → ℕ → Option Entry → Step → Type 0
+Makes before after lane (Some entry) More =
+    (waits_in (replay before.script before.journal) entry.event ≡ false)
+    × (after.journal ≡ before.journal ++ entry ∷ [])
+    × (after.outs ≡ before.outs)
+    × (after.words ≡ before.words)
+Makes before after lane (Some entry) (step.Work work) =
+    (waits_in (replay before.script before.journal) entry.event ≡ true)
+    × (work.line ≡ entry.line)
+    × (work.event ≡ entry.event)
+    × (work.decided ≡ None)
+    × IsLanes after lane work
+    × (after ≡ with_work before lane work)
+Makes before after lane None Ended = after ≡ before
+Makes before after lane next step = ⊥
+
+-- The lane's next entry is of the work's event, with its answer. It was entered, and the work's
+-- tokens have come back.
+abbrev pub Finishes : Recorded → Recorded → ℕ → Work → Option Entry → Type 0
+Finishes before after lane work (Some entry) =
+    (entry.line ≡ work.line)
+    × (entry.event ≡ work.event)
+    × (after.journal ≡ before.journal ++ entry ∷ [])
+    × IsBack before after lane work
+Finishes before after lane work None = ⊥
 
 -- no line is left
 abbrev pub NoLineIsLeft : Recorded → Type 0

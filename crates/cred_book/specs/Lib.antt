@@ -1,3 +1,4 @@
 pub mod Book
 pub mod Counts
 pub mod Cursor
+pub mod Works

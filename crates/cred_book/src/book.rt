@@ -1,6 +1,6 @@
 //! The journal of a run.
-ghost use Rattle.std.specs.Prelude.{◌≡◌, ◌<◌, [], length, true, is_some, IfOk, IfSome, MatchOption};
-ghost use Rattle.std.specs.Prelude.{OnOk, OnErr, slice_index_or};
+ghost use Rattle.std.specs.Prelude.{◌≡◌, ◌<◌, [], length, true, is_some, None, IfOk, IfSome};
+ghost use Rattle.std.specs.Prelude.{ℕ, MatchOption, OnOk, OnErr, slice_index_or};
 ghost use Rattle.cred_ids.specs.Limits.{LINE_LIMIT};
 ghost use Rattle.cred_model.specs.Course as course_model;
 ghost use Rattle.cred_model.specs.Journal as model;
@@ -9,14 +9,18 @@ ghost use Rattle.cred_model.specs.Named.{IsEventOf};
 ghost use Rattle.cred_model.specs.Slots.{uses};
 ghost use Rattle.cred_script.specs.Grammar.{line_at};
 ghost use Rattle.cred_cursor.specs.Cursor.{IsOfLine, MovesOnTo};
-ghost use Rattle.cred_book.specs.Book.{with_event, answer_of};
+ghost use Rattle.cred_tables.specs.Out.{AreHome};
+ghost use Rattle.cred_book.specs.Book.{with_event, answer_of, out_of};
 ghost use Rattle.cred_book.specs.Counts.{Counts, ended_of};
 ghost use Rattle.cred_book.specs.Cursor.{NoLineIsLeft, IsLeastLane, Makes, Stands, has_left};
 ghost use Rattle.cred_book.specs.Cursor.{left, moved_on};
 ghost use Rattle.cred_book.specs.declared.step.Step.TheVariants.{More};
 
+mod works;
+
 use crate::ended::lines_without_events;
 use crate::journal::Journal;
+use crate::outs::none_out;
 use crate::step::Step;
 use cred_course::Course;
 use cred_cursor::{Cursors, cursor_after, next_event};
@@ -25,15 +29,17 @@ use cred_hold::Cells;
 use cred_ids::NoMemory;
 use cred_script::Script;
 use cred_state::State;
+use cred_work::Work;
 use std::alloc::Global;
 use std::marker::Model;
 
 /// A script, the journal of its run so far, and a state like the one that the journal leads to: no
-/// event can tell the two apart. And for each lane a cursor, the course of a line or none, and how
-/// many of its lines have ended.
+/// event can tell the two apart. And for each lane a cursor, the course of a line or none, how many
+/// of its lines have ended, and the line whose work is out, or none.
 ///
 /// Every entry has the answer that its event gets in the state after the entries before it. The
-/// credentials stand in the shared words alone, of which nothing is lent between two calls.
+/// credentials stand in the shared words alone. Each token of them that is out is that of its label
+/// in this state.
 #[derive(Drop)]
 pub struct Book {
     script: Script,
@@ -41,12 +47,14 @@ pub struct Book {
     journal: Vec<Entry>,
     cursors: Cursors,
     ended: Vec<u32>,
+    outs: Vec<Option<u32>>,
+    alloc: Global,
 }
 
 impl Model for Book {
-    ghost use Rattle.std.specs.Prelude.{◌≡◌, []};
     ghost use Rattle.cred_model.specs.Journal.{replay, IsAnswered};
     ghost use Rattle.cred_model.specs.Like.{IsLike};
+    ghost use Rattle.cred_tables.specs.Out.{AreOut};
     ghost use Rattle.cred_book.specs.Book.{Recorded};
 
     ghost Value = { Recorded };
@@ -56,18 +64,19 @@ impl Model for Book {
       journal = b.journal.items;
       cursors = b.cursors;
       ended = b.ended.items;
+      outs = b.outs.items;
       words = b.state.words;
     } };
 
     ghost invariant = { λ b.
         (IsLike b.state.state (replay b.script b.journal.items)
         × IsAnswered b.script b.journal.items)
-        × (b.state.words.out ≡ []) };
+        × AreOut (replay b.script b.journal.items) b.state.words.out };
 }
 
 impl Book {
     /// The book of a script of which nothing has run, and the cells that its credentials stand in.
-    /// Its cursors and its counts of ended lines are the journal's.
+    /// Its cursors and its counts of ended lines are the journal's. No work is out.
     ///
     /// # Errors
     ///
@@ -77,9 +86,12 @@ impl Book {
         ensures journal { IfOk result (λ made. made.0.journal ≡ []) }
         ensures stands { IfOk result (λ made. Stands made.0) }
         ensures own { IfOk result (λ made. made.0.words.id ≡ made.1) }
+        ensures home { IfOk result (λ made. (made.0.words.out ≡ [])
+            × ((lane : ℕ) → out_of made.0 lane ≡ None)) }
     {
         let cursors = Cursors::new(alloc, &script)?;
         let ended = lines_without_events(alloc, &script)?;
+        let outs = none_out(alloc, &script)?;
         let (cells, state) = State::new(alloc)?;
         let book = Book {
             script,
@@ -87,6 +99,8 @@ impl Book {
             journal: Vec::new(alloc),
             cursors,
             ended,
+            outs,
+            alloc,
         };
         Ok((book, cells))
     }
@@ -140,7 +154,8 @@ impl Book {
     }
 
     /// Enters one event of a line, and answers it with a copy of the entry's answer. The cursors
-    /// stay. The event names only declared files and namespaces.
+    /// stay, and so does what is lent. The event names only declared files and namespaces, and no
+    /// label under which something is lent.
     ///
     /// # Errors
     ///
@@ -149,6 +164,7 @@ impl Book {
     pub fn event(&mut self, cells: &Cells, line: u32, event: Event) -> Result<Answer, NoMemory>
         requires own { self.old.words.id ≡ cells.now }
         requires kind { IsEventOf (length self.old.script.files) self.old.script.namespaces event }
+        requires home { AreHome event self.old.words.out }
         ensures words { self.new.words ≡ self.old.words }
         ensures entered { OnOk result (self.new ≡ with_event self.old line event) }
         ensures answer { IfOk result (λ answer. answer ≡ answer_of self.old line event) }
@@ -166,22 +182,24 @@ impl Book {
     }
 
     /// Makes the next event of a lane, whose lines come whole, one after another. All other lanes
-    /// wait for the setup, lane 0.
+    /// wait for the setup, lane 0. An event that waits for a decision on credentials isn't entered:
+    /// its work goes out, and the lane's next step is the one that finishes it.
     ///
     /// The cursors and the counts of ended lines are the journal's before, and stay so.
     ///
     /// # Errors
     ///
-    /// `NoMemory` if an allocation of the event, the state or the entry fails: the book is as it
-    /// was.
+    /// `NoMemory` if an allocation of the event, of what its work has, of the state or of the entry
+    /// fails: the book is as it was.
     pub fn next(&mut self, cells: &Cells, lane: u32) -> Result<Step, NoMemory>
         requires own { self.old.words.id ≡ cells.now }
         requires stands { Stands self.old }
+        requires home { out_of self.old lane ≡ None }
         ensures script { self.new.script ≡ self.old.script }
-        ensures words { self.new.words ≡ self.old.words }
+        ensures cells { self.new.words.id ≡ self.old.words.id }
         ensures stands { Stands self.new }
-        ensures made { IfOk result (λ step.
-            Makes self.old self.new (model.next self.old.script self.old.journal lane) step) }
+        ensures made { IfOk result (λ step. Makes self.old self.new lane
+            (model.next self.old.script self.old.journal lane) step) }
         ensures falls { IfOk result (λ step. step ≡ More → left self.new < left self.old) }
         ensures counts { IfOk result (Counts self.old self.new lane) }
         ensures err { OnErr result (self.new ≡ self.old) }
@@ -192,8 +210,23 @@ impl Book {
         let Some(event) = next_event(&self.script, course)? else {
             return Ok(Step::Ended);
         };
+        let ns = self.deciding_ns(cells, &event);
+        let (file, chain) = self.copies(&event, ns)?;
+        let line = course.line();
+        if let Some(lent) = self.lend(cells, lane, line, &event) {
+            return Ok(Step::Work(Work {
+                line,
+                event,
+                file,
+                chain,
+                lent,
+                decided: None,
+            }));
+        }
+        drop(file);
+        drop(chain);
         let cursor = self.enter(cells, lane, course, event)?;
-        self.move_on(lane, course.line(), cursor);
+        self.move_on(lane, line, cursor);
         Ok(Step::More)
     }
 
@@ -217,6 +250,7 @@ impl Book {
     ) -> Result<Option<Course>, NoMemory>
         requires own { self.old.words.id ≡ cells.now }
         requires kind { IsEventOf (length self.old.script.files) self.old.script.namespaces event }
+        requires home { AreHome event self.old.words.out }
         requires line { IsOfLine self.old.script course }
         requires going { is_some course.stage ≡ true }
         ensures entered { OnOk result (self.new ≡ with_event self.old course.line event) }

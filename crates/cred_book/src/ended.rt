@@ -1,9 +1,10 @@
 //! How many lines have ended before anything has run.
-ghost use Rattle.std.specs.Prelude.{◌≡◌, ◌≤◌, ◌+◌, [], length, IfOk};
+ghost use Rattle.std.specs.Prelude.{◌≡◌, ◌≤◌, ◌+◌, [], length, IfOk, OnOk};
 ghost use Rattle.cred_ids.specs.Limits.{LINE_LIMIT};
 ghost use Rattle.cred_model.specs.Script.{SetupFirst};
 ghost use Rattle.cred_script.specs.Lanes.{lanes};
 ghost use Rattle.cred_book.specs.Counts.{AreEnded};
+ghost use Rattle.cred_book.specs.Works.{AreNamedApart};
 
 use cred_course::Course;
 use cred_ids::NoMemory;
@@ -19,10 +20,12 @@ use std::alloc::Global;
 pub(crate) fn lines_without_events(alloc: Global, script: &Script) -> Result<Vec<u32>, NoMemory>
     ensures ended { IfOk result (λ ended. AreEnded script.now [] ended.items) }
     ensures places { IfOk result (λ ended. length ended.items ≡ lanes script.now.lines + 1) }
+    ensures named { OnOk result (AreNamedApart script.now.lines) }
     ensures few { length script.now.lines ≤ LINE_LIMIT }
     ensures setup { SetupFirst script.now }
 {
-    // What counts a script's lines says of them too that the setup's come first.
+    // What counts a script's lines says of them too that the setup's come first, and what counts
+    // its lanes that no label stands in two.
     let _ = script.lines();
     let mut ended: Vec<u32> = vec![in alloc; 0; script.lanes() as usize + 1]?;
     let mut number = 1;

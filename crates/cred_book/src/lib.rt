@@ -4,8 +4,9 @@
 mod book;
 mod ended;
 mod journal;
+mod outs;
 mod step;
 
 pub use book::Book;
 pub use journal::Journal;
-pub use step::Step;
+pub use step::{Step, Unfinished};

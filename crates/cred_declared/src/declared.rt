@@ -2,11 +2,11 @@
 ghost use Rattle.std.specs.Prelude.{◌≡◌, ◌∷◌, [], if◌then◌else◌};
 ghost use Rattle.std.specs.Option.{option_map};
 ghost use Rattle.cred_model.specs.Answers.{checked};
-ghost use Rattle.cred_model.specs.Named.{change_files, query_files};
+ghost use Rattle.cred_model.specs.Named.{change_files, event_files, query_files};
 ghost use Rattle.cred_model.specs.Script.{chain_of, info_of, root_of};
 
 use cred_access::may;
-use cred_event::{Answer, Change, Query};
+use cred_event::{Answer, Change, Event, Query};
 use cred_ids::Id;
 use cred_record::{Cred, FileInfo, Want};
 use cred_script::Script;
@@ -27,6 +27,18 @@ pub fn executed_file(script: &Script, change: Change) -> Option<&FileInfo>
 {
     match change {
         Change::Exec { file } => script.file(file),
+        _ => None,
+    }
+}
+
+/// What the script says of the file that an event names. `None` where it names none.
+pub fn event_file<'s>(script: &'s Script, event: &Event) -> Option<&'s FileInfo>
+    ensures { option_map (λ file. file.now) result ≡ info_of script.now (event_files event.now) }
+{
+    match event {
+        Event::Ask { query, .. } => asked_file(script, *query),
+        Event::Alter { change, .. } => executed_file(script, *change),
+        Event::OpenFile { file, .. } => script.file(*file),
         _ => None,
     }
 }

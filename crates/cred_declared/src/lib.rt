@@ -4,4 +4,4 @@
 
 mod declared;
 
-pub use declared::{asked_file, chain_of, executed_file, may_open, root_of};
+pub use declared::{asked_file, chain_of, event_file, executed_file, may_open, root_of};

@@ -1,5 +1,5 @@
 -- All the words of a credential, read or put one after another.
-use Rattle.std.proofs.Common.{◌≡◌, ℕ, ◌+◌, ◌*◌, ◌<◌, ◌≤◌, ◌/◌, ◌%◌, List, length, take, min, set, slice_index, ⊎_elim, true, bit_or, refl, sym, ap, ◌∙◌, subst, arith, length-set}
+use Rattle.std.proofs.Common.{◌≡◌, ◌↔◌, ℕ, ◌+◌, ◌*◌, ◌<◌, ◌≤◌, ◌/◌, ◌%◌, List, length, take, min, set, slice_index, ⊎_elim, true, bit_or, refl, sym, ap, ◌∙◌, subst, arith, length-set}
 use Rattle.std.proofs.lemmas.Bool.{cases_lt}
 use Rattle.std.proofs.lemmas.Grind.{div_ceil_times}
 use Rattle.std.proofs.lemmas.List.{get_or-set_same, get_or-set_other, take-set-le}
@@ -12,7 +12,7 @@ use Rattle.cred_words.specs.Size.{width}
 use Rattle.cred_words.specs.Words.{put_words}
 use Rattle.cred_words.specs.declared.view.Token.{Token}
 use Rattle.cred_words.proofs.Opens.{width_is}
-use Rattle.cred_hold.specs.Tokens.{AreZeros}
+use Rattle.cred_hold.specs.Tokens.{AreZeros, AreZerosTo}
 
 pub length-known : (ws : List ℕ) → are_words ws ≡ true → length ws ≡ WORDS
 length-known ws is = ap length (words-are ws is).1 ∙ length-words_of (credential_of ws)
@@ -36,15 +36,11 @@ blank-zeros ws first wide zeros k from =
 
 -- ---- the bits of words, one after another
 
--- the words from the first on and up to i are 0
-abbrev pub ZerosTo : ℕ → ℕ → List ℕ → Type 0
-ZerosTo first i ws = (k : ℕ) → first ≤ k → k < i → slice_index ws k ≡ 0
-
 -- the bits of the words up to i
 pub record Bits (bits first i : ℕ) (ws : List ℕ) : Type 0 where
   pub from : first ≤ i
-  pub zeros : bits ≡ 0 → ZerosTo first i ws
-  pub none : ZerosTo first i ws → bits ≡ 0
+  pub zeros : bits ≡ 0 → AreZerosTo first i ws
+  pub none : AreZerosTo first i ws → bits ≡ 0
 
 pub bits_start : (first : ℕ) (ws : List ℕ) → Bits 0 first first ws
 bits_start first ws = record { from = omega arith; zeros = λ _ k a b. absurd (omega arith); none = λ _. refl }
@@ -65,6 +61,26 @@ bits_more bits word first i ws is h = record {
       let a = h.from in
       let before : bits ≡ 0 = h.none (λ k a b. all k a (omega arith)) in
       let now : word ≡ 0 = is ∙ all i (omega arith) (omega arith) in
+      (λ k. bit_or (before k) (now k));
+}
+
+-- the bits of the words up to j, where those from i on are looked at together
+pub bits_join : (bits more first i j : ℕ) (ws : List ℕ) → i ≤ j → ((more ≡ 0) ↔ AreZerosTo i j ws) → Bits bits first i ws → Bits (bit_or bits more) first j ws
+bits_join bits more first i j ws onward e h = record {
+  from = let a = h.from in omega arith;
+  zeros = λ none k a b.
+      let l = le_or_l bits more in
+      let r = le_or_r bits more in
+      let before : bits ≡ 0 = omega arith in
+      let now : more ≡ 0 = omega arith in
+      ⊎_elim
+      (λ (below : k < i). h.zeros before k a below)
+      (λ (from : i ≤ k). e.0 now k from b)
+      (cases_lt k i);
+  none = λ all.
+      let a = h.from in
+      let before : bits ≡ 0 = h.none (λ k a b. all k a (omega arith)) in
+      let now : more ≡ 0 = e.1 (λ k from b. all k (omega arith) b) in
       (λ k. bit_or (before k) (now k));
 }
 
@@ -103,7 +119,7 @@ pub record Cleared (t u : Token) (first i : ℕ) : Type 0 where
   pub token : u ≡ put_words t u.words
   pub wide : length u.words ≡ width
   pub same : take first u.words ≡ take first t.words
-  pub zeros : ZerosTo first i u.words
+  pub zeros : AreZerosTo first i u.words
 
 pub clear_start : (t u : Token) (first : ℕ) → u ≡ t → length t.words ≡ width → Cleared t u first first
 clear_start t u first is wide =

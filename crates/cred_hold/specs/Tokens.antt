@@ -72,6 +72,10 @@ AreSlots slots =
     (s : ℕ) (x : Slot) → slice_get slots s ≡ Some x →
     (length x.words ≡ width) × (x.sealed ≡ true → are_words x.words ≡ true)
 
+-- the words of a slot from the first on, and before the end, are 0
+abbrev pub AreZerosTo : ℕ → ℕ → List ℕ → Type 0
+AreZerosTo first end ws = (i : ℕ) → first ≤ i → i < end → slice_index ws i ≡ 0
+
 -- the words of a slot from the first on are 0
 abbrev pub AreZeros : ℕ → List ℕ → Type 0
 AreZeros first ws = (i : ℕ) → first ≤ i → i < width → slice_index ws i ≡ 0

@@ -6,13 +6,13 @@ ghost use Rattle.cred_words.specs.Lists.{IsTaken};
 ghost use Rattle.cred_record.specs.Credential.{Credential};
 ghost use Rattle.cred_hold.specs.Tokens.{entry, none_sealed, IsSealed, IsAlone};
 
-use crate::parts::{known_caps, known_ids};
+use crate::parts::{known_caps, known_ids, known_ns};
 use crate::tokens::{Hold, Writer, put};
 use crate::words::{peek, peek_whole};
 use cred_caps::CapSet;
 use cred_ids::{Ids4, NoMemory};
 use cred_record::Cred;
-use cred_record::layout::{PERMITTED, USER};
+use cred_record::layout::{NAMESPACE, PERMITTED, USER};
 use cred_words::{Cells, cells};
 use std::alloc::Global;
 use std::marker::Model;
@@ -164,6 +164,18 @@ impl Master {
         known_caps(peek::<5>(&mut self.inner, cells, slot, PERMITTED))
     }
 
+    /// The user namespace of the credential of a sealed slot. It takes no memory. What is lent
+    /// stays.
+    pub fn look_ns(&mut self, cells: &Cells, slot: u32) -> u32
+        requires own { self.old.id ≡ cells.now }
+        requires sealed { IsSealed self.old.slots slot }
+        ensures ns { (c : Credential) → slice_get self.old.slots slot ≡ Some (Some c) →
+            result ≡ c.ns }
+        ensures same { self.new ≡ self.old }
+    {
+        known_ns(peek::<1>(&mut self.inner, cells, slot, NAMESPACE))
+    }
+
     /// Puts a credential on a slot on which nothing is lent, for the owner of the master: a writer
     /// is lent, put by and taken back. What else is lent stays. It takes no memory.
     pub fn set(&mut self, cells: &Cells, slot: u32, cred: &Cred)
@@ -177,6 +189,19 @@ impl Master {
     {
         let mut writer = self.lend_writer(cells, 0, slot);
         put(cells, &mut writer, cred);
+        self.take_back(cells, writer);
+    }
+
+    /// Leaves nothing in the words of a slot on which nothing is lent: it is not sealed from then
+    /// on. What else is lent stays. It takes no memory.
+    pub fn clear(&mut self, cells: &Cells, slot: u32)
+        requires own { self.old.id ≡ cells.now }
+        requires within { slot < SLOTS }
+        requires alone { IsAlone self.old.entries slot }
+        ensures made { self.new ≡ record self.old { slots = slice_set self.old.slots slot None } }
+        ensures long { length self.old.slots ≡ SLOTS }
+    {
+        let writer = self.lend_writer(cells, 0, slot);
         self.take_back(cells, writer);
     }
 }

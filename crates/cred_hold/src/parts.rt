@@ -2,7 +2,7 @@
 ghost use Rattle.std.specs.Prelude.{◌≡◌, ℕ, List, ◌∷◌, [], take, drop, true};
 ghost use Rattle.cred_caps.specs.Caps.{IsCaps};
 ghost use Rattle.cred_record.specs.Words.{are_words, credential_of};
-ghost use Rattle.cred_record.specs.declared.layout.TheConstants.{USER, PERMITTED};
+ghost use Rattle.cred_record.specs.declared.layout.TheConstants.{USER, PERMITTED, NAMESPACE};
 
 use cred_caps::CapSet;
 use cred_ids::Ids4;
@@ -34,6 +34,16 @@ pub(crate) fn known_caps(words: [u64; 5]) -> [CapSet; 5]
 {
     let [perm, inh, eff, bound, amb] = words;
     [set(perm), set(inh), set(eff), set(bound), set(amb)]
+}
+
+/// The user namespace, in the one word at `NAMESPACE`.
+pub(crate) fn known_ns(words: [u64; 1]) -> u32
+    requires { (ws : List ℕ) × (are_words ws ≡ true) × (words ≡ take 1 (drop NAMESPACE ws)) }
+    ensures { (ws : List ℕ) → are_words ws ≡ true → words ≡ take 1 (drop NAMESPACE ws) →
+        result ≡ (credential_of ws).ns }
+{
+    let [ns] = words;
+    ns as u32
 }
 
 /// The set of bits that are known to be one.

@@ -1,5 +1,5 @@
 //! What is lent: holds and writers.
-ghost use Rattle.std.specs.Prelude.{◌≡◌, Some, IfOk, [], ◌∷◌};
+ghost use Rattle.std.specs.Prelude.{◌≡◌, Some, None, IfOk, [], ◌∷◌};
 
 use crate::parts::{known_caps, known_ids};
 use crate::words::{gather, read_whole, scatter};
@@ -114,4 +114,12 @@ pub fn put(cells: &Cells, writer: &mut Writer, cred: &Cred)
     is_credential(cred);
     scatter(cells, &mut writer.inner, writer.slot, cred);
     writer.put = true;
+}
+
+/// Forgets what was put: the slot is not sealed once the writer is taken back, as if nothing had
+/// been put. It takes no memory and waits for nobody.
+pub fn unput(writer: &mut Writer)
+    ensures { writer.new ≡ record writer.old { put = None } }
+{
+    writer.put = false;
 }

@@ -6,7 +6,7 @@ ghost use Rattle.cred_record.specs.declared.layout.TheConstants.{FLAGS};
 ghost use Rattle.cred_words.specs.Seen.{IsSealed};
 ghost use Rattle.cred_words.specs.Size.{width};
 ghost use Rattle.cred_words.specs.Words.{put_words, words_at};
-ghost use Rattle.cred_hold.specs.Tokens.{IsAgain, AreZeros};
+ghost use Rattle.cred_hold.specs.Tokens.{IsAgain, AreZeros, AreZerosTo};
 
 use cred_ids::{Groups, NoMemory};
 use cred_record::layout::{FLAGS, GROUPS};
@@ -37,7 +37,27 @@ pub(crate) fn gather<const N: usize>(
     words
 }
 
+/// How many words are looked at in a row, so that the loop's own steps are few.
+const ROW: usize = 16;
+
+/// The bits of so many words of the slot that is held, from `first` on, together. Each is loaded.
+#[inline(always)]
+fn read_bits(cells: &Cells, hold: &mut Hold, slot: u32, first: usize, count: usize) -> u64
+    requires own { hold.old.id ≡ cells.now }
+    requires slot { slot ≡ hold.old.token.slot }
+    requires within { first + count ≤ width }
+    ensures value { (result ≡ 0) ↔ AreZerosTo first (first + count) hold.old.token.words }
+    ensures same { hold.new ≡ hold.old }
+{
+    let mut bits = 0;
+    for i in 0..count {
+        bits |= read_word(cells, hold, slot, first + i);
+    }
+    bits
+}
+
 /// Whether the words of the slot that is held are 0 from `first` on. Each is loaded.
+#[inline(never)]
 fn read_zeros(cells: &Cells, hold: &mut Hold, slot: u32, first: usize) -> bool
     requires own { hold.old.id ≡ cells.now }
     requires slot { slot ≡ hold.old.token.slot }
@@ -46,9 +66,11 @@ fn read_zeros(cells: &Cells, hold: &mut Hold, slot: u32, first: usize) -> bool
     ensures same { hold.new ≡ hold.old }
 {
     let mut bits = 0;
-    for i in first..WORDS {
-        bits |= read_word(cells, hold, slot, i);
+    for row in 0..(WORDS - first) / ROW {
+        bits |= read_bits(cells, hold, slot, first + row * ROW, ROW);
     }
+    let rest = (WORDS - first) % ROW;
+    bits |= read_bits(cells, hold, slot, WORDS - rest, rest);
     bits == 0
 }
 
@@ -149,7 +171,24 @@ pub(crate) fn peek_whole(
     cred
 }
 
+/// The bits of so many words of the slot that is written, likewise.
+#[inline(always)]
+fn see_bits(cells: &Cells, writer: &mut Writer, slot: u32, first: usize, count: usize) -> u64
+    requires own { writer.old.id ≡ cells.now }
+    requires slot { slot ≡ writer.old.token.slot }
+    requires within { first + count ≤ width }
+    ensures value { (result ≡ 0) ↔ AreZerosTo first (first + count) writer.old.token.words }
+    ensures same { writer.new ≡ writer.old }
+{
+    let mut bits = 0;
+    for i in 0..count {
+        bits |= see_word(cells, writer, slot, first + i);
+    }
+    bits
+}
+
 /// Whether the words of the slot that is written are 0 from `first` on. Each is loaded.
+#[inline(never)]
 fn see_zeros(cells: &Cells, writer: &mut Writer, slot: u32, first: usize) -> bool
     requires own { writer.old.id ≡ cells.now }
     requires slot { slot ≡ writer.old.token.slot }
@@ -158,9 +197,11 @@ fn see_zeros(cells: &Cells, writer: &mut Writer, slot: u32, first: usize) -> boo
     ensures same { writer.new ≡ writer.old }
 {
     let mut bits = 0;
-    for i in first..WORDS {
-        bits |= see_word(cells, writer, slot, i);
+    for row in 0..(WORDS - first) / ROW {
+        bits |= see_bits(cells, writer, slot, first + row * ROW, ROW);
     }
+    let rest = (WORDS - first) % ROW;
+    bits |= see_bits(cells, writer, slot, WORDS - rest, rest);
     bits == 0
 }
 

@@ -1,5 +1,9 @@
 pub mod Closing
+pub mod Deciding
 pub mod Ends
 pub mod Lending
+pub mod Relending
 pub mod Returned
+pub mod Setup
+pub mod Stepping
 pub mod Taking

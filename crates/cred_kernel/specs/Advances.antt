@@ -1,22 +1,59 @@
 -- What a call did to a turn.
-use Rattle.std.specs.Prelude.{◌≡◌, ◌+◌, ◌<◌, None}
+use Rattle.std.specs.Prelude.{◌≡◌, ℕ, ◌+◌, ◌<◌, Some, None, Result, Ok, Err}
+use Rattle.atomic_table.specs.Seated.{TableId}
 use Rattle.cred_model.specs.Script.{Script}
+use Rattle.cred_turn.specs.declared.numbers.Numbers.{Numbers}
+use Rattle.cred_work.specs.declared.work.Work.{Work}
 use Rattle.cred_book.specs.Counts.{IsSameOrNext, lines_in}
+use Rattle.cred_book.specs.Works.{IsWorkOf}
 use Rattle.cred_book.specs.declared.step.Step.{Step}
 use Rattle.cred_book.specs.declared.step.Step.TheVariants.{More, Ended}
+use Rattle.cred_book.specs.declared.step.Step.TheVariants as step
 use Rattle.cred_kernel.specs.Turns.{Seen, LaneHasEnded}
 
--- The turn had a line left, and has entered one event more. At most one of its lines has ended by
--- that.
-pub record HasEntered (script : Script) (old new : Seen) : Type 0 where
+-- The turn had a line left, and has entered one event more, of which so many were decided while the
+-- lock was free: one or none. At most one of its lines has ended by that.
+pub record HasEntered (script : Script) (works : ℕ) (old new : Seen) : Type 0 where
   pub lane : new.lane ≡ old.lane
   pub entered : new.numbers.entered ≡ old.numbers.entered + 1
-  pub decided : new.numbers.decided ≡ old.numbers.decided
+  pub decided : new.numbers.decided ≡ old.numbers.decided + works
   pub out : new.numbers.out ≡ None
   pub left : old.numbers.ended < lines_in script old.lane
   pub ended : IsSameOrNext old.numbers.ended new.numbers.ended
 
--- What a step made of the turn. It was Ended exactly if no line of the lane was left.
-abbrev pub Advanced : Script → Seen → Seen → Step → Type 0
-Advanced script old new More = HasEntered script old new
-Advanced script old new Ended = (new ≡ old) × LaneHasEnded script new
+-- The turn had a line left, whose next event has gone out as a work of the script and of these
+-- cells. It is not decided yet, and nothing was entered.
+pub record HasGiven (script : Script) (cells : TableId) (old new : Seen) (work : Work) : Type 0
+  where
+    pub turn : new ≡ record {
+      lane = old.lane;
+      numbers = record old.numbers { out = Some work.line };
+    }
+    pub left : old.numbers.ended < lines_in script old.lane
+    pub work_is : IsWorkOf script cells work
+    pub waits : work.decided ≡ None
+
+-- What a step made of the turn. It was Ended exactly if no line of the lane was left, and what was
+-- entered was no work's.
+abbrev pub Advanced : Script → TableId → Seen → Seen → Step → Type 0
+Advanced script cells old new More = HasEntered script 0 old new
+Advanced script cells old new (step.Work work) = HasGiven script cells old new work
+Advanced script cells old new Ended = (new ≡ old) × LaneHasEnded script new
+
+-- the numbers of a lane after a step, by which so many of its lines have ended
+abbrev pub stepped : {E : Type 0} → Numbers → ℕ → Result Step E → Numbers
+stepped numbers ended (Ok More) =
+    record numbers { entered = numbers.entered + 1; ended = ended; out = None }
+stepped numbers ended (Ok (step.Work work)) =
+    record numbers { ended = ended; out = Some work.line }
+stepped numbers ended step = record numbers { ended = ended }
+
+-- the numbers of a lane after its work came back, by which so many of its lines have ended
+abbrev pub finished : {E : Type 0} → Numbers → ℕ → Result Step E → Numbers
+finished numbers ended (Ok step) = record {
+  entered = numbers.entered + 1;
+  decided = numbers.decided + 1;
+  ended = ended;
+  out = None;
+}
+finished numbers ended (Err left) = record numbers { ended = ended }

@@ -8,30 +8,37 @@ use Rattle.cred_turn.specs.declared.numbers.Numbers.{Numbers}
 use Rattle.cred_turn.specs.declared.view.Row.{Row}
 use Rattle.cred_turn.specs.Rows.{fresh, home_row, lent_row, HasRow, row_of}
 use Rattle.cred_turn.specs.Seen.{Rolled}
-use Rattle.cred_book.specs.Book.{Recorded}
-use Rattle.cred_book.specs.Counts.{IsSetUp, ended_of, entered_of}
+use Rattle.cred_book.specs.Book.{Recorded, out_of}
+use Rattle.cred_book.specs.Counts.{IsSetUp, decided_of, ended_of, entered_of}
 use Rattle.cred_book.specs.Cursor.{Stands}
 use Rattle.cred_kernel.specs.Turns.{Seen, turn_at}
 
--- the parts of a kernel: the book's script and the roll's identity
+-- the parts of a kernel: the book's script, and the identities of the roll and of the cells
 pub record KernelParts : Type 0 where
   pub script : Script
   pub roll : TableId
+  pub cells : TableId
 
--- the numbers of a lane in a journal. No entry was decided while the lock was free
-abbrev pub numbers_in : Script → List Entry → ℕ → Numbers
-numbers_in script journal lane = record {
-  entered = entered_of script journal lane;
-  decided = 0;
-  ended = ended_of script journal lane;
-  out = None;
+-- the numbers of a lane in a book, and the line of it whose work is out
+abbrev pub numbers_in : Recorded → ℕ → Numbers
+numbers_in book lane = record {
+  entered = entered_of book.script book.journal lane;
+  decided = decided_of book.script book.journal lane;
+  ended = ended_of book.script book.journal lane;
+  out = out_of book lane;
 }
 
--- the setup has ended, and no other lane has an entry
+-- no lane but the setup has an entry, and no work of it is out
+pub record IsFirst (book : Recorded) : Type 0 where
+  pub entered : (lane : ℕ) → 0 < lane → entered_of book.script book.journal lane ≡ 0
+  pub decided : (lane : ℕ) → 0 < lane → decided_of book.script book.journal lane ≡ 0
+  pub outs : (lane : ℕ) → 0 < lane → out_of book lane ≡ None
+
+-- the setup has ended, and nothing was done for any other lane
 pub record IsReady (book : Recorded) : Type 0 where
   pub stands : Stands book
   pub set_up : IsSetUp book
-  pub entered : (lane : ℕ) → 0 < lane → entered_of book.script book.journal lane ≡ 0
+  pub first : IsFirst book
 
 -- the book is ready, and the roll has a row for each of the script's lanes, none of them lent
 pub record IsMade (book : Recorded) (roll : Rolled) : Type 0 where
@@ -43,18 +50,19 @@ pub record Contents : Type 0 where
   pub journal : List Entry
   pub rows : List Row
 
--- each of the script's lanes has a row, which is lent and has the lane's numbers in the journal
+-- each of the script's lanes has a row, which is lent and has the lane's numbers in the book
 pub record AreLent (book : Recorded) (rows : List Row) : Type 0 where
   pub count : length rows ≡ lanes book.script.lines
-  pub each : (lane : ℕ) → HasRow rows lane
-      → row_of rows lane ≡ lent_row (numbers_in book.script book.journal lane)
+  pub each : (lane : ℕ) → HasRow rows lane → row_of rows lane ≡ lent_row (numbers_in book lane)
 
--- The book is of this script and the roll is this one. The journal is one that the script may have
--- so far, and the setup has ended. Each lane's row has the lane's numbers in the journal.
+-- The book is of this script and of these cells, and the roll is this one. The journal is one that
+-- the script may have so far, and the setup has ended. Each lane's row has the lane's numbers in
+-- the book.
 pub record IsLocked
-    (script : Script) (id : TableId) (book : Recorded) (roll : Rolled) : Type 0 where
+    (script : Script) (roll_id cells : TableId) (book : Recorded) (roll : Rolled) : Type 0 where
   pub script_is : book.script ≡ script
-  pub roll_is : roll.id ≡ id
+  pub cells_are : book.words.id ≡ cells
+  pub roll_is : roll.id ≡ roll_id
   pub stands : Stands book
   pub set_up : IsSetUp book
   pub lent : AreLent book roll.rows

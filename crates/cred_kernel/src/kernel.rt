@@ -1,7 +1,10 @@
 //! What the lanes' threads share.
-ghost use Rattle.std.specs.Prelude.{◌≡◌, None, IfOk, OnErr};
+ghost use Rattle.std.specs.Prelude.{◌≡◌, None, Some, IfOk, IfErr, OnOk, OnErr};
 ghost use Rattle.cred_model.specs.Journal.{IsLegal};
-ghost use Rattle.cred_kernel.specs.Advances.{Advanced};
+ghost use Rattle.cred_work.specs.Works.{IsDecided};
+ghost use Rattle.cred_book.specs.Works.{IsWorkOf};
+ghost use Rattle.cred_book.specs.declared.step.Step.TheVariants.{More};
+ghost use Rattle.cred_kernel.specs.Advances.{Advanced, HasEntered};
 ghost use Rattle.cred_kernel.specs.Turns.{AreAll, AreCounted, AreFresh, HaveEnded};
 
 use crate::locked::Locked;
@@ -9,17 +12,32 @@ use crate::name::Name;
 use crate::parts::Parts;
 use crate::passes::{lend_all, take_all};
 use crate::token::{Turn, TurnList};
-use cred_book::{Journal, Step};
+use cred_book::{Journal, Step, Unfinished};
+use cred_hold::Cells;
 use cred_ids::NoMemory;
+use cred_work::{Work, perform};
 use std::alloc::Global;
-use std::marker::PhantomData;
+use std::marker::{Model, PhantomData};
 use std::sync::{Mutex, MutexGuard, Wait};
 
-/// A book, its cells and a roll behind one lock, which the threads of all lanes share. Whenever the
-/// lock is free, the book is of the name's script and the roll is the name's.
+/// A book and a roll behind one lock, and the book's cells beside it, which the threads of all
+/// lanes share. The cells are the name's, and whenever the lock is free, the book is of the name's
+/// script and cells and the roll is the name's. Contracts see the identity of the cells.
 #[derive(Drop)]
 pub struct Kernel<K: Name> {
+    cells: Cells,
     lock: Mutex<Locked<K>>,
+}
+
+impl<K: Name> Model for Kernel<K> {
+    ghost use Rattle.std.specs.Prelude.{◌≡◌};
+    ghost use Rattle.atomic_table.specs.Seated.{TableId};
+
+    ghost Value = { TableId };
+
+    ghost view = { λ k. k.cells };
+
+    ghost invariant = { λ k. k.cells ≡ K.cells };
 }
 
 impl<K: Name> Kernel<K> {
@@ -32,6 +50,7 @@ impl<K: Name> Kernel<K> {
     pub fn new(alloc: Global, parts: Parts) -> Result<(Kernel<K>, TurnList<K>), NoMemory>
         requires script { parts.script ≡ K.script }
         requires roll { parts.roll ≡ K.roll }
+        requires cells { parts.cells ≡ K.cells }
         ensures { IfOk result (λ made. AreFresh K.script made.1) }
     {
         let Parts {
@@ -45,12 +64,12 @@ impl<K: Name> Kernel<K> {
         };
         let locked = Locked {
             book,
-            cells,
             roll,
             of: PhantomData,
         };
         Ok((
             Kernel {
+                cells,
                 lock: Mutex::new(locked),
             },
             turns,
@@ -60,24 +79,64 @@ impl<K: Name> Kernel<K> {
     /// Gets the lock, for which it may wait.
     pub fn lock<R: Wait>(&self, rt: &R) -> KernelGuard<'_, K> {
         KernelGuard {
+            kernel: self,
             locked: self.lock.lock(rt),
         }
     }
 
-    /// Makes the next event of the turn's lane under the lock, for which it may wait. The answer is
-    /// Ended exactly if no line of the lane is left, and then the turn is as it was. No call
-    /// changes the turn's lane.
+    /// Makes the next event of the turn's lane under the lock, for which it may wait, or gives it
+    /// out as a work where it waits for a decision. The answer is Ended exactly if no line of the
+    /// lane is left, and then the turn is as it was. No call changes the turn's lane.
     ///
     /// # Errors
     ///
-    /// `NoMemory` if an allocation of the event, the state or the entry fails: the turn is as it
-    /// was.
+    /// `NoMemory` if an allocation of the event, the work, the state or the entry fails: the turn
+    /// is as it was.
     pub fn advance<R: Wait>(&self, rt: &R, turn: &mut Turn<K>) -> Result<Step, NoMemory>
         requires out { turn.old.numbers.out ≡ None }
-        ensures step { IfOk result (Advanced K.script turn.old turn.new) }
+        ensures step { IfOk result (Advanced K.script K.cells turn.old turn.new) }
         ensures err { OnErr result (turn.new ≡ turn.old) }
     {
         self.lock(rt).advance(turn)
+    }
+
+    /// Decides a work of this kernel, which stays this kernel's and of the same line. It takes no
+    /// lock and waits for nobody.
+    ///
+    /// # Errors
+    ///
+    /// `NoMemory` if an allocation of the decision fails: the work is as it was.
+    pub fn do_work(&self, alloc: Global, work: &mut Work) -> Result<(), NoMemory>
+        requires { IsWorkOf K.script K.cells work.old }
+        ensures decided { OnOk result (IsDecided work.new) }
+        ensures line { work.new.line ≡ work.old.line }
+        ensures work { IsWorkOf K.script K.cells work.new }
+        ensures err { OnErr result (work.new ≡ work.old) }
+    {
+        perform(alloc, &self.cells, work)
+    }
+
+    /// Takes a decided work of the turn's lane back under the lock, for which it may wait, and
+    /// enters its event.
+    ///
+    /// # Errors
+    ///
+    /// The work as it was, if an allocation of the state or of the entry fails: the turn is as it
+    /// was.
+    pub fn finish<R: Wait>(
+        &self,
+        rt: &R,
+        turn: &mut Turn<K>,
+        work: Work,
+    ) -> Result<Step, Unfinished>
+        requires out { turn.old.numbers.out ≡ Some work.line }
+        requires work { IsWorkOf K.script K.cells work }
+        requires decided { IsDecided work }
+        ensures more { IfOk result (λ step. step ≡ More) }
+        ensures entered { OnOk result (HasEntered K.script 1 turn.old turn.new) }
+        ensures err { IfErr result (λ left. (left.work ≡ work) × (turn.new ≡ turn.old)) }
+    {
+        self.lock(rt).finish(turn, work)
     }
 
     /// The journal, once each of its turns has ended. It is a legal one, and has as many entries of
@@ -89,10 +148,9 @@ impl<K: Name> Kernel<K> {
         ensures legal { IsLegal K.script result.entries.items }
         ensures counts { AreCounted K.script result.entries.items turns }
     {
-        let Kernel { lock } = self;
+        let Kernel { cells: _, lock } = self;
         let Locked {
             book,
-            cells: _,
             mut roll,
             of: _,
         } = lock.into_inner();
@@ -101,25 +159,46 @@ impl<K: Name> Kernel<K> {
     }
 }
 
-/// The lock, got by one thread: others wait until it is dropped.
+/// The lock of a kernel, got by one thread: others wait until it is dropped.
 #[derive(Drop)]
 pub struct KernelGuard<'k, K: Name> {
+    kernel: &'k Kernel<K>,
     locked: MutexGuard<'k, Locked<K>>,
 }
 
 impl<K: Name> KernelGuard<'_, K> {
-    /// Makes the next event of the turn's lane. The answer is Ended exactly if no line of the lane
-    /// is left, and then the turn is as it was. No call changes the turn's lane.
+    /// Makes the next event of the turn's lane, or gives it out as a work where it waits for a
+    /// decision. The answer is Ended exactly if no line of the lane is left, and then the turn is
+    /// as it was. No call changes the turn's lane.
     ///
     /// # Errors
     ///
-    /// `NoMemory` if an allocation of the event, the state or the entry fails: the turn is as it
-    /// was.
+    /// `NoMemory` if an allocation of the event, the work, the state or the entry fails: the turn
+    /// is as it was.
     pub fn advance(&mut self, turn: &mut Turn<K>) -> Result<Step, NoMemory>
         requires out { turn.old.numbers.out ≡ None }
-        ensures step { IfOk result (Advanced K.script turn.old turn.new) }
+        ensures step { IfOk result (Advanced K.script K.cells turn.old turn.new) }
         ensures err { OnErr result (turn.new ≡ turn.old) }
     {
-        self.locked.step(turn)
+        let kernel = self.kernel;
+        self.locked.step(&kernel.cells, turn)
+    }
+
+    /// Takes a decided work of the turn's lane back, and enters its event.
+    ///
+    /// # Errors
+    ///
+    /// The work as it was, if an allocation of the state or of the entry fails: the turn is as it
+    /// was.
+    pub fn finish(&mut self, turn: &mut Turn<K>, work: Work) -> Result<Step, Unfinished>
+        requires out { turn.old.numbers.out ≡ Some work.line }
+        requires work { IsWorkOf K.script K.cells work }
+        requires decided { IsDecided work }
+        ensures more { IfOk result (λ step. step ≡ More) }
+        ensures entered { OnOk result (HasEntered K.script 1 turn.old turn.new) }
+        ensures err { IfErr result (λ left. (left.work ≡ work) × (turn.new ≡ turn.old)) }
+    {
+        let kernel = self.kernel;
+        self.locked.finish(&kernel.cells, turn, work)
     }
 }

@@ -1,21 +1,24 @@
-//! What stands under the lock, and the step that is made there.
-ghost use Rattle.std.specs.Prelude.{◌≡◌, ◌<◌, ◌^◌, length, None, IfOk, OnErr};
-ghost use Rattle.cred_kernel.specs.Advances.{Advanced};
+//! What stands under the lock, and the steps that are made there.
+ghost use Rattle.std.specs.Prelude.{◌≡◌, ◌<◌, ◌^◌, length, None, Some, IfOk, IfErr, OnOk, OnErr};
+ghost use Rattle.cred_work.specs.Works.{IsDecided};
+ghost use Rattle.cred_book.specs.Works.{IsWorkOf};
+ghost use Rattle.cred_book.specs.declared.step.Step.TheVariants.{More};
+ghost use Rattle.cred_kernel.specs.Advances.{Advanced, HasEntered, finished, stepped};
 
 use crate::name::Name;
 use crate::token::Turn;
-use cred_book::{Book, Step};
+use cred_book::{Book, Step, Unfinished};
 use cred_event::Entry;
 use cred_hold::Cells;
 use cred_ids::NoMemory;
-use cred_turn::Roll;
+use cred_turn::{Numbers, Roll};
+use cred_work::Work;
 use std::marker::{Model, PhantomData};
 
 /// What stands under the lock.
 #[derive(Drop)]
 pub(crate) struct Locked<K: Name> {
     pub(crate) book: Book,
-    pub(crate) cells: Cells,
     pub(crate) roll: Roll,
     pub(crate) of: PhantomData<K>,
 }
@@ -28,21 +31,22 @@ impl<K: Name> Model for Locked<K> {
 
     ghost view = { λ s. record { journal = s.book.journal; rows = s.roll.rows } };
 
-    ghost invariant = { λ s. IsLocked K.script K.roll s.book s.roll
-        × (s.book.words.id ≡ s.cells) };
+    ghost invariant = { λ s. IsLocked K.script K.roll K.cells s.book s.roll };
 }
 
 impl<K: Name> Locked<K> {
-    /// Makes the next event of the turn's lane. There is no way out between taking the pass back
-    /// and lending the row again: after want of memory the same numbers are lent.
+    /// Makes the next event of the turn's lane, or gives it out as a work where it waits for a
+    /// decision. There is no way out between taking the pass back and lending the row again: after
+    /// want of memory the same numbers are lent.
     ///
     /// # Errors
     ///
-    /// `NoMemory` if an allocation of the event, the state or the entry fails: the turn is as it
-    /// was.
-    pub(crate) fn step(&mut self, turn: &mut Turn<K>) -> Result<Step, NoMemory>
+    /// `NoMemory` if an allocation of the event, the work, the state or the entry fails: the turn
+    /// is as it was.
+    pub(crate) fn step(&mut self, cells: &Cells, turn: &mut Turn<K>) -> Result<Step, NoMemory>
+        requires own { cells.now ≡ K.cells }
         requires out { turn.old.numbers.out ≡ None }
-        ensures step { IfOk result (Advanced K.script turn.old turn.new) }
+        ensures step { IfOk result (Advanced K.script K.cells turn.old turn.new) }
         ensures err { OnErr result (turn.new ≡ turn.old) }
     {
         let Some(pass) = turn.pass.take() else {
@@ -51,13 +55,80 @@ impl<K: Name> Locked<K> {
         self.roll.take(pass);
         // A lane has no more entries than the journal, for whose length there is room.
         let _entries = count(self.book.journal());
-        let step = self.book.next(&self.cells, turn.lane);
-        if let Ok(Step::More) = &step {
-            turn.numbers.entered += 1;
-        }
-        turn.numbers.ended = self.book.ended(turn.lane);
+        let step = self.book.next(cells, turn.lane);
+        turn.numbers = stepped(turn.numbers, &step, self.book.ended(turn.lane));
         turn.pass = Some(self.roll.lend(turn.lane, turn.numbers));
         step
+    }
+
+    /// Takes a decided work of the turn's lane back, and enters its event.
+    ///
+    /// # Errors
+    ///
+    /// The work as it was, if an allocation of the state or of the entry fails: the turn is as it
+    /// was.
+    pub(crate) fn finish(
+        &mut self,
+        cells: &Cells,
+        turn: &mut Turn<K>,
+        work: Work,
+    ) -> Result<Step, Unfinished>
+        requires own { cells.now ≡ K.cells }
+        requires out { turn.old.numbers.out ≡ Some work.line }
+        requires work { IsWorkOf K.script K.cells work }
+        requires decided { IsDecided work }
+        ensures more { IfOk result (λ step. step ≡ More) }
+        ensures entered { OnOk result (HasEntered K.script 1 turn.old turn.new) }
+        ensures err { IfErr result (λ left. (left.work ≡ work) × (turn.new ≡ turn.old)) }
+    {
+        let Some(pass) = turn.pass.take() else {
+            unreachable!()
+        };
+        self.roll.take(pass);
+        let _entries = count(self.book.journal());
+        let step = self.book.finish(cells, turn.lane, work);
+        turn.numbers = finished(turn.numbers, &step, self.book.ended(turn.lane));
+        turn.pass = Some(self.roll.lend(turn.lane, turn.numbers));
+        step
+    }
+}
+
+/// The lane's numbers after a step of it, by which so many of its lines have ended.
+fn stepped(before: Numbers, step: &Result<Step, NoMemory>, ended: u32) -> Numbers
+    requires room { before.entered < 2 ^ 63 }
+    ensures { result ≡ stepped before ended step.now }
+{
+    match step {
+        Ok(Step::More) => Numbers {
+            entered: before.entered + 1,
+            ended,
+            out: None,
+            ..before
+        },
+        Ok(Step::Work(work)) => Numbers {
+            ended,
+            out: Some(work.line),
+            ..before
+        },
+        Ok(Step::Ended) | Err(_) => Numbers { ended, ..before },
+    }
+}
+
+/// The lane's numbers after its work came back, by which so many of its lines have ended. What was
+/// entered then is an event more that was decided while the lock was free.
+fn finished(before: Numbers, step: &Result<Step, Unfinished>, ended: u32) -> Numbers
+    requires entered { before.entered < 2 ^ 63 }
+    requires decided { before.decided < 2 ^ 63 }
+    ensures { result ≡ finished before ended step.now }
+{
+    match step {
+        Ok(_) => Numbers {
+            entered: before.entered + 1,
+            decided: before.decided + 1,
+            ended,
+            out: None,
+        },
+        Err(_) => Numbers { ended, ..before },
     }
 }
 

@@ -4,12 +4,14 @@ ghost use Rattle.cred_model.specs.Script.{Script};
 
 use std::marker::Brand;
 
-/// Which kernel it is: its script and its roll, which contracts alone see. A kernel and its turns
-/// have the same name in their types. Each call of a program picks one.
+/// Which kernel it is: its script, its roll and its cells, which contracts alone see. A kernel and
+/// its turns have the same name in their types. Each call of a program picks one.
 pub trait Name {
     ghost script: { Script };
 
     ghost roll: { TableId };
+
+    ghost cells: { TableId };
 }
 
 impl Name for Brand {
@@ -18,4 +20,6 @@ impl Name for Brand {
     ghost script = { no_script };
 
     ghost roll = { no_table };
+
+    ghost cells = { no_table };
 }

@@ -1,13 +1,17 @@
 //! What a kernel is made of.
-ghost use Rattle.std.specs.Prelude.{◌≡◌, [], IfOk, OnOk};
-ghost use Rattle.cred_book.specs.Cursor.{Stands};
-ghost use Rattle.cred_kernel.specs.Locks.{IsReady};
+ghost use Rattle.std.specs.Prelude.{◌≡◌, ◌<◌, ℕ, [], None, IfOk, OnOk};
+ghost use Rattle.cred_book.specs.Book.{out_of};
+ghost use Rattle.cred_book.specs.Counts.{HasEntered};
+ghost use Rattle.cred_book.specs.Cursor.{Stands, left};
+ghost use Rattle.cred_book.specs.Works.{IsLanes};
+ghost use Rattle.cred_kernel.specs.Locks.{IsFirst, IsReady};
 
-use cred_book::{Book, Step};
+use cred_book::{Book, Step, Unfinished};
 use cred_hold::Cells;
 use cred_ids::NoMemory;
 use cred_script::Script;
 use cred_turn::Roll;
+use cred_work::{Work, perform};
 use std::alloc::Global;
 use std::marker::Model;
 
@@ -26,7 +30,7 @@ impl Model for Parts {
 
     ghost Value = { KernelParts };
 
-    ghost view = { λ p. record { script = p.book.script; roll = p.roll.id } };
+    ghost view = { λ p. record { script = p.book.script; roll = p.roll.id; cells = p.cells } };
 
     ghost invariant = { λ p. IsMade p.book p.roll × (p.book.words.id ≡ p.cells) };
 }
@@ -56,7 +60,7 @@ fn set_up(alloc: Global, script: Script) -> Result<(Book, Cells), NoMemory>
     ensures own { IfOk result (λ made. made.0.words.id ≡ made.1) }
 {
     let (mut book, cells) = Book::new(alloc, script)?;
-    match run_setup(&mut book, &cells) {
+    match run_setup(alloc, &mut book, &cells) {
         Ok(()) => Ok((book, cells)),
         Err(NoMemory) => {
             drop(book);
@@ -65,19 +69,61 @@ fn set_up(alloc: Global, script: Script) -> Result<(Book, Cells), NoMemory>
     }
 }
 
-/// Makes all events of the setup.
+/// Makes all events of the setup. Nobody else has the book yet, so what waits for a decision is
+/// decided here.
 ///
 /// # Errors
 ///
-/// `NoMemory` if an allocation of an event, of the state or of an entry fails.
-fn run_setup(book: &mut Book, cells: &Cells) -> Result<(), NoMemory>
+/// `NoMemory` if an allocation of an event, of a work, of the state or of an entry fails.
+fn run_setup(alloc: Global, book: &mut Book, cells: &Cells) -> Result<(), NoMemory>
     requires own { book.old.words.id ≡ cells.now }
     requires stands { Stands book.old }
     requires empty { book.old.journal ≡ [] }
+    requires home { (lane : ℕ) → out_of book.old lane ≡ None }
     ensures script { book.new.script ≡ book.old.script }
-    ensures words { book.new.words ≡ book.old.words }
+    ensures cells { book.new.words.id ≡ book.old.words.id }
     ensures ready { OnOk result (IsReady book.new) }
 {
-    'setup: while let Step::More = book.next(cells, 0)? {}
-    Ok(())
+    'setup: loop {
+        match book.next(cells, 0)? {
+            Step::More => (),
+            Step::Work(work) => decide_and_enter(alloc, book, cells, 0, work)?,
+            Step::Ended => return Ok(()),
+        }
+    }
+}
+
+/// Decides a work of the lane and enters its event.
+///
+/// # Errors
+///
+/// `NoMemory` if an allocation of the decision, of the state or of an entry fails.
+fn decide_and_enter(
+    alloc: Global,
+    book: &mut Book,
+    cells: &Cells,
+    lane: u32,
+    work: Work,
+) -> Result<(), NoMemory>
+    requires own { book.old.words.id ≡ cells.now }
+    requires stands { Stands book.old }
+    requires lanes { IsLanes book.old lane work }
+    ensures script { book.new.script ≡ book.old.script }
+    ensures cells { book.new.words.id ≡ book.old.words.id }
+    ensures stands { Stands book.new }
+    ensures falls { OnOk result (left book.new < left book.old) }
+    ensures counts { OnOk result (HasEntered book.old book.new lane 1) }
+{
+    let mut work = work;
+    let Ok(()) = perform(alloc, cells, &mut work) else {
+        drop(work);
+        return Err(NoMemory);
+    };
+    match book.finish(cells, lane, work) {
+        Ok(_) => Ok(()),
+        Err(unfinished) => {
+            drop(unfinished);
+            Err(NoMemory)
+        }
+    }
 }

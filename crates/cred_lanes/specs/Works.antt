@@ -1,6 +1,15 @@
 -- What the workers give back.
 use Rattle.std.specs.Prelude.{◌≡◌, ℕ, ◌+◌, ◌<◌, List, length, slice_index_or, Result, IfOk}
+use Rattle.std.specs.Prelude.{Some, None, MatchOption}
+use Rattle.std.specs.declared.option.Option.{Option}
+use Rattle.atomic_table.specs.Seated.{TableId}
 use Rattle.cred_model.specs.Script.{Script}
+use Rattle.cred_work.specs.declared.work.Work.{Work}
+use Rattle.cred_work.specs.Works.{IsDecided}
+use Rattle.cred_book.specs.Works.{IsWorkOf}
+use Rattle.cred_book.specs.declared.step.Step.{Step}
+use Rattle.cred_book.specs.declared.step.Step.TheVariants.{More, Ended}
+use Rattle.cred_book.specs.declared.step.Step.TheVariants as step
 use Rattle.cred_kernel.specs.Turns.{Seen, LaneHasEnded}
 
 -- the turn of the same lane, which has ended
@@ -12,3 +21,24 @@ abbrev pub AllFinished : {E : Type 0} → Script → List (Result Seen E) → Ty
 AllFinished {E} script done =
     (k : ℕ) (d : Result Seen E) → k < length done
     → IfOk (slice_index_or done k d) (λ turn. (turn.lane ≡ k + 1) × LaneHasEnded script turn)
+
+-- the work, decided, of the same line and of the same kernel
+pub record IsDue (script : Script) (cells : TableId) (work decided : Work) : Type 0 where
+  pub line : decided.line ≡ work.line
+  pub work_is : IsWorkOf script cells decided
+  pub right : IsDecided decided
+
+-- What a worker comes back to the lock with: nothing where no work of its lane is out, and else
+-- that work, which is decided.
+abbrev pub IsReturn : Script → TableId → Seen → Option Work → Type 0
+IsReturn script cells turn decided =
+    MatchOption decided (turn.numbers.out ≡ None) (λ work.
+    (turn.numbers.out ≡ Some work.line) × IsDue script cells work work)
+
+-- How a worker leaves the lock: no work of its lane is out; or one is, and it has it; or its lane
+-- has ended.
+abbrev pub HasGoneOn : Script → TableId → Seen → Seen → Step → Type 0
+HasGoneOn script cells old new More = (new.lane ≡ old.lane) × (new.numbers.out ≡ None)
+HasGoneOn script cells old new (step.Work work) =
+    (new.lane ≡ old.lane) × (new.numbers.out ≡ Some work.line) × IsWorkOf script cells work
+HasGoneOn script cells old new Ended = (new.lane ≡ old.lane) × LaneHasEnded script new

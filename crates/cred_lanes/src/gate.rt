@@ -3,14 +3,14 @@
 /// Where a worker stands when it comes to the gate.
 #[derive(Clone, Copy, PartialEq, Eq, Debug)]
 pub enum Place {
-    /// Before a decision that it makes without the lock.
+    /// Before a decision.
     BeforeDecision,
     /// After the decision, before its event is entered.
     AfterDecision,
 }
 
-/// What a worker calls beside each decision that it makes without the lock, so that a caller can
-/// hold a lane back. As yet every decision is made under the lock, and no worker calls it.
+/// What a worker calls before and after each decision that it makes without the lock, so that a
+/// caller can hold a lane back there. It has not got the lock then, and no other lane waits for it.
 pub trait Gate {
     /// Returns when the worker of the lane may go on with the line.
     fn pause(&self, lane: u32, line: u32, place: Place);

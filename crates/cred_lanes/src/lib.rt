@@ -3,8 +3,10 @@
 //!
 //! A worker makes the events of its lane, one after another, until the lane has ended. Each is made
 //! under the kernel's lock, of which the worker lets go after one event, and later, when its lane
-//! has had more, after some. Which worker gets the lock next is up to the threads, and no clause
-//! says it: in whatever order the events come, the journal is legal for the script.
+//! has had more, after some. But an event that waits for a decision on a credential goes out as a
+//! work: the worker lets go of the lock, decides, and gets the lock again to enter the event. Which
+//! worker gets the lock next is up to the threads, and no clause says it: in whatever order the
+//! events come, the journal is legal for the script.
 //!
 //! `drive` and `lanes` may wait for the lock, and what they promise holds if they return.
 #![tactic(auto)]

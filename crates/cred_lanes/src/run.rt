@@ -35,7 +35,7 @@ pub fn lanes<G: Gate + Sync, R: Threads + Wait + Sync>(
     named::<Brand, G, R>(rt, alloc, parts, gate)
 }
 
-/// The same under a name that stands for this script and this roll.
+/// The same under a name that stands for this script, this roll and these cells.
 fn named<K: Name + Send + Sync, G: Gate + Sync, R: Threads + Wait + Sync>(
     rt: &R,
     alloc: Global,
@@ -44,6 +44,7 @@ fn named<K: Name + Send + Sync, G: Gate + Sync, R: Threads + Wait + Sync>(
 ) -> Result<Journal, NoMemory>
     requires script { parts.script ≡ K.script }
     requires roll { parts.roll ≡ K.roll }
+    requires cells { parts.cells ≡ K.cells }
     ensures script { IfOk result (λ journal. journal.script ≡ K.script) }
     ensures legal { IfOk result (λ journal. IsLegal K.script journal.entries.items) }
 {

@@ -1,14 +1,16 @@
 //! The workers, one for each lane.
-ghost use Rattle.std.specs.Prelude.{◌≡◌, length, IfOk, OnOk, None};
+ghost use Rattle.std.specs.Prelude.{◌≡◌, length, IfOk, None, Some, MatchOption};
 ghost use Rattle.cred_script.specs.Lanes.{lanes};
-ghost use Rattle.cred_book.specs.declared.step.Step.TheVariants.{Ended};
-ghost use Rattle.cred_kernel.specs.Turns.{AreAll, AreHome, LaneHasEnded, HaveEnded};
-ghost use Rattle.cred_lanes.specs.Works.{AllFinished, Finished};
+ghost use Rattle.cred_work.specs.Works.{IsDecided};
+ghost use Rattle.cred_book.specs.Works.{IsWorkOf};
+ghost use Rattle.cred_kernel.specs.Turns.{AreAll, AreHome, HaveEnded};
+ghost use Rattle.cred_lanes.specs.Works.{AllFinished, Finished, HasGoneOn, IsDue, IsReturn};
 
-use crate::gate::Gate;
+use crate::gate::{Gate, Place};
 use cred_book::Step;
 use cred_ids::NoMemory;
 use cred_kernel::{Kernel, KernelGuard, Name, Turn, TurnList};
+use cred_work::Work;
 use std::alloc::Global;
 use std::sync::Wait;
 use std::thread;
@@ -18,7 +20,7 @@ use std::thread::Threads;
 /// another. The turns come back in the same order, and each of them has ended. It may wait.
 ///
 /// The turns are all turns of the kernel, in the order of their lanes from 1, and none of them has
-/// a line that is being decided. No worker calls the gate yet.
+/// a line that is being decided. Each worker comes to the gate before and after each decision.
 ///
 /// # Errors
 ///
@@ -42,58 +44,137 @@ pub fn drive<K: Name + Send + Sync, G: Gate + Sync, R: Threads + Wait + Sync>(
         &|turn: Turn<K>| -> Result<Turn<K>, NoMemory>
             requires { turn.numbers.out ≡ None }
             ensures { IfOk result (Finished K.script turn) }
-        { work(rt, kernel, gate, turn) },
+        { work(rt, alloc, kernel, gate, turn) },
     )?;
     all_ended(alloc, done)
 }
 
-/// A worker lets go of the lock once it has made this part of the events that its lane has had. A
-/// thread that is put to sleep and woken costs as much as a hundred events, so a long lane isn't to
-/// let go of the lock at each; in a short one the lanes still take turns often.
+/// A worker lets go of the lock once it has made this part of the events that its lane has had, if
+/// none of them had to be decided. A thread that is put to sleep and woken costs as much as a
+/// hundred events, so a long lane isn't to let go of the lock at each; in a short one the lanes
+/// still take turns often.
 const PART: u64 = 16;
 
-/// Makes the events of the turn's lane, one after another, until the lane has ended.
+/// Makes the events of the turn's lane, one after another, until the lane has ended. What waits for
+/// a decision is decided without the lock.
 fn work<K: Name, G: Gate, R: Wait>(
     rt: &R,
+    alloc: Global,
     kernel: &Kernel<K>,
-    _gate: &G,
+    gate: &G,
     turn: Turn<K>,
 ) -> Result<Turn<K>, NoMemory>
     requires { turn.numbers.out ≡ None }
     ensures { IfOk result (Finished K.script turn) }
 {
     let mut turn = turn;
+    let mut decided = None;
     for _ in rt.forever() {
-        let most = 1 + turn.entered() / PART;
-        if let Step::Ended = advance_some(&mut kernel.lock(rt), &mut turn, most)? {
-            return Ok(turn);
-        }
+        decided = match go_on(rt, kernel, &mut turn, decided)? {
+            Step::More => None,
+            Step::Work(work) => Some(decide(alloc, kernel, gate, turn.lane(), work)?),
+            Step::Ended => return Ok(turn),
+        };
     }
     unreachable!()
 }
 
-/// Makes at most so many events of the turn's lane under the lock. Ended comes only where the lane
-/// has ended. No call changes the turn's lane.
+/// Gets the lock, goes on with the turn's lane, and lets go of the lock. It enters the work that was
+/// decided, if there is one, and then makes some events, up to the next that waits for a decision,
+/// or to the lane's end. No call changes the turn's lane.
 ///
 /// # Errors
 ///
-/// `NoMemory` if an allocation of an event, the state or an entry fails: the events before it stay.
+/// `NoMemory` if an allocation of an event, a work, the state or an entry fails: the events before
+/// it stay.
+fn go_on<K: Name, R: Wait>(
+    rt: &R,
+    kernel: &Kernel<K>,
+    turn: &mut Turn<K>,
+    decided: Option<Work>,
+) -> Result<Step, NoMemory>
+    requires { IsReturn K.script K.cells turn.old decided }
+    ensures { IfOk result (HasGoneOn K.script K.cells turn.old turn.new) }
+{
+    let mut kernel = kernel.lock(rt);
+    if let Some(work) = decided {
+        enter(&mut kernel, turn, work)?;
+    }
+    advance_some(&mut kernel, turn)
+}
+
+/// Enters a work that was decided.
+///
+/// # Errors
+///
+/// `NoMemory` if an allocation of the state or of an entry fails.
+fn enter<K: Name>(
+    kernel: &mut KernelGuard<'_, K>,
+    turn: &mut Turn<K>,
+    work: Work,
+) -> Result<(), NoMemory>
+    requires out { turn.old.numbers.out ≡ Some work.line }
+    requires work { IsWorkOf K.script K.cells work }
+    requires decided { IsDecided work }
+    ensures { IfOk result (λ _. (turn.new.lane ≡ turn.old.lane) × (turn.new.numbers.out ≡ None)) }
+{
+    match kernel.finish(turn, work) {
+        Ok(_) => Ok(()),
+        Err(unfinished) => {
+            drop(unfinished);
+            Err(NoMemory)
+        }
+    }
+}
+
+/// Makes some events of the turn's lane under the lock, up to the next that waits for a decision.
+/// Ended comes only where the lane has ended. No call changes the turn's lane.
+///
+/// # Errors
+///
+/// `NoMemory` if an allocation of an event, a work, the state or an entry fails: the events before
+/// it stay.
 fn advance_some<K: Name>(
     kernel: &mut KernelGuard<'_, K>,
     turn: &mut Turn<K>,
-    most: u64,
 ) -> Result<Step, NoMemory>
     requires { turn.old.numbers.out ≡ None }
-    ensures lane { turn.new.lane ≡ turn.old.lane }
-    ensures out { OnOk result (turn.new.numbers.out ≡ None) }
-    ensures ended { IfOk result (λ step. step ≡ Ended → LaneHasEnded K.script turn.new) }
+    ensures { IfOk result (HasGoneOn K.script K.cells turn.old turn.new) }
 {
+    let most = 1 + turn.entered() / PART;
     for _ in 0..most {
-        if let Step::Ended = kernel.advance(turn)? {
-            return Ok(Step::Ended);
+        match kernel.advance(turn)? {
+            Step::More => (),
+            step => return Ok(step),
         }
     }
     Ok(Step::More)
+}
+
+/// Decides a work without the lock. The gate is called before the decision and after it.
+///
+/// # Errors
+///
+/// `NoMemory` if an allocation of the decision fails.
+fn decide<K: Name, G: Gate>(
+    alloc: Global,
+    kernel: &Kernel<K>,
+    gate: &G,
+    lane: u32,
+    work: Work,
+) -> Result<Work, NoMemory>
+    requires { IsWorkOf K.script K.cells work }
+    ensures { IfOk result (IsDue K.script K.cells work) }
+{
+    let mut work = work;
+    let line = work.line();
+    gate.pause(lane, line, Place::BeforeDecision);
+    let Ok(()) = kernel.do_work(alloc, &mut work) else {
+        drop(work);
+        return Err(NoMemory);
+    };
+    gate.pause(lane, line, Place::AfterDecision);
+    Ok(work)
 }
 
 /// The turns, where every worker has ended its lane.

@@ -26,7 +26,8 @@ const USAGE: &str = "usage: credtrace run|lanes|audit|gen N|decode HEX\n";
 /// `audit` reads a script, a line `report` and a report and writes whether that is the script's,
 /// `gen N` runs a script of N calls and writes the summary of its journal, `decode HEX` writes what
 /// an attribute says, and all other words get the usage line. It returns how that ended. For
-/// `lanes` alone it starts threads, and waits for them; none of them calls the gate yet.
+/// `lanes` alone it starts threads, and waits for them; each calls the gate before and after each
+/// decision that it makes.
 ///
 /// `Done`, `NotLegal`, `Bad` and `Usage` come with the whole text, handed on, and with no fault.
 /// The source's count of faults rises for `ReadFault` alone, and the sink's for `WriteFault` alone.

@@ -15,8 +15,8 @@ use std::sync::Wait;
 use std::thread::Threads;
 
 /// Reads a script to its end, runs its lanes as threads, and writes the report of the journal that
-/// came about, or the script's first bad line. No lane stops at the gate yet. It waits for threads
-/// alone, and for none where the input is no script.
+/// came about, or the script's first bad line. Each lane comes to the gate before and after each of
+/// its decisions. It waits for threads alone, and for none where the input is no script.
 pub fn read_and_lanes<R: Threads + Wait + Sync, S: Source, K: Sink, G: Gate + Sync>(
     rt: &R,
     alloc: Global,

@@ -1,5 +1,5 @@
 -- A task makes an id call, and the other threads of its process wait.
-use Rattle.std.proofs.Common.{◌≡◌, ◌≢◌, ◌==◌, ℕ, true, filter, find, is_some, List, [], ◌∷◌, ◌++◌, length, slice_set, Option, None, Some, Ok, Err, refl, sym, ap, ◌∙◌, subst}
+use Rattle.std.proofs.Common.{◌≡◌, ◌≢◌, ◌==◌, ℕ, true, filter, find, is_some, List, [], ◌∷◌, ◌++◌, length, slice_set, Option, None, Some, Ok, Err, refl, sym, ap, ◌∙◌, subst, arith}
 use Rattle.std.specs.List.{All, AllPairs}
 use Rattle.std.specs.Option.{option_and_then}
 use Rattle.std.proofs.lemmas.List.Elements.{All-map}
@@ -147,7 +147,7 @@ module _ {parts : Parts} {store : List (Option Credential)} {t : Table} (is : Is
                 (in_use-updated s task number u.owner distinct u.is);
             keeps = keeps_same t after _ is.counted.keeps (late.kept ∙ seals.kept);
           };
-          filled = filled_put store slot new long seals.in_table sealed_is
+          filled = filled_put store slot new (omega (arith, long, seals.in_table)) sealed_is
               (λ n ne some. no_more_sealed seals n ne (no_more_dropped between after (old.number ∷ []) late.held late.deferred n some)) is.filled;
         }
 
@@ -163,7 +163,7 @@ module _ {parts : Parts} {store : List (Option Credential)} {t : Table} (is : Is
     replaced_made casts gives =
         does_made gives
         (like_casts
-        (stored_like store after t.sealed new slot (made parts.casts number) updated_kept sealed_is long seals.in_table
+        (stored_like store after t.sealed new slot (made parts.casts number) updated_kept sealed_is (omega (arith, long, seals.in_table))
         (subst (λ (n : ℕ). IsAlone after n slot) seals.counted (alone_later late seals.alone)) refl
         (late.deferred ∙ ap (λ (ds : List ℕ). ds ++ old.number ∷ []) seals.deferred) refl)
         casts)

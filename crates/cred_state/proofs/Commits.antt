@@ -5,7 +5,7 @@ use Rattle.std.specs.Option.{option_and_then, option_map}
 use Rattle.std.proofs.lemmas.Bool.{eq-eqb}
 use Rattle.std.proofs.lemmas.Bool.Decides.{nat_tests}
 use Rattle.std.proofs.lemmas.List.Kept.{AllPairs-filter}
-use Rattle.cred_ids.specs.Limits.{SLOTS}
+use Rattle.std.proofs.lemmas.Option.{slice_get_within}
 use Rattle.cred_record.specs.Credential.{Credential}
 use Rattle.cred_event.specs.declared.answer.Answer.{Answer}
 use Rattle.cred_event.specs.declared.answer.Answer.TheVariants.{Busy, NoTask, NoPrepared, Overridden, Stale}
@@ -24,6 +24,7 @@ use Rattle.cred_slots.proofs.Counting.{count-cons}
 use Rattle.cred_sound.proofs.Survivors.{find_goes_on}
 use Rattle.cred_tables.specs.Prepared.{changed_of}
 use Rattle.cred_tables.specs.Kept.{Parts, casts_left, creds_in, state_of, IsKept, SealsKept}
+use Rattle.cred_tables.proofs.Back.{set_same}
 use Rattle.cred_tables.proofs.Bags.{bag-at, counts_itself}
 use Rattle.cred_state.proofs.Broadcasts.{kept_casts, like_casts}
 use Rattle.cred_model.proofs.Places.{find-at, place-of_found}
@@ -196,7 +197,7 @@ module _ {parts : Parts} {after : List Task} {store : List (Option Credential)} 
     pub slot-kept_still : is_kept mid p.slot ≡ true
     slot-kept_still = ap (λ ks. slice_index_or ks p.slot false) drops.kept ∙ slot-kept on_is place p there
 
-    module _ (last_table : Table) {number : ℕ} (long : length store ≡ SLOTS) (last : Changed) (seals : SealsKept mid last_table number p.base p.slot)
+    module _ (last_table : Table) {number : ℕ} (last : Changed) (words : slice_get store p.slot ≡ Some (Some last.cred)) (seals : SealsKept mid last_table number p.base p.slot)
         (distinct : Differ parts.tasks) (own : AllPairs (λ a b. a ≢ b) (kept before)) where
       abbrev updated : List Task
       updated = with_current after p.task number
@@ -227,10 +228,16 @@ module _ {parts : Parts} {after : List Task} {store : List (Option Credential)} 
       fewer = no_more_dropped t' mid (now ∷ []) drops.held drops.deferred
 
       on_kept : IsKept (record end { casts = parts.casts }) put last_table
-      on_kept = finish_kept on_is place p there own updated last_table number drops.sealed drops.kept fewer refer long seals last.cred
+      on_kept = finish_kept on_is place p there own updated last_table number drops.sealed drops.kept fewer refer (slice_get_within store p.slot _ words) seals last.cred
 
-      pub commit_kept : IsKept end put last_table
-      commit_kept = kept_casts on_kept (casts_left change e.owner.process parts.casts)
+      -- what was prepared is in the words already
+      put_same : put ≡ store
+      put_same = set_same store p.slot (Some last.cred) words
+
+      pub commit_kept : IsKept end store last_table
+      commit_kept =
+          subst (λ (words : List (Option Credential)). IsKept end words last_table) put_same
+          (kept_casts on_kept (casts_left change e.owner.process parts.casts))
 
       -- the state that the commit leads to, if the tasks that end leave these, in this state
       abbrev made : List Task → State → State
@@ -242,7 +249,7 @@ module _ {parts : Parts} {after : List Task} {store : List (Option Credential)} 
       commit_like : IsLike (state_of end put last_table) (made after (state_of on store t'))
       commit_like =
           like_casts
-          (finish_like on_is place p there own updated last_table number drops.sealed drops.kept fewer refer long seals last.cred
+          (finish_like on_is place p there own updated last_table number drops.sealed drops.kept fewer refer (slice_get_within store p.slot _ words) seals last.cred
           (record (made after (state_of on store t')) { casts = parts.casts }) refl
           (ap (λ (ds : List ℕ). ds ++ p.base ∷ []) drops.deferred ∙ append_assoc t'.deferred (now ∷ []) (p.base ∷ [])
           ∙ ap (λ (n : ℕ). t'.deferred ++ n ∷ p.base ∷ []) (sym e.current)) refl)
@@ -250,7 +257,7 @@ module _ {parts : Parts} {after : List Task} {store : List (Option Credential)} 
 
       pub commit_done : (label count : ℕ) → position (λ q. q.label == label) parts.prepared ≡ Some place → p.changed ≡ Some last → is_access last.change ≡ false
           → not_busy (begun_by before p.task) ≡ Ok tt → not_overridden e.owner ≡ Ok tt → last.change ≡ change → now ≡ p.base → count ≡ length ended_tasks
-          → IsOutcomeLike (outcome before (by_commit before label)) (committed_by change last.gains number p.slot count) (state_of end put last_table)
+          → IsOutcomeLike (outcome before (by_commit before label)) (committed_by change last.gains number p.slot count) (state_of end store last_table)
       commit_done label count at changed for idle allowed by base many =
           let counted : length (creds_in store t.sealed) ≡ number
           = length-creds_in store t.sealed ∙ ap (λ (ss : List ℕ). length ss) (sym (drops.sealed ∙ e.all.sealed)) ∙ sym seals.counted in
@@ -258,7 +265,10 @@ module _ {parts : Parts} {after : List Task} {store : List (Option Credential)} 
           let left : List Task = survivors ends parts.tasks in
           let casts : List Broadcast = casts_left change e.owner.process parts.casts in
           let numbered : ℕ → State = λ n. record (committed (ended ends before) place p e.owner.current last.cred) { tasks = with_current left p.task n; casts = casts } in
-          does_made
+          subst
+          (λ (words : List (Option Credential)). IsOutcomeLike (outcome before (by_commit before label)) (committed_by change last.gains number p.slot count) (state_of end words last_table))
+          put_same
+          (does_made
           (commit_tests before label place p last e.owner at there changed for e.lives idle allowed
           ∙ try_commit_current before place p e.owner last (eq-eqb e.owner.current p.base (e.current ∙ base))
           ∙ ap (λ (c : Change). (
@@ -271,4 +281,4 @@ module _ {parts : Parts} {after : List Task} {store : List (Option Credential)} 
           ∙ ap (λ (k : ℕ). (committed_by change last.gains number p.slot k, numbered number)) (sym (many ∙ e.many))
           ∙ ap (λ (gone : State). (committed_by change last.gains number p.slot count, made left gone)) (ended_is is ends t' e.all)
           ∙ ap (λ (ts : List Task). (committed_by change last.gains number p.slot count, made ts (state_of (record parts { tasks = ts }) store t'))) (sym e.on))
-          commit_like
+          commit_like)

@@ -1,8 +1,7 @@
 -- A prepared label is done: its credential is sealed in the slot that was kept for it, and its base
 -- given up. So a commit ends, and an override by what was prepared for access(2).
-use Rattle.std.proofs.Common.{◌≡◌, ◌≢◌, ℕ, List, [], ◌∷◌, ◌++◌, remove, length, slice_get, slice_set, slice_index_or, false, Option, Some, ap, ◌∙◌, subst, arith}
+use Rattle.std.proofs.Common.{◌≡◌, ◌≢◌, ℕ, ◌<◌, List, [], ◌∷◌, ◌++◌, remove, length, slice_get, slice_set, slice_index_or, false, Option, Some, ap, ◌∙◌, subst, arith}
 use Rattle.std.specs.List.{AllPairs}
-use Rattle.cred_ids.specs.Limits.{SLOTS}
 use Rattle.cred_record.specs.Credential.{Credential}
 use Rattle.cred_model.specs.State.{State, Task, Prepared}
 use Rattle.cred_model.specs.Slots.{in_use, kept}
@@ -21,7 +20,7 @@ module _ {parts : Parts} {store : List (Option Credential)} {t : Table} (is : Is
     (place : ℕ) (p : Prepared) (there : slice_get parts.prepared place ≡ Some p) (own : AllPairs (λ a b. a ≢ b) (kept (state_of parts store t)))
     (tasks : List Task) {mid : Table} (after : Table) (number : ℕ) (sealed : mid.sealed ≡ t.sealed) (keeps : mid.kept ≡ t.kept) (fewer : NoMore t mid)
     (refer : IsSameBag (number ∷ mid.held) (in_use (record (state_of parts store t) { tasks = tasks })))
-    (long : length store ≡ SLOTS) (seals : SealsKept mid after number p.base p.slot) (c : Credential) where
+    (within : p.slot < length store) (seals : SealsKept mid after number p.base p.slot) (c : Credential) where
   abbrev pub done_parts : Parts
   done_parts = record parts { tasks = tasks; prepared = remove parts.prepared place }
 
@@ -47,7 +46,7 @@ module _ {parts : Parts} {store : List (Option Credential)} {t : Table} (is : Is
           ap (λ ks. slice_index_or ks slot false) (seals.kept ∙ ap (λ ks. slice_set ks p.slot false) keeps)
           ∙ keeps-less is place p there own slot;
     };
-    filled = filled_put store p.slot c long seals.in_table sealed_is
+    filled = filled_put store p.slot c within sealed_is
         (λ n ne some. fewer n (no_more_finished seals n (λ e. ne (e ∙ ap length sealed)) some)) is.filled;
   }
 
@@ -56,6 +55,6 @@ module _ {parts : Parts} {store : List (Option Credential)} {t : Table} (is : Is
       → creds_in store t.sealed ++ record { cred = c; slot = p.slot } ∷ [] ≡ made.creds
       → IsLike (state_of done_parts put after) made
   finish_like made same deferred creds =
-      stored_like store after t.sealed c p.slot made finish_kept sealed_is long seals.in_table
+      stored_like store after t.sealed c p.slot made finish_kept sealed_is within
       (subst (λ (n : ℕ). IsAlone after n p.slot) (seals.counted ∙ ap length sealed) seals.alone) same
       (seals.deferred ∙ deferred) creds

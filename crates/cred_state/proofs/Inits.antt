@@ -69,7 +69,7 @@ module _ {parts : Parts} {store : List (Option Credential)} {t : Table} (is : Is
         counts = bag-more is.counted.counts seals.held (in_use-task s (first_task task process number) refl);
         keeps = keeps_same t after _ is.counted.keeps seals.kept;
       };
-      filled = filled_put store slot (first_credential user group ns root) long seals.in_table seals.sealed (no_more_sealed seals) is.filled;
+      filled = filled_put store slot (first_credential user group ns root) (omega (arith, long, seals.in_table)) seals.sealed (no_more_sealed seals) is.filled;
     }
 
     pub init_sealed : not_busy (cast_in s process) ≡ Ok tt → find (λ u. u.number == task) parts.tasks ≡ None → length parts.tasks < 64
@@ -81,7 +81,7 @@ module _ {parts : Parts} {store : List (Option Credential)} {t : Table} (is : Is
         does_made
         (init_tests s task process user group ns root idle new few ∙ in_free is (init_does task process user group ns root) slot seals.takes
         ∙ ap (λ (n : ℕ). (Sealed n slot, created (roomy is) (first_task task process n) c slot)) count)
-        (stored_like store after t.sealed c slot (created (roomy is) (first_task task process number) c slot) init_kept seals.sealed long seals.in_table
+        (stored_like store after t.sealed c slot (created (roomy is) (first_task task process number) c slot) init_kept seals.sealed (omega (arith, long, seals.in_table))
         (subst (λ (n : ℕ). IsAlone after n slot) seals.counted seals.alone) refl seals.deferred refl)
 
 -- ---- another task is created

@@ -13,15 +13,18 @@ use Rattle.cred_model.specs.Casts.{not_busy}
 use Rattle.cred_model.specs.Slots.{in_use, kept}
 use Rattle.cred_model.specs.Moves as moves
 use Rattle.cred_model.specs.Moves.{in_slot, table_full, with_change}
+use Rattle.cred_model.specs.Like.{IsLike, IsOutcomeLike}
 use Rattle.cred_model.specs.Step.{by_abort, by_prepare, outcome}
-use Rattle.cred_slots.specs.Table.{Table, IsSameBag, is_kept}
+use Rattle.cred_slots.specs.Table.{Table, IsSameBag, is_kept, references_to}
 use Rattle.cred_slots.specs.Table as table
 use Rattle.cred_slots.proofs.Tables.{held_is_referred}
 use Rattle.cred_tables.specs.Kept.{Parts, state_of, IsCounted, IsKept}
 use Rattle.cred_tables.proofs.Bags.{bag-more, bag-less, bag-has, bag-at}
-use Rattle.cred_tables.proofs.Filled.{filled_same, no_more_dropped, no_more_roomy}
+use Rattle.cred_tables.proofs.Cleared.{filled_spare, free_clear}
+use Rattle.cred_tables.proofs.Filled.{filled_same, no_more_counted, no_more_dropped, no_more_roomy}
 use Rattle.cred_tables.proofs.Keeps.{is_among, keeps-push, keeps-remove, among-at}
 use Rattle.cred_tables.proofs.Sealing.{in_free, in_none, over_later}
+use Rattle.cred_tables.proofs.Stored.{does_made, spare_like}
 use Rattle.cred_tables.proofs.InUse.{in_use-label, in_use-unlabel, in_use-altered, kept-altered}
 
 remove-map : {X Y : Type 0} (f : X → Y) (xs : List X) (i : ℕ) → map f (remove xs i) ≡ remove (map f xs) i
@@ -101,8 +104,12 @@ module _ {parts : Parts} {store : List (Option Credential)} {t : Table} (is : Is
       prepare_tests s label task hold may ∙ in_none is (prepare_does label task may.base.number) after none makes
 
   module _ (after : Table) (p : Prepared) (claim : Claims t after p.base p.slot) where
-    pub prepare_kept : 0 < count_by (λ m. m == p.base) t.held → IsKept (record parts { prepared = parts.prepared ++ p ∷ [] }) store after
-    prepare_kept has =
+    abbrev begun : Parts
+    begun = record parts { prepared = parts.prepared ++ p ∷ [] }
+
+    -- whatever is in the words of its slot
+    prepare_words : 0 < count_by (λ m. m == p.base) t.held → IsKept begun store after
+    prepare_words has =
         let slots : kept (record s { prepared = parts.prepared ++ p ∷ [] }) ≡ kept s ++ p.slot ∷ [] = map-append (λ (q : Prepared). q.slot) parts.prepared (p ∷ []) in
         record {
           counted = record {
@@ -115,14 +122,35 @@ module _ {parts : Parts} {store : List (Option Credential)} {t : Table} (is : Is
           filled = filled_same claim.sealed (no_more_roomy t after p.base claim.held claim.deferred (held_is_referred t p.base has)) is.filled;
         }
 
+    -- nothing that is referred to stands in it
+    none_there : 0 < count_by (λ m. m == p.base) t.held → (n : ℕ) → slice_get after.sealed n ≡ Some p.slot → 0 < references_to after n → ⊥
+    none_there has n at some =
+        let room = table.swept_if_full t in
+        free_clear t p.slot claim.takes n (ap (λ ss. slice_get ss n) (sym claim.sealed) ∙ at)
+        (no_more_counted room after p.base claim.held claim.deferred (held_is_referred room p.base has) n some)
+
+    pub prepare_kept : 0 < count_by (λ m. m == p.base) t.held → IsKept begun (slice_set store p.slot None) after
+    prepare_kept has =
+        let words = prepare_words has in
+        record {
+          counted = record { counts = words.counted.counts; keeps = words.counted.keeps };
+          filled = filled_spare store p.slot None refl (λ n some. some) (none_there has) words.filled;
+        }
+
+    pub prepare_like : 0 < count_by (λ m. m == p.base) t.held → IsLike (state_of begun (slice_set store p.slot None) after) (state_of begun store after)
+    prepare_like has = spare_like store after p.slot None (prepare_words has) (none_there has)
+
   pub prepare_done : (after : Table) (label task hold slot : ℕ) (may : MayPrepare s label task hold) → Claims t after may.base.number slot
-      → outcome s (by_prepare s label task hold)
-      ≡ (Kept slot, state_of (record parts { prepared = parts.prepared ++ record { label = label; task = task; base = may.base.number; slot = slot; changed = None } ∷ [] }) store after)
+      → 0 < count_by (λ m. m == may.base.number) t.held
+      → IsOutcomeLike (outcome s (by_prepare s label task hold)) (Kept slot)
+      (state_of (record parts { prepared = parts.prepared ++ record { label = label; task = task; base = may.base.number; slot = slot; changed = None } ∷ [] }) (slice_set store slot None) after)
   unfolding prepare_does
-  prepare_done after label task hold slot may claim =
+  prepare_done after label task hold slot may claim has =
       let p : Prepared = record { label = label; task = task; base = may.base.number; slot = slot; changed = None } in
-      prepare_tests s label task hold may ∙ in_free is (prepare_does label task may.base.number) slot claim.takes
-      ∙ ap (λ (r : State). (Kept slot, r)) (over_later (record parts { prepared = parts.prepared ++ p ∷ [] }) store t after claim.sealed claim.deferred)
+      does_made
+      (prepare_tests s label task hold may ∙ in_free is (prepare_does label task may.base.number) slot claim.takes
+      ∙ ap (λ (r : State). (Kept slot, r)) (over_later (record parts { prepared = parts.prepared ++ p ∷ [] }) store t after claim.sealed claim.deferred))
+      (prepare_like after p claim has)
 
   -- ---- a label changes what it prepares
 

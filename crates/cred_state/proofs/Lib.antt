@@ -7,8 +7,6 @@ pub mod Acts
 pub mod Made
 pub mod Reserved
 pub mod Reading
-pub mod Alters
-pub mod Signals
 pub mod Standing
 pub mod Holding
 pub mod Opening
@@ -16,3 +14,11 @@ pub mod Labelling
 pub mod Finishing
 pub mod Commits
 pub mod Overrides
+pub mod Stays
+pub mod Lending
+pub mod Lines
+pub mod Keeping
+pub mod Returns
+pub mod Entering
+pub mod Deciding
+pub mod Lends

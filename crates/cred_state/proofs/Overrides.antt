@@ -2,7 +2,8 @@
 use Rattle.std.proofs.Common.{◌≡◌, ◌≢◌, ℕ, ◌<◌, Bool, true, false, cond, ◌&&◌, ◌==◌, nat_lt, List, [], ◌∷◌, ◌++◌, drop, find, position, remove, length, slice_get, slice_set, count_by, is_some, Option, None, Some, refl, sym, ap, ◌∙◌, subst, arith}
 use Rattle.std.specs.List.{AllPairs}
 use Rattle.std.specs.Option.{IsSome, option_and_then, option_map_or}
-use Rattle.cred_ids.specs.Limits.{DEPTH, SLOTS}
+use Rattle.cred_ids.specs.Limits.{DEPTH}
+use Rattle.std.proofs.lemmas.Option.{slice_get_within}
 use Rattle.cred_record.specs.Credential.{Credential}
 use Rattle.cred_event.specs.declared.answer.Answer.TheVariants.{Done, NoHold, Sealed, TooDeep}
 use Rattle.cred_model.specs.State.{State, Task, Prepared, Changed, Numbered, task_of, prepared_of, held_by}
@@ -17,6 +18,7 @@ use Rattle.cred_procs.specs.Tasks.{task_in, overrides_of}
 use Rattle.cred_tables.specs.Prepared.{changed_of}
 use Rattle.cred_tables.specs.Kept.{Parts, creds_in, state_of, IsKept, SealsKept}
 use Rattle.cred_slots.proofs.Counting.{count-cons}
+use Rattle.cred_tables.proofs.Back.{set_same}
 use Rattle.cred_tables.proofs.Bags.{one_if, bag-has, bag-at}
 use Rattle.cred_model.proofs.Places.{find-at, place-of_found}
 use Rattle.cred_tables.proofs.Sealing.{Drops, keeps_same, kept_less, kept_more, over_later}
@@ -232,7 +234,7 @@ module _ {parts : Parts} {store : List (Option Credential)} {t : Table} (is : Is
     module _ {mid : Table} (after : Table) {next number : ℕ} (lent_to : Lends parts.tasks tasks task next) (label place : ℕ) (p : Prepared)
         (there : slice_get parts.prepared place ≡ Some p) (slots : AllPairs (λ a b. a ≢ b) (kept s)) (last : Changed)
         {m : ℕ} (spared : mid ≡ record t { spare = m })
-        (long : length store ≡ SLOTS) (seals : SealsKept mid after number p.base p.slot) (count : next ≡ length mid.sealed) where
+        (words : slice_get store p.slot ≡ Some (Some last.cred)) (seals : SealsKept mid after number p.base p.slot) (count : next ≡ length mid.sealed) where
       same_number : next ≡ number
       same_number = count ∙ sym seals.counted
 
@@ -255,31 +257,40 @@ module _ {parts : Parts} {store : List (Option Credential)} {t : Table} (is : Is
       fewer : NoMore t mid
       fewer n some = subst (λ (x : Table). 0 < references_to x n) spared some
 
-      pub prepared_kept : IsKept end put after
-      prepared_kept = finish_kept is place p there slots tasks after number (ap (λ (x : Table). x.sealed) spared) (ap (λ (x : Table). x.kept) spared) fewer refer long seals last.cred
+      -- what was prepared is in the words already
+      put_same : put ≡ store
+      put_same = set_same store p.slot (Some last.cred) words
+
+      pub prepared_kept : IsKept end store after
+      prepared_kept =
+          subst (λ (words : List (Option Credential)). IsKept end words after) put_same
+          (finish_kept is place p there slots tasks after number (ap (λ (x : Table). x.sealed) spared) (ap (λ (x : Table). x.kept) spared) fewer refer
+          (slice_get_within store p.slot _ words) seals last.cred)
 
       abbrev made : List Task → State
       made ts = record (overridden s place p lent_to.owner last.cred) { tasks = ts }
 
       prepared_like : IsLike (state_of end put after) (made tasks)
       prepared_like =
-          finish_like is place p there slots tasks after number (ap (λ (x : Table). x.sealed) spared) (ap (λ (x : Table). x.kept) spared) fewer refer long seals last.cred (made tasks) refl
+          finish_like is place p there slots tasks after number (ap (λ (x : Table). x.sealed) spared) (ap (λ (x : Table). x.kept) spared) fewer refer
+          (slice_get_within store p.slot _ words) seals last.cred (made tasks) refl
           (ap (λ (x : Table). x.deferred ++ p.base ∷ []) spared) refl
 
       pub prepared_done : position (λ q. q.label == label) parts.prepared ≡ Some place → for_access task p ≡ Some last → held_by s label ≡ None
-          → IsOutcomeLike (outcome s (by_override s task label)) (Sealed number p.slot) (state_of end put after)
+          → IsOutcomeLike (outcome s (by_override s task label)) (Sealed number p.slot) (state_of end store after)
       prepared_done at for none =
           let owner = lent_to.owner in
           let named = owner_number s task owner lent_to.lives in
           let counted : length (creds_in store t.sealed) ≡ number
           = length-creds_in store t.sealed ∙ ap (λ (x : Table). length x.sealed) (sym spared) ∙ sym seals.counted in
-          does_made
+          subst (λ (words : List (Option Credential)). IsOutcomeLike (outcome s (by_override s task label)) (Sealed number p.slot) (state_of end words after)) put_same
+          (does_made
           (prepared_tests s task label owner lent_to.lives none place p last at there (ap (λ (n : ℕ). for_access n p) named ∙ for) lent_to.few
           ∙ ap (λ (n : ℕ). (Sealed (length s.creds) p.slot, made (with_overrides parts.tasks n (length s.creds ∷ owner.overrides)))) named
           ∙ ap (λ (n : ℕ). (Sealed n p.slot, made (with_overrides parts.tasks task (n ∷ owner.overrides)))) counted
           ∙ ap (λ (n : ℕ). (Sealed number p.slot, made (with_overrides parts.tasks task (n ∷ owner.overrides)))) (sym same_number)
           ∙ ap (λ (ts : List Task). (Sealed number p.slot, made ts)) (sym lent_to.gives))
-          prepared_like
+          prepared_like)
 
     -- ---- as it was before
 

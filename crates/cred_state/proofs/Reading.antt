@@ -6,8 +6,8 @@ use Rattle.cred_record.specs.Credential.{Credential}
 use Rattle.cred_model.specs.State.{State, Numbered, SealedCred, numbered}
 use Rattle.cred_model.specs.Slots.{in_use}
 use Rattle.cred_model.proofs.Numbers.{numbered_is}
-use Rattle.cred_hold.specs.Tokens.{Entry, IsAlone, IsSealed}
-use Rattle.cred_slots.specs.Table.{Table, references_to}
+use Rattle.cred_hold.specs.Tokens.{IsSealed}
+use Rattle.cred_slots.specs.Table.{Table, free, references_to}
 use Rattle.cred_slots.proofs.Counting.{count-append}
 use Rattle.cred_tables.specs.Kept.{Parts, placed, creds_in, cred_under, seen_in, no_credential, state_of, AreInPlace, IsInUse, IsKept}
 use Rattle.cred_tables.specs.declared.table.Numbered as table
@@ -21,9 +21,9 @@ is_found creds number (Some x) c is =
     let same = (numbered_is creds (number x) c is).0 in
     subst (λ (n : ℕ). numbered creds n ≡ Some c) (sym same) is
 
--- where nothing is lent, no token is out on the slot
-pub none_lent : {entries : List Entry} (slot : ℕ) → entries ≡ [] → IsAlone entries slot
-none_lent slot none = subst (λ es. IsAlone es slot) (sym none) tt
+-- the slot that is taken next in a table with more room to spare
+pub some_spare : (t : Table) {r : Table} {m slot : ℕ} → r ≡ record t { spare = m } → free r ≡ Some slot → free t ≡ Some slot
+some_spare t {slot = slot} is takes = subst (λ (x : Table). free x ≡ Some slot) is takes
 
 -- the slot of what is sealed
 at_slot : (places : List (Option Credential)) (slots : List ℕ) (n : ℕ) (x : SealedCred) → slice_get (creds_in places slots) n ≡ Some x

@@ -6,32 +6,35 @@ ghost use Rattle.std.specs.Option.{option_map};
 ghost use Rattle.cred_model.specs.State.{opening, hold_of, prepared_of, current_of, credential_of};
 ghost use Rattle.cred_model.specs.State.{held_by, numbered};
 ghost use Rattle.cred_model.specs.Slots as model;
-ghost use Rattle.cred_model.specs.Step.{by_ask, by_release, by_signal, by_take, done, take_hold};
+ghost use Rattle.cred_model.specs.Step.{by_release, by_take, done, take_hold};
 ghost use Rattle.cred_model.specs.Named.{IsEventOf};
 ghost use Rattle.cred_model.specs.Like.{Gives, GivesLike};
 ghost use Rattle.cred_sound.specs.Sound.{IsSound};
 ghost use Rattle.cred_tables.specs.Kept.{cred_under, numbered_in, seen_in, AreInPlace, IsInUse};
+ghost use Rattle.cred_tables.specs.Out.{AreHome, AreOut};
 
 mod casts;
+mod decides;
+mod enters;
 mod files;
+mod lends;
 mod overrides;
 mod prepare;
+mod returns;
 mod tasks;
 
-use cred_access::may_signal_by;
-use cred_caps::CapSet;
 use cred_cast::Casts;
-use cred_decide::reply;
-use cred_declared::{asked_file, root_of};
-use cred_event::{Answer, Counted, Event, Named, Query, Side};
+use cred_declared::root_of;
+use cred_event::{Answer, Counted, Event, Named, Side};
 use cred_files::Files;
 use cred_hold::{Cells, Master, make};
-use cred_ids::{Ids4, NoMemory, limits};
+use cred_ids::{NoMemory, limits};
 use cred_procs::Procs;
 use cred_record::Cred;
 use cred_script::Script;
 use cred_slots::Slots;
 use cred_tables::{Holds, Numbered, Preparing, sealed_at};
+pub use enters::Unentered;
 use std::alloc::Global;
 use std::marker::Model;
 
@@ -52,6 +55,7 @@ pub struct State {
 
 impl Model for State {
     ghost use Rattle.cred_tables.specs.Kept.{parts_of, state_of, IsKept, Standing};
+    ghost use Rattle.cred_tables.specs.Out.{ArePut};
 
     ghost Value = { Standing };
 
@@ -62,7 +66,8 @@ impl Model for State {
     } };
 
     ghost invariant = { λ s.
-        IsKept (parts_of s.tasks s.casts s.files s.holds s.prepared) s.master.slots s.slots };
+        IsKept (parts_of s.tasks s.casts s.files s.holds s.prepared) s.master.slots s.slots
+        × ArePut s.prepared s.master.entries s.master.slots };
 }
 
 impl State {
@@ -101,7 +106,8 @@ impl State {
         })
     }
 
-    /// Makes one event of a line of the script, and answers it. No label is out.
+    /// Makes one event of a line of the script, and answers it. Nothing is lent under a label that
+    /// the event names.
     ///
     /// # Errors
     ///
@@ -115,7 +121,8 @@ impl State {
         event: &Event,
     ) -> Result<Answer, NoMemory>
         requires own { self.old.words.id ≡ cells.now }
-        requires out { self.old.words.out ≡ [] }
+        requires out { AreOut self.old.state self.old.words.out }
+        requires home { AreHome event.now self.old.words.out }
         requires kind { IsEventOf (length script.now.files) script.now.namespaces event.now }
         requires sound { IsSound self.old.state }
         ensures ok { IfOk result (λ answer.
@@ -143,27 +150,17 @@ impl State {
             Event::Take { label, task, side } => self.take(*label, *task, *side),
             Event::TakeFile { label, fd } => self.take_file(*label, *fd),
             Event::Release { label } => Ok(self.release(*label)),
-            Event::Ask { label, query } => self.ask(cells, script, *label, *query),
-            Event::Signal {
-                from,
-                hold,
-                to,
-                target,
-            } => Ok(self.signal(cells, *from, *hold, *to, *target)),
-            Event::Prepare { label, task, hold } => self.prepare(*label, *task, *hold),
-            Event::Alter { label, change } => self.alter(cells, script, *label, *change),
-            Event::Commit { label } => self.commit(cells, *label),
+            Event::Ask { .. } => self.decide(cells, script, line, event),
+            Event::Signal { .. } => self.decide(cells, script, line, event),
+            Event::Prepare { label, task, hold } => self.prepare(cells, *label, *task, *hold),
+            Event::Alter { .. } => self.decide(cells, script, line, event),
+            Event::Commit { label } => self.commit(*label),
             Event::Abort { label } => Ok(self.abort(*label)),
-            Event::Override { task, label } => self.override_with(cells, *task, *label),
+            Event::Override { task, label } => self.override_with(*task, *label),
             Event::Revert { task } => Ok(self.revert(*task)),
             Event::Begin { task, call } => self.begin(cells, line, *task, call),
             Event::Act { cast } => self.act(cells, *cast),
-            Event::OpenFile {
-                hold,
-                file,
-                want,
-                fd,
-            } => self.open_file(cells, script, *hold, *file, *want, *fd),
+            Event::OpenFile { .. } => self.decide(cells, script, line, event),
             Event::CloseFile { fd } => Ok(self.close_file(*fd)),
             Event::Spawn { task, child } => self.spawn(*task, *child),
             Event::Fork {
@@ -217,21 +214,6 @@ impl State {
         ensures same { self.new ≡ self.old }
     {
         self.master.look(self.alloc, cells, found.slot)
-    }
-
-    /// The user ids of the credential that was found, and its effective set, without memory.
-    fn rights(&mut self, cells: &Cells, found: Numbered) -> (Ids4, CapSet)
-        requires own { self.old.words.id ≡ cells.now }
-        requires found { numbered self.old.state.creds found.number
-            ≡ Some (seen_in self.old.state.creds found) }
-        requires used { IsInUse self.old.state found.number }
-        ensures user { result.0 ≡ (cred_under self.old.state.creds found.number).uid }
-        ensures effective { result.1 ≡ (cred_under self.old.state.creds found.number).eff }
-        ensures same { self.new ≡ self.old }
-    {
-        let (user, _) = self.master.look_ids(cells, found.slot);
-        let [_, _, effective, _, _] = self.master.look_caps(cells, found.slot);
-        (user, effective)
     }
 
     /// The current credential of a task.
@@ -319,54 +301,5 @@ impl State {
         };
         self.slots.drop_later(number);
         Answer::Done
-    }
-
-    fn ask(
-        &mut self,
-        cells: &Cells,
-        script: &Script,
-        label: u32,
-        query: Query,
-    ) -> Result<Answer, NoMemory>
-        requires own { self.old.words.id ≡ cells.now }
-        ensures ok { IfOk result (λ answer.
-            Gives self.old.state (by_ask script.now self.old.state label query) answer
-            self.new.state) }
-        ensures same { self.new ≡ self.old }
-    {
-        let Some(held) = self.held(label) else {
-            return Ok(Answer::NoHold(label));
-        };
-        let cred = self.read(cells, held)?;
-        reply(self.alloc, asked_file(script, query), &cred, query)
-    }
-
-    /// May a task signal another, where one label holds the sender's credential and another the
-    /// target's (kill(2))?
-    fn signal(&mut self, cells: &Cells, from: u32, hold: u32, to: u32, target: u32) -> Answer
-        requires own { self.old.words.id ≡ cells.now }
-        ensures made { Gives self.old.state (by_signal self.old.state from hold to target) result
-            self.new.state }
-        ensures same { self.new ≡ self.old }
-    {
-        let Some(sender) = self.tasks.process_of(from) else {
-            return Answer::NoTask(from);
-        };
-        let Some(receiver) = self.tasks.process_of(to) else {
-            return Answer::NoTask(to);
-        };
-        let Some(own) = self.held(hold) else {
-            return Answer::NoHold(hold);
-        };
-        let Some(other) = self.held(target) else {
-            return Answer::NoHold(target);
-        };
-        let (user, effective) = self.rights(cells, own);
-        let (owner, _) = self.rights(cells, other);
-        if may_signal_by(&user, effective, &owner, sender == receiver) {
-            Answer::Done
-        } else {
-            Answer::Eperm
-        }
     }
 }

@@ -4,7 +4,6 @@ use Rattle.std.specs.List.{count_by}
 use Rattle.std.specs.Option.{IsSome}
 use Rattle.std.proofs.lemmas.Bool.{cases_eq, ne_eqb}
 use Rattle.std.proofs.lemmas.Option.{same_Some}
-use Rattle.cred_ids.specs.Limits.{SLOTS}
 use Rattle.cred_record.specs.Credential.{Credential}
 use Rattle.cred_slots.specs.Table.{Table, IsSameBag, least_free, references_to, swept, swept_if_full}
 use Rattle.cred_slots.proofs.Counting.{count-cons, count-append}
@@ -114,17 +113,16 @@ before_last (z ∷ xs) x y zero at ne = (λ e. absurd (omega arith), at)
 before_last (z ∷ xs) x y (suc n) at ne = let r = before_last xs x y n at ne in (λ e. r.0 (omega (arith, e)), r.1)
 
 -- where a credential is put in the slot of the number that is sealed
-pub filled_put : (store : List (Option Credential)) (slot : ℕ) (c : Credential) {t later : Table} → length store ≡ SLOTS → slot < SLOTS
+pub filled_put : (store : List (Option Credential)) (slot : ℕ) (c : Credential) {t later : Table} → slot < length store
     → later.sealed ≡ t.sealed ++ slot ∷ [] → ((n : ℕ) → n ≢ length t.sealed → 0 < references_to later n → 0 < references_to t n)
     → AreFilled store t → AreFilled (slice_set store slot (Some c)) later
-filled_put store slot c {t = t} {later = later} long in_table sealed fewer is = record {
+filled_put store slot c {t = t} {later = later} within sealed fewer is = record {
   each = λ n place at some. by n place at some (cases_eq place slot);
 }
   where
     by : (n place : ℕ) → slice_get later.sealed n ≡ Some place → 0 < references_to later n → (place ≡ slot) ⊎ (place ≢ slot)
         → IsSome (get_or (slice_set store slot (Some c)) place None)
     by n place at some (inl same) =
-        let within : slot < length store = omega arith in
         rw (same, get_or-set_same store slot (Some c) None within) refl
     by n place at some (inr ne) =
         let old = before_last t.sealed slot place n (ap (λ ss. slice_get ss n) (sym sealed) ∙ at) ne in

@@ -12,3 +12,7 @@ pub mod Sealing
 pub mod Ending
 pub mod Spawns
 pub mod Begun
+pub mod Back
+pub mod Cleared
+pub mod Outs
+pub mod Puts

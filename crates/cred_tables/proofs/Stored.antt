@@ -4,7 +4,6 @@ use Rattle.std.specs.List.{count_by}
 use Rattle.std.specs.Option.{option_map_or}
 use Rattle.std.proofs.lemmas.Bool.{eq-eqb}
 use Rattle.std.proofs.lemmas.Option.{slice_get_within}
-use Rattle.cred_ids.specs.Limits.{SLOTS}
 use Rattle.cred_record.specs.Credential.{Credential}
 use Rattle.cred_event.specs.declared.answer.Answer.{Answer}
 use Rattle.cred_model.specs.State.{State, SealedCred}
@@ -25,7 +24,7 @@ does_made {answer = answer} {after = after} is like = subst (λ (g : Answer × S
 
 -- ---- the state that is kept
 
-slots-creds_in : (store : List (Option Credential)) (slots : List ℕ) → map (λ sealed. sealed.slot) (creds_in store slots) ≡ slots
+pub slots-creds_in : (store : List (Option Credential)) (slots : List ℕ) → map (λ sealed. sealed.slot) (creds_in store slots) ≡ slots
 slots-creds_in store [] = refl
 slots-creds_in store (slot ∷ slots) = ap (λ (rest : List ℕ). slot ∷ rest) (slots-creds_in store slots)
 
@@ -76,15 +75,14 @@ parts_in s = parts_of s.tasks s.casts s.files s.holds s.prepared
 -- The state in which the credential is put in the slot's place is like the one in which it is
 -- sealed, since nothing else that stood there is referred to any more.
 pub stored_like : {parts : Parts} (store : List (Option Credential)) (t : Table) (before : List ℕ) (c : Credential) (slot : ℕ) (made : State)
-    → IsKept parts (slice_set store slot (Some c)) t → t.sealed ≡ before ++ slot ∷ [] → length store ≡ SLOTS → slot < SLOTS
+    → IsKept parts (slice_set store slot (Some c)) t → t.sealed ≡ before ++ slot ∷ [] → slot < length store
     → IsAlone t (length before) slot
     → parts ≡ parts_in made → t.deferred ≡ made.deferred
     → creds_in store before ++ record { cred = c; slot = slot } ∷ [] ≡ made.creds
     → IsLike (state_of parts (slice_set store slot (Some c)) t) made
-stored_like {parts = parts} store t before c slot made is sealed long in_table alone same same_deferred creds =
+stored_like {parts = parts} store t before c slot made is sealed within alone same same_deferred creds =
     let put = slice_set store slot (Some c) in
     let a : State = state_of parts put t in
-    let within : slot < length store = omega arith in
     let old : (n : ℕ) → 0 < references_to t n → slice_get before n ≡ Some slot → ⊥
     = λ n some at.
     let lt = slice_get_within before n slot at in
@@ -111,3 +109,32 @@ stored_like {parts = parts} store t before c slot made is sealed long in_table a
     slots-push : (ss : List ℕ) → map (λ sealed. sealed.slot) (creds_in store ss ++ record { cred = c; slot = slot } ∷ []) ≡ ss ++ slot ∷ []
     slots-push [] = refl
     slots-push (s ∷ ss) = ap (λ (rest : List ℕ). s ∷ rest) (slots-push ss)
+
+-- ---- a slot in which nothing that is referred to stands
+
+-- whatever is in its words, the same is under other numbers
+module _ (store : List (Option Credential)) (slot : ℕ) (v : Option Credential) where
+  other_at : (slots : List ℕ) (n : ℕ) → (slice_get slots n ≡ Some slot → ⊥)
+      → slice_get (creds_in (slice_set store slot v) slots) n ≡ slice_get (creds_in store slots) n
+  other_at [] n other = refl
+  other_at (s ∷ ss) zero other =
+      let ne : s ≢ slot = λ same. other (ap Some same) in
+      ap (λ (o : Option Credential). Some (record { cred = option_map_or (λ (x : Credential). x) o (placed [] 0); slot = s }))
+      (get_or-set_other store slot s v None ne)
+  other_at (s ∷ ss) (suc n) other = other_at ss n other
+
+pub spare_like : {parts : Parts} (store : List (Option Credential)) (t : Table) (slot : ℕ) (v : Option Credential) → IsKept parts store t
+    → ((n : ℕ) → slice_get t.sealed n ≡ Some slot → 0 < references_to t n → ⊥)
+    → IsLike (state_of parts (slice_set store slot v) t) (state_of parts store t)
+spare_like {parts = parts} store t slot v is none = record {
+  tasks = refl;
+  casts = refl;
+  files = refl;
+  holds = refl;
+  prepared = refl;
+  deferred = refl;
+  slots = slots-creds_in (slice_set store slot v) t.sealed ∙ sym (slots-creds_in store t.sealed);
+  creds = λ k d lt.
+      let n : ℕ = get_or (refs (state_of parts store t)) k d in
+      other_at store slot v t.sealed n (λ at. none n at (refs-counted (is_table is) k d lt));
+}

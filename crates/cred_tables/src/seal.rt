@@ -1,16 +1,11 @@
 //! Taking a slot for a new credential, and giving up references.
 ghost use Rattle.std.specs.Prelude.{◌≡◌, ◌<◌, ◌==◌, ◌++◌, IsTrue, Some, count_by};
-ghost use Rattle.std.specs.Prelude.{length, slice_set};
-ghost use Rattle.cred_ids.specs.Limits.{SLOTS};
 ghost use Rattle.cred_slots.specs.Table.{IsSameBag, is_kept, free};
-ghost use Rattle.cred_hold.specs.Tokens.{IsAlone};
 ghost use Rattle.cred_tables.specs.Begin.{table_at};
 ghost use Rattle.cred_tables.specs.Kept.{AreHeld, Seals, SealsKept};
 
 use crate::prepared::Ended;
 use cred_event::AbortCause;
-use cred_hold::{Cells, Master};
-use cred_record::Cred;
 use cred_slots::Slots;
 
 /// Seals the next number in the slot that is taken next, after a sweep where one is needed, and
@@ -25,28 +20,15 @@ pub fn seal_next(slots: &mut Slots, slot: u32) -> u64
     slots.seal(slot)
 }
 
-/// Seals a credential under the next number, in the slot that was kept for it, and gives up the
-/// reference to its base. Returns its number.
-pub fn seal_kept(
-    slots: &mut Slots,
-    master: &mut Master,
-    cells: &Cells,
-    kept: Ended,
-    cred: &Cred,
-) -> u64
-    requires own { master.old.id ≡ cells.now }
-    requires alone { IsAlone master.old.entries kept.slot }
+/// Seals under the next number what stands in the slot that was kept for it, and gives up the
+/// reference to its base. Returns the number.
+pub fn seal_kept(slots: &mut Slots, kept: Ended) -> u64
     requires slot { IsTrue (is_kept slots.old kept.slot) }
     requires spare { 0 < slots.old.spare }
     requires base { 0 < count_by (λ n. n == kept.base) slots.old.held }
-    ensures sealed { SealsKept slots.old slots.new result kept.base kept.slot }
-    ensures stored { master.new ≡ record master.old {
-      slots = slice_set master.old.slots kept.slot (Some cred.now);
-    } }
-    ensures places { length master.old.slots ≡ SLOTS }
+    ensures { SealsKept slots.old slots.new result kept.base kept.slot }
 {
     let number = slots.seal(kept.slot);
-    master.set(cells, kept.slot, cred);
     slots.drop_later(kept.base);
     number
 }

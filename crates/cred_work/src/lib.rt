@@ -6,4 +6,4 @@ mod performing;
 mod work;
 
 pub use performing::perform;
-pub use work::{Decided, Lent, Work};
+pub use work::Work;

@@ -1,15 +1,12 @@
 //! A work is decided.
-ghost use Rattle.std.specs.Prelude.{◌≡◌, IfOk, OnOk, OnErr};
-ghost use Rattle.std.specs.Option.{option_map};
-ghost use Rattle.cred_work.specs.Works.{AreOf, AreFor, Stays, IsDecided, IsRight};
-ghost use Rattle.cred_work.specs.Works.{IsRightChange, put_by, left_by, query_of};
+ghost use Rattle.std.specs.Prelude.{◌≡◌, OnOk, OnErr};
+ghost use Rattle.cred_lent.specs.Decisions.{AreOf, AreFor};
+ghost use Rattle.cred_work.specs.Works.{Stays, IsDecided};
 
-use crate::work::{Decided, Lent, Work};
-use cred_event::{Answer, Change, Event, Query};
-use cred_hold::{Cells, Hold, Writer};
-use cred_ids::{Id, NoMemory};
-use cred_lent::{BuildRefusal, build, decide, decide_signal};
-use cred_record::FileInfo;
+use crate::work::Work;
+use cred_hold::Cells;
+use cred_ids::NoMemory;
+use cred_lent::decide_event;
 use std::alloc::Global;
 
 /// Decides a work. Its line, event, file and chain stay, and so do its tokens, but for the new
@@ -35,77 +32,4 @@ pub fn perform(alloc: Global, cells: &Cells, work: &mut Work) -> Result<(), NoMe
     )?;
     work.decided = Some(decided);
     Ok(())
-}
-
-/// Decides an event on the tokens that are lent for it.
-fn decide_event(
-    alloc: Global,
-    cells: &Cells,
-    event: &Event,
-    file: Option<&FileInfo>,
-    chain: &[Id],
-    lent: &mut Lent,
-) -> Result<Decided, NoMemory>
-    requires own { AreOf cells.now lent.old }
-    requires labels { AreFor event.now lent.old }
-    ensures right { IfOk result (λ decided. IsRight event.now
-        (option_map (λ file. file.now) file.entry) chain.now lent.new decided) }
-    ensures left { IfOk result (λ decided. lent.new ≡ left_by decided lent.old) }
-    ensures same { OnErr result (lent.new ≡ lent.old) }
-{
-    match lent {
-        Lent::One(hold) => {
-            let Some(query) = query_of(event) else {
-                unreachable!()
-            };
-            Ok(Decided::Told(decide(alloc, cells, hold, query, file)?))
-        }
-        Lent::Two(from, to) => Ok(Decided::May(decide_signal(cells, from, to))),
-        Lent::Kept(base, writer) => {
-            let Event::Alter { change, .. } = event else {
-                unreachable!()
-            };
-            alter(alloc, cells, base, change, file, chain, writer)
-        }
-    }
-}
-
-/// What an event asks of the one hold that it is decided on. `None` where it isn't decided so.
-fn query_of(event: &Event) -> Option<Query>
-    ensures { result ≡ query_of event.now }
-{
-    match event {
-        Event::Ask { query, .. } => Some(*query),
-        Event::OpenFile { file, want, .. } => Some(Query::Check {
-            file: *file,
-            want: *want,
-        }),
-        _ => None,
-    }
-}
-
-/// Builds what the change makes of the base. A refusal is told as the event is answered.
-fn alter(
-    alloc: Global,
-    cells: &Cells,
-    base: &mut Hold,
-    change: &Change,
-    file: Option<&FileInfo>,
-    chain: &[Id],
-    writer: &mut Writer,
-) -> Result<Decided, NoMemory>
-    requires own { (base.old.id ≡ cells.now) × (writer.old.id ≡ cells.now) }
-    ensures right { IfOk result (λ decided. IsRightChange change.now
-        (option_map (λ file. file.now) file.entry) chain.now base.old.cred writer.new.put decided) }
-    ensures base { base.new ≡ base.old }
-    ensures put { IfOk result (λ decided. writer.new ≡ put_by decided writer.old) }
-    ensures same { OnErr result (writer.new ≡ writer.old) }
-{
-    match build(alloc, cells, base, change, file, chain, writer) {
-        Ok((built, cred)) => Ok(Decided::Put(built, cred)),
-        Err(BuildRefusal::Perm) => Ok(Decided::Told(Answer::Eperm)),
-        Err(BuildRefusal::Invalid) => Ok(Decided::Told(Answer::Einval)),
-        Err(BuildRefusal::Access) => Ok(Decided::Told(Answer::Eacces)),
-        Err(BuildRefusal::Memory) => Err(NoMemory),
-    }
 }

@@ -1,15 +1,15 @@
 //! That works are decided where memory is left, which no clause can say.
 ghost use Rattle.std.specs.Prelude.{◌≡◌, []};
-ghost use Rattle.cred_work.specs.Works.{AreFor, AreOf};
+ghost use Rattle.cred_lent.specs.Decisions.{AreFor, AreOf};
 
 use crate::tests::hold::{many, seal};
 use crate::tests::parts::id;
 use cred_event::{Answer, Change, Event, Query, Told};
 use cred_hold::{Cells, Master, make};
 use cred_ids::{Arg, Id, Kind, NoMemory};
-use cred_lent::Built;
+use cred_lent::{Built, Decided, Lent};
 use cred_record::{Cred, IdList, first};
-use cred_work::{Decided, Lent, Work, perform};
+use cred_work::{Work, perform};
 use std::alloc::Global;
 use std::test::Fail;
 

@@ -66,7 +66,7 @@ fn is_legal_so_far<R: AllocGlobal + Threads + Wait + Sync>(
 }
 
 /// Whether `audit` says this of the report.
-fn is_said_of<R: AllocGlobal + Threads + Wait + Sync>(
+pub(crate) fn is_said_of<R: AllocGlobal + Threads + Wait + Sync>(
     rt: &R,
     script: &str,
     report: &[u8],

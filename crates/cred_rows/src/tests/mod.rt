@@ -4,6 +4,7 @@ mod cuts;
 mod declared;
 mod ends;
 mod faults;
+mod gates;
 mod held;
 mod machine;
 mod reading;

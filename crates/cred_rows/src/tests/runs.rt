@@ -1,7 +1,7 @@
 //! Runs of the program over ends in memory.
 use cred_ids::NoMemory;
 use cred_io::{MemorySource, Sink};
-use cred_lanes::NoGate;
+use cred_lanes::{Gate, NoGate};
 use cred_program::{Status, credtrace};
 use std::alloc::Global;
 use std::sync::Wait;
@@ -43,23 +43,35 @@ pub(crate) fn end_of<R: AllocGlobal + Threads + Wait + Sync, K: Sink>(
     given: &Given<'_>,
     sink: &mut K,
 ) -> Result<Status, NoMemory> {
+    end_of_gated(rt, texts, given, sink, &NoGate)
+}
+
+/// The same, where the lanes come to this gate.
+pub(crate) fn end_of_gated<R: AllocGlobal + Threads + Wait + Sync, K: Sink, G: Gate + Sync>(
+    rt: &R,
+    texts: &[&str],
+    given: &Given<'_>,
+    sink: &mut K,
+    gate: &G,
+) -> Result<Status, NoMemory> {
     let words = words_of(rt.alloc(), texts)?;
-    let end = end_of_words(rt, &words, given, sink);
+    let end = end_of_words(rt, &words, given, sink, gate);
     // At one place, here and below: what is owned is dear to let go of, for the prover.
     drop(words);
     end
 }
 
 /// The same on words that stand there.
-fn end_of_words<R: AllocGlobal + Threads + Wait + Sync, K: Sink>(
+fn end_of_words<R: AllocGlobal + Threads + Wait + Sync, K: Sink, G: Gate + Sync>(
     rt: &R,
     words: &[String],
     given: &Given<'_>,
     sink: &mut K,
+    gate: &G,
 ) -> Result<Status, NoMemory> {
     let source = MemorySource::of(rt.alloc(), given.bytes, &[given.failing])?;
     let mut source = source.with_piece(given.piece.max(1));
-    let status = credtrace(rt, rt.alloc(), words, &mut source, sink, &NoGate);
+    let status = credtrace(rt, rt.alloc(), words, &mut source, sink, gate);
     drop(source);
     Ok(status)
 }

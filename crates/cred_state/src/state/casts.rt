@@ -1,6 +1,6 @@
 //! The id calls, which every thread of a process makes, one after another, and the open broadcasts,
 //! which refuse other events while threads still wait in them (nptl(7)).
-ghost use Rattle.std.specs.Prelude.{◌≡◌, [], Ok, Err, IfOk, IfSome, MatchOption, MatchResult};
+ghost use Rattle.std.specs.Prelude.{◌≡◌, Ok, Err, IfOk, IfSome, MatchOption, MatchResult};
 ghost use Rattle.std.specs.Prelude.{OnOk, OnErr};
 ghost use Rattle.std.specs.Option.{IsSome};
 ghost use Rattle.cred_event.specs.declared.answer.Answer.TheVariants.{Aborted, Busy};
@@ -13,6 +13,7 @@ ghost use Rattle.cred_model.specs.Step.{aborted, by_act, by_begin};
 ghost use Rattle.cred_sound.specs.Sound.{IsSound};
 ghost use Rattle.cred_tables.specs.Begin.{ActsNext, MayBegin, at_abort};
 ghost use Rattle.cred_tables.specs.Kept.{seen_in};
+ghost use Rattle.cred_tables.specs.Out.{AreOut};
 
 use crate::state::State;
 use cred_event::{AbortCause, Answer, Named};
@@ -48,7 +49,7 @@ impl State {
         call: &IdCall,
     ) -> Result<Answer, NoMemory>
         requires own { self.old.words.id ≡ cells.now }
-        requires out { self.old.words.out ≡ [] }
+        requires out { AreOut self.old.state self.old.words.out }
         requires sound { IsSound self.old.state }
         ensures ok { IfOk result (λ answer.
             GivesLike self.old.state (by_begin self.old.state line task call.now) answer
@@ -96,7 +97,7 @@ impl State {
     /// the state is as it was.
     pub fn act(&mut self, cells: &Cells, number: u32) -> Result<Answer, NoMemory>
         requires own { self.old.words.id ≡ cells.now }
-        requires out { self.old.words.out ≡ [] }
+        requires out { AreOut self.old.state self.old.words.out }
         requires sound { IsSound self.old.state }
         ensures ok { IfOk result (λ answer.
             GivesLike self.old.state (by_act self.old.state number) answer self.new.state) }

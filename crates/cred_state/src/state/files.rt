@@ -1,64 +1,75 @@
 //! The events on open files.
-ghost use Rattle.std.specs.Prelude.{◌≡◌, IfOk, OnErr};
+ghost use Rattle.std.specs.Prelude.{◌≡◌, ◌<◌, ◌∷◌, ◌++◌, [], ℕ, None, length, IfOk, IfSome};
+ghost use Rattle.std.specs.Prelude.{MatchResult, OnErr, OnOk};
 ghost use Rattle.std.specs.Option.{option_map};
-ghost use Rattle.cred_model.specs.State.{opener_of};
+ghost use Rattle.cred_ids.specs.Limits.{OPEN_FILES};
+ghost use Rattle.cred_record.specs.declared.want.Want.{Want as Wanted};
+ghost use Rattle.cred_model.specs.Answers.{checked};
+ghost use Rattle.cred_model.specs.Script.{info_of, Script as Declared};
+ghost use Rattle.cred_model.specs.State.{held_by, open_of, opener_of};
 ghost use Rattle.cred_model.specs.Like.{Gives};
 ghost use Rattle.cred_model.specs.Step.{by_close, by_open, by_take_file};
-ghost use Rattle.cred_tables.specs.Kept.{seen_in};
+ghost use Rattle.cred_tables.specs.Kept.{seen_in, IsInUse};
+ghost use Rattle.cred_state.specs.Lending.{MayOpen};
 
 use crate::state::State;
-use cred_declared::may_open;
 use cred_event::{Answer, Counted, Named};
-use cred_hold::Cells;
 use cred_ids::NoMemory;
-use cred_record::Want;
-use cred_script::Script;
 use cred_tables::Numbered;
 
 impl State {
-    /// The file is opened under the descriptor, by the credential that the hold has (open(2)). The
-    /// refusals leave the state.
+    /// The number of the credential that a label holds, where the file may be opened under the
+    /// descriptor: it was decided so of that credential (`told`), and nothing else refuses it.
+    /// `Err` with what refuses it.
+    pub(crate) fn may_open(&self, label: u32, fd: u32, told: &Answer) -> Result<u64, Answer>
+        ensures { MatchResult result
+            (λ opener. MayOpen self.now.state label fd opener told.now)
+            (λ answer. (script : Declared) (file : ℕ) (want : Wanted)
+            → IfSome (held_by self.now.state label) (λ held.
+            told.now ≡ checked held.cred (info_of script (file ∷ [])) want)
+            → Gives self.now.state (by_open script self.now.state label file want fd) answer
+            self.now.state) }
+    {
+        let Some(found) = self.held(label) else {
+            return Err(Answer::NoHold(label));
+        };
+        if self.files.has(fd) {
+            return Err(Answer::Exists {
+                what: Named::File,
+                number: fd,
+            });
+        }
+        let Answer::Done = told else {
+            return Err(Answer::Eacces);
+        };
+        if self.files.full() {
+            return Err(Answer::TooMany(Counted::Files));
+        }
+        Ok(found.number)
+    }
+
+    /// The file is opened under the descriptor, which no file has, by the credential of this
+    /// number, which is referred to (open(2)).
     ///
     /// # Errors
     ///
     /// `NoMemory` if an allocation of room for the file or for its reference fails: the state is as
     /// it was.
-    pub fn open_file(
-        &mut self,
-        cells: &Cells,
-        script: &Script,
-        hold: u32,
-        file: u32,
-        want: Want,
-        fd: u32,
-    ) -> Result<Answer, NoMemory>
-        requires own { self.old.words.id ≡ cells.now }
-        ensures ok { IfOk result (λ answer.
-            Gives self.old.state (by_open script.now self.old.state hold file want fd) answer
-            self.new.state) }
+    pub(crate) fn open_by(&mut self, fd: u32, opener: u64, file: u32) -> Result<(), NoMemory>
+        requires used { IsInUse self.old.state opener }
+        requires new { open_of self.old.state fd ≡ None }
+        requires room { length self.old.state.files < OPEN_FILES }
+        ensures ok { OnOk result (self.new.state ≡ record self.old.state {
+          files = self.old.state.files
+              ++ record { fd = fd; opener = opener; file = file } ∷ [];
+        }) }
+        ensures words { (self.new.words ≡ self.old.words) × (self.new.places ≡ self.old.places) }
         ensures err { OnErr result (self.new ≡ self.old) }
-        ensures words { self.new.words ≡ self.old.words }
     {
-        let Some(found) = self.held(hold) else {
-            return Ok(Answer::NoHold(hold));
-        };
-        let cred = self.read(cells, found)?;
-        if self.files.has(fd) {
-            return Ok(Answer::Exists {
-                what: Named::File,
-                number: fd,
-            });
-        }
-        if !may_open(script, &cred, file, want) {
-            return Ok(Answer::Eacces);
-        }
-        if self.files.full() {
-            return Ok(Answer::TooMany(Counted::Files));
-        }
         self.slots.reserve()?;
-        self.files.add(fd, found.number, file)?;
-        self.slots.add(found.number);
-        Ok(Answer::Done)
+        self.files.add(fd, opener, file)?;
+        self.slots.add(opener);
+        Ok(())
     }
 
     /// The descriptor is closed, and its opener's credential given up (close(2)). `Ebadf` leaves

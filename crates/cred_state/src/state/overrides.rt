@@ -1,16 +1,17 @@
 //! The events by which a task acts with another credential than its current one, and goes back.
-ghost use Rattle.std.specs.Prelude.{◌≡◌, [], Ok, Err, None, IfOk, IfSome, MatchOption, OnErr};
+ghost use Rattle.std.specs.Prelude.{◌≡◌, Ok, Err, None, IfOk, IfSome, MatchOption, OnErr};
 ghost use Rattle.std.specs.Option.{IsSome};
 ghost use Rattle.cred_event.specs.declared.answer.Answer.TheVariants.{Overridden};
+ghost use Rattle.cred_event.specs.declared.event.Event.TheVariants.{Override};
 ghost use Rattle.cred_model.specs.State.{held_by, task_of};
 ghost use Rattle.cred_model.specs.Like.{Gives, GivesLike};
 ghost use Rattle.cred_model.specs.Moves.{not_overridden};
 ghost use Rattle.cred_model.specs.Step.{by_override, by_revert};
 ghost use Rattle.cred_sound.specs.Sound.{IsSound};
+ghost use Rattle.cred_tables.specs.Out.{AreHome, AreOut};
 
 use crate::state::State;
 use cred_event::Answer;
-use cred_hold::Cells;
 use cred_ids::NoMemory;
 use cred_tables::{Numbered, seal_kept};
 
@@ -23,14 +24,9 @@ impl State {
     /// # Errors
     ///
     /// `NoMemory` if an allocation of room for the reference fails: the state is as it was.
-    pub fn override_with(
-        &mut self,
-        cells: &Cells,
-        task: u32,
-        label: u32,
-    ) -> Result<Answer, NoMemory>
-        requires own { self.old.words.id ≡ cells.now }
-        requires out { self.old.words.out ≡ [] }
+    pub fn override_with(&mut self, task: u32, label: u32) -> Result<Answer, NoMemory>
+        requires out { AreOut self.old.state self.old.words.out }
+        requires home { AreHome (Override task label) self.old.words.out }
         requires sound { IsSound self.old.state }
         ensures ok { IfOk result (λ answer.
             GivesLike self.old.state (by_override self.old.state task label) answer
@@ -42,7 +38,7 @@ impl State {
             return Ok(Answer::NoTask(task));
         }
         let Some(Numbered { number, slot }) = self.held(label) else {
-            return self.override_prepared(cells, task, label);
+            return self.override_prepared(task, label);
         };
         self.slots.reserve()?;
         if !self.tasks.push_override(task, number) {
@@ -54,14 +50,9 @@ impl State {
 
     /// A live task acts with what it prepared under the label for access(2), where the label holds
     /// nothing: that is sealed in the slot that was kept for it, and its base is given up.
-    fn override_prepared(
-        &mut self,
-        cells: &Cells,
-        task: u32,
-        label: u32,
-    ) -> Result<Answer, NoMemory>
-        requires own { self.old.words.id ≡ cells.now }
-        requires out { self.old.words.out ≡ [] }
+    fn override_prepared(&mut self, task: u32, label: u32) -> Result<Answer, NoMemory>
+        requires out { AreOut self.old.state self.old.words.out }
+        requires home { AreHome (Override task label) self.old.words.out }
         requires sound { IsSound self.old.state }
         requires alive { IsSome (task_of self.old.state task) }
         requires unheld { held_by self.old.state label ≡ None }
@@ -80,8 +71,9 @@ impl State {
         if !self.tasks.push_override(task, next) {
             return Ok(Answer::TooDeep);
         }
-        let (kept, last) = self.prepared.finish(label);
-        let number = seal_kept(&mut self.slots, &mut self.master, cells, kept, &last.cred);
+        // What was prepared is in the words of its slot already.
+        let (kept, _) = self.prepared.finish(label);
+        let number = seal_kept(&mut self.slots, kept);
         Ok(Answer::Sealed {
             cred: number,
             slot: kept.slot,

@@ -1,36 +1,42 @@
 //! The events on prepared labels.
-ghost use Rattle.std.specs.Prelude.{◌≡◌, [], IfOk, OnErr};
+ghost use Rattle.std.specs.Prelude.{◌≡◌, IfOk, OnErr};
 ghost use Rattle.std.specs.Option.{option_map, option_and_then};
 ghost use Rattle.cred_model.specs.State.{prepared_of, numbered};
 ghost use Rattle.cred_model.specs.Like.{Gives, GivesLike};
 ghost use Rattle.cred_sound.specs.Sound.{IsSound};
-ghost use Rattle.cred_model.specs.Step.{by_abort, by_alter, by_commit, by_prepare};
+ghost use Rattle.cred_event.specs.declared.event.Event.TheVariants.{Commit};
+ghost use Rattle.cred_model.specs.Step.{by_abort, by_commit, by_prepare};
 ghost use Rattle.cred_tables.specs.Kept.{seen_in};
+ghost use Rattle.cred_tables.specs.Out.{AreHome, AreOut};
 
 use crate::state::State;
-use cred_decide::{Made, change as change_of};
-use cred_declared::{chain_of, executed_file};
-use cred_event::{Answer, Change, Counted, Named};
+use cred_event::{Answer, Counted, Named};
 use cred_hold::Cells;
 use cred_ids::{NoMemory, limits};
-use cred_script::Script;
 use cred_tables::{
-    Changed, Ended, Numbered, Preparation, Ready, committed_by, drop_all, drop_cast, end_with,
-    seal_kept,
+    Ended, Numbered, Preparation, Ready, committed_by, drop_all, drop_cast, end_with, seal_kept,
 };
 
 impl State {
     /// The label prepares a new credential for the task, based on the one that the hold has, and
-    /// keeps the slot that the new one will stand in. `NoTask`, `Busy`, `NoHold`, `Exists` and
-    /// `TooMany` leave the state; `TableFull` leaves it swept.
+    /// keeps the slot that the new one will stand in, in whose words is nothing then. `NoTask`,
+    /// `Busy`, `NoHold`, `Exists` and `TooMany` leave the state; `TableFull` leaves it swept.
     ///
     /// # Errors
     ///
     /// `NoMemory` if an allocation of room for the label or for its reference fails: the state is
     /// as it was.
-    pub fn prepare(&mut self, label: u32, task: u32, hold: u32) -> Result<Answer, NoMemory>
+    pub fn prepare(
+        &mut self,
+        cells: &Cells,
+        label: u32,
+        task: u32,
+        hold: u32,
+    ) -> Result<Answer, NoMemory>
+        requires own { self.old.words.id ≡ cells.now }
+        requires out { AreOut self.old.state self.old.words.out }
         ensures ok { IfOk result (λ answer.
-            Gives self.old.state (by_prepare self.old.state label task hold) answer
+            GivesLike self.old.state (by_prepare self.old.state label task hold) answer
             self.new.state) }
         ensures err { OnErr result (self.new ≡ self.old) }
         ensures words { self.new.words ≡ self.old.words }
@@ -70,52 +76,8 @@ impl State {
         )?;
         self.slots.claim(slot);
         self.slots.add(base);
+        self.master.clear(cells, slot);
         Ok(Answer::Kept { slot })
-    }
-
-    /// What the label prepares is its base, changed so. `NoPrepared`, `Eperm`, `Einval` and
-    /// `Eacces` leave the state, and with it what an earlier change made of the base.
-    ///
-    /// # Errors
-    ///
-    /// `NoMemory` if the credential could not be copied: the state is as it was.
-    pub fn alter(
-        &mut self,
-        cells: &Cells,
-        script: &Script,
-        label: u32,
-        change: Change,
-    ) -> Result<Answer, NoMemory>
-        requires own { self.old.words.id ≡ cells.now }
-        ensures ok { IfOk result (λ answer.
-            Gives self.old.state (by_alter script.now self.old.state label change) answer
-            self.new.state) }
-        ensures err { OnErr result (self.new ≡ self.old) }
-        ensures words { self.new.words ≡ self.old.words }
-    {
-        let Some(base) = self.base(label) else {
-            return Ok(Answer::NoPrepared(label));
-        };
-        let base = self.read(cells, base)?;
-        let file = executed_file(script, change);
-        let chain = chain_of(script, base.ns);
-        let Made {
-            answer,
-            cred,
-            gains,
-        } = match change_of(&base, file, chain, &change)? {
-            Ok(made) => made,
-            Err(answer) => return Ok(answer),
-        };
-        self.prepared.change(
-            label,
-            Changed {
-                change,
-                cred,
-                gains,
-            },
-        );
-        Ok(answer)
     }
 
     /// What the label prepared is sealed in the slot that was kept for it, and becomes its task's
@@ -130,9 +92,9 @@ impl State {
     ///
     /// `NoMemory` if an allocation of room for the reference or of a list fails: the state is as it
     /// was.
-    pub fn commit(&mut self, cells: &Cells, label: u32) -> Result<Answer, NoMemory>
-        requires own { self.old.words.id ≡ cells.now }
-        requires out { self.old.words.out ≡ [] }
+    pub fn commit(&mut self, label: u32) -> Result<Answer, NoMemory>
+        requires out { AreOut self.old.state self.old.words.out }
+        requires home { AreHome (Commit label) self.old.words.out }
         requires sound { IsSound self.old.state }
         ensures ok { IfOk result (λ answer.
             GivesLike self.old.state (by_commit self.old.state label) answer self.new.state) }
@@ -164,7 +126,8 @@ impl State {
         let (kept, last) = self.prepared.finish(label);
         drop_cast(&mut self.casts, last.change, process);
         let (change, gains) = (last.change, last.gains);
-        let number = seal_kept(&mut self.slots, &mut self.master, cells, kept, &last.cred);
+        // What was prepared is in the words of its slot already.
+        let number = seal_kept(&mut self.slots, kept);
         self.tasks.set_current(task, number);
         let ended = ended.tasks.items().len() as u32;
         Ok(committed_by(change, &gains, number, kept.slot, ended))
@@ -186,7 +149,7 @@ impl State {
     }
 
     /// The base of a label. `None` where the label isn't prepared.
-    fn base(&self, label: u32) -> Option<Numbered>
+    pub(crate) fn base(&self, label: u32) -> Option<Numbered>
         ensures { option_map (seen_in self.now.state.creds) result
             ≡ option_and_then (λ p. numbered self.now.state.creds p.base)
             (prepared_of self.now.state label) }

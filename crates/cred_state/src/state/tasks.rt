@@ -1,8 +1,9 @@
 //! The events by which tasks are created and end.
-ghost use Rattle.std.specs.Prelude.{◌≡◌, [], IfOk, OnErr};
+ghost use Rattle.std.specs.Prelude.{◌≡◌, IfOk, OnErr};
 ghost use Rattle.cred_model.specs.Like.{Gives, GivesLike};
 ghost use Rattle.cred_model.specs.Step.{by_exit, by_fork, by_init, by_spawn};
 ghost use Rattle.cred_sound.specs.Sound.{IsSound};
+ghost use Rattle.cred_tables.specs.Out.{AreOut};
 
 use crate::state::State;
 use cred_event::{Answer, Counted, Named};
@@ -30,7 +31,7 @@ impl State {
         root: Id,
     ) -> Result<Answer, NoMemory>
         requires own { self.old.words.id ≡ cells.now }
-        requires out { self.old.words.out ≡ [] }
+        requires out { AreOut self.old.state self.old.words.out }
         ensures ok { IfOk result (λ answer.
             GivesLike self.old.state (by_init self.old.state number process user group ns root)
             answer self.new.state) }

@@ -1,6 +1,6 @@
 //! What an open broadcast refuses and no script reaches, by the book's own call: a first task in
 //! its process, and another broadcast under its number.
-ghost use Rattle.std.specs.Prelude.{◌≡◌, ℕ, List, IfOk};
+ghost use Rattle.std.specs.Prelude.{◌≡◌, [], ℕ, List, IfOk};
 ghost use Rattle.cred_model.specs.Named.{IsEventOf};
 ghost use Rattle.cred_model.specs.Script.{Namespace};
 
@@ -124,6 +124,7 @@ fn is_entered(
     text: &str,
 ) -> Result<bool, Fail>
     requires own { book.old.words.id ≡ cells.now }
+    requires home { book.old.words.out ≡ [] }
     ensures words { book.new.words ≡ book.old.words }
 {
     book.event(cells, line, event_of(call)?)?;
@@ -142,7 +143,8 @@ fn are_used(book: &Book, first: [u64; 8]) -> bool {
 
 /// The text of the first row that goes otherwise.
 fn first_other(alloc: Global, cells: &Cells, book: &mut Book) -> Result<Option<&'static str>, Fail>
-    requires { book.old.words.id ≡ cells.now }
+    requires own { book.old.words.id ≡ cells.now }
+    requires home { book.old.words.out ≡ [] }
 {
     'rows: for (line, call, text, first) in &ROWS {
         let is_entered = is_entered(alloc, cells, book, *line, *call, text)?;
@@ -161,7 +163,7 @@ struct Rows {
 
 impl Walk for Rows {
     fn walk(&mut self, alloc: Global, cells: &Cells, book: &mut Book) -> Result<(), Fail> {
-        run_whole(cells, book)?;
+        run_whole(alloc, cells, book)?;
         self.other = first_other(alloc, cells, book)?;
         Ok(())
     }

@@ -177,7 +177,7 @@ struct Comparison {
 
 impl Walk for Comparison {
     fn walk(&mut self, alloc: Global, cells: &Cells, book: &mut Book) -> Result<(), Fail> {
-        run_whole(cells, book)?;
+        run_whole(alloc, cells, book)?;
         self.other = first_other(alloc, book, &mut self.reached)?;
         Ok(())
     }

@@ -1,6 +1,6 @@
 //! What no script reaches of an event's refusals, or none without lanes, by the book's own call:
 //! behind each of them all is answered as in a book that had none.
-ghost use Rattle.std.specs.Prelude.{◌≡◌, ◌<◌, length, IfOk};
+ghost use Rattle.std.specs.Prelude.{◌≡◌, [], ◌<◌, length, IfOk};
 ghost use Rattle.cred_model.specs.Named.{IsEventOf};
 
 use crate::tests::books::{Walk, run_whole, walk_in_book};
@@ -243,6 +243,7 @@ fn event_of(script: &Script, call: Call) -> Result<Event, Fail>
 /// The text of the entry that an event gets.
 fn entered(alloc: Global, cells: &Cells, book: &mut Book, call: Call) -> Result<Text, Fail>
     requires own { book.old.words.id ≡ cells.now }
+    requires home { book.old.words.out ≡ [] }
     ensures words { book.new.words ≡ book.old.words }
 {
     let event = event_of(book.script(), call)?;
@@ -259,6 +260,7 @@ fn is_entered(
     more: Option<(Call, &'static str)>,
 ) -> Result<bool, Fail>
     requires own { book.old.words.id ≡ cells.now }
+    requires home { book.old.words.out ≡ [] }
     ensures words { book.new.words ≡ book.old.words }
 {
     let Some((call, text)) = more else {
@@ -272,6 +274,7 @@ fn is_entered(
 /// are to be live.
 fn fill(alloc: Global, cells: &Cells, book: &mut Book, is_full: bool) -> Result<(), Fail>
     requires own { book.old.words.id ≡ cells.now }
+    requires home { book.old.words.out ≡ [] }
     ensures words { book.new.words ≡ book.old.words }
 {
     if !is_full {
@@ -286,7 +289,8 @@ fn fill(alloc: Global, cells: &Cells, book: &mut Book, is_full: bool) -> Result<
 
 /// Adds the texts of the entries that come then.
 fn tell_next(alloc: Global, cells: &Cells, book: &mut Book, told: &mut Vec<u8>) -> Result<(), Fail>
-    requires { book.old.words.id ≡ cells.now }
+    requires own { book.old.words.id ≡ cells.now }
+    requires home { book.old.words.out ≡ [] }
 {
     for call in NEXT {
         let text = entered(alloc, cells, book, call)?;
@@ -314,7 +318,7 @@ struct Behind {
 
 impl Walk for Behind {
     fn walk(&mut self, alloc: Global, cells: &Cells, book: &mut Book) -> Result<(), Fail> {
-        run_whole(cells, book)?;
+        run_whole(alloc, cells, book)?;
         fill(alloc, cells, book, self.is_full)?;
         self.is_entered = is_entered(alloc, cells, book, self.more)?;
         tell_uses(book, &mut self.told)?;

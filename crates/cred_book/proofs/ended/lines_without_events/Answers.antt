@@ -3,7 +3,8 @@ use Rattle.std.proofs.lemmas.Grind.{common_steps, get_or_default_zero}
 use Rattle.cred_model.specs.Script.{Line}
 use Rattle.cred_model.specs.Course.{start}
 use Rattle.cred_script.specs.Grammar.{line_at}
-use Rattle.cred_book.proofs.Before.{IsCounted, counted_all, counted_few, counted_on, counted_one, counted_place, counted_within}
+use Rattle.cred_book.proofs.Before.{HasSmall, IsCounted, counted_all, counted_few, counted_on, counted_one, counted_place, counted_small}
+use Rattle.cred_book.proofs.Before.{counted_within}
 use Rattle.cred_book.proofs.ended.lines_without_events.Goals.{then-ended, else-ended}
 use Rattle.cred_book.proofs.ended.lines_without_events.Goals as goal
 
@@ -34,18 +35,25 @@ lines-preserved c =
     let line : Line = record { lane = c.in-Some.lane; content = c.in-Some.content.now } in
     let at : line_at c.args.script.now c.lines.number ≡ Some line = sym c.in-Some.ensures.found in
     let within = counted_place c.args.script.now c.lines.ended.items c.lines.number line c.lines.invariant at in
+    let small : HasSmall line = c.in-Some.ensures.sound.labels in
     let stage : c.ended.result ≡ is_none (start c.lines.number line.content).stage = c.ended.ensures ∙ ap (λ course. is_none course.stage) c.start.ensures.value in
     elim c.if-ended.branch [
       | then-ended w ↦
-          let one = counted_one c.args.script.now c.lines.ended.items c.lines.number line c.lines.invariant at (sym stage ∙ w.if-ended.true) within in
+          let one = counted_one c.args.script.now c.lines.ended.items c.lines.number line c.lines.invariant at small (sym stage ∙ w.if-ended.true) within in
           let found = w.index_mut.ensures.value ∙ get_or_default_zero c.lines.ended.items c.in-Some.lane w.index_mut.result.now within in
           rw w.ended-is
           (subst (λ n. IsCounted c.args.script.now (set c.lines.ended.items c.in-Some.lane (n + 1)) (c.lines.number + 1)) (sym found) one)
       | else-ended w ↦
-          let on = counted_on c.args.script.now c.lines.ended.items c.lines.number line c.lines.invariant at (sym stage ∙ w.if-ended.false) in
+          let on = counted_on c.args.script.now c.lines.ended.items c.lines.number line c.lines.invariant at small (sym stage ∙ w.if-ended.false) in
           rw w.ended-is on
     ]
 
 pub returns-clause-ended : goal.returns-clause-ended
 returns-clause-ended c =
     counted_all c.args.script.now c.lines.ended.items c.lines.number c.lines.invariant (sym c.in_default.ensures.found)
+
+pub returns-clause-named : goal.returns-clause-named
+returns-clause-named c = record {
+  apart = c.lanes.ensures.apart;
+  small = counted_small c.args.script.now c.lines.ended.items c.lines.number c.lines.invariant (sym c.in_default.ensures.found);
+}

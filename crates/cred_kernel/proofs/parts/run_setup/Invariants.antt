@@ -1,14 +1,14 @@
-use Rattle.std.proofs.Common.{◌≡◌, ℕ, ◌<◌}
-use Rattle.cred_book.specs.Counts.{entered_of}
+use Rattle.std.proofs.Common.{◌≡◌}
 use Rattle.cred_book.specs.Cursor.{Stands, left}
+use Rattle.cred_kernel.proofs.Setup.{IsHome}
 use Rattle.cred_kernel.proofs.parts.run_setup.Given as goal
 
 abbrev pub invariant-setup : goal.invariant-setup
 invariant-setup l = record {
   script : l.book.script ≡ l.initial.book.script;
-  words : l.book.words ≡ l.initial.book.words;
+  cells : l.book.words.id ≡ l.initial.book.words.id;
   stands : Stands l.book;
-  entered : (lane : ℕ) → 0 < lane → entered_of l.book.script l.book.journal lane ≡ 0;
+  home : IsHome l.book;
 }
 
 abbrev pub decreases-setup : goal.decreases-setup

@@ -10,7 +10,12 @@ lanes-preserved g c =
     let at = c.lanes in
     let book = c.args.book.now in
     let n = at.place in
-    let its : ℕ → Numbers = λ k. numbers_in book.script book.journal (k + 1) in
+    let its : ℕ → Numbers = λ k. numbers_in book (k + 1) in
+    let first = c.requires.ready.first in
+    let some : 0 < n + 1 = omega arith in
+    let entered = first.entered (n + 1) some in
+    let decided = first.decided (n + 1) some in
+    let out = first.outs (n + 1) some in
     let is : c.lend-pass.result.numbers ≡ its n = search rules in
     let within : n < length at.roll.rows = omega arith in
     record {

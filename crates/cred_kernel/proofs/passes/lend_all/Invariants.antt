@@ -10,8 +10,8 @@ invariant-lanes g l = record {
   id : l.roll.id ≡ l.initial.roll.id;
   end : l.place-end ≡ lanes l.fn.book.script.lines;
   len : length l.roll.rows ≡ l.place-end;
-  lent : (k : ℕ) → k < l.place → slice_index_or l.roll.rows k (home_row fresh) ≡ lent_row (numbers_in l.fn.book.script l.fn.book.journal (k + 1));
+  lent : (k : ℕ) → k < l.place → slice_index_or l.roll.rows k (home_row fresh) ≡ lent_row (numbers_in l.fn.book (k + 1));
   home : (k : ℕ) → l.place ≤ k → k < l.place-end → slice_index_or l.roll.rows k (home_row fresh) ≡ home_row fresh;
   count : length l.turns.items ≡ l.place;
-  turns : (k : ℕ) → k < l.place → turn_at l.turns.items k ≡ record { lane = k + 1; numbers = numbers_in l.fn.book.script l.fn.book.journal (k + 1) };
+  turns : (k : ℕ) → k < l.place → turn_at l.turns.items k ≡ record { lane = k + 1; numbers = numbers_in l.fn.book (k + 1) };
 }

@@ -1,5 +1,6 @@
-use Rattle.std.proofs.Common.{◌≡◌, None}
+use Rattle.std.proofs.Common.{◌≡◌}
+use Rattle.cred_lanes.specs.Works.{IsReturn}
 use Rattle.cred_lanes.proofs.workers.work.Given as goal
 
 abbrev pub invariant-loop : goal.invariant-loop
-invariant-loop g l = (l.turn.lane ≡ l.fn.turn.lane) × (l.turn.numbers.out ≡ None)
+invariant-loop g l = (l.turn.lane ≡ l.fn.turn.lane) × IsReturn g.K.Name.script g.K.Name.cells l.turn l.decided

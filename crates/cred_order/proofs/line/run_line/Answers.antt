@@ -1,9 +1,15 @@
-use Rattle.std.proofs.Common.{◌≡◌, ◌+◌, List, [], ◌∷◌, ◌++◌, length, slice_get, Some, is_some, refl, sym, ap, ◌∙◌}
+use Rattle.std.proofs.Common.{◌≡◌, ◌+◌, List, [], ◌∷◌, ◌++◌, length, slice_get, Some, is_some, refl, sym, ap, ◌∙◌, subst}
+use Rattle.std.specs.Prelude.{Contains}
 use Rattle.std.specs.Option.{option_map}
 use Rattle.cred_event.specs.declared.entry.Entry.{Entry}
 use Rattle.cred_model.proofs.Names.{event_named}
 use Rattle.cred_cursor.proofs.Courses.{line_at-place}
+use Rattle.std.proofs.lemmas.List.Elements.{All-nil}
+use Rattle.cred_names.specs.Labels.{event_labels}
+use Rattle.cred_hold.specs.Tokens as lent
 use Rattle.cred_tables.specs.Kept.{Words}
+use Rattle.cred_tables.specs.Out.{AreHome, AreOut}
+use Rattle.cred_tables.proofs.Outs.{IsToken}
 use Rattle.cred_order.proofs.Goes.{goes_first, goes_sound, goes_by, goes_out}
 use Rattle.cred_order.proofs.line.run_line.Goals as goal
 
@@ -30,7 +36,16 @@ pub step-requires-clause-own : goal.step-requires-clause-own
 step-requires-clause-own c = ap (λ (w : Words). w.id) c.events.invariant.1 ∙ c.requires.own
 
 pub step-requires-clause-out : goal.step-requires-clause-out
-step-requires-clause-out c = ap (λ (w : Words). w.out) c.events.invariant.1 ∙ c.requires.out
+step-requires-clause-out c =
+    let none = ap (λ (w : Words). w.out) c.events.invariant.1 ∙ c.requires.out in
+    let s = c.events.state.state in
+    subst (λ (es : List lent.Entry). AreOut s es) (sym none) (All-nil (λ (e : lent.Entry). IsToken s e))
+
+pub step-requires-clause-home : goal.step-requires-clause-home
+step-requires-clause-home c =
+    let none = ap (λ (w : Words). w.out) c.events.invariant.1 ∙ c.requires.out in
+    let labels = event_labels c.in-Some-2.event in
+    subst (λ (es : List lent.Entry). AreHome c.in-Some-2.event es) (sym none) (All-nil (λ (e : lent.Entry). Contains labels e.label → ⊥))
 
 pub events-smaller : goal.events-smaller
 events-smaller c =

@@ -7,8 +7,8 @@ use Rattle.cred_tables.proofs.seal.seal_kept.Goals as goal
 pub drop_later-requires : goal.drop_later-requires
 drop_later-requires c = bag-keeps c.args.kept.base c.seal-number.ensures.held c.requires.base
 
-pub returns-clause-sealed : goal.returns-clause-sealed
-returns-clause-sealed c =
+pub returns : goal.returns
+returns c =
     let made = c.seal-number.ensures.table in
     let less = drops c.drop_later.ensures.held c.drop_later.ensures.table in
     record {

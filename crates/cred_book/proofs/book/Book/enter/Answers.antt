@@ -3,15 +3,26 @@ use Rattle.std.specs.Option.{IfSome}
 use Rattle.cred_event.specs.declared.answer.Answer.{Answer}
 use Rattle.cred_event.specs.declared.entry.Entry.{Entry}
 use Rattle.cred_model.specs.Course as model
+use Rattle.cred_model.specs.Journal.{replay}
 use Rattle.cred_script.specs.Grammar.{line_at}
 use Rattle.cred_cursor.specs.Cursor.{MovesOnTo}
 use Rattle.cred_tables.specs.Kept.{Words}
+use Rattle.cred_tables.specs.Out.{AreHome, AreOut}
+use Rattle.cred_tables.proofs.Outs.{out_like}
 use Rattle.cred_book.specs.Book.{Recorded, answer_of}
-use Rattle.cred_book.proofs.Entered.{follows_sound, replays, enters}
+use Rattle.cred_book.proofs.Entered.{follows_sound, replays, enters, out_after}
 use Rattle.cred_book.proofs.book.Book.enter.Goals as goal
 
 pub step-requires-clause-sound : goal.step-requires-clause-sound
 step-requires-clause-sound c = follows_sound c.self.inside.script c.self.inside.state.state c.self.inside.journal.items c.self.invariant.0
+
+pub step-requires-clause-home : goal.step-requires-clause-home
+step-requires-clause-home c = subst (λ (r : Recorded). AreHome c.args.event r.words.out) (sym c.self.view_is) c.requires.home
+
+pub step-requires-clause-out : goal.step-requires-clause-out
+step-requires-clause-out c =
+    out_like c.self.inside.state.state (replay c.self.inside.script c.self.inside.journal.items) c.self.invariant.0.0 c.self.inside.state.words.out
+    c.self.invariant.1
 
 pub invariant_of-self-2 : goal.invariant_of-self-2
 invariant_of-self-2 c =
@@ -19,7 +30,9 @@ invariant_of-self-2 c =
     let longer = c.push_reserved.ensures.items ∙ ap (λ (js : List Entry). js ++ entry ∷ []) c.in_ok-reserve.ensures.items in (
       enters c.self.inside.script c.self.inside.state.state c.step.new.self.state c.self.inside.journal.items c.push_reserved.new.self.items entry
           c.self.invariant.0 c.in_ok-answer.ensures.ok longer,
-      ap (λ (w : Words). w.out) c.step.ensures.words ∙ c.self.invariant.1,
+      subst (λ (w : Words). AreOut (replay c.self.inside.script c.push_reserved.new.self.items) w.out) (sym c.step.ensures.words)
+          (out_after c.self.inside.script c.self.inside.journal.items c.push_reserved.new.self.items entry c.self.inside.state.words.out
+          (subst (λ (r : Recorded). AreHome c.args.event r.words.out) (sym c.self.view_is) c.requires.home) c.self.invariant.1 longer),
     )
 
 pub returns-clause-entered : goal.returns-clause-entered
@@ -31,8 +44,8 @@ returns-clause-entered c =
     let made = replays b.script b.state.state c.step.new.self.state b.journal.items (entry c.line-line.result c.in_ok-answer.answer) c.self.invariant.0 c.in_ok-answer.ensures.ok in
     rw (← c.self.view_is)
     (let grown = longer ∙ ap (λ (answer : Answer). b.journal.items ++ entry c.line-line.result answer ∷ []) (sym made.answers)
-    ∙ ap (λ (n : ℕ). b.journal.items ++ entry n (answer_of (record { script = b.script; journal = b.journal.items; cursors = b.cursors; ended = b.ended.items; words = b.state.words }) n c.args.event) ∷ []) number in
-    λ k. record { script = b.script; journal = grown k; cursors = b.cursors; ended = b.ended.items; words = c.step.ensures.words k })
+    ∙ ap (λ (n : ℕ). b.journal.items ++ entry n (answer_of (record { script = b.script; journal = b.journal.items; cursors = b.cursors; ended = b.ended.items; outs = b.outs.items; words = b.state.words }) n c.args.event) ∷ []) number in
+    λ k. record { script = b.script; journal = grown k; cursors = b.cursors; ended = b.ended.items; outs = b.outs.items; words = c.step.ensures.words k })
 
 pub returns-clause-passes : goal.returns-clause-passes
 returns-clause-passes c =
@@ -40,7 +53,7 @@ returns-clause-passes c =
     let number : c.line-line.result ≡ c.args.course.line = c.line-line.ensures.value in
     let entry : Entry = record { line = c.line-line.result; event = c.args.event; answer = c.in_ok-answer.answer } in
     let made = replays b.script b.state.state c.step.new.self.state b.journal.items entry c.self.invariant.0 c.in_ok-answer.ensures.ok in
-    let book : Recorded = record { script = b.script; journal = b.journal.items; cursors = b.cursors; ended = b.ended.items; words = b.state.words } in
+    let book : Recorded = record { script = b.script; journal = b.journal.items; cursors = b.cursors; ended = b.ended.items; outs = b.outs.items; words = b.state.words } in
     let answer : c.in_ok-answer.answer ≡ answer_of book c.args.course.line c.args.event
     = sym made.answers ∙ ap (λ (n : ℕ). answer_of book n c.args.event) number in
     let passes = subst

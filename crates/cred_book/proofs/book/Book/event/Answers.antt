@@ -1,13 +1,24 @@
-use Rattle.std.proofs.Common.{◌∙◌, ◌++◌, ◌∷◌, [], List, sym, ap}
+use Rattle.std.proofs.Common.{◌∙◌, ◌++◌, ◌∷◌, [], List, sym, ap, subst}
 use Rattle.cred_event.specs.declared.answer.Answer.{Answer}
 use Rattle.cred_event.specs.declared.entry.Entry.{Entry}
+use Rattle.cred_model.specs.Journal.{replay}
 use Rattle.cred_tables.specs.Kept.{Words}
+use Rattle.cred_tables.specs.Out.{AreHome, AreOut}
+use Rattle.cred_tables.proofs.Outs.{out_like}
 use Rattle.cred_book.specs.Book.{Recorded, answer_of}
-use Rattle.cred_book.proofs.Entered.{follows_sound, replays, enters, left_out}
+use Rattle.cred_book.proofs.Entered.{follows_sound, replays, enters, left_out, out_after}
 use Rattle.cred_book.proofs.book.Book.event.Goals as goal
 
 pub step-requires-clause-sound : goal.step-requires-clause-sound
 step-requires-clause-sound c = follows_sound c.self.inside.script c.self.inside.state.state c.self.inside.journal.items c.self.invariant.0
+
+pub step-requires-clause-home : goal.step-requires-clause-home
+step-requires-clause-home c = subst (λ (r : Recorded). AreHome c.args.event r.words.out) (sym c.self.view_is) c.requires.home
+
+pub step-requires-clause-out : goal.step-requires-clause-out
+step-requires-clause-out c =
+    out_like c.self.inside.state.state (replay c.self.inside.script c.self.inside.journal.items) c.self.invariant.0.0 c.self.inside.state.words.out
+    c.self.invariant.1
 
 pub invariant_of-self-2 : goal.invariant_of-self-2
 invariant_of-self-2 c =
@@ -15,7 +26,9 @@ invariant_of-self-2 c =
     let longer = c.in_ok-push.ensures.items ∙ ap (λ (js : List Entry). js ++ entry ∷ []) c.in_ok-reserve.ensures.items in (
       enters c.self.inside.script c.self.inside.state.state c.step.new.self.state c.self.inside.journal.items c.push.new.self.items entry
           c.self.invariant.0 c.in_ok-answer.ensures.ok longer,
-      ap (λ (w : Words). w.out) c.step.ensures.words ∙ c.self.invariant.1,
+      subst (λ (w : Words). AreOut (replay c.self.inside.script c.push.new.self.items) w.out) (sym c.step.ensures.words)
+          (out_after c.self.inside.script c.self.inside.journal.items c.push.new.self.items entry c.self.inside.state.words.out
+          (subst (λ (r : Recorded). AreHome c.args.event r.words.out) (sym c.self.view_is) c.requires.home) c.self.invariant.1 longer),
     )
 
 pub invariant_of-self-in_err-copied : goal.invariant_of-self-in_err-copied
@@ -24,7 +37,7 @@ invariant_of-self-in_err-copied c =
     rw c.in_ok-reserve.ensures.items (
       left_out c.self.inside.script c.self.inside.state.state c.step.new.self.state c.self.inside.journal.items entry
           c.self.invariant.0 c.in_ok-answer.ensures.ok c.in_err-copied.ensures.refusal,
-      ap (λ (w : Words). w.out) c.step.ensures.words ∙ c.self.invariant.1,
+      subst (λ (w : Words). AreOut (replay c.self.inside.script c.self.inside.journal.items) w.out) (sym c.step.ensures.words) c.self.invariant.1,
     )
 
 pub returns-clause-entered : goal.returns-clause-entered
@@ -35,7 +48,7 @@ returns-clause-entered c =
     let made = replays b.script b.state.state c.step.new.self.state b.journal.items (entry c.in_ok-answer.answer) c.self.invariant.0 c.in_ok-answer.ensures.ok in
     rw (← c.self.view_is)
     (let grown = longer ∙ ap (λ (answer : Answer). b.journal.items ++ entry answer ∷ []) (sym made.answers) in
-    λ k. record { script = b.script; journal = grown k; cursors = b.cursors; ended = b.ended.items; words = c.step.ensures.words k })
+    λ k. record { script = b.script; journal = grown k; cursors = b.cursors; ended = b.ended.items; outs = b.outs.items; words = c.step.ensures.words k })
 
 pub returns-clause-answer : goal.returns-clause-answer
 returns-clause-answer c =

@@ -1,22 +1,73 @@
-use Rattle.std.proofs.Common.{◌≡◌, ◌<◌, ◌^◌, rules, length, ap, ◌∙◌, arith}
+use Rattle.std.proofs.Common.{◌≡◌, ◌<◌, ◌^◌, ℕ, length, sym, ap, ◌∙◌, subst, arith}
+use Rattle.std.specs.Prelude.{IfOk}
+use Rattle.cred_model.specs.Script.{Script}
+use Rattle.cred_model.specs.Journal.{next}
+use Rattle.cred_turn.specs.declared.numbers.Numbers.{Numbers}
 use Rattle.cred_turn.specs.Seen.{pass}
 use Rattle.cred_book.specs.Book.{Recorded}
+use Rattle.cred_kernel.specs.Advances.{Advanced, stepped}
 use Rattle.cred_kernel.specs.Locks.{numbers_in}
-use Rattle.cred_kernel.proofs.Returned.{its_numbers, is_back, entered_few}
+use Rattle.cred_kernel.specs.Turns.{Seen}
+use Rattle.cred_kernel.proofs.Relending.{locked_after}
+use Rattle.cred_kernel.proofs.Returned.{entered_few, its_numbers, is_back}
+use Rattle.cred_kernel.proofs.Stepping.{advanced, moved, seen, IsMoved}
 use Rattle.cred_kernel.proofs.locked.Locked.step.Goals as goal
 
-pub overflow_add-turn : goal.overflow_add-turn
-overflow_add-turn g c =
+pub stepped-turn-inside-requires : goal.stepped-turn-inside-requires
+stepped-turn-inside-requires g c =
     let book : Recorded = c.self.inside.book in
-    let back : c.in-Some.pass ≡ pass g.K.Name.roll c.turn.inside.lane c.turn.inside.numbers
+    let lane = c.turn.inside.lane in
+    let back : c.in-Some.pass ≡ pass g.K.Name.roll lane c.turn.inside.numbers
     = is_back c.take.result c.in-Some.pass _ c.in-Some.is (c.take.ensures.value ∙ c.turn.invariant.pass_is) in
-    let was : c.turn.inside.numbers ≡ numbers_in book.script book.journal c.turn.inside.lane
-    = its_numbers book c.self.inside.roll.rows g.K.Name.roll c.turn.inside.lane c.turn.inside.numbers c.in-Some.pass c.self.invariant.0.lent back
+    let was = its_numbers book c.self.inside.roll.rows g.K.Name.roll lane c.turn.inside.numbers c.in-Some.pass c.self.invariant.lent back
     c.take-2.ensures.lane c.take-2.ensures.was in
-    let few = entered_few book.script book.journal c.turn.inside.lane c.turn.inside.numbers was in
+    let few = entered_few book lane c.turn.inside.numbers was in
     let all : c.count-entries.result ≡ length book.journal = c.count-entries.ensures.count ∙ ap length c.journal.ensures in
     let room : c.count-entries.result < 2 ^ 63 = c.count-entries.ensures.room in
     omega (arith, few, all, room)
 
+pub invariant_of-self : goal.invariant_of-self
+invariant_of-self g c =
+    let book : Recorded = c.self.inside.book in
+    let after : Recorded = c.next-step.new.self in
+    let lane = c.turn.inside.lane in
+    let numbers : Numbers = c.turn.inside.numbers in
+    let now : Numbers = c.stepped-turn-inside.result in
+    let step = c.next-step.result in
+    let back : c.in-Some.pass ≡ pass g.K.Name.roll lane numbers
+    = is_back c.take.result c.in-Some.pass _ c.in-Some.is (c.take.ensures.value ∙ c.turn.invariant.pass_is) in
+    let was : numbers ≡ numbers_in book lane
+    = its_numbers book c.self.inside.roll.rows g.K.Name.roll lane numbers c.in-Some.pass c.self.invariant.lent back
+    c.take-2.ensures.lane c.take-2.ensures.was in
+    let home = ap (λ (t : Seen). t.numbers.out) c.turn.view_is ∙ c.requires.out in
+    let its : IsMoved book after lane now
+    = subst (λ (n : Numbers). IsMoved book after lane n) (sym (c.stepped-turn-inside.ensures ∙ ap (λ (e : ℕ). stepped numbers e step) c.ended.ensures))
+    (moved book after lane numbers (next book.script book.journal lane) step was home c.next-step.ensures.script
+    c.next-step.ensures.made c.next-step.ensures.counts c.next-step.ensures.err) in
+    locked_after g.K.Name.script g.K.Name.roll g.K.Name.cells book after c.self.inside.roll c.take-2.new.self c.lend.new.self c.in-Some.pass lane numbers now
+    c.self.invariant its c.next-step.ensures.script c.next-step.ensures.cells c.next-step.ensures.stands back
+    c.take-2.ensures.lane c.take-2.ensures.roll c.lend.ensures.roll
+
 pub returns-clause-step : goal.returns-clause-step
-returns-clause-step g c = search rules
+returns-clause-step g c =
+    let book : Recorded = c.self.inside.book in
+    let after : Recorded = c.next-step.new.self in
+    let lane = c.turn.inside.lane in
+    let numbers : Numbers = c.turn.inside.numbers in
+    let now : Numbers = c.stepped-turn-inside.result in
+    let step = c.next-step.result in
+    let script = g.K.Name.script in
+    let cells = g.K.Name.cells in
+    let back : c.in-Some.pass ≡ pass g.K.Name.roll lane numbers
+    = is_back c.take.result c.in-Some.pass _ c.in-Some.is (c.take.ensures.value ∙ c.turn.invariant.pass_is) in
+    let was : numbers ≡ numbers_in book lane
+    = its_numbers book c.self.inside.roll.rows g.K.Name.roll lane numbers c.in-Some.pass c.self.invariant.lent back
+    c.take-2.ensures.lane c.take-2.ensures.was in
+    let home = ap (λ (t : Seen). t.numbers.out) c.turn.view_is ∙ c.requires.out in
+    let own = c.next-step.ensures.cells ∙ c.self.invariant.cells_are in
+    let made = advanced cells book after lane numbers (next book.script book.journal lane) step was home c.next-step.ensures.script own
+    c.self.invariant.set_up c.next-step.ensures.made c.next-step.ensures.counts c.next-step.ensures.err in
+    subst (λ (t : Seen). IfOk step (Advanced script cells t (seen lane now))) c.turn.view_is
+    (subst (λ (s : Script). IfOk step (Advanced s cells (seen lane numbers) (seen lane now))) c.self.invariant.script_is
+    (subst (λ (n : Numbers). IfOk step (Advanced book.script cells (seen lane numbers) (seen lane n)))
+    (sym (c.stepped-turn-inside.ensures ∙ ap (λ (e : ℕ). stepped numbers e step) c.ended.ensures)) made))

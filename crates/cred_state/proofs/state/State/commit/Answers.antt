@@ -1,10 +1,9 @@
-use Rattle.std.proofs.Common.{◌≡◌, ℕ, length, slice_set, is_some, Some, refl, sym, ap, ◌∙◌, subst}
+use Rattle.std.proofs.Common.{◌≡◌, ℕ, length, is_some, refl, sym, ap, ◌∙◌, subst}
 use Rattle.cred_event.specs.declared.event.Change.{Change}
 use Rattle.cred_model.specs.State.{Changed}
 use Rattle.cred_model.specs.Moves.{with_current}
 use Rattle.cred_model.specs.Step.{is_access}
 use Rattle.cred_slots.specs.Table.{Table}
-use Rattle.cred_hold.specs.Tokens.{Mastered}
 use Rattle.cred_procs.specs.Tasks.{task_in}
 use Rattle.cred_tables.specs.Kept.{SealsKept, casts_left, parts_of, state_of}
 use Rattle.cred_state.proofs.Commits.{commit_none, commit_no_task, commit_busy, commit_overridden, commit_stale, goes_on, owner-held, base-held_still, slot-kept_still, commit_kept, commit_done}
@@ -12,7 +11,8 @@ use Rattle.cred_tables.proofs.Ending.{EndsWith, ends_so, ended-held}
 use Rattle.cred_tables.proofs.Labels.{same_label}
 use Rattle.cred_tables.proofs.Owners.{has_process_of, owner_of, owner_process, own_owner, over_owner}
 use Rattle.cred_tables.proofs.Sealing.{drops}
-use Rattle.cred_state.proofs.Reading.{none_lent}
+use Rattle.cred_tables.proofs.Puts.{put_less}
+use Rattle.cred_state.proofs.Keeping.{committed_words}
 use Rattle.cred_state.proofs.Reserved.{kept_spare}
 use Rattle.cred_state.proofs.state.State.commit.Goals as goal
 
@@ -64,7 +64,7 @@ unwrap-process-requires c = has_process_of c.self.inside.tasks c.in-Some.field-0
 
 pub drop_all-requires : goal.drop_all-requires
 drop_all-requires c =
-    ended-held c.self.invariant c.in-Some.field-0.change c.end_with.new.tasks c.in_ok-ended.ended.tasks c.in_ok-ended.ended.numbers c.items.result.now c.reserve.new.self.held
+    ended-held c.self.invariant.0 c.in-Some.field-0.change c.end_with.new.tasks c.in_ok-ended.ended.tasks c.in_ok-ended.ended.numbers c.items.result.now c.reserve.new.self.held
     (task_in c.self.inside.tasks c.in-Some.field-0.task) c.in-Some-current.ensures c.in_ok-ended.ensures.ended c.items.ensures
     (ap (λ (x : Table). x.held) c.in_ok-reserve.ensures.ok)
 
@@ -75,7 +75,7 @@ drop_later-requires c =
     let now = c.in-Some-current.now in
     let e = ends_so ready.change t.tasks c.end_with.new.tasks t.slots ready.task now c.in-Some-current.ensures c.in_ok-ended.ensures.ended
     c.in_ok-reserve.ensures.ok c.items.ensures c.drop_all.ensures.held c.drop_all.ensures.table in
-    owner-held c.self.invariant ready.change now ready.task e
+    owner-held c.self.invariant.0 ready.change now ready.task e
 
 pub seal_kept-number-requires-clause-slot : goal.seal_kept-number-requires-clause-slot
 seal_kept-number-requires-clause-slot c =
@@ -89,7 +89,7 @@ seal_kept-number-requires-clause-slot c =
     c.finish-last.result.1 c.in-Some.ensures gives in
     let own = subst (λ (n : ℕ). EndsWith ready.change t.tasks c.end_with.new.tasks t.slots c.drop_all.new.slots n now c.in_ok-ended.ended.tasks) (sym same.0) e in
     let less = drops c.drop_later.ensures.held c.drop_later.ensures.table in
-    slot-kept_still c.self.invariant gives.gives.place _ gives.gives.there ready.change now own less
+    slot-kept_still c.self.invariant.0 gives.gives.place _ gives.gives.there ready.change now own less
 
 pub seal_kept-number-requires-clause-base : goal.seal_kept-number-requires-clause-base
 seal_kept-number-requires-clause-base c =
@@ -103,10 +103,7 @@ seal_kept-number-requires-clause-base c =
     c.finish-last.result.1 c.in-Some.ensures gives in
     let own = subst (λ (n : ℕ). EndsWith ready.change t.tasks c.end_with.new.tasks t.slots c.drop_all.new.slots n now c.in_ok-ended.ended.tasks) (sym same.0) e in
     let less = drops c.drop_later.ensures.held c.drop_later.ensures.table in
-    base-held_still c.self.invariant gives.gives.place _ gives.gives.there ready.change now own less (c.if-now-base.false ∙ sym same.1)
-
-pub seal_kept-number-requires-clause-alone : goal.seal_kept-number-requires-clause-alone
-seal_kept-number-requires-clause-alone c = none_lent c.finish-last.result.0.slot (rw (← c.self.view_is) at c.requires.out)
+    base-held_still c.self.invariant.0 gives.gives.place _ gives.gives.there ready.change now own less (c.if-now-base.false ∙ sym same.1)
 
 pub set_current-requires : goal.set_current-requires
 set_current-requires c =
@@ -131,17 +128,21 @@ invariant_of-self-2 c =
     let less = drops c.drop_later.ensures.held c.drop_later.ensures.table in
     let sound = rw (← c.self.view_is) at c.requires.sound in
     let seals : SealsKept c.drop_later.new.self c.seal_kept-number.new.slots c.seal_kept-number.result c.finish-last.result.0.base c.finish-last.result.0.slot
-    = c.seal_kept-number.ensures.sealed in
+    = c.seal_kept-number.ensures in
     let tasks : c.set_current.new.self ≡ with_current c.end_with.new.tasks gives.task c.seal_kept-number.result
     = c.set_current.ensures.tasks ∙ ap (λ (n : ℕ). with_current c.end_with.new.tasks n c.seal_kept-number.result) (sym same.0) in
-    let store = ap (λ (m : Mastered). m.slots) c.seal_kept-number.ensures.stored ∙ ap (λ (x : Changed). slice_set t.master.slots c.finish-last.result.0.slot (Some x.cred)) c.last.view_is in
+    let out = rw (← c.self.view_is) at c.requires.out in
+    let home = rw (← c.self.view_is) at c.requires.home in
+    let words = committed_words t.master.entries c.self.invariant c.args.label gives.gives.place _ gives.gives.found gives.gives.there c.finish-last.result.1 refl sound out home in
     let change : c.last.inside.change ≡ ready.change = ap (λ (x : Changed). x.change) c.last.view_is ∙ same.2 in
     let process = owner_process t.tasks ready.task c.unwrap-process.result e.owner e.lives c.unwrap-process.ensures c.process_of.ensures in
     let casts : c.drop_cast.new.casts ≡ casts_left ready.change e.owner.process t.casts
     = c.drop_cast.ensures ∙ ap (λ (x : Change). casts_left x c.unwrap-process.result t.casts) change ∙ ap (λ (n : ℕ). casts_left ready.change n t.casts) process in
-    rw (tasks, casts, gives.gives.left, store)
-    (commit_kept c.self.invariant gives.gives.place _ gives.gives.there ready.change now own less c.seal_kept-number.new.slots c.seal_kept-number.ensures.places
-    c.finish-last.result.1 seals sound.tasks sound.slots.own)
+    rw (tasks, casts, gives.gives.left) (
+      commit_kept c.self.invariant.0 gives.gives.place _ gives.gives.there ready.change now own less c.seal_kept-number.new.slots
+          c.finish-last.result.1 words seals sound.tasks sound.slots.own,
+      put_less t.prepared gives.gives.place t.master.entries t.master.slots c.self.invariant.1,
+    )
 
 pub returns-clause-ok : goal.returns-clause-ok
 returns-clause-ok c =
@@ -157,10 +158,12 @@ returns-clause-ok c =
     let less = drops c.drop_later.ensures.held c.drop_later.ensures.table in
     let sound = rw (← c.self.view_is) at c.requires.sound in
     let seals : SealsKept c.drop_later.new.self c.seal_kept-number.new.slots c.seal_kept-number.result c.finish-last.result.0.base c.finish-last.result.0.slot
-    = c.seal_kept-number.ensures.sealed in
+    = c.seal_kept-number.ensures in
     let tasks : c.set_current.new.self ≡ with_current c.end_with.new.tasks gives.task c.seal_kept-number.result
     = c.set_current.ensures.tasks ∙ ap (λ (n : ℕ). with_current c.end_with.new.tasks n c.seal_kept-number.result) (sym same.0) in
-    let store = ap (λ (m : Mastered). m.slots) c.seal_kept-number.ensures.stored ∙ ap (λ (x : Changed). slice_set t.master.slots c.finish-last.result.0.slot (Some x.cred)) c.last.view_is in
+    let out = rw (← c.self.view_is) at c.requires.out in
+    let home = rw (← c.self.view_is) at c.requires.home in
+    let words = committed_words t.master.entries c.self.invariant c.args.label gives.gives.place _ gives.gives.found gives.gives.there c.finish-last.result.1 refl sound out home in
     let allowed = rw (← c.self.view_is) at c.in_default-overridden.ensures in
     let idle = rw (← c.self.view_is) at c.in_default-begun.ensures in
     let gains : c.last.inside.gains ≡ c.finish-last.result.1.gains = ap (λ (x : Changed). x.gains) c.last.view_is in
@@ -168,9 +171,9 @@ returns-clause-ok c =
     let process = owner_process t.tasks ready.task c.unwrap-process.result e.owner e.lives c.unwrap-process.ensures c.process_of.ensures in
     let casts : c.drop_cast.new.casts ≡ casts_left ready.change e.owner.process t.casts
     = c.drop_cast.ensures ∙ ap (λ (x : Change). casts_left x c.unwrap-process.result t.casts) change ∙ ap (λ (n : ℕ). casts_left ready.change n t.casts) process in
-    rw (← c.self.view_is, tasks, casts, gives.gives.left, store, c.committed_by.ensures, gains, change)
-    (commit_done c.self.invariant gives.gives.place _ gives.gives.there ready.change now own less c.seal_kept-number.new.slots c.seal_kept-number.ensures.places
-    c.finish-last.result.1 seals sound.tasks sound.slots.own c.args.label (length c.items-2.result.now) gives.gives.found refl
+    rw (← c.self.view_is, tasks, casts, gives.gives.left, c.committed_by.ensures, gains, change)
+    (commit_done c.self.invariant.0 gives.gives.place _ gives.gives.there ready.change now own less c.seal_kept-number.new.slots
+    c.finish-last.result.1 words seals sound.tasks sound.slots.own c.args.label (length c.items-2.result.now) gives.gives.found refl
     (ap is_access same.2 ∙ c.in-Some.ensures.for_task) (rw same.0 idle) (own_owner (state_of (parts_of t.tasks t.casts t.files t.holds t.prepared) t.master.slots t.slots) gives.task own.owner own.lives (rw same.0 allowed)) same.2 (c.if-now-base.false ∙ sym same.1)
     (ap length c.items-2.ensures))
 
@@ -178,4 +181,4 @@ pub invariant_of-self : goal.invariant_of-self
 invariant_of-self c = rw c.in_err-reserve.ensures.err c.self.invariant
 
 pub invariant_of-self-in_err-ended : goal.invariant_of-self-in_err-ended
-invariant_of-self-in_err-ended c = rw c.in_err-ended.ensures.err (kept_spare c.self.invariant c.in_ok-reserve.ensures.ok)
+invariant_of-self-in_err-ended c = rw c.in_err-ended.ensures.err (kept_spare c.self.invariant.0 c.in_ok-reserve.ensures.ok, c.self.invariant.1)

@@ -15,7 +15,7 @@ unwrap-process-requires c =
 pub drop_all-requires : goal.drop_all-requires
 drop_all-requires c =
     let t = c.self.inside in
-    left-held c.self.invariant (is_thread_of c.unwrap-process.result) c.items.result.now c.sweep_at.new.slots.held
+    left-held c.self.invariant.0 (is_thread_of c.unwrap-process.result) c.items.result.now c.sweep_at.new.slots.held
     (c.items.ensures ∙ c.in_ok-ended.ensures.ended.gave_up) (ap (λ (x : Table). x.held) c.sweep_at.ensures ∙ abort_held c.args.cause t.slots)
 
 pub invariant_of-self-2 : goal.invariant_of-self-2
@@ -23,7 +23,7 @@ invariant_of-self-2 c =
     let t = c.self.inside in
     let gone = c.in_ok-ended.ensures.ended in
     let all = ends_all c.args.cause t.slots c.sweep_at.ensures (c.items.ensures ∙ gone.gave_up) c.drop_all.ensures.held c.drop_all.ensures.table in
-    rw (gone.left, c.dropped.ensures) (process_kept c.self.invariant c.args.cause c.unwrap-process.result c.drop_all.new.slots all)
+    rw (gone.left, c.dropped.ensures) (process_kept c.self.invariant.0 c.args.cause c.unwrap-process.result c.drop_all.new.slots all, c.self.invariant.1)
 
 pub returns-clause-state : goal.returns-clause-state
 returns-clause-state c =
@@ -32,4 +32,4 @@ returns-clause-state c =
     let all = ends_all c.args.cause t.slots c.sweep_at.ensures (c.items.ensures ∙ gone.gave_up) c.drop_all.ensures.held c.drop_all.ensures.table in
     rw (← c.self.view_is, gone.left, c.dropped.ensures)
     (for_owner (task_in t.tasks c.args.task) (c.process_of.ensures) c.unwrap-process.ensures
-    (λ cast of. process_ended c.self.invariant c.args.cause c.unwrap-process.result c.drop_all.new.slots all cast of))
+    (λ cast of. process_ended c.self.invariant.0 c.args.cause c.unwrap-process.result c.drop_all.new.slots all cast of))

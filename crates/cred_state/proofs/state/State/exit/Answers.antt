@@ -8,14 +8,14 @@ use Rattle.cred_state.proofs.state.State.exit.Goals as goal
 
 pub drop_all-requires : goal.drop_all-requires
 drop_all-requires c =
-    left-held c.self.invariant (is_task c.args.task) c.items.result.now c.self.inside.slots.held (c.items.ensures ∙ c.in_ok-numbers.ensures.numbers) refl
+    left-held c.self.invariant.0 (is_task c.args.task) c.items.result.now c.self.inside.slots.held (c.items.ensures ∙ c.in_ok-numbers.ensures.numbers) refl
 
 pub invariant_of-self-2 : goal.invariant_of-self-2
 invariant_of-self-2 c =
     let t = c.self.inside.slots in
     let all = drops_all t {m = t.spare} refl (c.items.ensures ∙ c.in_ok-numbers.ensures.numbers) c.drop_all.ensures.held c.drop_all.ensures.table in
     rw (c.in_ok-numbers.ensures.tasks, c.gone.ensures)
-    (kept_casts (ended_kept c.self.invariant (is_task c.args.task) c.drop_all.new.slots all) (waits_no_more c.args.task c.self.inside.casts))
+    (kept_casts (ended_kept c.self.invariant.0 (is_task c.args.task) c.drop_all.new.slots all) (waits_no_more c.args.task c.self.inside.casts), c.self.invariant.1)
 
 pub returns-clause-ok : goal.returns-clause-ok
 returns-clause-ok c =
@@ -25,4 +25,4 @@ returns-clause-ok c =
     let lives = alive_is c.self.inside.tasks c.args.task (sym c.alive.ensures ∙ c.if-not-alive.false) in
     let all = drops_all t {m = t.spare} refl (c.items.ensures ∙ c.in_ok-numbers.ensures.numbers) c.drop_all.ensures.held c.drop_all.ensures.table in
     rw (← c.self.view_is, c.in_ok-numbers.ensures.tasks, c.gone.ensures)
-    (exit_done c.self.invariant c.args.task c.drop_all.new.slots all lives.0 lives.1 idle own)
+    (exit_done c.self.invariant.0 c.args.task c.drop_all.new.slots all lives.0 lives.1 idle own)

@@ -12,13 +12,13 @@ use Rattle.cred_state.proofs.state.State.fork.Goals as goal
 pub add-requires-clause-referred : goal.add-requires-clause-referred
 add-requires-clause-referred c =
     let has = rw (← c.self.view_is) at c.in-Some.ensures in
-    referred_to c.self.inside.slots c.reserve.new.self _ _ c.in_ok-reserve.ensures.ok (current-held c.self.invariant c.args.task _ (sym has))
+    referred_to c.self.inside.slots c.reserve.new.self _ _ c.in_ok-reserve.ensures.ok (current-held c.self.invariant.0 c.args.task _ (sym has))
 
 pub invariant_of-self : goal.invariant_of-self
 invariant_of-self c = rw c.in_err-reserve.ensures.err c.self.invariant
 
 pub invariant_of-self-in_err-fork : goal.invariant_of-self-in_err-fork
-invariant_of-self-in_err-fork c = rw c.in_err-fork.ensures.err (kept_spare c.self.invariant c.in_ok-reserve.ensures.ok)
+invariant_of-self-in_err-fork c = rw c.in_err-fork.ensures.err (kept_spare c.self.invariant.0 c.in_ok-reserve.ensures.ok, c.self.invariant.1)
 
 pub invariant_of-self-2 : goal.invariant_of-self-2
 invariant_of-self-2 c =
@@ -27,6 +27,8 @@ invariant_of-self-2 c =
     let has = rw (← c.self.view_is) at c.in-Some.ensures in
     let u = current_is s c.args.task _ (sym has) in
     let grown = c.in_ok-fork.ensures.ok
-    ∙ ap (λ (found : Option Task). option_map_or (λ o. t.tasks ++ first_task c.args.child c.args.process o.current ∷ []) found t.tasks) u.is in
-    kept_child c.self.invariant c.fork.new.self c.args.child c.args.process u.owner grown u.number c.in_ok-reserve.ensures.ok c.add.ensures.held c.add.ensures.table
-    (current-held c.self.invariant c.args.task _ (sym has)) t.casts
+    ∙ ap (λ (found : Option Task). option_map_or (λ o. t.tasks ++ first_task c.args.child c.args.process o.current ∷ []) found t.tasks) u.is in (
+      kept_child c.self.invariant.0 c.fork.new.self c.args.child c.args.process u.owner grown u.number c.in_ok-reserve.ensures.ok c.add.ensures.held c.add.ensures.table
+          (current-held c.self.invariant.0 c.args.task _ (sym has)) t.casts,
+      c.self.invariant.1,
+    )

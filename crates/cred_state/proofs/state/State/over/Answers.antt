@@ -1,9 +1,12 @@
-use Rattle.std.proofs.Common.{◌≡◌, ℕ, zero, suc, false, List, [], ◌∷◌, Option, map, slice_index_or, refl}
+use Rattle.std.proofs.Common.{◌≡◌, ℕ, zero, suc, false, List, [], ◌∷◌, Option, Some, slice_get, map, slice_index_or, refl}
 use Rattle.std.specs.List.{range_with_len}
 use Rattle.cred_ids.specs.Limits.{SLOTS}
 use Rattle.cred_record.specs.Credential.{Credential}
 use Rattle.cred_slots.specs.Table.{empty}
-use Rattle.cred_model.specs.State.{opening}
+use Rattle.std.specs.Option.{option_map}
+use Rattle.std.proofs.lemmas.List.Elements.{All-nil}
+use Rattle.cred_hold.specs.Tokens.{IsAlone}
+use Rattle.cred_model.specs.State.{opening, Prepared}
 use Rattle.cred_tables.specs.Kept.{parts_of, IsKept, state_of}
 use Rattle.cred_state.proofs.state.State.over.Goals as goal
 
@@ -24,7 +27,8 @@ unfolding empty
 nothing-state_of store = refl
 
 pub invariant_of-result : goal.invariant_of-result
-invariant_of-result c = rw (c.new-2.ensures, c.new-3.ensures, c.new-4.ensures, c.new-5.ensures, c.new-6.ensures, c.in_ok-slots.ensures) (nothing-kept _)
+invariant_of-result c = rw (c.new-2.ensures, c.new-3.ensures, c.new-4.ensures, c.new-5.ensures, c.new-6.ensures, c.in_ok-slots.ensures)
+    (nothing-kept _, All-nil (λ (p : Prepared). IsAlone c.args.master.entries p.slot → slice_get c.args.master.slots p.slot ≡ Some (option_map (λ last. last.cred) p.changed)))
 
 pub returns-clause-state : goal.returns-clause-state
 unfolding empty

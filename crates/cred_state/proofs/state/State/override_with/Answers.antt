@@ -11,7 +11,7 @@ add-requires-clause-referred c =
     let t = c.self.inside in
     let has = rw (← c.self.view_is) at c.in-Some.ensures in
     referred_to t.slots c.reserve.new.self _ _ c.in_ok-reserve.ensures.ok
-    (bag-at c.in-Some.field-0.number c.self.invariant.counted.counts
+    (bag-at c.in-Some.field-0.number c.self.invariant.0.counted.counts
     (held-in_use (state_of (parts_of t.tasks t.casts t.files t.holds t.prepared) t.master.slots t.slots) c.args.label _ (sym has)))
 
 pub invariant_of-self-2 : goal.invariant_of-self-2
@@ -21,11 +21,13 @@ invariant_of-self-2 c =
     let lent = lends c.self.inside.tasks c.push_override.new.self c.args.task (sym c.alive.ensures ∙ c.if-not-alive.false) number c.push_override.result
     c.push_override.ensures.pushed c.push_override.ensures.tasks c.if-not-push_override.false in
     let t = c.self.inside in
-    let has = rw (← c.self.view_is) at c.in-Some.ensures in
-    lent_kept c.self.invariant c.args.task c.push_override.new.self sound.tasks number lent c.reserve.new.self c.add.new.self
-    c.in_ok-reserve.ensures.ok c.add.ensures.held c.add.ensures.table
-    (bag-at number c.self.invariant.counted.counts
-    (held-in_use (state_of (parts_of t.tasks t.casts t.files t.holds t.prepared) t.master.slots t.slots) c.args.label _ (sym has)))
+    let has = rw (← c.self.view_is) at c.in-Some.ensures in (
+      lent_kept c.self.invariant.0 c.args.task c.push_override.new.self sound.tasks number lent c.reserve.new.self c.add.new.self
+          c.in_ok-reserve.ensures.ok c.add.ensures.held c.add.ensures.table
+          (bag-at number c.self.invariant.0.counted.counts
+          (held-in_use (state_of (parts_of t.tasks t.casts t.files t.holds t.prepared) t.master.slots t.slots) c.args.label _ (sym has))),
+      c.self.invariant.1,
+    )
 
 pub returns-clause-ok : goal.returns-clause-ok
 returns-clause-ok c =
@@ -35,7 +37,7 @@ returns-clause-ok c =
     let lent = lends c.self.inside.tasks c.push_override.new.self c.args.task (sym c.alive.ensures ∙ c.if-not-alive.false) number c.push_override.result
     c.push_override.ensures.pushed c.push_override.ensures.tasks c.if-not-push_override.false in
     rw (← c.self.view_is)
-    (lent_done c.self.invariant c.args.task c.push_override.new.self sound.tasks number lent c.reserve.new.self c.add.new.self
+    (lent_done c.self.invariant.0 c.args.task c.push_override.new.self sound.tasks number lent c.reserve.new.self c.add.new.self
     c.in_ok-reserve.ensures.ok c.add.ensures.held c.add.ensures.table c.args.label _ (sym has) refl)
 
 pub invariant_of-self : goal.invariant_of-self

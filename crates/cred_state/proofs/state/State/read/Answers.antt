@@ -6,7 +6,7 @@ use Rattle.cred_state.proofs.state.State.read.Goals as goal
 pub look-requires-clause-sealed : goal.look-requires-clause-sealed
 look-requires-clause-sealed c =
     let t = c.self.inside in
-    found-sealed c.self.invariant c.args.found (rw (← c.self.view_is) at c.requires.found) (rw (← c.self.view_is) at c.requires.used)
+    found-sealed c.self.invariant.0 c.args.found (rw (← c.self.view_is) at c.requires.found) (rw (← c.self.view_is) at c.requires.used)
 
 pub returns-clause-cred : goal.returns-clause-cred
 returns-clause-cred c =

@@ -3,17 +3,17 @@ use Rattle.cred_tables.proofs.Sealing.{drops}
 use Rattle.cred_state.proofs.state.State.release.Goals as goal
 
 pub drop_later-requires : goal.drop_later-requires
-drop_later-requires c = hold-held c.self.invariant c.in-Some.ensures.place _ c.in-Some.ensures.held
+drop_later-requires c = hold-held c.self.invariant.0 c.in-Some.ensures.place _ c.in-Some.ensures.held
 
 pub invariant_of-self-2 : goal.invariant_of-self-2
 invariant_of-self-2 c =
     let gone = c.in-Some.ensures in
     rw gone.left
-    (release_kept c.self.invariant c.drop_later.new.self gone.place _ gone.held (drops c.drop_later.ensures.held c.drop_later.ensures.table))
+    (release_kept c.self.invariant.0 c.drop_later.new.self gone.place _ gone.held (drops c.drop_later.ensures.held c.drop_later.ensures.table), c.self.invariant.1)
 
 pub returns-clause-made : goal.returns-clause-made
 returns-clause-made c =
     let gone = c.in-Some.ensures in
     rw (← c.self.view_is, gone.left)
-    (release_done c.self.invariant c.drop_later.new.self gone.place _ gone.held (drops c.drop_later.ensures.held c.drop_later.ensures.table)
+    (release_done c.self.invariant.0 c.drop_later.new.self gone.place _ gone.held (drops c.drop_later.ensures.held c.drop_later.ensures.table)
     c.args.label gone.found)

@@ -20,13 +20,13 @@ spawn_in-requires-clause-nowhere c =
 pub add-requires-clause-referred : goal.add-requires-clause-referred
 add-requires-clause-referred c =
     let has = rw (← c.self.view_is) at c.in-Some.ensures in
-    referred_to c.self.inside.slots c.reserve.new.self _ _ c.in_ok-reserve.ensures.ok (current-held c.self.invariant c.args.task _ (sym has))
+    referred_to c.self.inside.slots c.reserve.new.self _ _ c.in_ok-reserve.ensures.ok (current-held c.self.invariant.0 c.args.task _ (sym has))
 
 pub invariant_of-self : goal.invariant_of-self
 invariant_of-self c = rw c.in_err-reserve.ensures.err c.self.invariant
 
 pub invariant_of-self-in_err-spawn_in : goal.invariant_of-self-in_err-spawn_in
-invariant_of-self-in_err-spawn_in c = rw (c.in_err-spawn_in.ensures.no_tasks, c.in_err-spawn_in.ensures.no_casts) (kept_spare c.self.invariant c.in_ok-reserve.ensures.ok)
+invariant_of-self-in_err-spawn_in c = rw (c.in_err-spawn_in.ensures.no_tasks, c.in_err-spawn_in.ensures.no_casts) (kept_spare c.self.invariant.0 c.in_ok-reserve.ensures.ok, c.self.invariant.1)
 
 pub invariant_of-self-2 : goal.invariant_of-self-2
 invariant_of-self-2 c =
@@ -35,6 +35,8 @@ invariant_of-self-2 c =
     let has = rw (← c.self.view_is) at c.in-Some.ensures in
     let u = current_is s c.args.task _ (sym has) in
     let grown = c.in_ok-spawn_in.ensures.tasks
-    ∙ ap (λ (found : Option Task). option_map_or (λ o. t.tasks ++ first_task c.args.child o.process o.current ∷ []) found t.tasks) u.is in
-    kept_child c.self.invariant c.spawn_in.new.tasks c.args.child u.owner.process u.owner grown u.number c.in_ok-reserve.ensures.ok c.add.ensures.held c.add.ensures.table
-    (current-held c.self.invariant c.args.task _ (sym has)) c.spawn_in.new.casts
+    ∙ ap (λ (found : Option Task). option_map_or (λ o. t.tasks ++ first_task c.args.child o.process o.current ∷ []) found t.tasks) u.is in (
+      kept_child c.self.invariant.0 c.spawn_in.new.tasks c.args.child u.owner.process u.owner grown u.number c.in_ok-reserve.ensures.ok c.add.ensures.held c.add.ensures.table
+          (current-held c.self.invariant.0 c.args.task _ (sym has)) c.spawn_in.new.casts,
+      c.self.invariant.1,
+    )

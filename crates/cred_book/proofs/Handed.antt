@@ -1,0 +1,282 @@
+-- A lane's work goes out, and comes back decided.
+use Rattle.std.proofs.Common.{◌≡◌, ℕ, ◌+◌, ◌<◌, Bool, true, false, List, [], ◌∷◌, ◌++◌, length, set, Option, Some, None, is_some, refl, sym, ap, ◌∙◌, subst, arith}
+use Rattle.std.specs.List.{count_by}
+use Rattle.std.specs.Option.{IfSome, option_and_then, option_map_or}
+use Rattle.cred_event.specs.declared.content.Stage.{Stage}
+use Rattle.cred_event.specs.declared.event.Event.{Event}
+use Rattle.cred_event.specs.declared.event.Event.TheVariants.{Alter}
+use Rattle.cred_event.specs.declared.event.Change.TheVariants.{Exec}
+use Rattle.cred_event.specs.declared.entry.Entry as logged
+use Rattle.cred_record.specs.Credential.{Credential}
+use Rattle.cred_model.specs.Script.{Script, Line, chain_of, info_of}
+use Rattle.cred_model.specs.State.{State, Numbered, Prepared, numbered, prepared_of}
+use Rattle.cred_model.specs.Like.{IsLike}
+use Rattle.cred_model.specs.Course as model
+use Rattle.cred_model.specs.Course.{Course, event_at, event_in}
+use Rattle.cred_model.specs.Journal.{entry_of, next, replay}
+use Rattle.cred_model.specs.Named.{event_files}
+use Rattle.cred_script.specs.Grammar.{line_at}
+use Rattle.cred_cursor.specs.Cursor.{IsOfLine, MovesOnTo}
+use Rattle.cred_cursor.specs.Cursors.{due_of}
+use Rattle.cred_cursor.proofs.Turns.{next_some}
+use Rattle.cred_sound.proofs.Sound.{sound_after}
+use Rattle.cred_words.specs.Lists.{Has}
+use Rattle.cred_hold.specs.Tokens.{Entry, entry}
+use Rattle.cred_lent.specs.Decisions.{AreFor, AreOf}
+use Rattle.cred_lent.specs.declared.lent.Lent.{Lent}
+use Rattle.cred_lent.specs.declared.lent.Lent.TheVariants.{One, Two, Kept}
+use Rattle.cred_work.specs.declared.work.Work.{Work}
+use Rattle.cred_tables.specs.Kept.{Words}
+use Rattle.cred_tables.specs.Out.{AreBack, AreOut, tokens_in, waits_in}
+use Rattle.cred_tables.proofs.Outs.{tokens_like}
+use Rattle.cred_state.specs.Lending.{AreTaken, IsChain, IsNs, entries_of}
+use Rattle.cred_book.specs.Book.{Recorded, answer_of, out_of, with_event}
+use Rattle.cred_book.specs.Counts.{Counts, HasEntered, count_of}
+use Rattle.cred_book.specs.Cursor.{Finishes, Makes, Stands, left, moved_on}
+use Rattle.cred_book.specs.Works.{IsChainFor, IsEntered, IsLanes, IsOutOf, IsWorkOf, MayMake, lane_tokens, with_work}
+use Rattle.cred_book.specs.declared.step.Step.TheVariants as step
+use Rattle.cred_book.proofs.Apart.{IsNext}
+use Rattle.cred_book.proofs.Cursors.{Moves, due_left, lane_has_out, makes_more, moves}
+use Rattle.cred_book.proofs.Finished.{all_taken, event_is, tokens_back}
+use Rattle.cred_book.proofs.Joined.{count-append}
+use Rattle.cred_book.proofs.Lent.{lane_tokens_are, lane_tokens_none, work_next, work_of}
+use Rattle.cred_book.proofs.Nexts.{MakesNext, event_of, next_course, next_is}
+use Rattle.cred_book.proofs.Works.{GoesOn, IsNowOut, after, lends, lends_now, out_same, out_set}
+
+-- ---- out
+
+-- the namespace that a state decides an event by has the root ids of what is lent for it
+pub ns_chain : (script : Script) (s t : State) (like : IsLike s t) (event : Event) (ns : ℕ) → IsNs s event ns
+    → (lent : Lent) → entries_of lent ≡ tokens_in t event → IsChain script event lent (chain_of script ns)
+ns_chain script s t like (Alter label (Exec file)) ns is (Kept base writer) tokens =
+    by (prepared_of s label) is (tokens ∙ sym (tokens_like s t like (Alter label (Exec file))))
+  where
+    of_base : (p : Prepared) (o : Option Numbered) → IfSome o (λ (found : Numbered). ns ≡ found.cred.ns)
+        → entry writer.label writer.slot None ∷ entry base.label base.slot (Some base.cred) ∷ []
+        ≡ option_map_or (λ (found : Numbered). entry label p.slot None ∷ entry label found.slot (Some found.cred) ∷ []) o []
+        → chain_of script ns ≡ chain_of script base.cred.ns
+    of_base p None is tokens = cc
+    of_base p (Some found) is tokens =
+        let second : entry base.label base.slot (Some base.cred) ≡ entry label found.slot (Some found.cred) = cc in
+        let creds : Some base.cred ≡ Some found.cred = ap (λ (e : Entry). e.held) second in
+        let same : base.cred ≡ found.cred = cc in
+        ap (chain_of script) (is ∙ ap (λ (c : Credential). c.ns) (sym same))
+
+    by : (o : Option Prepared) → IfSome o (λ (p : Prepared). IfSome (numbered s.creds p.base) (λ (found : Numbered). ns ≡ found.cred.ns))
+        → entry writer.label writer.slot None ∷ entry base.label base.slot (Some base.cred) ∷ []
+        ≡ option_map_or (λ (p : Prepared). option_map_or (λ (found : Numbered). entry label p.slot None ∷ entry label found.slot (Some found.cred) ∷ [])
+        (numbered s.creds p.base) []) o []
+        → chain_of script ns ≡ chain_of script base.cred.ns
+    by None is tokens = cc
+    by (Some p) is tokens = of_base p (numbered s.creds p.base) is tokens
+ns_chain script s t like event ns is lent tokens = tt
+
+-- the event of a course is one that its line may make
+pub may_make : (script : Script) (course : Course) (event : Event) → event_of script course ≡ Some event → MayMake script course.line event
+may_make script course event has = by (line_at script course.line) has
+  where
+    of : (line : Line) (o : Option Stage) → option_and_then (event_in course.line line.content) o ≡ Some event
+        → (stage : Stage) × (event_in course.line line.content stage ≡ Some event)
+    of line None has = cc
+    of line (Some stage) has = (stage, has)
+
+    by : (o : Option Line) → option_and_then (λ (line : Line). event_at line.content course) o ≡ Some event
+        → IfSome o (λ line. (stage : Stage) × (event_in course.line line.content stage ≡ Some event))
+    by None has = tt
+    by (Some line) has = of line course.stage has
+
+-- the work of the lane's next event, before it is decided
+pub record IsDueWork (book : Recorded) (lane : ℕ) (course : Course) (work : Work) : Type 0 where
+  pub due : due_of book.cursors lane ≡ Some course
+  pub has : event_of book.script course ≡ Some work.event
+  pub line : course.line ≡ work.line
+  pub undecided : work.decided ≡ None
+  pub waits : waits_in (replay book.script book.journal) work.event ≡ true
+  pub own : AreOf book.words.id work.lent
+  pub labels : AreFor work.event work.lent
+  pub tokens : entries_of work.lent ≡ tokens_in (replay book.script book.journal) work.event
+  pub file : work.file ≡ info_of book.script (event_files work.event)
+  pub chain : IsChainFor book work.event work.chain
+
+pub record HandsOut (before after : Recorded) (lane : ℕ) (work : Work) : Type 0 where
+  pub stands : Stands after
+  pub made : Makes before after lane (next before.script before.journal lane) (step.Work work)
+  pub counts : Counts before after lane (step.Work work)
+
+makes_work : (before after : Recorded) (lane : ℕ) (comes : Option logged.Entry) (made : logged.Entry) (work : Work) → comes ≡ Some made
+    → waits_in (replay before.script before.journal) made.event ≡ true → work.line ≡ made.line → work.event ≡ made.event → work.decided ≡ None
+    → IsLanes after lane work → after ≡ with_work before lane work → Makes before after lane comes (step.Work work)
+makes_work before after lane comes made work is waits line event undecided lanes same = rw is (waits, line, event, undecided, lanes, same)
+
+pub hands_out : (book : Recorded) (lane : ℕ) (course : Course) (work : Work) → Stands book → out_of book lane ≡ None → IsDueWork book lane course work
+    → HandsOut book (with_work book lane work) lane work
+hands_out book lane course work stands home is =
+    let within = lane_has_out book lane course stands is.due in
+    let comes = next_some book.script book.journal book.cursors lane course work.event stands.cursors is.due is.has in
+    let due = subst (λ n. IsNext book.script book.journal lane (record { line = n; event = work.event })) is.line
+    (next_is book.script book.journal book.cursors lane course work.event stands.cursors is.due is.has) in
+    let now = out_set book.outs lane (Some work.line) within in
+    record {
+      stands = lends book lane work.line work.event work.lent stands home due is.waits is.tokens within;
+      made = makes_work book (with_work book lane work) lane (next book.script book.journal lane)
+          (entry_of book.script book.journal (record { line = course.line; event = work.event })) work comes is.waits (sym is.line) refl is.undecided
+          (record {
+            of = record {
+              own = is.own;
+              labels = is.labels;
+              made = subst (λ n. MayMake book.script n work.event) is.line (may_make book.script course work.event is.has);
+              file = is.file;
+              chain = is.chain work.lent is.tokens;
+            };
+            out = now.own;
+          })
+          refl;
+      counts = (
+        due_left book lane course stands is.due,
+        refl,
+        lends_now book lane work.line work.event work.lent stands home due is.waits is.tokens within,
+      );
+    }
+
+-- ---- entered at once
+
+-- the event that was made of a course, in the book as it is seen
+pub made_event : (inside book : Recorded) (course : Course) (event : Event) (found : Option Event) → inside ≡ book → found ≡ event_of inside.script course
+    → found ≡ Some event → event_of book.script course ≡ Some event
+made_event inside book course event found view made some = ap (λ (b : Recorded). event_of b.script course) (sym view) ∙ sym made ∙ some
+
+pub record EntersMore (before after : Recorded) (lane : ℕ) : Type 0 where
+  pub script : after.script ≡ before.script
+  pub words : after.words ≡ before.words
+  pub stands : Stands after
+  pub made : Makes before after lane (next before.script before.journal lane) step.More
+  pub falls : left after < left before
+  pub counts : HasEntered before after lane 0
+
+-- an event that waits for no decision
+pub enters_more : {book : Recorded} {lane : ℕ} {course : Course} {event : Event} {to : Option Course} (goes : GoesOn book lane course event to)
+    → out_of book lane ≡ None → waits_in (replay book.script book.journal) event ≡ false
+    → EntersMore book (moved_on (with_event book course.line event) lane course.line to) lane
+enters_more {book = book} {lane = lane} {course = course} {event = event} {to = to} goes home free =
+    let none : (test : Entry → Bool) → count_by test book.words.out ≡ count_by test (lane_tokens book lane) + count_by test book.words.out
+    = λ test. let own : count_by test (lane_tokens book lane) ≡ 0 = ap (count_by test) (lane_tokens_none book lane home) in omega (arith, own) in
+    let m = moves goes book.outs book.words (out_same book.outs lane None home) none in
+    record {
+      script = refl;
+      words = refl;
+      stands = m.stands;
+      made = makes_more book (moved_on (with_event book course.line event) lane course.line to) lane (next book.script book.journal lane)
+          (entry_of book.script book.journal (record { line = course.line; event = event }))
+          (next_some book.script book.journal book.cursors lane course event goes.stands.cursors goes.due goes.has) free refl refl refl;
+      falls = m.falls;
+      counts = subst (λ b. HasEntered book (moved_on (with_event book course.line event) lane course.line to) lane (count_of b)) free m.counts;
+    }
+
+-- ---- back
+
+-- the lane's cursor stands on the work's line
+pub work_course : (book : Recorded) (lane : ℕ) (work : Work) → Stands book → IsLanes book lane work
+    → (out : IsOutOf book lane work.line) × MakesNext book.script book.cursors lane (record { line = work.line; event = out.event })
+work_course book lane work stands is =
+    let out = work_of book lane work.line stands is.out in
+    (out, next_course book.script book.journal book.cursors lane (record { line = work.line; event = out.event }) stands.cursors (work_next book lane work.line out))
+
+pub course_is : (book : Recorded) (lane : ℕ) (work : Work) (course : Course) → Stands book → IsLanes book lane work → due_of book.cursors lane ≡ Some course
+    → course.line ≡ work.line
+course_is book lane work course stands is due =
+    let at = (work_course book lane work stands is).1 in
+    let both : Some at.course ≡ Some course = sym at.is ∙ due in
+    let same : at.course ≡ course = cc in
+    ap (λ (c : Course). c.line) (sym same) ∙ at.line
+
+pub record ComesBack (before after : Recorded) (lane : ℕ) (work : Work) : Type 0 where
+  pub script : after.script ≡ before.script
+  pub cells : after.words.id ≡ before.words.id
+  pub stands : Stands after
+  pub made : Finishes before after lane work (next before.script before.journal lane)
+  pub falls : left after < left before
+  pub counts : HasEntered before after lane 1
+
+makes_back : (before after : Recorded) (lane : ℕ) (comes : Option logged.Entry) (made : logged.Entry) (work : Work) → comes ≡ Some made
+    → made.line ≡ work.line → made.event ≡ work.event → after.journal ≡ before.journal ++ made ∷ []
+    → after.outs ≡ set before.outs lane None → AreBack (entries_of work.lent) before.words after.words
+    → Finishes before after lane work comes
+makes_back before after lane comes made work is line event grown outs words =
+    rw is (line, event, grown, record { outs = outs; words = words })
+
+-- the book after the entry of the work
+abbrev pub back_in : Recorded → ℕ → Event → Words → Recorded
+back_in book line event words = record (with_event book line event) { words = words }
+
+-- and after the work is no longer out
+abbrev pub at_home : Recorded → ℕ → Recorded
+at_home book lane = record book { outs = set book.outs lane None }
+
+pub comes_back : (book entered : Recorded) (lane : ℕ) (course : Course) (to : Option Course) (work : Work) → Stands book
+    → AreOut (replay book.script book.journal) book.words.out → IsLanes book lane work → due_of book.cursors lane ≡ Some course
+    → IsEntered book entered work
+    → IfSome (line_at book.script course.line) (λ line. MovesOnTo book.script lane (model.after line.content course (answer_of book course.line work.event)) to)
+    → ComesBack book (moved_on (at_home entered lane) lane course.line to) lane work
+comes_back book entered lane course to work stands are is due back passes =
+    subst (λ b. ComesBack book (moved_on (at_home b lane) lane course.line to) lane work) (sym entered_is) made
+  where
+    out : IsOutOf book lane work.line
+    out = (work_course book lane work stands is).0
+
+    at : MakesNext book.script book.cursors lane (record { line = work.line; event = out.event })
+    at = (work_course book lane work stands is).1
+
+    line : course.line ≡ work.line
+    line = course_is book lane work course stands is due
+
+    has_taken : (e : Entry) → Has (entries_of work.lent) e → Has book.words.out e
+    has_taken = all_taken (entries_of work.lent) book.words.out entered.words.out back.taken
+
+    event : work.event ≡ out.event
+    event = event_is book lane work stands is out has_taken
+
+    waits : waits_in (replay book.script book.journal) work.event ≡ true
+    waits = ap (waits_in (replay book.script book.journal)) event ∙ out.waits
+
+    goes : GoesOn book lane course work.event to
+    goes =
+        let same : at.course ≡ course = let both : Some at.course ≡ Some course = sym at.is ∙ due in cc in
+        record {
+          stands = stands;
+          due = due;
+          has = ap (event_of book.script) (sym same) ∙ at.event ∙ ap Some (sym event);
+          passes = passes;
+        }
+
+    tokens : entries_of work.lent ≡ lane_tokens book lane
+    tokens =
+        tokens_back (replay book.script book.journal) (sound_after book.script book.journal) book.words.out are work.event work.lent
+        waits is.of.labels has_taken
+        ∙ ap (tokens_in (replay book.script book.journal)) event
+        ∙ sym (lane_tokens_are book lane work.line is.out out)
+
+    returned : (test : Entry → Bool) → count_by test book.words.out ≡ count_by test (lane_tokens book lane) + count_by test entered.words.out
+    returned test =
+        back.words.out test ∙ count-append test (entries_of work.lent) entered.words.out
+        ∙ ap (λ es. count_by test es + count_by test entered.words.out) tokens
+
+    now : IsNowOut book.outs (set book.outs lane None) lane None
+    now = out_set book.outs lane None (lane_has_out book lane course stands due)
+
+    m : Moves book (after book lane course work.event to (set book.outs lane None) entered.words) lane (count_of (waits_in (replay book.script book.journal) work.event))
+    m = moves goes (set book.outs lane None) entered.words now returned
+
+    entered_is : entered ≡ back_in book course.line work.event entered.words
+    entered_is = back.same ∙ ap (λ n. back_in book n work.event entered.words) (sym line)
+
+    made : ComesBack book (moved_on (at_home (back_in book course.line work.event entered.words) lane) lane course.line to) lane work
+    made = record {
+      script = refl;
+      cells = back.words.id;
+      stands = m.stands;
+      made = makes_back book (moved_on (at_home (back_in book course.line work.event entered.words) lane) lane course.line to) lane (next book.script book.journal lane)
+          (entry_of book.script book.journal (record { line = course.line; event = work.event })) work
+          (next_some book.script book.journal book.cursors lane course work.event stands.cursors due goes.has) line refl refl refl back.words;
+      falls = m.falls;
+      counts = subst (λ b. HasEntered book (moved_on (at_home (back_in book course.line work.event entered.words) lane) lane course.line to) lane (count_of b)) waits m.counts;
+    }

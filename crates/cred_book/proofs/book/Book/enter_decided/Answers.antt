@@ -1,0 +1,82 @@
+use Rattle.std.proofs.Common.{◌≡◌, ℕ, List, [], ◌∷◌, ◌++◌, sym, ap, ◌∙◌, subst}
+use Rattle.std.specs.Option.{IfSome}
+use Rattle.cred_event.specs.declared.answer.Answer.{Answer}
+use Rattle.cred_event.specs.declared.entry.Entry.{Entry}
+use Rattle.cred_model.specs.Course as model
+use Rattle.cred_model.specs.Journal.{replay}
+use Rattle.cred_script.specs.Grammar.{line_at}
+use Rattle.cred_cursor.specs.Cursor.{MovesOnTo}
+use Rattle.cred_work.specs.declared.work.Work.{Work}
+use Rattle.cred_tables.proofs.Outs.{out_like}
+use Rattle.cred_state.specs.Lending.{entries_of}
+use Rattle.cred_book.specs.Book.{Recorded, answer_of}
+use Rattle.cred_book.proofs.Entered.{enters, follows_sound, out_left, replays}
+use Rattle.cred_book.proofs.Finished.{left_there, lent_waits}
+use Rattle.cred_book.proofs.book.Book.enter_decided.Goals as goal
+
+pub enter-requires-clause-sound : goal.enter-requires-clause-sound
+enter-requires-clause-sound c = follows_sound c.self.inside.script c.self.inside.state.state c.self.inside.journal.items c.self.invariant.0
+
+pub enter-requires-clause-out : goal.enter-requires-clause-out
+enter-requires-clause-out c =
+    out_like c.self.inside.state.state (replay c.self.inside.script c.self.inside.journal.items) c.self.invariant.0.0 c.self.inside.state.words.out
+    c.self.invariant.1
+
+pub invariant_of-self-in-Ok-enter : goal.invariant_of-self-in-Ok-enter
+invariant_of-self-in-Ok-enter c =
+    let b = c.self.inside in
+    let w : Work = c.args.work in
+    let entry : Entry = record { line = w.line; event = w.event; answer = c.in-Ok-enter.answer } in
+    let longer = c.push_reserved.ensures.items ∙ ap (λ (js : List Entry). js ++ entry ∷ []) c.reserve.ensures.items in (
+      enters b.script b.state.state c.enter.new.self.state b.journal.items c.push_reserved.new.self.items entry c.self.invariant.0
+          c.in-Ok-enter.ensures.ok longer,
+      out_left b.script b.journal.items c.push_reserved.new.self.items entry b.state.words.out c.enter.new.self.words.out
+          (lent_waits w.event w.lent c.requires.of.labels)
+          (left_there (entries_of w.lent) b.state.words.out c.enter.new.self.words.out c.in-Ok-enter.ensures.taken) c.self.invariant.1 longer,
+    )
+
+pub returns-in-Ok-enter-clause-entered : goal.returns-in-Ok-enter-clause-entered
+returns-in-Ok-enter-clause-entered c =
+    let b = c.self.inside in
+    let w : Work = c.args.work in
+    let entry : Answer → Entry = λ answer. record { line = w.line; event = w.event; answer = answer } in
+    let longer = c.push_reserved.ensures.items ∙ ap (λ (js : List Entry). js ++ entry c.in-Ok-enter.answer ∷ []) c.reserve.ensures.items in
+    let made = replays b.script b.state.state c.enter.new.self.state b.journal.items (entry c.in-Ok-enter.answer) c.self.invariant.0 c.in-Ok-enter.ensures.ok in
+    let grown = longer ∙ ap (λ (answer : Answer). b.journal.items ++ entry answer ∷ []) (sym made.answers) in
+    rw (← c.self.view_is)
+    (record {
+      same = λ k. record {
+        script = b.script;
+        journal = grown k;
+        cursors = b.cursors;
+        ended = b.ended.items;
+        outs = b.outs.items;
+        words = c.enter.new.self.words;
+      };
+      words = c.in-Ok-enter.ensures.back;
+      taken = c.in-Ok-enter.ensures.taken;
+    })
+
+pub returns-in-Ok-enter-clause-passes : goal.returns-in-Ok-enter-clause-passes
+returns-in-Ok-enter-clause-passes c =
+    let b = c.self.inside in
+    let w : Work = c.args.work in
+    let entry : Entry = record { line = w.line; event = w.event; answer = c.in-Ok-enter.answer } in
+    let made = replays b.script b.state.state c.enter.new.self.state b.journal.items entry c.self.invariant.0 c.in-Ok-enter.ensures.ok in
+    let book : Recorded = record {
+      script = b.script;
+      journal = b.journal.items;
+      cursors = b.cursors;
+      ended = b.ended.items;
+      outs = b.outs.items;
+      words = b.state.words;
+    } in
+    let answer : c.in-Ok-enter.answer ≡ answer_of book c.args.course.line w.event
+    = sym made.answers ∙ ap (λ (n : ℕ). answer_of book n w.event) (sym c.requires.number) in
+    let passes = subst
+    (λ (a : Answer). IfSome (line_at b.script c.args.course.line) (λ line. MovesOnTo b.script c.args.lane (model.after line.content c.args.course a) c.cursor_after-cursor.result))
+    answer c.cursor_after-cursor.ensures in
+    subst
+    (λ (r : Recorded). IfSome (line_at r.script c.args.course.line)
+    (λ line. MovesOnTo r.script c.args.lane (model.after line.content c.args.course (answer_of r c.args.course.line w.event)) c.cursor_after-cursor.result))
+    c.self.view_is passes

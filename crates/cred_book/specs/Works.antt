@@ -1,0 +1,100 @@
+-- The works of a book's lanes: which are out, what is lent for them, and what is true of one.
+use Rattle.std.specs.Prelude.{◌≡◌, ◌≢◌, ℕ, true, List, [], ◌++◌, length, set, Some, None, IfSome}
+use Rattle.std.specs.Prelude.{◌≤◌, All, is_some, if◌then◌else◌}
+use Rattle.std.specs.List.{AllPairs, flat_map, range_with_len}
+use Rattle.std.specs.Option.{option_map_or}
+use Rattle.atomic_table.specs.Seated.{TableId}
+use Rattle.cred_ids.specs.Limits.{LAST_NUMBER}
+use Rattle.cred_event.specs.declared.content.Stage.{Stage}
+use Rattle.cred_event.specs.declared.event.Event.{Event}
+use Rattle.cred_model.specs.Script.{Script, Line, info_of}
+use Rattle.cred_model.specs.Course.{event_in}
+use Rattle.cred_model.specs.Named.{event_files}
+use Rattle.cred_model.specs.Journal.{due_in, replay}
+use Rattle.cred_names.specs.Labels.{labels}
+use Rattle.cred_script.specs.Grammar.{line_at}
+use Rattle.cred_script.specs.Sound.{AreApart}
+use Rattle.cred_hold.specs.Tokens.{Entry}
+use Rattle.cred_lent.specs.Decisions.{AreOf, AreFor}
+use Rattle.cred_lent.specs.declared.lent.Lent.{Lent}
+use Rattle.cred_work.specs.declared.work.Work.{Work}
+use Rattle.cred_tables.specs.Out.{AreBack, tokens_in, waits_in}
+use Rattle.cred_state.specs.Lending.{AreTaken, IsChain, entries_of}
+use Rattle.cred_book.specs.Book.{Recorded, out_of, with_event}
+
+-- No label stands in the words of lines of two lanes, neither of which is the setup. And none of
+-- them is one that a line takes for itself.
+pub record AreNamedApart (lines : List Line) : Type 0 where
+  pub apart : AllPairs AreApart lines
+  pub small : All (λ line. All (λ label. label ≤ LAST_NUMBER) (labels line.content)) lines
+
+-- the tokens of the work that is out of a lane: those of its next event
+abbrev pub lane_tokens : Recorded → ℕ → List Entry
+lane_tokens book lane =
+    if is_some (out_of book lane)
+    then option_map_or (λ due. tokens_in (replay book.script book.journal) due.event)
+    (due_in book.script book.journal lane) []
+    else []
+
+-- the tokens of all works that are out
+abbrev pub tokens_out : Recorded → List Entry
+tokens_out book = flat_map (λ lane. lane_tokens book lane) (range_with_len 0 (length book.outs))
+
+-- The lane's next event is one of this line, and waits for a decision. The setup has ended, or the
+-- lane is the setup's.
+pub record IsOutOf (book : Recorded) (lane line : ℕ) : Type 0 where
+  pub event : Event
+  pub due : due_in book.script book.journal lane ≡ Some (record { line = line; event = event })
+  pub waits : waits_in (replay book.script book.journal) event ≡ true
+  pub set_up : lane ≢ 0 → due_in book.script book.journal 0 ≡ None
+
+-- the line may make this event at some stage
+abbrev pub MayMake : Script → ℕ → Event → Type 0
+MayMake script number event =
+    IfSome (line_at script number) (λ line.
+    (stage : Stage) × (event_in number line.content stage ≡ Some event))
+
+-- A work of some line of the script: its tokens are of these cells and have the labels that its
+-- event names, its line may make its event, and its file and its root ids are those that the event
+-- is decided by.
+pub record IsWorkOf (script : Script) (cells : TableId) (work : Work) : Type 0 where
+  pub own : AreOf cells work.lent
+  pub labels : AreFor work.event work.lent
+  pub made : MayMake script work.line work.event
+  pub file : work.file ≡ info_of script (event_files work.event)
+  pub chain : IsChain script work.event work.lent work.chain
+
+-- The work is the lane's: it is one of the book's script and cells, and its line is the one whose
+-- work is out.
+pub record IsLanes (book : Recorded) (lane : ℕ) (work : Work) : Type 0 where
+  pub of : IsWorkOf book.script book.words.id work
+  pub out : out_of book lane ≡ Some work.line
+
+-- the book of which these tokens are lent for this line of the lane
+abbrev pub with_out : Recorded → ℕ → ℕ → Lent → Recorded
+with_out book lane line lent = record book {
+  outs = set book.outs lane (Some line);
+  words = record book.words { out = entries_of lent ++ book.words.out };
+}
+
+-- the book of which the lane's work is out
+abbrev pub with_work : Recorded → ℕ → Work → Recorded
+with_work book lane work = with_out book lane work.line work.lent
+
+-- the root ids that the event is decided by, on what is lent for it after the book's journal
+abbrev pub IsChainFor : Recorded → Event → List ℕ → Type 0
+IsChainFor book event chain =
+    (lent : Lent) → entries_of lent ≡ tokens_in (replay book.script book.journal) event
+    → IsChain book.script event lent chain
+
+-- the lane's work has come back: nothing else was lent or taken back
+pub record IsBack (before after : Recorded) (lane : ℕ) (work : Work) : Type 0 where
+  pub outs : after.outs ≡ set before.outs lane None
+  pub words : AreBack (entries_of work.lent) before.words after.words
+
+-- The work's event was entered, and its tokens have come back. All else stays.
+pub record IsEntered (before after : Recorded) (work : Work) : Type 0 where
+  pub same :
+      after ≡ record (with_event before work.line work.event) { words = after.words }
+  pub words : AreBack (entries_of work.lent) before.words after.words
+  pub taken : AreTaken (entries_of work.lent) before.words.out after.words.out

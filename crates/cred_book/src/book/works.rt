@@ -1,0 +1,200 @@
+//! Works that go out, and that come back decided.
+ghost use Rattle.std.specs.Prelude.{◌≡◌, ◌<◌, length, set, true, is_some, None, IfOk, IfErr};
+ghost use Rattle.std.specs.Prelude.{IfNone, IfSome, OnOk};
+ghost use Rattle.cred_model.specs.Course as course_model;
+ghost use Rattle.cred_model.specs.Journal as model;
+ghost use Rattle.cred_model.specs.Journal.{replay};
+ghost use Rattle.cred_model.specs.Named.{event_files};
+ghost use Rattle.cred_model.specs.Script.{chain_of, info_of};
+ghost use Rattle.cred_script.specs.Grammar.{line_at};
+ghost use Rattle.cred_cursor.specs.Cursor.{IsOfLine, MovesOnTo};
+ghost use Rattle.cred_lent.specs.Decisions.{AreFor, AreOf};
+ghost use Rattle.cred_work.specs.Works.{IsDecided};
+ghost use Rattle.cred_tables.specs.Out.{AreHome, tokens_in, waits_in};
+ghost use Rattle.cred_state.specs.Lending.{entries_of};
+ghost use Rattle.cred_book.specs.Book.{answer_of};
+ghost use Rattle.cred_book.specs.Counts.{HasEntered};
+ghost use Rattle.cred_book.specs.Cursor.{Finishes, Stands, left};
+ghost use Rattle.cred_book.specs.Works.{IsChainFor, IsEntered, IsLanes, IsWorkOf, with_out};
+ghost use Rattle.cred_book.specs.declared.step.Step.TheVariants.{More};
+
+use crate::book::Book;
+use crate::outs::copy_file;
+use crate::step::{Step, Unfinished};
+use cred_course::Course;
+use cred_cursor::cursor_after;
+use cred_declared::{chain_of as declared_chain, event_file};
+use cred_event::{Entry, Event};
+use cred_hold::Cells;
+use cred_ids::NoMemory;
+use cred_lent::{Decided, Lent};
+use cred_record::{FileInfo, IdList};
+use cred_state::Unentered;
+use cred_work::Work;
+
+impl Book {
+    /// Takes a work of the lane back, which is decided, and enters its event, the lane's next one.
+    ///
+    /// # Errors
+    ///
+    /// Want of memory, with the work, which is still out: the book is as it was.
+    pub fn finish(&mut self, cells: &Cells, lane: u32, work: Work) -> Result<Step, Unfinished>
+        requires own { self.old.words.id ≡ cells.now }
+        requires stands { Stands self.old }
+        requires lanes { IsLanes self.old lane work }
+        requires decided { IsDecided work }
+        ensures script { self.new.script ≡ self.old.script }
+        ensures cells { self.new.words.id ≡ self.old.words.id }
+        ensures stands { Stands self.new }
+        ensures more { IfOk result (λ step. step ≡ More) }
+        ensures made { OnOk result (Finishes self.old self.new lane work
+            (model.next self.old.script self.old.journal lane)) }
+        ensures falls { OnOk result (left self.new < left self.old) }
+        ensures counts { OnOk result (HasEntered self.old self.new lane 1) }
+        ensures err { IfErr result (λ unfinished. (unfinished.work ≡ work)
+            × (self.new ≡ self.old)) }
+    {
+        let Some(course) = self.cursors.due(lane) else {
+            unreachable!()
+        };
+        let cursor = self.enter_decided(cells, lane, course, work)?;
+        self.take_home(lane);
+        self.move_on(lane, course.line(), cursor);
+        Ok(Step::More)
+    }
+
+    /// The user namespace whose root ids the event is decided by: that of its label's base. Only an
+    /// execve is decided by any.
+    pub(super) fn deciding_ns(&mut self, cells: &Cells, event: &Event) -> u32
+        requires own { self.old.words.id ≡ cells.now }
+        ensures chain { IsChainFor self.old event.now (chain_of self.old.script result) }
+        ensures same { self.new ≡ self.old }
+    {
+        self.state.deciding_ns(cells, event)
+    }
+
+    /// Copies of the file that the event names, if it names one, and of the root ids of the
+    /// namespace and of its ancestors.
+    ///
+    /// # Errors
+    ///
+    /// `NoMemory` if an allocation of one of them fails.
+    pub(super) fn copies(
+        &self,
+        event: &Event,
+        ns: u32,
+    ) -> Result<(Option<FileInfo>, IdList), NoMemory>
+        ensures file { IfOk result (λ made.
+            made.0 ≡ info_of self.now.script (event_files event.now)) }
+        ensures chain { IfOk result (λ made. made.1 ≡ chain_of self.now.script ns) }
+    {
+        let chain = IdList::of(self.alloc, declared_chain(&self.script, ns))?;
+        let file = match event_file(&self.script, event) {
+            Some(file) => Some(copy_file(file)?),
+            None => None,
+        };
+        Ok((file, chain))
+    }
+
+    /// Lends what the event of the lane's line is decided on, which is then out. `None` where it
+    /// doesn't wait for a decision: the book is as it was. No memory is taken.
+    pub(super) fn lend(
+        &mut self,
+        cells: &Cells,
+        lane: u32,
+        line: u32,
+        event: &Event,
+    ) -> Option<Lent>
+        requires own { self.old.words.id ≡ cells.now }
+        requires home { AreHome event.now self.old.words.out }
+        requires place { lane < length self.old.outs }
+        ensures waits { is_some result
+            ≡ waits_in (replay self.old.script self.old.journal) event.now }
+        ensures of { IfSome result (λ lent. AreOf cells.now lent × AreFor event.now lent) }
+        ensures tokens { IfSome result (λ lent. entries_of lent
+            ≡ tokens_in (replay self.old.script self.old.journal) event.now) }
+        ensures lent { IfSome result (λ lent. self.new ≡ with_out self.old lane line lent) }
+        ensures none { IfNone result (self.new ≡ self.old) }
+    {
+        let lent = self.state.lend(cells, event)?;
+        self.outs[lane as usize] = Some(line);
+        Some(lent)
+    }
+
+    /// Enters the event of a work that is decided and takes back what was lent for it, and answers
+    /// the lane's cursor after it; the book's own stay, and so do the lines whose works are out.
+    ///
+    /// # Errors
+    ///
+    /// Want of memory, with the work: the book is as it was.
+    fn enter_decided(
+        &mut self,
+        cells: &Cells,
+        lane: u32,
+        course: Course,
+        work: Work,
+    ) -> Result<Option<Course>, Unfinished>
+        requires own { self.old.words.id ≡ cells.now }
+        requires of { IsWorkOf self.old.script cells.now work }
+        requires decided { IsDecided work }
+        requires line { IsOfLine self.old.script course }
+        requires number { course.line ≡ work.line }
+        requires going { is_some course.stage ≡ true }
+        ensures entered { OnOk result (IsEntered self.old self.new work) }
+        ensures passes { IfOk result (λ cursor. IfSome (line_at self.old.script course.line)
+            (λ line. MovesOnTo self.old.script lane
+            (course_model.after line.content course (answer_of self.old course.line work.event))
+            cursor)) }
+        ensures err { IfErr result (λ unfinished. (unfinished.work ≡ work)
+            × (self.new ≡ self.old)) }
+    {
+        let Ok(()) = self.journal.reserve(1) else {
+            return Err(Unfinished { work });
+        };
+        let Work {
+            line,
+            event,
+            file,
+            chain,
+            lent,
+            decided,
+        } = work;
+        let Some(decided) = decided else {
+            unreachable!()
+        };
+        match self
+            .state
+            .enter(cells, &self.script, line, &event, lent, decided)
+        {
+            Ok(answer) => {
+                drop(file);
+                drop(chain);
+                let cursor = cursor_after(&self.script, lane, course, &answer);
+                self.journal.push_reserved(Entry {
+                    line,
+                    event,
+                    answer,
+                });
+                Ok(cursor)
+            }
+            Err(Unentered { hold, answer }) => Err(Unfinished {
+                work: Work {
+                    line,
+                    event,
+                    file,
+                    chain,
+                    lent: Lent::One(hold),
+                    decided: Some(Decided::Told(answer)),
+                },
+            }),
+        }
+    }
+
+    /// No work of the lane is out any more.
+    fn take_home(&mut self, lane: u32)
+        requires place { lane < length self.old.outs }
+        ensures { self.new ≡ record self.old { outs = set self.old.outs lane None } }
+    {
+        self.outs[lane as usize] = None;
+    }
+}

@@ -1,0 +1,58 @@
+use Rattle.std.proofs.Common.{◌≡◌, ◌<◌, ◌^◌, ℕ, length, sym, ap, ◌∙◌, subst, arith}
+use Rattle.cred_turn.specs.declared.numbers.Numbers.{Numbers}
+use Rattle.cred_turn.specs.Seen.{pass}
+use Rattle.cred_book.specs.Book.{Recorded}
+use Rattle.cred_book.specs.declared.step.Unfinished.{Unfinished}
+use Rattle.cred_kernel.specs.Advances.{finished}
+use Rattle.cred_kernel.specs.Locks.{numbers_in}
+use Rattle.cred_kernel.proofs.Relending.{locked_after}
+use Rattle.cred_kernel.proofs.Returned.{decided_few, entered_few, its_numbers, is_back}
+use Rattle.cred_kernel.proofs.Stepping.{err_same, moved_back, IsMoved}
+use Rattle.cred_kernel.proofs.locked.Locked.finish.Goals as goal
+
+pub finished-turn-inside-requires-clause-entered : goal.finished-turn-inside-requires-clause-entered
+finished-turn-inside-requires-clause-entered g c =
+    let book : Recorded = c.self.inside.book in
+    let lane = c.turn.inside.lane in
+    let back : c.in-Some.pass ≡ pass g.K.Name.roll lane c.turn.inside.numbers
+    = is_back c.take.result c.in-Some.pass _ c.in-Some.is (c.take.ensures.value ∙ c.turn.invariant.pass_is) in
+    let was = its_numbers book c.self.inside.roll.rows g.K.Name.roll lane c.turn.inside.numbers c.in-Some.pass c.self.invariant.lent back
+    c.take-2.ensures.lane c.take-2.ensures.was in
+    let few = entered_few book lane c.turn.inside.numbers was in
+    let all : c.count-entries.result ≡ length book.journal = c.count-entries.ensures.count ∙ ap length c.journal.ensures in
+    let room : c.count-entries.result < 2 ^ 63 = c.count-entries.ensures.room in
+    omega (arith, few, all, room)
+
+pub finished-turn-inside-requires-clause-decided : goal.finished-turn-inside-requires-clause-decided
+finished-turn-inside-requires-clause-decided g c =
+    let book : Recorded = c.self.inside.book in
+    let lane = c.turn.inside.lane in
+    let back : c.in-Some.pass ≡ pass g.K.Name.roll lane c.turn.inside.numbers
+    = is_back c.take.result c.in-Some.pass _ c.in-Some.is (c.take.ensures.value ∙ c.turn.invariant.pass_is) in
+    let was = its_numbers book c.self.inside.roll.rows g.K.Name.roll lane c.turn.inside.numbers c.in-Some.pass c.self.invariant.lent back
+    c.take-2.ensures.lane c.take-2.ensures.was in
+    let few = decided_few book lane c.turn.inside.numbers was in
+    let all : c.count-entries.result ≡ length book.journal = c.count-entries.ensures.count ∙ ap length c.journal.ensures in
+    let room : c.count-entries.result < 2 ^ 63 = c.count-entries.ensures.room in
+    omega (arith, few, all, room)
+
+pub invariant_of-self : goal.invariant_of-self
+invariant_of-self g c =
+    let book : Recorded = c.self.inside.book in
+    let after : Recorded = c.finish-step.new.self in
+    let lane = c.turn.inside.lane in
+    let numbers : Numbers = c.turn.inside.numbers in
+    let now : Numbers = c.finished-turn-inside.result in
+    let step = c.finish-step.result in
+    let back : c.in-Some.pass ≡ pass g.K.Name.roll lane numbers
+    = is_back c.take.result c.in-Some.pass _ c.in-Some.is (c.take.ensures.value ∙ c.turn.invariant.pass_is) in
+    let was : numbers ≡ numbers_in book lane
+    = its_numbers book c.self.inside.roll.rows g.K.Name.roll lane numbers c.in-Some.pass c.self.invariant.lent back
+    c.take-2.ensures.lane c.take-2.ensures.was in
+    let same = err_same (λ (u : Unfinished). u.work ≡ c.args.work) book after step c.finish-step.ensures.err in
+    let moved : IsMoved book after lane now
+    = subst (λ (n : Numbers). IsMoved book after lane n) (sym (c.finished-turn-inside.ensures ∙ ap (λ (e : ℕ). finished numbers e step) c.ended.ensures))
+    (moved_back book after lane numbers step was c.finish-step.ensures.counts same) in
+    locked_after g.K.Name.script g.K.Name.roll g.K.Name.cells book after c.self.inside.roll c.take-2.new.self c.lend.new.self c.in-Some.pass lane numbers now
+    c.self.invariant moved c.finish-step.ensures.script c.finish-step.ensures.cells c.finish-step.ensures.stands back
+    c.take-2.ensures.lane c.take-2.ensures.roll c.lend.ensures.roll

@@ -1,0 +1,144 @@
+-- A state of which tokens are lent for an event.
+use Rattle.std.specs.Prelude.{◌≡◌, ◌≢◌, ℕ, List, [], ◌∷◌, ◌++◌, Some, None, slice_set, ⊤, All}
+use Rattle.std.specs.Prelude.{IfSome, IsSome, Bool, true, false, ◌<◌, length}
+use Rattle.cred_ids.specs.Limits.{OPEN_FILES}
+use Rattle.cred_event.specs.declared.answer.Answer.{Answer}
+use Rattle.cred_event.specs.declared.answer.Answer.TheVariants.{Done}
+use Rattle.std.specs.declared.option.Option.{Option}
+use Rattle.std.specs.Option.{option_and_then, option_map}
+use Rattle.atomic_table.specs.Seated.{TableId}
+use Rattle.cred_record.specs.Credential.{Credential}
+use Rattle.cred_event.specs.declared.event.Event.{Event}
+use Rattle.cred_event.specs.declared.event.Event.TheVariants.{Ask, Signal, Alter, OpenFile}
+use Rattle.cred_event.specs.declared.event.Change.TheVariants.{Exec}
+use Rattle.cred_event.specs.declared.event.Change.{Change}
+use Rattle.cred_model.specs.Named.{change_files}
+use Rattle.cred_model.specs.Script.{Script, chain_of, info_of}
+use Rattle.cred_model.specs.State.{State, Prepared, Numbered, numbered, prepared_of, held_by}
+use Rattle.cred_model.specs.State.{open_of}
+use Rattle.cred_sound.specs.Sound.{IsSound}
+use Rattle.cred_words.specs.Lists.{IsTaken}
+use Rattle.cred_hold.specs.Tokens.{Entry, Held, Written, entry}
+use Rattle.cred_lent.specs.Decisions.{AreFor, IsRightChange}
+use Rattle.cred_lent.specs.declared.lent.Decided.{Decided}
+use Rattle.cred_lent.specs.declared.lent.Lent.{Lent}
+use Rattle.cred_lent.specs.declared.lent.Lent.TheVariants.{One, Two, Kept}
+use Rattle.cred_tables.specs.Kept.{Standing, creds_in}
+use Rattle.cred_tables.specs.Out.{AreHome, AreOut, ArePut, cleared, tokens_in}
+
+-- The entries of tokens that are lent, the newest first. A writer's is that of none, whatever it
+-- has put.
+abbrev pub entries_of : Lent → List Entry
+entries_of (One hold) = entry hold.label hold.slot (Some hold.cred) ∷ []
+entries_of (Two from to) =
+    entry to.label to.slot (Some to.cred) ∷ entry from.label from.slot (Some from.cred) ∷ []
+entries_of (Kept base writer) =
+    entry writer.label writer.slot None ∷ entry base.label base.slot (Some base.cred) ∷ []
+
+-- the state of which these tokens are lent: a slot that is lent to be written is not sealed
+abbrev pub with_lent : Standing → Lent → Standing
+with_lent before (Kept base writer) = record {
+  state = record before.state { creds = cleared writer.slot before.state.creds };
+  words = record before.words { out = entries_of (Kept base writer) ++ before.words.out };
+  places = slice_set before.places writer.slot None;
+}
+with_lent before lent =
+    record before { words = record before.words { out = entries_of lent ++ before.words.out } }
+
+-- the root ids are those of the base's user namespace and of that one's ancestors, if the event is
+-- an execve
+abbrev pub IsChain : Script → Event → Lent → List ℕ → Type 0
+IsChain script (Alter label (Exec file)) (Kept base writer) chain =
+    chain ≡ chain_of script base.cred.ns
+IsChain script event lent chain = ⊤
+
+-- a writer among the tokens has put nothing
+abbrev pub IsUnput : Lent → Type 0
+IsUnput (Kept base writer) = writer.put ≡ None
+IsUnput lent = ⊤
+
+-- The tokens were lent of this state for an event, under labels that nothing else was lent under.
+pub record WereLent (before : Standing) (lent : Lent) : Type 0 where
+  pub event : Event
+  pub labels : AreFor event lent
+  pub tokens : entries_of lent ≡ tokens_in before.state event
+  pub sound : IsSound before.state
+  pub out : AreOut before.state before.words.out
+  pub home : AreHome event before.words.out
+  pub put : ArePut before.state.prepared before.words.out before.places
+  pub slots : List ℕ
+  pub creds : before.state.creds ≡ creds_in before.places slots
+
+-- what stands in the words of kept slots was prepared, and what is seen is what stands in the words
+pub record IsStanding (s : Standing) : Type 0 where
+  pub put : ArePut s.state.prepared s.words.out s.places
+  pub slots : List ℕ
+  pub creds : s.state.creds ≡ creds_in s.places slots
+
+-- nothing is lent under the label
+abbrev pub IsHome : ℕ → List Entry → Type 0
+IsHome label out = All (λ e. e.label ≢ label) out
+
+-- The tokens of what the label prepares: its base's, and an unput writer's.
+pub record IsKeptBy (cells : TableId) (s : State) (label : ℕ) (base : Held) (writer : Written)
+    : Type 0 where
+  pub preparation : Prepared
+  pub found : Numbered
+  pub prepared : prepared_of s label ≡ Some preparation
+  pub sealed : numbered s.creds preparation.base ≡ Some found
+  pub base_is :
+      base ≡ record { id = cells; label = label; slot = found.slot; cred = found.cred }
+  pub writer_is :
+      writer ≡ record { id = cells; label = label; slot = preparation.slot; put = None }
+
+-- the user namespace is the base's, if the event is an execve
+abbrev pub IsNs : State → Event → ℕ → Type 0
+IsNs s (Alter label (Exec file)) ns =
+    IfSome (prepared_of s label) (λ p.
+    IfSome (numbered s.creds p.base) (λ base. ns ≡ base.cred.ns))
+IsNs s event ns = ⊤
+
+-- what the label prepared last, if it was changed
+abbrev pub earlier_of : State → ℕ → Option Credential
+earlier_of s label =
+    option_and_then (λ p. option_map (λ last. last.cred) p.changed) (prepared_of s label)
+
+-- these were taken from the list, one after another in this order
+abbrev pub AreTaken : List Entry → List Entry → List Entry → Type 0
+AreTaken [] old new = new ≡ old
+AreTaken (e ∷ back) old new = (mid : List Entry) × IsTaken old e mid × AreTaken back mid new
+
+-- nothing that is lent to be read stands in one of these slots
+abbrev pub AreApart : List ℕ → List Entry → Type 0
+AreApart slots out = All (λ e. IsSome e.held → All (λ slot. e.slot ≢ slot) slots) out
+
+-- the change was decided on the base, as the script has its file and its root ids
+abbrev pub IsRightAlter : Script → ℕ → Change → Held → Written → Decided → Type 0
+IsRightAlter script label change base writer decided =
+    (chain : List ℕ)
+    × IsChain script (Alter label change) (Kept base writer) chain
+    × IsRightChange change (info_of script (change_files change)) chain base.cred writer.put
+    decided
+
+-- what the label prepares is based on this credential, if it prepares anything
+abbrev pub IsBase : State → ℕ → Credential → Type 0
+IsBase s label c =
+    IfSome (prepared_of s label) (λ p. IfSome (numbered s.creds p.base) (λ base. base.cred ≡ c))
+
+-- the event is decided on credentials
+abbrev pub is_decided : Event → Bool
+is_decided (Ask label query) = true
+is_decided (Signal from label to target) = true
+is_decided (Alter label change) = true
+is_decided (OpenFile label file want fd) = true
+is_decided event = false
+
+-- The label holds the credential of this number, which may open the file, and the descriptor is
+-- new.
+pub record MayOpen (s : State) (label fd opener : ℕ) (told : Answer) : Type 0 where
+  pub held : Numbered
+  pub is : held_by s label ≡ Some held
+  pub number : held.number ≡ opener
+  pub new : open_of s fd ≡ None
+  pub room : length s.files < OPEN_FILES
+  pub done : told ≡ Done

@@ -1,0 +1,155 @@
+//! What is lent for an event that is decided on credentials.
+ghost use Rattle.std.specs.Prelude.{◌≡◌, is_some, None, IfSome, IfNone};
+ghost use Rattle.std.specs.Option.{option_and_then, option_map};
+ghost use Rattle.cred_model.specs.State.{hold_of, numbered, prepared_of};
+ghost use Rattle.cred_sound.specs.Sound.{IsSound};
+ghost use Rattle.cred_lent.specs.Decisions.{AreFor, AreOf};
+ghost use Rattle.cred_lent.specs.declared.lent.Lent.TheVariants as token;
+ghost use Rattle.cred_tables.specs.Kept.{cred_under, seen_in, IsInUse};
+ghost use Rattle.cred_tables.specs.Out.{AreHome, AreOut, hold_token, tokens_in, waits_in};
+ghost use Rattle.cred_state.specs.Lending.{entries_of, with_lent, IsHome, IsKeptBy, IsNs};
+ghost use Rattle.cred_state.specs.Lending.{IsStanding, IsUnput, WereLent};
+
+use crate::state::State;
+use cred_event::{Change, Event};
+use cred_hold::{Cells, Hold, Writer};
+use cred_lent::Lent;
+use cred_tables::Numbered;
+
+impl State {
+    /// Lends what the event is decided on, under the labels that it names: nothing where it isn't
+    /// decided so, or where a label that it names isn't there. It takes no memory.
+    pub fn lend(&mut self, cells: &Cells, event: &Event) -> Option<Lent>
+        requires own { self.old.words.id ≡ cells.now }
+        requires sound { IsSound self.old.state }
+        requires out { AreOut self.old.state self.old.words.out }
+        requires home { AreHome event.now self.old.words.out }
+        ensures waits { is_some result ≡ waits_in self.old.state event.now }
+        ensures of { IfSome result (λ lent. AreOf cells.now lent × AreFor event.now lent) }
+        ensures tokens { IfSome result (λ lent. entries_of lent
+            ≡ tokens_in self.old.state event.now) }
+        ensures unput { IfSome result IsUnput }
+        ensures were { IfSome result (WereLent self.old) }
+        ensures lent { IfSome result (λ lent. self.new ≡ with_lent self.old lent) }
+        ensures none { IfNone result (self.new ≡ self.old) }
+    {
+        match event {
+            Event::Ask { label, .. } => {
+                let hold = self.lend_hold(cells, *label)?;
+                Some(Lent::One(hold))
+            }
+            Event::OpenFile { hold, .. } => {
+                let hold = self.lend_hold(cells, *hold)?;
+                Some(Lent::One(hold))
+            }
+            Event::Signal { hold, target, .. } => {
+                let own = self.held(*hold)?;
+                let other = self.held(*target)?;
+                let from = self.lend_found(cells, *hold, own);
+                let to = self.lend_found(cells, *target, other);
+                Some(Lent::Two(from, to))
+            }
+            Event::Alter { label, .. } => {
+                let (base, writer) = self.lend_kept(cells, *label)?;
+                Some(Lent::Kept(base, writer))
+            }
+            _ => None,
+        }
+    }
+
+    /// The user namespace of the base of a label. `None` where it prepares nothing.
+    pub fn base_ns(&mut self, cells: &Cells, label: u32) -> Option<u32>
+        requires own { self.old.words.id ≡ cells.now }
+        ensures ns { result
+            ≡ option_and_then (λ p. option_map (λ base. base.cred.ns)
+            (numbered self.old.state.creds p.base)) (prepared_of self.old.state label) }
+        ensures same { self.new ≡ self.old }
+    {
+        let base = self.base(label)?;
+        Some(self.look_ns(cells, base))
+    }
+
+    /// The user namespace whose root ids an event is decided by: for an execve that of the base.
+    /// Other events are decided by none.
+    pub fn deciding_ns(&mut self, cells: &Cells, event: &Event) -> u32
+        requires own { self.old.words.id ≡ cells.now }
+        ensures ns { IsNs self.old.state event.now result }
+        ensures same { self.new ≡ self.old }
+    {
+        match event {
+            Event::Alter {
+                label,
+                change: Change::Exec { .. },
+            } => self.base_ns(cells, *label).unwrap_or(0),
+            _ => 0,
+        }
+    }
+
+    /// The user namespace of the credential that was found. Something refers to it.
+    fn look_ns(&mut self, cells: &Cells, found: Numbered) -> u32
+        requires own { self.old.words.id ≡ cells.now }
+        requires found { numbered self.old.state.creds found.number
+            ≡ Some (seen_in self.old.state.creds found) }
+        requires used { IsInUse self.old.state found.number }
+        ensures ns { result ≡ (cred_under self.old.state.creds found.number).ns }
+        ensures same { self.new ≡ self.old }
+    {
+        self.master.look_ns(cells, found.slot)
+    }
+
+    /// Lends what the label holds. `None` where it holds nothing.
+    fn lend_hold(&mut self, cells: &Cells, label: u32) -> Option<Hold>
+        requires own { self.old.words.id ≡ cells.now }
+        requires sound { IsSound self.old.state }
+        ensures waits { is_some result ≡ is_some (hold_of self.old.state label) }
+        ensures of { IfSome result (λ hold. (hold.id ≡ cells.now) × (hold.label ≡ label)) }
+        ensures tokens { IfSome result (λ hold.
+            entries_of (token.One hold) ≡ hold_token self.old.state label) }
+        ensures lent { IfSome result (λ hold. self.new ≡ with_lent self.old (token.One hold)) }
+        ensures standing { IfSome result (λ _. IsStanding self.old) }
+        ensures none { IfNone result (self.new ≡ self.old) }
+    {
+        let found = self.held(label)?;
+        Some(self.lend_found(cells, label, found))
+    }
+
+    /// Lends, under this label, the credential that was found. Something refers to it.
+    fn lend_found(&mut self, cells: &Cells, label: u32, found: Numbered) -> Hold
+        requires own { self.old.words.id ≡ cells.now }
+        requires found { numbered self.old.state.creds found.number
+            ≡ Some (seen_in self.old.state.creds found) }
+        requires used { IsInUse self.old.state found.number }
+        ensures hold { result ≡ record {
+          id = cells.now;
+          label = label;
+          slot = found.slot;
+          cred = cred_under self.old.state.creds found.number;
+        } }
+        ensures lent { self.new ≡ with_lent self.old (token.One result) }
+        ensures standing { IsStanding self.old }
+    {
+        self.master.lend(cells, label, found.slot)
+    }
+
+    /// Lends the base of what the label prepares, and a writer of the slot that is kept for it.
+    /// `None` where it prepares nothing.
+    fn lend_kept(&mut self, cells: &Cells, label: u32) -> Option<(Hold, Writer)>
+        requires own { self.old.words.id ≡ cells.now }
+        requires sound { IsSound self.old.state }
+        requires out { AreOut self.old.state self.old.words.out }
+        requires home { IsHome label self.old.words.out }
+        ensures kept { IfSome result (λ kept.
+            IsKeptBy cells.now self.old.state label kept.0 kept.1) }
+        ensures lent { IfSome result (λ kept.
+            self.new ≡ with_lent self.old (token.Kept kept.0 kept.1)) }
+        ensures standing { IfSome result (λ _. IsStanding self.old) }
+        ensures none { IfNone result
+            ((self.new ≡ self.old) × (prepared_of self.old.state label ≡ None)) }
+    {
+        let base = self.base(label)?;
+        let slot = self.prepared.get(label)?.slot;
+        let hold = self.master.lend(cells, label, base.slot);
+        let writer = self.master.lend_writer(cells, label, slot);
+        Some((hold, writer))
+    }
+}

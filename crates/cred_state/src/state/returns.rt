@@ -1,0 +1,114 @@
+//! What was lent comes back.
+ghost use Rattle.std.specs.Prelude.{◌≡◌, None, Some, slice_set};
+ghost use Rattle.cred_model.specs.Like.{IsLike};
+ghost use Rattle.cred_model.specs.Moves.{altered};
+ghost use Rattle.cred_model.specs.Slots.{kept};
+ghost use Rattle.cred_sound.specs.Ledger.{ledger};
+ghost use Rattle.cred_sound.specs.Sound.{IsSound};
+ghost use Rattle.cred_words.specs.Lists.{IsTaken};
+ghost use Rattle.cred_hold.specs.Tokens.{entry};
+ghost use Rattle.cred_lent.specs.Decisions.{AreFor, AreOf};
+ghost use Rattle.cred_tables.specs.Kept.{creds_in, Standing};
+ghost use Rattle.cred_tables.specs.Out.{AreOut};
+ghost use Rattle.cred_state.specs.Lending.{earlier_of, with_lent, AreApart, WereLent};
+
+use crate::state::State;
+use cred_event::Event;
+use cred_hold::{Cells, Hold, Writer, put, unput};
+use cred_lent::Lent;
+use cred_tables::{Changed, Preparation};
+
+impl State {
+    /// Takes back what was lent for an event that isn't entered: the state is as it was before.
+    pub(crate) fn take_back(&mut self, cells: &Cells, event: &Event, lent: Lent)
+        requires own { (self.old.words.id ≡ cells.now) × AreOf cells.now lent }
+        requires labels { AreFor event.now lent }
+        requires sound { IsSound self.old.state }
+        requires out { AreOut self.old.state self.old.words.out }
+        ensures { (before : Standing) → WereLent before lent
+            → self.old ≡ with_lent before lent → self.new ≡ before }
+    {
+        match lent {
+            Lent::One(hold) => self.give_back(cells, hold),
+            Lent::Two(from, to) => {
+                self.give_back(cells, to);
+                self.give_back(cells, from);
+            }
+            Lent::Kept(base, writer) => {
+                let Event::Alter { label, .. } = event else {
+                    unreachable!()
+                };
+                self.put_earlier(cells, *label, writer);
+                self.give_back(cells, base);
+            }
+        }
+    }
+
+    /// Takes back a hold.
+    pub(crate) fn give_back(&mut self, cells: &Cells, hold: Hold)
+        requires own { (self.old.words.id ≡ cells.now) × (hold.id ≡ cells.now) }
+        requires apart { AreApart (kept self.old.state) self.old.words.out }
+        ensures state { self.new.state ≡ self.old.state }
+        ensures places { self.new.places ≡ self.old.places }
+        ensures id { self.new.words.id ≡ self.old.words.id }
+        ensures taken { IsTaken self.old.words.out
+            (entry hold.label hold.slot (Some hold.cred)) self.new.words.out }
+    {
+        self.master.give_back(cells, hold);
+    }
+
+    /// Takes back the writer of the slot that the label keeps. What it has put was made by this
+    /// change, which is the label's last from now on.
+    pub(crate) fn change_to(&mut self, cells: &Cells, label: u32, to: Changed, writer: Writer)
+        requires own { (self.old.words.id ≡ cells.now) × (writer.id ≡ cells.now) }
+        requires label { writer.label ≡ label }
+        requires put { writer.put ≡ Some to.cred }
+        requires sound { IsSound self.old.state }
+        requires out { AreOut self.old.state self.old.words.out }
+        ensures like { IsLike self.new.state (altered self.old.state label to) }
+        ensures id { self.new.words.id ≡ self.old.words.id }
+        ensures taken { IsTaken self.old.words.out (entry writer.label writer.slot None)
+            self.new.words.out }
+    {
+        self.prepared.change(label, to);
+        self.master.take_back(cells, writer);
+    }
+
+    /// Takes back the writer of the slot that the label keeps. Whatever it has put, in the words of
+    /// the slot is what an earlier change has made, or nothing where there was none.
+    pub(crate) fn put_earlier(&mut self, cells: &Cells, label: u32, writer: Writer)
+        requires own { (self.old.words.id ≡ cells.now) × (writer.id ≡ cells.now) }
+        requires label { writer.label ≡ label }
+        requires sound { IsSound self.old.state }
+        requires out { AreOut self.old.state self.old.words.out }
+        ensures like { IsLike self.new.state self.old.state }
+        ensures state { self.new.state ≡ record self.old.state {
+          creds = creds_in self.new.places (ledger self.old.state).slots;
+        } }
+        ensures places { self.new.places
+            ≡ slice_set self.old.places writer.slot (earlier_of self.old.state label) }
+        ensures id { self.new.words.id ≡ self.old.words.id }
+        ensures taken { IsTaken self.old.words.out (entry writer.label writer.slot None)
+            self.new.words.out }
+    {
+        let mut writer = writer;
+        self.put_again(cells, label, &mut writer);
+        self.master.take_back(cells, writer);
+    }
+
+    /// Puts what an earlier change of the label has made, or nothing where there was none.
+    fn put_again(&self, cells: &Cells, label: u32, writer: &mut Writer)
+        requires own { writer.old.id ≡ cells.now }
+        ensures put { writer.new ≡ record writer.old { put = earlier_of self.now.state label } }
+    {
+        match self.prepared.get(label) {
+            Some(
+                Preparation {
+                    changed: Some(last),
+                    ..
+                },
+            ) => put(cells, writer, &last.cred),
+            _ => unput(writer),
+        }
+    }
+}
