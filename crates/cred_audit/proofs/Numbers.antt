@@ -17,7 +17,7 @@ use Rattle.cred_report.specs.Text.{entry_text}
 use Rattle.cred_report.specs.Events.{event_text}
 use Rattle.cred_report.specs.Answers.{answer_text}
 use Rattle.cred_spelling.specs.Spellings.{is_numeral, line_number_of}
-use Rattle.cred_script.specs.Grammar.{line_at}
+use Rattle.cred_script.specs.Lines.{line_at}
 
 -- ---- digits up to a blank
 

@@ -17,7 +17,7 @@ use Rattle.cred_model.proofs.Journals.{replay-push}
 use Rattle.cred_model.proofs.Likes.{does_like, like_self}
 use Rattle.cred_sound.specs.Sound.{IsSound}
 use Rattle.cred_sound.proofs.Sound.{like_sound, sound_after}
-use Rattle.cred_script.specs.Grammar.{line_at}
+use Rattle.cred_script.specs.Lines.{line_at}
 use Rattle.cred_cursor.specs.Cursor.{IsOfLine, MovesOnTo}
 use Rattle.cred_cursor.specs.Cursors.{AreCursors, cursor_of, due_of, waits}
 use Rattle.cred_cursor.proofs.AllLanes.{is_due, no_cursor, some_cursor}

@@ -12,7 +12,7 @@ use Rattle.cred_model.specs.Journal.{next_event}
 use Rattle.cred_model.proofs.Courses.{makes_event}
 use Rattle.cred_model.proofs.Lists.{slice_get_at}
 use Rattle.cred_names.specs.Labels.{labels}
-use Rattle.cred_script.specs.Grammar.{line_at}
+use Rattle.cred_script.specs.Lines.{line_at}
 use Rattle.cred_script.specs.Lanes.{lanes}
 use Rattle.cred_book.specs.Counts.{AreEnded, count_of, ended_from, ended_of}
 use Rattle.cred_book.proofs.Counts.{ended_few, lane_within}

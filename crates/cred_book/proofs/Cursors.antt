@@ -6,14 +6,13 @@ use Rattle.std.proofs.lemmas.List.{length-replicate, length-set}
 use Rattle.std.proofs.lemmas.List.Sums.{sum_by-set}
 use Rattle.std.proofs.lemmas.Option.{get_or_from_slice_get, slice_get_within}
 use Rattle.cred_ids.specs.Limits.{LINE_LIMIT}
-use Rattle.cred_event.specs.declared.content.Stage.{Stage}
 use Rattle.cred_event.specs.declared.event.Event.{Event}
 use Rattle.cred_event.specs.declared.entry.Entry.{Entry}
 use Rattle.cred_model.specs.Script.{Script, Line, SetupFirst}
 use Rattle.cred_model.specs.Course as model
 use Rattle.cred_model.specs.Course.{Course, Leads, event_at}
 use Rattle.cred_model.specs.Journal.{SoFar, entry_of, next, replay}
-use Rattle.cred_script.specs.Grammar.{line_at}
+use Rattle.cred_script.specs.Lines.{line_at}
 use Rattle.cred_script.specs.Lanes.{lanes}
 use Rattle.cred_cursor.specs.Cursor.{IsLaneCursor, IsOfLine, MovesOnTo, left_at}
 use Rattle.cred_cursor.specs.Cursors.{AreCursors, AreOver, IsLeast, cursor_of, due_of}
@@ -25,9 +24,11 @@ use Rattle.cred_cursor.proofs.Turns.{due_is, lanes_go_on, next_none, next_some, 
 use Rattle.cred_hold.specs.Tokens as token
 use Rattle.cred_tables.specs.Kept.{Words}
 use Rattle.cred_tables.specs.Out.{waits_in}
+use Rattle.cred_left.proofs.Stages.{stage_is}
 use Rattle.cred_book.specs.Book.{Recorded, out_of}
 use Rattle.cred_book.specs.Counts.{AreEnded, Counts, HasEntered, IsSameOrNext, count_of, ended_of, lines_in}
-use Rattle.cred_book.specs.Cursor.{NoLineIsLeft, IsLeastLane, left, waiting, Stands, Makes}
+use Rattle.cred_book.specs.Cursor.{NoLineIsLeft, IsLeastLane, left, Stands, Makes}
+use Rattle.cred_left.specs.Waiting.{waiting}
 use Rattle.cred_book.specs.Cursor.{has_left}
 use Rattle.cred_book.specs.Works.{AreNamedApart, IsOutOf, lane_tokens}
 use Rattle.cred_book.specs.declared.step.Step.TheVariants as step
@@ -36,7 +37,7 @@ use Rattle.cred_book.proofs.Counts.{entered_other, entered_own, lines_few}
 use Rattle.cred_book.proofs.Decided.{decided_other, decided_own}
 use Rattle.cred_book.proofs.Left.{all_grow, all_have_ended, lane_in, one_left, others_stay, own_grows, set_up_stays}
 use Rattle.cred_book.proofs.Lent.{lane_tokens_none}
-use Rattle.cred_book.proofs.Measure.{step_falls}
+use Rattle.cred_left.proofs.Measure.{step_falls}
 use Rattle.cred_book.proofs.Works.{GoesOn, IsNowOut, after, grown, lent_stays, out_in, where_some, works_stay}
 
 -- ---- a step
@@ -50,17 +51,6 @@ pub record Moves (before after : Recorded) (lane works : ℕ) : Type 0 where
   pub entered : after.journal ≡ before.journal ++ entry ∷ []
   pub falls : left after < left before
   pub counts : HasEntered before after lane works
-
-pub record HasStage (course : Course) : Type 0 where
-  pub stage : Stage
-  pub is : course.stage ≡ Some stage
-
-pub stage_is : (course : Course) → is_some course.stage ≡ true → HasStage course
-stage_is course going = by course.stage refl going
-  where
-    by : (o : Option Stage) → course.stage ≡ o → is_some o ≡ true → HasStage course
-    by None is none = cc
-    by (Some stage) is some = record { stage = stage; is = is }
 
 -- the sum over the cursors, where one moves on
 sum_moved : (f : Option Course → ℕ) (cursors : List (Option Course)) (lane : ℕ) (course : Course) (to : Option Course)

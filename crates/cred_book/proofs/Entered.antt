@@ -6,7 +6,7 @@ use Rattle.std.proofs.lemmas.Option.{slice_get-map}
 use Rattle.cred_event.specs.declared.entry.Entry.{Entry}
 use Rattle.cred_event.specs.declared.event.Event.{Event}
 use Rattle.cred_event.specs.declared.event.Event.TheVariants.{Commit, Override}
-use Rattle.cred_event.specs.Lists.{HoldsList}
+use Rattle.cred_copies.specs.Lists.{HoldsList}
 use Rattle.cred_model.specs.Script.{Script}
 use Rattle.cred_model.specs.State.{State, SealedCred}
 use Rattle.cred_model.specs.Slots.{refs, stands_in, uses}

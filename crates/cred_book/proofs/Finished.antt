@@ -13,7 +13,7 @@ use Rattle.cred_model.specs.Course.{event_in}
 use Rattle.cred_model.specs.Journal.{Due, due_in, replay}
 use Rattle.cred_names.specs.Labels.{event_labels}
 use Rattle.cred_sound.specs.Sound.{IsSound}
-use Rattle.cred_script.specs.Grammar.{line_at}
+use Rattle.cred_script.specs.Lines.{line_at}
 use Rattle.cred_cursor.proofs.Courses.{line_at-place}
 use Rattle.cred_words.specs.Lists.{Has, IsTaken}
 use Rattle.cred_hold.specs.Tokens.{Entry, Held, Written, entry}

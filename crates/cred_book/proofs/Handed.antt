@@ -15,7 +15,7 @@ use Rattle.cred_model.specs.Course as model
 use Rattle.cred_model.specs.Course.{Course, event_at, event_in}
 use Rattle.cred_model.specs.Journal.{entry_of, next, replay}
 use Rattle.cred_model.specs.Named.{event_files}
-use Rattle.cred_script.specs.Grammar.{line_at}
+use Rattle.cred_script.specs.Lines.{line_at}
 use Rattle.cred_cursor.specs.Cursor.{IsOfLine, MovesOnTo}
 use Rattle.cred_cursor.specs.Cursors.{due_of}
 use Rattle.cred_cursor.proofs.Turns.{next_some}

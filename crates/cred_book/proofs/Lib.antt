@@ -12,7 +12,4 @@ pub mod Finished
 pub mod Handed
 pub mod ListAnswers
 pub mod Entered
-pub mod Waiting
-pub mod WaitingSteps
-pub mod Measure
 pub mod Ends

@@ -11,7 +11,7 @@ use Rattle.cred_rules.specs.Access.{may_signal}
 use Rattle.cred_rules.specs.Adjust.{adjust}
 use Rattle.cred_rules.specs.Exec.{Executed, NoExec, exec}
 use Rattle.cred_rules.specs.SetId.{set_id}
-use Rattle.cred_event.specs.Lists.{HoldsList}
+use Rattle.cred_copies.specs.Lists.{HoldsList}
 use Rattle.cred_event.specs.declared.event.Event.{Event}
 use Rattle.cred_event.specs.declared.event.Event.TheVariants.{Init, Take, TakeFile, Release, Ask, Signal, Prepare, Alter, Commit, Abort, Override, Revert, Begin, Act, OpenFile, CloseFile, Spawn, Fork, Exit, Sweep}
 use Rattle.cred_event.specs.declared.event.Change.{Change}

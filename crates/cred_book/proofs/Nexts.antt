@@ -7,7 +7,7 @@ use Rattle.cred_event.specs.declared.entry.Entry.{Entry}
 use Rattle.cred_model.specs.Script.{Script, Line}
 use Rattle.cred_model.specs.Course.{Course, event_at}
 use Rattle.cred_model.specs.Journal.{Due, due_in}
-use Rattle.cred_script.specs.Grammar.{line_at}
+use Rattle.cred_script.specs.Lines.{line_at}
 use Rattle.cred_cursor.specs.Cursor.{IsLaneCursor}
 use Rattle.cred_cursor.specs.Cursors.{AreCursors, cursor_of, due_of, waits}
 use Rattle.cred_cursor.proofs.AllLanes.{is_due, other_cursor}

@@ -16,7 +16,7 @@ use Rattle.cred_model.specs.Journal.{Due, due_in, entry_of, replay}
 use Rattle.cred_model.proofs.Journals.{replay-push}
 use Rattle.cred_names.specs.Labels.{event_labels}
 use Rattle.cred_sound.proofs.Sound.{sound_after}
-use Rattle.cred_script.specs.Grammar.{line_at}
+use Rattle.cred_script.specs.Lines.{line_at}
 use Rattle.cred_cursor.specs.Cursor.{MovesOnTo}
 use Rattle.cred_cursor.specs.Cursors.{AreCursors, due_of}
 use Rattle.cred_cursor.proofs.Turns.{lanes_go_on}

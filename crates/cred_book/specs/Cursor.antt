@@ -8,11 +8,11 @@ use Rattle.cred_ids.specs.Limits.{LINE_LIMIT}
 use Rattle.cred_event.specs.declared.entry.Entry.{Entry}
 use Rattle.cred_model.specs.Course.{Course}
 use Rattle.cred_model.specs.Script.{SetupFirst}
-use Rattle.cred_model.specs.State.{State, Broadcast}
 use Rattle.cred_model.specs.Journal.{SoFar, lane_of, next, next_in_order, replay}
 use Rattle.cred_script.specs.Lanes.{lanes}
 use Rattle.cred_cursor.specs.Cursor.{left_at}
 use Rattle.cred_cursor.specs.Cursors.{AreCursors}
+use Rattle.cred_left.specs.Waiting.{waiting}
 use Rattle.cred_tables.specs.Out.{AreSameTokens, waits_in}
 use Rattle.cred_work.specs.declared.work.Work.{Work}
 use Rattle.cred_book.specs.Book.{Recorded, out_of}
@@ -51,13 +51,6 @@ moved_on book lane line cursor = record book {
   ended = set book.ended lane
       (slice_index_or book.ended lane 0 + count_of (has_left cursor line));
 }
-
--- how many tasks wait to make a call that one of their process has begun
-abbrev pub waiting_in : List Broadcast → ℕ
-waiting_in casts = sum_by (λ cast. length cast.waiting) casts
-
-abbrev pub waiting : State → ℕ
-waiting s = waiting_in s.casts
 
 -- how many steps may be left, at most: those of each lane's lines, and those of the tasks that wait
 abbrev pub left : Recorded → ℕ

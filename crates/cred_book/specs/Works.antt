@@ -12,7 +12,7 @@ use Rattle.cred_model.specs.Course.{event_in}
 use Rattle.cred_model.specs.Named.{event_files}
 use Rattle.cred_model.specs.Journal.{due_in, replay}
 use Rattle.cred_names.specs.Labels.{labels}
-use Rattle.cred_script.specs.Grammar.{line_at}
+use Rattle.cred_script.specs.Lines.{line_at}
 use Rattle.cred_script.specs.Sound.{AreApart}
 use Rattle.cred_hold.specs.Tokens.{Entry}
 use Rattle.cred_lent.specs.Decisions.{AreOf, AreFor}

@@ -6,7 +6,7 @@ use Rattle.std.specs.Io.KnownBytes.{Appends}
 use Rattle.std.proofs.KnownBytes.{Appends-nil}
 use Rattle.cred_io.specs.declared.sink.SinkRefusal.{SinkRefusal}
 use Rattle.cred_order.proofs.Order.{begins_sequence, nothing_past}
-use Rattle.cred_commands.proofs.Prefixes.{refused_apart, whole}
+use Rattle.cred_said.proofs.Prefixes.{refused_apart, whole}
 use Rattle.std.specs.Result.{OnOk, OnErr}
 use Rattle.cred_io.specs.Ends.{AppendsPrefix}
 use Rattle.cred_io.proofs.Known.{appends_more}
@@ -17,8 +17,8 @@ use Rattle.cred_order.specs.Order.{HasRun, IsAfter, RunsOn}
 use Rattle.cred_order.proofs.Ends.{goes_to_end, is_whole, nothing_run}
 use Rattle.cred_report.specs.Text.{entry_text, text}
 use Rattle.cred_report.proofs.Journals.{take_past}
-use Rattle.cred_commands.specs.Ends.{finished}
-use Rattle.cred_commands.specs.declared.status.Status.TheVariants as status
+use Rattle.cred_said.specs.Ends.{finished}
+use Rattle.cred_said.specs.declared.status.Status.TheVariants as status
 use Rattle.cred_commands.specs.Sequences.{AppendsSequence, BeginsSequence, HandsOver}
 
 -- So many lines have run, and the text of their entries was written, but for those that are kept.

@@ -1,11 +1,5 @@
-pub mod Prefixes
-pub mod Finished
-pub mod ReportLine
 pub mod Cuts
 pub mod Kept
 pub mod Told
-pub mod Telling
 pub mod Runs
-pub mod Verdicts
-pub mod Decoded
 pub mod Summed

@@ -13,22 +13,22 @@ use Rattle.cred_laws.proofs.Lawful.{lawful}
 use Rattle.cred_model.specs.Journal.{IsLegal}
 use Rattle.cred_model.specs.Script.{Script, SetupFirst}
 use Rattle.cred_report.specs.Text.{text}
-use Rattle.cred_script.specs.Grammar.{script_of}
-use Rattle.cred_script.specs.Read.{Gives}
-use Rattle.cred_script.specs.declared.refusal.ScriptRefusal.{ScriptRefusal}
-use Rattle.cred_script.specs.declared.refusal.ScriptRefusal.TheVariants as refusal
+use Rattle.cred_grammar.specs.Grammar.{script_of}
+use Rattle.cred_grammar.specs.Read.{Gives}
+use Rattle.cred_grammar.specs.declared.refusal.ScriptRefusal.{ScriptRefusal}
+use Rattle.cred_grammar.specs.declared.refusal.ScriptRefusal.TheVariants as refusal
 use Rattle.cred_spelling.specs.declared.reason.Reason.{Reason}
-use Rattle.cred_commands.specs.Ends.{BeginsOne, IsForText, IsWhole, IsWithin, Reports, Suits}
-use Rattle.cred_commands.specs.Cuts.{Cuts}
-use Rattle.cred_commands.specs.Leaves.{LeavesReport, RunsBytes}
-use Rattle.cred_commands.specs.Telling.{SaysRefusal, TellsSaid}
-use Rattle.cred_commands.specs.Texts.{bad_text}
-use Rattle.cred_commands.specs.declared.said.Said.{Said}
-use Rattle.cred_commands.specs.declared.status.Status.{Status}
-use Rattle.cred_commands.specs.declared.status.Status.TheVariants as status
+use Rattle.cred_said.specs.Ends.{BeginsOne, IsForText, IsWhole, IsWithin, Reports, Suits}
+use Rattle.cred_said.specs.Cuts.{Cuts}
+use Rattle.cred_said.specs.Leaves.{LeavesReport, RunsBytes}
+use Rattle.cred_said.specs.Telling.{SaysRefusal, TellsSaid}
+use Rattle.cred_said.specs.Texts.{bad_text}
+use Rattle.cred_said.specs.declared.said.Said.{Said}
+use Rattle.cred_said.specs.declared.status.Status.{Status}
+use Rattle.cred_said.specs.declared.status.Status.TheVariants as status
 use Rattle.cred_commands.proofs.Cuts.{cut_written}
-use Rattle.cred_commands.proofs.Finished.{for_text_apart}
-use Rattle.cred_commands.proofs.Telling.{SaidOne, by_ends, or_so, same_or_so, told_one}
+use Rattle.cred_said.proofs.Finished.{for_text_apart}
+use Rattle.cred_said.proofs.Telling.{SaidOne, by_ends, or_so, same_or_so, told_one}
 
 -- The bytes are within both limits and are this script. The setup's lines come first.
 pub record IsScript (bytes : List ℕ) (script : Script) : Type 0 where

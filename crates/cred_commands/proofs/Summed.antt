@@ -1,9 +1,9 @@
 -- What is said of the script that is made from a number, and what that leaves.
 use Rattle.std.proofs.Common.{◌≡◌, ℕ, List, Option, sym, subst}
-use Rattle.cred_commands.specs.Ends.{IsForText, IsWhole}
+use Rattle.cred_said.specs.Ends.{IsForText, IsWhole}
 use Rattle.cred_commands.specs.Summing.{LeavesSummary, SaysSummary}
-use Rattle.cred_commands.specs.declared.status.Status.{Status}
-use Rattle.cred_commands.proofs.Telling.{SaidOne, by_ends, same_or_so}
+use Rattle.cred_said.specs.declared.status.Status.{Status}
+use Rattle.cred_said.proofs.Telling.{SaidOne, by_ends, same_or_so}
 
 pub leaves_summary : (n : ℕ) (answer : Status) (a b : Option (List ℕ)) (untouched : Type 0) → (untouched → b ≡ a)
     → SaidOne (SaysSummary n) answer a b untouched → LeavesSummary n answer a b

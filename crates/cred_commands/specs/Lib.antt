@@ -1,11 +1,2 @@
-pub mod Texts
-pub mod Decoding
 pub mod Summing
-pub mod Ends
-pub mod Cuts
-pub mod Leaves
-pub mod Telling
-pub mod Parts
-pub mod Auditing
-pub mod Statuses
 pub mod Sequences

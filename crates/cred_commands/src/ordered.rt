@@ -8,21 +8,19 @@ ghost use Rattle.cred_model.specs.State.{opening};
 ghost use Rattle.cred_io.specs.Causes.{CountsFaults};
 ghost use Rattle.cred_io.specs.Ends.{AppendsPrefix};
 ghost use Rattle.cred_report.specs.Text.{text};
-ghost use Rattle.cred_commands.specs.Ends.{IsForText};
-ghost use Rattle.cred_commands.specs.Leaves.{IsReading, IsWriting, LeavesReport, RunsBytes};
+ghost use Rattle.cred_said.specs.Ends.{IsForText};
+ghost use Rattle.cred_said.specs.Leaves.{IsReading, IsWriting, LeavesReport, RunsBytes};
 ghost use Rattle.cred_commands.specs.Sequences.{AppendsSequence, BeginsSequence, HandsOver};
 
-use crate::refusing::bad_line;
-use crate::report::{write_entries, write_last};
-use crate::said::tell_said;
-use crate::status::{Status, finish};
 use cred_event::Entry;
+use cred_grammar::{line_count, read};
 use cred_hold::Cells;
 use cred_ids::limits;
 use cred_io::{ReadRefusal, Sink, SinkRefusal, Source, read_all};
 use cred_order::run_line;
-use cred_report::Pen;
-use cred_script::{Script, line_count, read};
+use cred_pen::Pen;
+use cred_said::{Status, bad_line, finish, tell_said, write_entries, write_last};
+use cred_script::Script;
 use cred_state::State;
 use std::alloc::Global;
 

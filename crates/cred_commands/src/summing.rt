@@ -1,17 +1,16 @@
 //! The summary of a script that is made from a number.
 ghost use Rattle.std.specs.Prelude.{◌≡◌, [], IfOk, string_bytes};
 ghost use Rattle.cred_model.specs.State.{opening};
-ghost use Rattle.cred_commands.specs.Leaves.{IsWriting};
+ghost use Rattle.cred_said.specs.Leaves.{IsWriting};
 ghost use Rattle.cred_commands.specs.Summing.{IsCount, LeavesSummary, SaysSummary, TellsSequence};
-ghost use Rattle.cred_commands.specs.Texts as spec;
+ghost use Rattle.cred_said.specs.Texts as spec;
 
-use crate::said::{Said, tell_said};
-use crate::status::Status;
 use cred_generate::{Summary, generate};
 use cred_hold::Cells;
 use cred_ids::NoMemory;
 use cred_io::Sink;
 use cred_order::run_line;
+use cred_said::{Said, Status, tell_said};
 use cred_script::Script;
 use cred_state::State;
 use std::alloc::Global;

@@ -1,7 +1,7 @@
 //! The course of one line.
 ghost use Rattle.std.specs.Prelude.{◌≡◌, ◌≤◌, ◌<◌, true, IfOk, OnErr, IfSome, is_none, is_some};
 ghost use Rattle.cred_ids.specs.Limits.{LINE_LIMIT};
-ghost use Rattle.cred_event.specs.Lists.{BeginsSetGroups};
+ghost use Rattle.cred_copies.specs.Lists.{BeginsSetGroups};
 ghost use Rattle.cred_model.specs.Course as spec;
 ghost use Rattle.cred_model.specs.Course.{Leads, after, event_at, is_bounded, left};
 

@@ -1,13 +1,14 @@
 //! The event of each stage of a line.
 ghost use Rattle.std.specs.Prelude.{◌≡◌, ◌≤◌, ℕ, Some, IfOk, OnErr, IfSome};
 ghost use Rattle.cred_ids.specs.Limits.{LINE_LIMIT};
-ghost use Rattle.cred_event.specs.Lists.{BeginsSetGroups};
+ghost use Rattle.cred_copies.specs.Lists.{BeginsSetGroups};
 ghost use Rattle.cred_event.specs.declared.content.Content.TheVariants as content;
 ghost use Rattle.cred_event.specs.declared.event.Event.TheVariants as event;
 ghost use Rattle.cred_event.specs.declared.event.Side.TheVariants.{Subjective};
 ghost use Rattle.cred_model.specs.Course as spec;
 
-use cred_event::{Change, Content, Event, Query, Side, Stage, copy_event};
+use cred_copies::copy_event;
+use cred_event::{Change, Content, Event, Query, Side, Stage};
 use cred_ids::{NoMemory, limits};
 use cred_record::Want;
 

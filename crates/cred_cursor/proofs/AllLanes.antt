@@ -12,7 +12,7 @@ use Rattle.cred_event.specs.declared.entry.Entry.{Entry}
 use Rattle.cred_model.specs.Script.{Script, Line}
 use Rattle.cred_model.specs.Course.{Course, event_at}
 use Rattle.cred_model.specs.Journal.{due_in, next_event}
-use Rattle.cred_script.specs.Grammar.{line_at}
+use Rattle.cred_script.specs.Lines.{line_at}
 use Rattle.cred_script.specs.Lanes.{lanes}
 use Rattle.cred_cursor.specs.Cursor.{IsLaneCursor, is_of}
 use Rattle.cred_cursor.proofs.Lanes.{lane_over, lane_due, lane_makes_due}

@@ -15,7 +15,7 @@ use Rattle.cred_model.specs.Course.{Course, Leads, start, event_in, event_at, le
 use Rattle.cred_model.specs.Journal.{answers_of, next_event}
 use Rattle.cred_model.proofs.Courses.{after_line}
 use Rattle.cred_model.proofs.Lines.{answers_of-push_same, answers_of-push_other}
-use Rattle.cred_script.specs.Grammar.{line_at}
+use Rattle.cred_script.specs.Lines.{line_at}
 use Rattle.cred_cursor.specs.Cursor.{EndedInLane, NotBegun, IsOver, IsPast, StandsOn, IsLaneCursor}
 use Rattle.cred_cursor.specs.Cursor.{may_wait, may_wait_at, IsOfLine, MovesOnTo, MovesOnFrom, is_of}
 

@@ -10,7 +10,7 @@ use Rattle.cred_model.specs.Course.{Course, Leads, event_at}
 use Rattle.cred_model.specs.Journal.{due_in, next, lane_of, SoFar}
 use Rattle.cred_model.proofs.Courses.{makes_event}
 use Rattle.cred_model.proofs.Journals.{each_push}
-use Rattle.cred_script.specs.Grammar.{line_at}
+use Rattle.cred_script.specs.Lines.{line_at}
 use Rattle.cred_cursor.specs.Cursor.{IsLaneCursor, IsOfLine, MovesOnTo, StandsOn, is_of}
 use Rattle.cred_cursor.proofs.Courses.{IsOther, line_is, of_line, next_is, goes_on, cursor_stays}
 use Rattle.cred_cursor.proofs.Due.{first_due_at, first_due_none}

@@ -9,7 +9,7 @@ use Rattle.cred_event.specs.declared.entry.Entry.{Entry}
 use Rattle.cred_model.specs.Script.{Script, Line, SetupFirst}
 use Rattle.cred_model.specs.Course.{Course, event_at}
 use Rattle.cred_model.specs.Journal.{first_due, next_event}
-use Rattle.cred_script.specs.Grammar.{line_at}
+use Rattle.cred_script.specs.Lines.{line_at}
 use Rattle.cred_cursor.specs.Cursor.{IsLaneCursor, StandsOn, is_of}
 use Rattle.cred_cursor.specs.Cursors.{AreCursors, AreOver, IsEarlier, IsLeast, IsNoLater, cursor_of, due_of}
 use Rattle.cred_cursor.proofs.Courses.{next_is}

@@ -13,7 +13,7 @@ use Rattle.cred_model.specs.Script.{Script, Line}
 use Rattle.cred_model.specs.Course as model
 use Rattle.cred_model.specs.Course.{Course, Leads, TRY_EVENTS, leads}
 use Rattle.cred_model.specs.Journal.{answers_of, next_event}
-use Rattle.cred_script.specs.Grammar.{line_at}
+use Rattle.cred_script.specs.Lines.{line_at}
 
 -- the line is of this lane
 abbrev pub is_of : ℕ → Line → Bool

@@ -2,10 +2,10 @@
 ghost use Rattle.std.specs.Prelude.{◌≡◌, ◌≤◌, true, [], length, IfOk, IfSome, OnErr, is_some};
 ghost use Rattle.std.specs.Option.{option_and_then};
 ghost use Rattle.cred_ids.specs.Limits.{LINE_LIMIT};
-ghost use Rattle.cred_event.specs.Lists.{BeginsSetGroups};
+ghost use Rattle.cred_copies.specs.Lists.{BeginsSetGroups};
 ghost use Rattle.cred_model.specs.Course as model;
 ghost use Rattle.cred_model.specs.Named.{IsEventOf};
-ghost use Rattle.cred_script.specs.Grammar.{line_at};
+ghost use Rattle.cred_script.specs.Lines.{line_at};
 ghost use Rattle.cred_cursor.specs.Cursor.{IsLaneCursor, IsOfLine, MovesOnFrom, MovesOnTo};
 
 use cred_course::Course;

@@ -17,7 +17,7 @@ use std::marker::Model;
 /// What a change has made: its answer, the new credential, and what that one's permitted set gained
 /// over the old one's by execve(2). Contracts see the record `Made` of `specs/Change.antt` of
 /// `cred_model`, with the same fields.
-#[derive(Drop, Debug)]
+#[derive(Drop)]
 pub struct Made {
     pub answer: Answer,
     pub cred: Cred,

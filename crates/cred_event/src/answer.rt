@@ -1,13 +1,10 @@
 //! What an event is answered.
-ghost use Rattle.std.specs.Prelude.{◌≡◌, IfOk, OnErr};
-ghost use Rattle.cred_event.specs.Lists.{HoldsList};
-
 use cred_caps::{CapSet, SecureBits};
-use cred_ids::{Id, Ids4, NoMemory};
+use cred_ids::{Id, Ids4};
 use cred_record::{Gains, IdList};
 
 /// What a question is told.
-#[derive(Clone, Drop, Debug)]
+#[derive(Drop)]
 pub enum Told {
     Ids {
         uid: Ids4,
@@ -60,7 +57,7 @@ pub enum AbortCause {
 ///
 /// `cred` is the number of a sealed credential: the first that was sealed has number 0. `slot` is
 /// the slot that it stands in, below 256.
-#[derive(Clone, Drop, Debug)]
+#[derive(Drop)]
 pub enum Answer {
     Done,
     Sealed {
@@ -117,16 +114,4 @@ pub enum Answer {
         task: u32,
         cause: AbortCause,
     },
-}
-
-/// An equal answer.
-///
-/// # Errors
-///
-/// `NoMemory` where the list of a `Told::Groups` could not be copied; no other answer takes memory.
-pub fn copy_answer(a: &Answer) -> Result<Answer, NoMemory>
-    ensures equal { IfOk result (λ copied. copied ≡ a.now) }
-    ensures refusal { OnErr result (HoldsList a.now) }
-{
-    Ok(a.clone()?)
 }

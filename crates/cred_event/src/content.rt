@@ -3,7 +3,7 @@ use crate::event::{Change, Event, Query};
 use cred_record::{IdCall, Want};
 
 /// What a line of a script holds.
-#[derive(Drop, Debug)]
+#[derive(Drop)]
 pub enum Content {
     /// The line makes no event.
     Nothing,

@@ -1,8 +1,5 @@
 //! The events: each is one step of the book.
-ghost use Rattle.std.specs.Prelude.{◌≡◌, IfOk, OnErr};
-ghost use Rattle.cred_event.specs.Lists.{BeginsSetGroups};
-
-use cred_ids::{Arg, Id, Kind, NoMemory};
+use cred_ids::{Arg, Id, Kind};
 use cred_record::{AdjCall, IdCall, Want};
 
 /// Which of a task's two credentials is meant (Documentation/security/credentials.rst).
@@ -51,7 +48,7 @@ pub enum Change {
 
 /// One step of the book. Tasks, processes, descriptors and labels are named by number,
 /// a broadcast by the number of the line that began it.
-#[derive(Clone, Drop, Debug)]
+#[derive(Drop)]
 pub enum Event {
     /// A first task is created in a process, with these ids and this namespace.
     Init {
@@ -153,16 +150,4 @@ pub enum Event {
     },
     /// Every reference that was given up lets go of its credential.
     Sweep,
-}
-
-/// An equal event.
-///
-/// # Errors
-///
-/// `NoMemory` where the list of a `setgroups` could not be copied; no other event takes memory.
-pub fn copy_event(e: &Event) -> Result<Event, NoMemory>
-    ensures equal { IfOk result (λ copied. copied ≡ e.now) }
-    ensures refusal { OnErr result (BeginsSetGroups e.now) }
-{
-    Ok(e.clone()?)
 }

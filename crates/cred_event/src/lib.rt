@@ -9,7 +9,7 @@ mod content;
 mod entry;
 mod event;
 
-pub use answer::{AbortCause, Answer, Counted, Named, Told, copy_answer};
+pub use answer::{AbortCause, Answer, Counted, Named, Told};
 pub use content::{Content, Stage};
 pub use entry::Entry;
-pub use event::{Change, Event, Query, Side, copy_event};
+pub use event::{Change, Event, Query, Side};

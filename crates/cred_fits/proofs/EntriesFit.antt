@@ -9,14 +9,14 @@ use Rattle.cred_model.specs.State.{opening}
 use Rattle.cred_model.specs.Step.{step}
 use Rattle.cred_model.specs.Journal.{SoFar}
 use Rattle.cred_model.proofs.Lists.{All-at, slice_get_at}
-use Rattle.cred_script.specs.Grammar.{script_of}
+use Rattle.cred_grammar.specs.Grammar.{script_of}
 use Rattle.cred_laws.specs.Journals.{state_at}
 use Rattle.cred_laws.proofs.AnsweredLaws.{so_far_is_answered}
 use Rattle.cred_laws.proofs.States.{step_at}
 use Rattle.cred_sound.proofs.Few.{few_after}
 use Rattle.cred_sound.proofs.Sound.{sound_after}
 use Rattle.cred_reader.specs.Fits.{IsLong, Fits, FitsAnswer}
-use Rattle.cred_reader.specs.Rows.{CanAnswer}
+use Rattle.cred_answers.specs.Rows.{CanAnswer}
 use Rattle.cred_reader.proofs.Lists.{one_list}
 use Rattle.cred_fits.specs.Fitting.{EventFits, EntriesFit, OneFittingList}
 use Rattle.cred_fits.proofs.EventsFit.{each_at, events_fit}

@@ -19,7 +19,7 @@ use Rattle.cred_model.specs.Named.{IsContentOf, IsEventOf, event_files}
 use Rattle.cred_model.proofs.Courses.{after_line}
 use Rattle.cred_model.proofs.Lists.{slice_get_at}
 use Rattle.cred_model.proofs.Names.{event_named}
-use Rattle.cred_script.specs.Grammar.{script_of}
+use Rattle.cred_grammar.specs.Grammar.{script_of}
 use Rattle.cred_reader.specs.Fits.{IsFile, IsNumber, FitsEvent, IsOf}
 use Rattle.cred_fits.specs.Content.{FitsContent}
 use Rattle.cred_fits.specs.Fitting.{EventFits, EventsFit}

@@ -12,7 +12,7 @@ use Rattle.std.proofs.lemmas.Option.{slice_get_within}
 use Rattle.cred_model.proofs.Lists.{All-at, slice_get_at, slice_get-left, slice_get-last}
 use Rattle.cred_model.specs.Script.{NamedFile, Script}
 use Rattle.cred_spelling.specs.Spellings.{is_name}
-use Rattle.cred_forms.specs.Files.{place_of}
+use Rattle.cred_script.specs.Files.{place_of}
 use Rattle.cred_report.specs.Questions.{file_text, name_of}
 use Rattle.cred_reader.specs.Fits.{IsFile}
 

@@ -9,10 +9,10 @@ use Rattle.cred_spelling.specs.Words.{◌>>=◌, words_of, is_comment}
 use Rattle.cred_forms.specs.declared.forms.Parsed.{Parsed}
 use Rattle.cred_forms.specs.declared.forms.Parsed.TheVariants.{Empty}
 use Rattle.cred_forms.specs.Forms.{parse_form}
-use Rattle.cred_script.specs.Grammar.{parse_full, parse_words, parse_line}
-use Rattle.cred_script.specs.Reading.{Reading, admits}
-use Rattle.cred_script.specs.Sound.{IsParsed}
-use Rattle.cred_script.proofs.Own.{form_sound}
+use Rattle.cred_grammar.specs.Grammar.{parse_full, parse_words, parse_line}
+use Rattle.cred_grammar.specs.Reading.{Reading, admits}
+use Rattle.cred_grammar.specs.Sound.{IsParsed}
+use Rattle.cred_grammar.proofs.Own.{form_sound}
 use Rattle.cred_reader.proofs.Spelled as spelled
 
 sound_form : (reading : Reading) (form : Form) (words : List (List ℕ)) (r : Result Parsed Reason) → parse_form reading.files form words ≡ r

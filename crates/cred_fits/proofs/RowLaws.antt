@@ -41,8 +41,8 @@ use Rattle.cred_model.specs.Slots.{swept_if_full, free}
 use Rattle.cred_model.specs.State.{State, Task, Numbered, Prepared, Changed, Broadcast, numbered, task_of, cast_of, cast_in, begun_by, open_of, hold_of, prepared_of, credential_of, opener_of, held_by}
 use Rattle.cred_model.specs.Step.{outcome, by_init, take_hold, by_take, by_take_file, by_release, by_ask, by_signal, by_prepare, by_alter, for_task, try_commit, ends_with, casts_after, committed_by, commit_answer, by_commit, by_abort, for_access, override_held, override_prepared, by_override, by_revert, by_begin, aborted, follow, by_act, by_open, by_close, by_spawn, by_fork, by_exit}
 use Rattle.cred_laws.proofs.Cases.{some_case, none_case, test_case, own_case, idle_case}
-use Rattle.cred_reader.specs.CallRows as call_rows
-use Rattle.cred_reader.specs.Rows as rows
+use Rattle.cred_answers.specs.CallRows as call_rows
+use Rattle.cred_answers.specs.Rows as rows
 use Rattle.cred_fits.specs.Fitting.{AnswersAreOfTheirRows}
 use Rattle.cred_fits.proofs.RuleRows.{Answers, Changes, of_call, of_adjust}
 

@@ -20,7 +20,7 @@ use Rattle.cred_record.specs.declared.refusal.Denial.{Denial}
 use Rattle.cred_record.specs.declared.refusal.Denial.TheVariants.{Perm, Invalid}
 use Rattle.cred_rules.specs.Adjust.{LAST_BITS, FLAGS, is_no_cap, may_capset, may_raise, keeps_lock, may_set_bits, adjust, after_capset, after_bound_drop, after_amb_raise, after_amb_lower, after_bits, after_keep_caps, after_no_new_privs}
 use Rattle.cred_rules.specs.SetId.{is_given, permitted, after_setuid, after_setreuid, after_setresuid, after_seteuid, after_setgroups, for_users, for_groups, set_id}
-use Rattle.cred_reader.specs.CallRows.{is_invalid, may_be_denied, is_wrong, may_be_refused, may_be_done}
+use Rattle.cred_answers.specs.CallRows.{is_invalid, may_be_denied, is_wrong, may_be_refused, may_be_done}
 
 -- ---- id calls
 

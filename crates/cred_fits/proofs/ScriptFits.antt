@@ -19,12 +19,12 @@ use Rattle.cred_spelling.specs.Words.{◌>>=◌, words_of, is_comment}
 use Rattle.cred_forms.specs.declared.forms.Parsed.{Parsed}
 use Rattle.cred_forms.specs.declared.forms.Parsed.TheVariants.{Empty, File, Starts, Lane, Holds}
 use Rattle.cred_forms.specs.declared.forms.Parsed.TheVariants as parsed
-use Rattle.cred_forms.specs.Files.{place_of}
+use Rattle.cred_script.specs.Files.{place_of}
 use Rattle.cred_forms.specs.Forms.{parse_form}
-use Rattle.cred_script.specs.Grammar.{parse_full, parse_words, parse_line, add_line, at_line, add_lines, script_of}
-use Rattle.cred_script.specs.Reading.{Reading, nothing, admits, keep}
-use Rattle.cred_script.specs.Reading as reading_of
-use Rattle.cred_script.specs.Sound.{IsParsed}
+use Rattle.cred_grammar.specs.Grammar.{parse_full, parse_words, parse_line, add_line, at_line, add_lines, script_of}
+use Rattle.cred_grammar.specs.Reading.{Reading, nothing, admits, keep}
+use Rattle.cred_grammar.specs.Reading as reading_of
+use Rattle.cred_grammar.specs.Sound.{IsParsed}
 use Rattle.cred_fits.proofs.ParsedSound.{parsed_sound}
 use Rattle.cred_reader.proofs.Spelled as spelled
 use Rattle.cred_reader.proofs.Spelled.{then_holds, ok_or_holds}

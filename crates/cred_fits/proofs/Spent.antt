@@ -22,14 +22,14 @@ use Rattle.cred_model.specs.Journal.{Due, replay, answers_of, next_event, first_
 use Rattle.cred_model.proofs.Courses.{after_line}
 use Rattle.cred_model.proofs.Lines.{answers_of-push_same, answers_of-push_other}
 use Rattle.cred_model.proofs.Lists.{slice_get_at}
-use Rattle.cred_script.specs.Grammar.{line_at}
+use Rattle.cred_script.specs.Lines.{line_at}
 use Rattle.cred_laws.specs.Journals.{state_at}
 use Rattle.cred_laws.proofs.States.{step_at}
 use Rattle.cred_sound.proofs.Parts.{CredsChange, SameCreds, Seals, sealed_cred}
 use Rattle.cred_sound.proofs.Events.{changes}
 use Rattle.cred_cursor.specs.Cursor.{left_at, may_wait, may_wait_at}
-use Rattle.cred_book.specs.Cursor.{waiting}
-use Rattle.cred_book.proofs.Measure.{step_falls}
+use Rattle.cred_left.specs.Waiting.{waiting}
+use Rattle.cred_left.proofs.Measure.{step_falls}
 use Rattle.cred_fits.specs.Fitting.{JournalsAreShort}
 
 -- ---- the line of an entry

@@ -7,10 +7,10 @@ use Rattle.cred_model.specs.Script.{Script}
 use Rattle.cred_model.specs.State.{State}
 use Rattle.cred_model.specs.Step.{step}
 use Rattle.cred_model.specs.Journal.{SoFar}
-use Rattle.cred_script.specs.Grammar.{script_of}
+use Rattle.cred_grammar.specs.Grammar.{script_of}
 use Rattle.cred_report.specs.Text.{text}
 use Rattle.cred_reader.specs.Fits.{IsNumber, FitsEvent, IsOf, Fits}
-use Rattle.cred_reader.specs.Rows.{CanAnswer}
+use Rattle.cred_answers.specs.Rows.{CanAnswer}
 
 -- In every state each event is given one of the answers of its row.
 abbrev pub AnswersAreOfTheirRows : Type 0

@@ -1,2 +1,1 @@
-pub mod FileMap
 pub mod IdLists

@@ -1,6 +1,6 @@
 -- The lines that declare files.
 use Rattle.std.specs.Prelude.{ℕ, Bool, false, ◌&&◌, nat_le, nat_lt, List, [], ◌∷◌, length}
-use Rattle.std.specs.Prelude.{position, codes, Some, None, Result, Ok, Err, ok_or, if◌then◌else◌}
+use Rattle.std.specs.Prelude.{codes, Some, None, Result, Ok, Err, ok_or, if◌then◌else◌}
 use Rattle.std.specs.declared.option.Option.{Option}
 use Rattle.std.specs.Option.{option_map, option_map_or}
 use Rattle.std.specs.Str.{bytes_eq}
@@ -11,6 +11,7 @@ use Rattle.cred_spelling.specs.declared.reason.Reason.{Reason}
 use Rattle.cred_spelling.specs.declared.reason.Reason.TheVariants.{Word, Count}
 use Rattle.cred_spelling.specs.Words.{◌>>=◌, name_of, word_of, three_of}
 use Rattle.cred_spelling.specs.Spellings.{id_of, bytes_of, kind_of, mode_of}
+use Rattle.cred_script.specs.Files.{place_of}
 
 -- how many words stand after the first one of such a line: the five of each, and the three that may
 -- follow
@@ -19,10 +20,6 @@ LEAST_WORDS = 5
 
 abbrev pub MOST_WORDS : ℕ
 MOST_WORDS = 8
-
--- the place of the file of this name
-abbrev pub place_of : List NamedFile → List ℕ → Option ℕ
-place_of files name = position (λ file. bytes_eq name file.name) files
 
 -- the place of the file of this name, or, where none has it, the next one that a file may take
 abbrev pub place_or_next : List NamedFile → List ℕ → ℕ

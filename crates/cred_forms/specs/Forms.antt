@@ -24,7 +24,7 @@ use Rattle.cred_spelling.specs.Words.{◌>>=◌, word_of, no_words, one_of, two_
 use Rattle.cred_forms.specs.declared.forms.Parsed.{Parsed}
 use Rattle.cred_forms.specs.declared.forms.Parsed.TheVariants.{File, Namespace}
 use Rattle.cred_forms.specs.declared.forms.Parsed.TheVariants.{Starts, Lane, Holds}
-use Rattle.cred_forms.specs.Acting.{event_actor}
+use Rattle.cred_script.specs.Acting.{event_actor}
 use Rattle.cred_forms.specs.Files.{file_of}
 use Rattle.cred_forms.specs.IdCalls.{id_call_of}
 use Rattle.cred_forms.specs.Changes.{change_of}

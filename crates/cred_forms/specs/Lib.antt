@@ -3,7 +3,5 @@ pub mod IdCalls
 pub mod Changes
 pub mod Questions
 pub mod Calls
-pub mod Acting
 pub mod Forms
 pub mod Read
-pub mod Kept

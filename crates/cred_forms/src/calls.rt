@@ -5,11 +5,11 @@ ghost use Rattle.cred_forms.specs.Calls as spec;
 ghost use Rattle.cred_forms.specs.Read.{GivesLine};
 
 use crate::changes::change_of;
-use crate::files::Files;
 use crate::id_calls::id_call_of;
 use crate::questions::{file_and_want, query_of};
 use crate::refusal::LineRefusal;
 use cred_event::{Content, Event};
+use cred_script::Files;
 use cred_spelling::{
     CallName, Cap, Descriptor, OtherName, Process, Reason, Task, call_name, no_words, one, two,
     word,

@@ -2,11 +2,12 @@
 ghost use Rattle.cred_spelling.specs.Read.{Says, nows};
 ghost use Rattle.cred_forms.specs.Changes as spec;
 
-use crate::files::Files;
+use crate::named::file_at;
 use cred_caps::CapSet;
 use cred_event::Change;
 use cred_ids::Arg;
 use cred_record::AdjCall;
+use cred_script::Files;
 use cred_spelling::{Cap, ChangeName, Number, Reason, bare, one, three};
 
 /// A change, by its name, with its arguments. A file is told by its place, from 0 to 256: the
@@ -45,7 +46,7 @@ fn exec_of(files: &Files, words: &[&[u8]]) -> Result<Change, Reason>
 {
     match words {
         [name] => Ok(Change::Exec {
-            file: files.file_at(name)?,
+            file: file_at(files, name)?,
         }),
         _ => Err(Reason::Count),
     }

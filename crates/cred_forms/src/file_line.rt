@@ -3,10 +3,10 @@ ghost use Rattle.cred_spelling.specs.Read.{nows};
 ghost use Rattle.cred_forms.specs.Files as spec;
 ghost use Rattle.cred_forms.specs.Read.{GivesLine};
 
-use crate::files::{Files, ScriptFile};
 use crate::refusal::LineRefusal;
 use cred_ids::{Id, limits};
 use cred_record::{Attr, FileInfo, FileKind};
+use cred_script::{Files, ScriptFile};
 use cred_spelling::{Reason, bytes_of, is, mode_of, name_of, three};
 use std::alloc::Global;
 

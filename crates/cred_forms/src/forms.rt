@@ -5,16 +5,15 @@ ghost use Rattle.cred_spelling.specs.Read.{nows};
 ghost use Rattle.cred_forms.specs.Forms as spec;
 ghost use Rattle.cred_forms.specs.Read.{GivesLine};
 
-use crate::actor::event_actor;
 use crate::calls::content_of;
 use crate::changes::change_of;
 use crate::file_line::file_of;
-use crate::files::{Files, ScriptFile};
 use crate::id_calls::id_call_of;
 use crate::questions::query_named;
 use crate::refusal::LineRefusal;
 use cred_event::{Content, Event, Side};
 use cred_ids::Id;
+use cred_script::{Files, ScriptFile, event_actor};
 use cred_spelling::{
     Descriptor, EventName, Form, Label, LaneNumber, LineNumber, Namespace, NewNamespace, Parent,
     Process, Reason, Task, altered_name, five, id_name, no_words, one, three, two, word,

@@ -2,27 +2,24 @@
 //! holds.
 //!
 //! `specs/` says which words each form has. `IdCalls`, `Changes`, `Questions` and `Calls` have what
-//! a task does, `Files` the lines that declare files and how a word names one, `Forms` all forms,
-//! and `Acting` which task acts by a line. `Kept` says how the files are kept, by their names.
-//! Whether a line may stand where it does, after those that were read before it, is said in
-//! `cred_script`; what one word spells, in `cred_spelling`.
+//! a task does, `Files` the lines that declare files and how a word names one, and `Forms` all
+//! forms. Whether a line may stand where it does, after those that were read before it, is said in
+//! `cred_grammar`; what one word spells, in `cred_spelling`.
 #![tactic(auto)]
 
-mod actor;
 mod calls;
 mod changes;
 mod file_line;
-mod files;
 mod forms;
 mod id_calls;
+mod named;
 mod questions;
 mod refusal;
 
-pub use actor::event_actor;
 pub use calls::content_of;
 pub use changes::change_of;
-pub use files::{Files, ScriptFile};
 pub use forms::{Parsed, event_of, parse_form};
 pub use id_calls::{id_call_of, ids};
+pub use named::file_at;
 pub use questions::query_named;
 pub use refusal::LineRefusal;

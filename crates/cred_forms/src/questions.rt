@@ -2,9 +2,10 @@
 ghost use Rattle.cred_spelling.specs.Read.{Says, nows};
 ghost use Rattle.cred_forms.specs.Questions as spec;
 
-use crate::files::Files;
+use crate::named::file_at;
 use cred_event::Query;
 use cred_record::Want;
+use cred_script::Files;
 use cred_spelling::{Cap, QueryName, Reason, bare, one, query_name, word};
 
 /// `NAME WANT`: a file, by its place, and what is wanted of it.
@@ -13,7 +14,7 @@ pub(crate) fn file_and_want(files: &Files, words: &[&[u8]]) -> Result<(u32, Want
     ensures { Says (λ asked. asked) result (spec.file_and_want files.now (nows words.now)) }
 {
     match words {
-        [name, want] => Ok((files.file_at(name)?, word::<Want>(want)?)),
+        [name, want] => Ok((file_at(files, name)?, word::<Want>(want)?)),
         _ => Err(Reason::Count),
     }
 }

@@ -13,8 +13,8 @@ use Rattle.cred_forms.specs.Changes.{change_of}
 use Rattle.cred_forms.specs.Questions.{query_of}
 use Rattle.cred_forms.specs.Calls.{content_of, call_of}
 use Rattle.cred_forms.specs.Forms.{parse_form}
-use Rattle.cred_script.specs.Reading.{Reading, nothing, script}
-use Rattle.cred_script.specs.Grammar.{parse_full, add_line, add_lines, script_of}
+use Rattle.cred_grammar.specs.Reading.{Reading, nothing, script}
+use Rattle.cred_grammar.specs.Grammar.{parse_full, add_line, add_lines, script_of}
 use Rattle.cred_generate.specs.Generated.{FIRST, call_by, call, generated, text_of}
 
 -- what holds of each of the five lines holds of each call

@@ -1,12 +1,13 @@
 //! A script that is made from a number.
 ghost use Rattle.std.specs.Prelude.{◌≡◌, ◌≤◌, ◌∷◌, ◌++◌, [], Ok, IfOk, OnOk};
 ghost use Rattle.cred_model.specs.Script.{SetupFirst};
-ghost use Rattle.cred_script.specs.Grammar.{script_of};
+ghost use Rattle.cred_grammar.specs.Grammar.{script_of};
 ghost use Rattle.cred_generate.specs.Generated as spec;
 ghost use Rattle.cred_generate.specs.Generated.{CALLS, FIRST, generated};
 
+use cred_grammar::{ScriptRefusal, read};
 use cred_ids::NoMemory;
-use cred_script::{Script, ScriptRefusal, read};
+use cred_script::Script;
 use std::alloc::Global;
 
 /// How many calls a generated script may have: with its first line it has fewer lines than a script

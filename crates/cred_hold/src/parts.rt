@@ -6,7 +6,7 @@ ghost use Rattle.cred_record.specs.declared.layout.TheConstants.{USER, PERMITTED
 
 use cred_caps::CapSet;
 use cred_ids::Ids4;
-use cred_record::ids_in;
+use cred_packed::ids_in;
 
 /// The user ids and the group ids in the four words from `USER` on.
 pub(crate) fn known_ids(words: [u64; 4]) -> (Ids4, Ids4)

@@ -9,10 +9,9 @@ ghost use Rattle.cred_words.specs.Words.{put_words, words_at};
 ghost use Rattle.cred_hold.specs.Tokens.{IsAgain, AreZeros, AreZerosTo};
 
 use cred_ids::{Groups, NoMemory};
+use cred_packed::{group_count, group_in, head, known_head, word_of_groups, words_of_groups};
 use cred_record::layout::{FLAGS, GROUPS};
-use cred_record::{
-    Cred, WORDS, group_count, group_in, head, known_head, word_of_groups, words_of_groups,
-};
+use cred_record::{Cred, WORDS};
 use cred_words::cells::{Cells, Hold, Master, Writer, read_word, see_word, settle_word};
 use std::alloc::Global;
 

@@ -2,13 +2,13 @@
 use Rattle.std.specs.Prelude.{◌≡◌, ◌⊎◌, ℕ, Bool, List, Some, None, Result, Ok, Err}
 use Rattle.std.specs.declared.option.Option.{Option}
 use Rattle.cred_model.specs.Journal.{IsLegal, IsSequence}
-use Rattle.cred_commands.specs.Auditing.{LeavesVerdict}
-use Rattle.cred_commands.specs.Decoding.{LeavesAttribute}
-use Rattle.cred_commands.specs.Leaves.{IsReading, IsWriting, LeavesReport}
-use Rattle.cred_commands.specs.Statuses.{code_of}
+use Rattle.cred_inspect.specs.Auditing.{LeavesVerdict}
+use Rattle.cred_inspect.specs.Decoding.{LeavesAttribute}
+use Rattle.cred_said.specs.Leaves.{IsReading, IsWriting, LeavesReport}
+use Rattle.cred_said.specs.Statuses.{code_of}
 use Rattle.cred_commands.specs.Summing.{LeavesSummary}
-use Rattle.cred_commands.specs.declared.status.Status.{Status}
-use Rattle.cred_commands.specs.declared.status.Status.TheVariants as status
+use Rattle.cred_said.specs.declared.status.Status.{Status}
+use Rattle.cred_said.specs.declared.status.Status.TheVariants as status
 use Rattle.cred_program.specs.Commands.{LeavesUsage, limit_of}
 use Rattle.cred_program.specs.Words.{command_of}
 use Rattle.cred_program.specs.declared.words.Command.{Command}

@@ -7,7 +7,7 @@ use Rattle.std.specs.Str.{bytes_eq}
 use Rattle.std.specs.declared.alloc.Global.{Global}
 use Rattle.cred_args.specs.Positionals.{Words, positionals}
 use Rattle.cred_generate.specs.Generated.{CALLS}
-use Rattle.cred_script.specs.Spellings.{bytes_of, number_within}
+use Rattle.cred_spelling.specs.Spellings.{bytes_of, number_within}
 use Rattle.cred_program.specs.declared.words.Command.{Command}
 use Rattle.cred_program.specs.declared.words.Command.TheVariants.{Run, Lanes, Audit, Gen}
 use Rattle.cred_program.specs.declared.words.Command.TheVariants.{Decode}

@@ -5,6 +5,6 @@ mod process;
 mod program;
 mod words;
 
-pub use cred_commands::Status;
+pub use cred_said::Status;
 pub use process::exit_code;
 pub use program::credtrace;

@@ -1,14 +1,14 @@
 //! What the process does with its words and its two streams: one run of the program.
 ghost use Rattle.std.specs.Prelude.{◌≡◌, IfOk, OnErr};
-ghost use Rattle.cred_commands.specs.Statuses.{code_of};
+ghost use Rattle.cred_said.specs.Statuses.{code_of};
 ghost use Rattle.cred_program.specs.Runs.{EndsWith};
 ghost use Rattle.cred_program.specs.Words.{texts};
 
 use crate::program::credtrace;
-use cred_commands::Status;
 use cred_ids::NoMemory;
 use cred_io::{Sink, Source};
 use cred_lanes::Gate;
+use cred_said::Status;
 use std::alloc::Global;
 use std::sync::Wait;
 use std::thread::Threads;

@@ -1,19 +1,21 @@
 //! The top call.
 ghost use Rattle.std.specs.Prelude.{◌≡◌, ◌⊎◌, ℕ, List, Some, None};
 ghost use Rattle.cred_model.specs.Journal.{IsLegal, IsSequence};
-ghost use Rattle.cred_commands.specs.Auditing.{LeavesVerdict};
-ghost use Rattle.cred_commands.specs.Decoding.{LeavesAttribute};
-ghost use Rattle.cred_commands.specs.Leaves.{IsReading, IsWriting, LeavesReport};
+ghost use Rattle.cred_inspect.specs.Auditing.{LeavesVerdict};
+ghost use Rattle.cred_inspect.specs.Decoding.{LeavesAttribute};
+ghost use Rattle.cred_said.specs.Leaves.{IsReading, IsWriting, LeavesReport};
 ghost use Rattle.cred_commands.specs.Summing.{LeavesSummary};
 ghost use Rattle.cred_program.specs.Commands.{LeavesUsage, limit_of};
 ghost use Rattle.cred_program.specs.Words.{command_of, texts};
 
 use crate::words::{Command, command_of};
-use cred_commands::{Status, read_and_audit, read_and_run, show, sum, tell};
+use cred_commands::{read_and_run, sum};
 use cred_ids::NoMemory;
+use cred_inspect::{read_and_audit, show};
 use cred_io::{Sink, Source};
 use cred_lanes::Gate;
 use cred_runs::read_and_lanes;
+use cred_said::{Status, tell};
 use std::alloc::Global;
 use std::sync::Wait;
 use std::thread::Threads;

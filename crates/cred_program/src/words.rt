@@ -3,7 +3,7 @@ ghost use Rattle.std.specs.Prelude.{◌≡◌, IfOk, IfSome};
 ghost use Rattle.std.specs.Option.{option_map};
 ghost use Rattle.cred_args.specs.Positionals.{seen};
 ghost use Rattle.cred_generate.specs.Generated.{CALLS};
-ghost use Rattle.cred_script.specs.Spellings.{bytes_of, number_within};
+ghost use Rattle.cred_spelling.specs.Spellings.{bytes_of, number_within};
 ghost use Rattle.cred_commands.specs.Summing.{IsCount};
 ghost use Rattle.cred_program.specs.Commands.{HasCount};
 ghost use Rattle.cred_program.specs.Words as spec;
@@ -13,8 +13,7 @@ use cred_args::{Positionals, parse};
 use cred_generate::CALLS;
 use cred_ids::NoMemory;
 use cred_io::Bytes;
-use cred_script::bytes_of;
-use cred_spelling::{Number, Spelling};
+use cred_spelling::{Number, Spelling, bytes_of};
 use std::alloc::Global;
 
 /// What the program is to do.

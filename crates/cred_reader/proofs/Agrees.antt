@@ -15,8 +15,8 @@ use Rattle.cred_event.specs.declared.event.Event.TheVariants as event
 use Rattle.cred_reader.specs.declared.answers.Tells.{Tells}
 use Rattle.cred_reader.specs.declared.answers.Tells.TheVariants as tells
 use Rattle.cred_reader.specs.Answers.{told_by}
-use Rattle.cred_reader.specs.CallRows as call_rows
-use Rattle.cred_reader.specs.Rows as rows
+use Rattle.cred_answers.specs.CallRows as call_rows
+use Rattle.cred_answers.specs.Rows as rows
 
 abbrev pub same : Tells → Tells → Bool
 same tells.Nothing tells.Nothing = true

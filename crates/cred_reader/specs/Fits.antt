@@ -37,9 +37,9 @@ use Rattle.cred_event.specs.declared.entry.Entry.{Entry}
 use Rattle.cred_model.specs.Script.{Script}
 use Rattle.cred_model.specs.Named.{AreDeclared, event_files, event_namespaces}
 use Rattle.cred_spelling.specs.Spellings.{is_name}
-use Rattle.cred_forms.specs.Files.{place_of}
+use Rattle.cred_script.specs.Files.{place_of}
 use Rattle.cred_report.specs.Questions.{file_text}
-use Rattle.cred_reader.specs.Rows.{CanAnswer}
+use Rattle.cred_answers.specs.Rows.{CanAnswer}
 
 -- a number of 32 bits
 abbrev pub IsNumber : ℕ → Type 0

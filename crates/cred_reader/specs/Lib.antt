@@ -1,5 +1,3 @@
-pub mod CallRows
-pub mod Rows
 pub mod Fits
 pub mod Kinds
 pub mod Events

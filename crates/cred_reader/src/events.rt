@@ -6,7 +6,7 @@ ghost use Rattle.cred_reader.specs.Events as spec;
 use crate::kinds::{Fd, Label, Process, Task};
 use crate::names::{EventName, LabelEvent, TaskEvent, event_name};
 use cred_event::{Change, Event, Side};
-use cred_forms::{LineRefusal, id_call_of};
+use cred_forms::{LineRefusal, change_of, file_at, id_call_of, query_named};
 use cred_ids::Id;
 use cred_record::{IdCall, Want};
 use cred_script::Script;
@@ -47,7 +47,7 @@ fn ask_of(script: &Script, words: &[&[u8]]) -> Result<Event, Reason>
     match words {
         [hold, asked, words @ ..] => {
             let label = word::<Label>(hold)?;
-            let query = script.query(asked, words)?;
+            let query = query_named(script.files(), asked, words)?;
             Ok(Event::Ask { label, query })
         }
         _ => Err(Reason::Count),
@@ -80,7 +80,8 @@ fn change_named(script: &Script, name: &[u8], words: &[&[u8]]) -> Result<Change,
     ensures { Says (λ change. change) result
         (spec.change_named script.now.files name.now (nows words.now)) }
 {
-    script.change(altered_name(name).ok_or(Reason::Word)?, words)
+    let name = altered_name(name).ok_or(Reason::Word)?;
+    change_of(script.files(), name, words)
 }
 
 /// A label, and a change.
@@ -129,7 +130,7 @@ fn open_of(script: &Script, words: &[&[u8]]) -> Result<Event, Reason>
     match words {
         [hold, name, words @ ..] => {
             let hold = word::<Label>(hold)?;
-            let file = script.file_at(name)?;
+            let file = file_at(script.files(), name)?;
             let (want, fd) = two::<Want, Fd>(words)?;
             Ok(Event::OpenFile {
                 hold,

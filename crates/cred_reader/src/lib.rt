@@ -1,13 +1,12 @@
 //! Reading a report: the entry that a line of it is the text of.
 //!
-//! `specs/Rows` says which answers an event may be given, `Fits` which entries fit a script, and
-//! `Kinds`, `Events`, `Answers` and `Entry` what the words of a line are read as. `read` prints
-//! what was read and compares it with the line: so it gives an entry exactly where the line is the
-//! text of one that fits.
+//! `specs/Fits` says which entries fit a script, and `Kinds`, `Events`, `Answers` and `Entry` what
+//! the words of a line are read as. `read` prints what was read and compares it with the line: so
+//! it gives an entry exactly where the line is the text of one that fits. Which answers an event
+//! may be given is said in `cred_answers`.
 #![tactic(auto)]
 
 mod answers;
-mod call_rows;
 mod events;
 mod fits;
 mod kinds;
@@ -15,8 +14,6 @@ mod laws;
 mod names;
 mod reader;
 mod refusals;
-mod rows;
-mod told_rows;
 
 pub use answers::Tells;
 pub use laws::{lists_differ, texts_differ};

@@ -11,7 +11,7 @@ ghost use Rattle.cred_reader.specs.Fits.{Fits, IsSound};
 use crate::answers::{answer_of, told_by};
 use crate::events::event_of;
 use crate::fits::is_of;
-use crate::rows::can_answer;
+use cred_answers::can_answer;
 use cred_event::Entry;
 use cred_forms::LineRefusal;
 use cred_ids::NoMemory;

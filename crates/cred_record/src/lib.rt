@@ -9,12 +9,10 @@ pub mod gains;
 pub mod id_call;
 pub mod layout;
 pub mod list;
-mod reading;
 pub mod refusal;
 pub mod valid;
 pub mod want;
 pub mod word_laws;
-mod writing;
 
 pub use adj_call::AdjCall;
 /// The bytes of the extended attribute `security.capability` of a file (capabilities(7), "File
@@ -26,8 +24,6 @@ pub use gains::Gains;
 pub use id_call::IdCall;
 pub use layout::WORDS;
 pub use list::IdList;
-pub use reading::{group_count, group_in, ids_in, known_head, of_words};
 pub use refusal::{Denial, Refusal};
 pub use valid::is_credential;
 pub use want::Want;
-pub use writing::{head, to_words, word_of_groups, words_of_groups};

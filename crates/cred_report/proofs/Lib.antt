@@ -1,4 +1,1 @@
 pub mod Journals
-mod Digits
-mod LastDigit
-mod Pieces

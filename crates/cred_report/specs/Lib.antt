@@ -1,5 +1,3 @@
-pub mod Numbers
-pub mod Page
 pub mod Room
 pub mod Questions
 pub mod Calls

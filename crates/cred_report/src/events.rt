@@ -5,11 +5,10 @@ ghost use Rattle.cred_report.specs.Events.{take_text, event_text};
 ghost use Rattle.cred_report.specs.Room.{EVENT, BEFORE_EVENT};
 
 use crate::calls::{prepend_call, prepend_change};
-use crate::pen::Pen;
 use crate::questions::{prepend_file, prepend_letters, prepend_query};
-use crate::words::{prepend_label, prepend_number, prepend_three, prepend_two, prepend_word};
 use cred_event::{Change, Event, Query, Side};
 use cred_ids::{Id, NoMemory};
+use cred_pen::{Pen, prepend_label, prepend_number, prepend_three, prepend_two, prepend_word};
 use cred_record::{IdCall, Want};
 use cred_script::Script;
 

@@ -2,23 +2,16 @@
 //!
 //! `specs/` defines the text of an entry, case by case. `prepend` adds it to a buffer, and
 //! `prepend_all` the text of many entries, so that one buffer serves a whole report; `print` gives
-//! the text of one alone.
+//! the text of one alone. The pen that writes it, and the numbers in it, are in `cred_pen`.
 #![tactic(auto)]
 
 mod answers;
 mod calls;
 mod entry;
 mod events;
-mod forward;
-mod numbers;
-mod pen;
 mod questions;
-mod tens;
 mod told;
-mod words;
 
 pub use entry::{prepend, prepend_all, print};
-pub use forward::{append_flag, append_number, append_set, append_word};
-pub use pen::Pen;
 /// A text, as its bytes.
 pub use cred_ids::Bytes as Text;

@@ -3,13 +3,13 @@ ghost use Rattle.std.specs.Prelude.{◌≡◌};
 ghost use Rattle.std.specs.Io.KnownBytes.{Appends};
 ghost use Rattle.cred_io.specs.Ends.{AppendsPrefix};
 ghost use Rattle.cred_report.specs.Text.{text};
-ghost use Rattle.cred_commands.specs.Ends.{IsForText};
-ghost use Rattle.cred_commands.specs.Leaves.{IsWriting};
+ghost use Rattle.cred_said.specs.Ends.{IsForText};
+ghost use Rattle.cred_said.specs.Leaves.{IsWriting};
 
-use cred_commands::{Status, finish, write_last};
 use cred_event::Entry;
 use cred_io::Sink;
-use cred_report::Pen;
+use cred_pen::Pen;
+use cred_said::{Status, finish, write_last};
 use cred_script::Script;
 use std::alloc::Global;
 

@@ -2,14 +2,14 @@
 ghost use Rattle.std.specs.Prelude.{◌≡◌, ◌≤◌, ◌⊎◌, length};
 ghost use Rattle.cred_ids.specs.Limits.{BYTE_LIMIT};
 ghost use Rattle.cred_model.specs.Journal.{IsLegal};
-ghost use Rattle.cred_commands.specs.Leaves.{IsReading, IsWriting, LeavesReport, RunsBytes};
+ghost use Rattle.cred_said.specs.Leaves.{IsReading, IsWriting, LeavesReport, RunsBytes};
 
 use crate::report::report;
-use cred_commands::{Status, bad_line, tell_said};
+use cred_grammar::{line_count, read};
 use cred_ids::{NoMemory, limits};
 use cred_io::{ReadRefusal, Sink, Source, read_all};
 use cred_lanes::{Gate, lanes};
-use cred_script::{line_count, read};
+use cred_said::{Status, bad_line, tell_said};
 use std::alloc::Global;
 use std::sync::Wait;
 use std::thread::Threads;

@@ -1,5 +1,2 @@
-pub mod Own
-pub mod LanesOfLines
-pub mod Steps
-pub mod MoreNamespaces
-pub mod FirstBadLine
+pub mod SmallLanes
+pub mod FileMap

@@ -1,9 +1,6 @@
-pub use Rattle.cred_spelling.specs.Lines
-pub use Rattle.cred_spelling.specs.Spellings
 pub mod Lanes
-pub mod Reading
-pub mod Grammar
-pub mod FirstBad
+pub mod Lines
+pub mod Acting
+pub mod Files
+pub mod Kept
 pub mod Sound
-pub mod Read
-pub mod Adding

@@ -1,23 +1,16 @@
-//! The grammar of trace scripts, and their reader.
+//! A script: the files and the user namespaces that it declares, and its lines, each with its lane
+//! and what it holds.
 //!
-//! What text is a script, and which script it is, is defined in `specs/`: a script is its lines,
-//! added one after another to what was read before them. `Reading` says what was read before a
-//! line, what that asks of the line and what the line adds to it. `Grammar` puts these together,
-//! and `read` answers exactly that; `Adding` names the steps between. `Sound` says what is true of
-//! each script, and `Lanes` which lane is its greatest. What the words of each form are, and what a
-//! line then declares or holds, stands in `cred_forms`; which lane has which tasks and labels, and
-//! the namespaces, in `cred_names`; how a text is split, what a word spells and the tables of
-//! keywords in `cred_spelling`.
+//! `specs/` says in `Sound` what is true of each script, in `Lines` which line has a number, in
+//! `Acting` which task acts by a line, in `Lanes` which lane is the greatest, in `Files` which file
+//! has a name, and in `Kept` how the files are kept. Which text is a script is said in
+//! `cred_grammar`, which reads one.
 #![tactic(auto)]
 
-mod parts;
-mod reader;
-mod reading;
-mod refusal;
+mod actor;
+mod files;
 mod script;
-mod uses;
 
-pub use cred_spelling::{Reason, bytes_of, line_count};
-pub use reader::read;
-pub use refusal::ScriptRefusal;
-pub use script::Script;
+pub use actor::event_actor;
+pub use files::{Files, ScriptFile};
+pub use script::{Script, ScriptLine};

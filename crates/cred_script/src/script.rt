@@ -1,19 +1,17 @@
-//! A script: the files and the namespaces that it declares, and its lines, each with its lane and
-//! what it holds.
+//! Scripts, and their lines.
 ghost use Rattle.std.specs.Prelude.{◌≡◌, ◌≤◌, ◌<◌, All, AllPairs, IfSome, Some, length, slice_get};
 ghost use Rattle.std.specs.Option.{option_map};
 ghost use Rattle.cred_ids.specs.Limits.{LINE_LIMIT, FILES};
 ghost use Rattle.cred_ids.specs.Limits.{LAST_LANE};
 ghost use Rattle.cred_model.specs.Named.{IsContentOf};
 ghost use Rattle.cred_model.specs.Script.{SetupFirst, chain_in};
-ghost use Rattle.cred_forms.specs.Files as spec;
-ghost use Rattle.cred_script.specs.Grammar.{line_at};
+ghost use Rattle.cred_script.specs.Files as spec;
 ghost use Rattle.cred_script.specs.Lanes.{lanes};
-ghost use Rattle.cred_script.specs.Read.{seen};
-ghost use Rattle.cred_script.specs.Sound.{AreApart, IsSound};
+ghost use Rattle.cred_script.specs.Lines.{line_at, seen};
+ghost use Rattle.cred_script.specs.Sound.{AreApart, IsSound, IsSoundScript};
 
+use crate::files::Files;
 use cred_event::Content;
-use cred_forms::Files;
 use cred_ids::Id;
 use cred_names::Namespaces;
 use cred_record::FileInfo;
@@ -21,9 +19,11 @@ use std::marker::Model;
 
 /// One line of a script.
 #[derive(Drop)]
-pub(crate) struct ScriptLine {
-    pub(crate) lane: u32,
-    pub(crate) content: Content,
+pub struct ScriptLine {
+    /// Its lane, from 1 to 16, and 0 in the setup.
+    pub lane: u32,
+    /// What it holds.
+    pub content: Content,
 }
 
 impl Model for ScriptLine {
@@ -37,9 +37,9 @@ impl Model for ScriptLine {
 /// A script. Its lines are numbered from 1; there are at most 20,000, and at most 256 files.
 #[derive(Drop)]
 pub struct Script {
-    pub(crate) files: Files,
-    pub(crate) namespaces: Namespaces,
-    pub(crate) lines: Vec<ScriptLine>,
+    files: Files,
+    namespaces: Namespaces,
+    lines: Vec<ScriptLine>,
 }
 
 impl Model for Script {
@@ -59,6 +59,27 @@ impl Model for Script {
 }
 
 impl Script {
+    /// The script of these files, namespaces and lines.
+    pub fn new(files: Files, namespaces: Namespaces, lines: Vec<ScriptLine>) -> Script
+        requires { IsSoundScript (length files) namespaces lines.items }
+        ensures value { result
+            ≡ record { files = files; namespaces = namespaces; lines = lines.items } }
+        ensures setup { SetupFirst result }
+    {
+        Script {
+            files,
+            namespaces,
+            lines,
+        }
+    }
+
+    /// The files that it declares, in the order of the lines that declare them.
+    pub fn files(&self) -> &Files
+        ensures { result.now ≡ self.now.files }
+    {
+        &self.files
+    }
+
     /// How many lines there are.
     pub fn lines(&self) -> u32
         ensures count { result ≡ length self.now.lines }

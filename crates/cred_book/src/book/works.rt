@@ -6,7 +6,7 @@ ghost use Rattle.cred_model.specs.Journal as model;
 ghost use Rattle.cred_model.specs.Journal.{replay};
 ghost use Rattle.cred_model.specs.Named.{event_files};
 ghost use Rattle.cred_model.specs.Script.{chain_of, info_of};
-ghost use Rattle.cred_script.specs.Grammar.{line_at};
+ghost use Rattle.cred_script.specs.Lines.{line_at};
 ghost use Rattle.cred_cursor.specs.Cursor.{IsOfLine, MovesOnTo};
 ghost use Rattle.cred_lent.specs.Decisions.{AreFor, AreOf};
 ghost use Rattle.cred_work.specs.Works.{IsDecided};

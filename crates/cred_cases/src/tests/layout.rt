@@ -2,8 +2,9 @@
 use crate::tests::parts::{ALL, id};
 use cred_caps::SecureBits;
 use cred_ids::{Groups, Id, NoMemory, limits};
+use cred_packed::{of_words, to_words};
 use cred_record::layout::{AMBIENT, FLAGS, GROUPS, NAMESPACE, PERMITTED, ROOT, SAVED_GROUP, USER};
-use cred_record::{Cred, WORDS, first, of_words, to_words};
+use cred_record::{Cred, WORDS, first};
 use std::alloc::Global;
 use std::test::Fail;
 

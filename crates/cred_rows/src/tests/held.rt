@@ -1,7 +1,8 @@
 //! What the lines of a script hold, and their lanes.
 use cred_event::Content;
+use cred_grammar::{line_count, read};
 use cred_ids::NoMemory;
-use cred_script::{Script, line_count, read};
+use cred_script::Script;
 use std::alloc::Global;
 use std::test::Fail;
 

@@ -1,9 +1,9 @@
 //! The machine by its own calls.
 use cred_event::{Answer, Event};
+use cred_grammar::read;
 use cred_ids::{Arg, Id, NoMemory};
 use cred_machine::Machine;
 use cred_record::IdCall;
-use cred_script::read;
 use std::alloc::Global;
 use std::test::Fail;
 

@@ -7,9 +7,9 @@ ghost use Rattle.cred_book.specs.Cursor.{Stands, left};
 ghost use Rattle.cred_book.specs.Works.{IsLanes};
 
 use cred_book::{Book, Step};
+use cred_grammar::{line_count, read};
 use cred_hold::Cells;
 use cred_ids::{NoMemory, limits};
-use cred_script::{line_count, read};
 use cred_work::{Work, perform};
 use std::alloc::Global;
 use std::test::Fail;

@@ -1,7 +1,6 @@
 use Rattle.std.proofs.Common.{◌≡◌, Some, None, sym, ap, ◌∙◌}
 use Rattle.std.specs.Option.{option_map}
-use Rattle.cred_script.specs.Read.{seen}
-use Rattle.cred_script.specs.Grammar.{line_at}
+use Rattle.cred_script.specs.Lines.{seen, line_at}
 use Rattle.cred_audit.proofs.Numbers.{line_read, lane_read}
 use Rattle.cred_audit.proofs.lane.lane_at.Goals as goal
 

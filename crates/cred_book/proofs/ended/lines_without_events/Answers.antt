@@ -2,7 +2,7 @@ use Rattle.std.proofs.Common.{◌≡◌, ◌+◌, set, is_none, Some, sym, ap, �
 use Rattle.std.proofs.lemmas.Grind.{common_steps, get_or_default_zero}
 use Rattle.cred_model.specs.Script.{Line}
 use Rattle.cred_model.specs.Course.{start}
-use Rattle.cred_script.specs.Grammar.{line_at}
+use Rattle.cred_script.specs.Lines.{line_at}
 use Rattle.cred_book.proofs.Before.{HasSmall, IsCounted, counted_all, counted_few, counted_on, counted_one, counted_place, counted_small}
 use Rattle.cred_book.proofs.Before.{counted_within}
 use Rattle.cred_book.proofs.ended.lines_without_events.Goals.{then-ended, else-ended}

@@ -1,6 +1,6 @@
 use Rattle.std.proofs.Common.{sym, ◌∙◌}
-use Rattle.cred_commands.specs.declared.status.Status.TheVariants.{Done}
-use Rattle.cred_commands.proofs.Finished.{finished_counts, finished_for_text, finished_whole}
+use Rattle.cred_said.specs.declared.status.Status.TheVariants.{Done}
+use Rattle.cred_said.proofs.Finished.{finished_counts, finished_for_text, finished_whole}
 use Rattle.cred_commands.proofs.Kept.{begins_either, sequence_done}
 use Rattle.cred_commands.proofs.ordered.report_in_order.Goals as goal
 

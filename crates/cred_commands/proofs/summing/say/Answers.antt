@@ -1,5 +1,5 @@
 use Rattle.std.proofs.Common.{refl, ap, ◌∙◌}
-use Rattle.cred_commands.specs.Texts as spec
+use Rattle.cred_said.specs.Texts as spec
 use Rattle.cred_commands.proofs.summing.say.Goals as goal
 
 pub returns : goal.returns

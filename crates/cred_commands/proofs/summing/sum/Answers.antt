@@ -1,8 +1,8 @@
 use Rattle.std.proofs.Common.{ap, sym, subst}
 use Rattle.std.proofs.lemmas.Result.{IfOk-weaker}
-use Rattle.cred_commands.specs.Ends.{IsWhole}
+use Rattle.cred_said.specs.Ends.{IsWhole}
 use Rattle.cred_commands.specs.Summing.{SaysSummary}
-use Rattle.cred_commands.proofs.Telling.{told_one}
+use Rattle.cred_said.proofs.Telling.{told_one}
 use Rattle.cred_commands.proofs.Summed.{leaves_summary}
 use Rattle.cred_commands.proofs.summing.sum.Goals as goal
 

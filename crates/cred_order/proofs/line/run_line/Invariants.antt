@@ -1,5 +1,5 @@
 use Rattle.cred_order.proofs.Goes.{Goes}
-use Rattle.cred_book.specs.Cursor.{waiting}
+use Rattle.cred_left.specs.Waiting.{waiting}
 use Rattle.cred_cursor.specs.Cursor.{left_at}
 use Rattle.std.proofs.Common.{◌≡◌, ◌+◌, Some}
 use Rattle.cred_order.proofs.line.run_line.Given as goal

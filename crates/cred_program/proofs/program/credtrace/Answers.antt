@@ -1,7 +1,7 @@
 use Rattle.std.proofs.Common.{subst}
-use Rattle.cred_commands.specs.Decoding.{SuitsBytes}
-use Rattle.cred_commands.specs.declared.status.Status.TheVariants.{ReadFault}
-use Rattle.cred_commands.proofs.Finished.{for_text_apart}
+use Rattle.cred_inspect.specs.Decoding.{SuitsBytes}
+use Rattle.cred_said.specs.declared.status.Status.TheVariants.{ReadFault}
+use Rattle.cred_said.proofs.Finished.{for_text_apart}
 use Rattle.cred_program.proofs.Unread.{unread}
 use Rattle.cred_program.proofs.program.credtrace.Goals as goal
 

@@ -1,6 +1,6 @@
 use Rattle.std.proofs.Common.{inr}
-use Rattle.cred_commands.specs.declared.status.Status.TheVariants.{Usage}
-use Rattle.cred_commands.proofs.Telling.{by_end}
+use Rattle.cred_said.specs.declared.status.Status.TheVariants.{Usage}
+use Rattle.cred_said.proofs.Telling.{by_end}
 use Rattle.cred_program.specs.Commands.{IsForNoCommand}
 use Rattle.cred_program.proofs.program.tell_usage.Goals as goal
 

@@ -1,8 +1,8 @@
 use Rattle.std.proofs.Common.{sym, ◌∙◌}
 use Rattle.cred_report.specs.Text.{text}
-use Rattle.cred_commands.specs.declared.status.Status.TheVariants.{Done}
-use Rattle.cred_commands.proofs.Finished.{finished_counts, finished_for_text, finished_whole}
-use Rattle.cred_commands.proofs.Prefixes.{done_written, prefix_either}
+use Rattle.cred_said.specs.declared.status.Status.TheVariants.{Done}
+use Rattle.cred_said.proofs.Finished.{finished_counts, finished_for_text, finished_whole}
+use Rattle.cred_said.proofs.Prefixes.{done_written, prefix_either}
 use Rattle.cred_runs.proofs.report.report.Goals as goal
 
 pub returns-clause-done : goal.returns-clause-done

@@ -5,9 +5,9 @@ use cred_event::{Event, Named};
 /// How many credentials a task may act with in place of its own.
 const DEPTH: usize = 8;
 
-/// The answers that refuse an event, named and printed as `cred_event::Answer` has them. They are
-/// copied, and nothing has to be let go of.
-#[derive(Clone, Copy, Debug)]
+/// The answers that refuse an event, named as `cred_event::Answer` has them. They are copied, and
+/// nothing has to be let go of.
+#[derive(Clone, Copy)]
 pub(crate) enum Due {
     Ebadf,
     NoTask(u32),

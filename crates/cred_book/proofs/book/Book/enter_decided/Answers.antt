@@ -4,7 +4,7 @@ use Rattle.cred_event.specs.declared.answer.Answer.{Answer}
 use Rattle.cred_event.specs.declared.entry.Entry.{Entry}
 use Rattle.cred_model.specs.Course as model
 use Rattle.cred_model.specs.Journal.{replay}
-use Rattle.cred_script.specs.Grammar.{line_at}
+use Rattle.cred_script.specs.Lines.{line_at}
 use Rattle.cred_cursor.specs.Cursor.{MovesOnTo}
 use Rattle.cred_work.specs.declared.work.Work.{Work}
 use Rattle.cred_tables.proofs.Outs.{out_like}

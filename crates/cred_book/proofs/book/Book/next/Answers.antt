@@ -7,7 +7,7 @@ use Rattle.cred_model.specs.Course as model
 use Rattle.cred_model.specs.Course.{Course, event_at}
 use Rattle.cred_model.specs.Journal.{replay}
 use Rattle.cred_model.specs.Named.{IsEventOf, event_files}
-use Rattle.cred_script.specs.Grammar.{line_at}
+use Rattle.cred_script.specs.Lines.{line_at}
 use Rattle.cred_cursor.specs.Cursor.{IsOfLine, MovesOnTo}
 use Rattle.cred_cursor.specs.Cursors.{due_of}
 use Rattle.cred_cursor.proofs.Turns.{lane_has_place}

@@ -1,6 +1,6 @@
 use Rattle.std.proofs.Common.{◌≡◌, ◌∙◌, ap, sym, subst, ℕ, ◌≤◌}
 use Rattle.cred_script.specs.Lanes.{lanes}
-use Rattle.cred_script.proofs.LanesOfLines.{lanes_small, setup_only}
+use Rattle.cred_script.proofs.SmallLanes.{lanes_small, setup_only}
 use Rattle.cred_script.proofs.script.Script.lanes.Goals as goal
 
 pub returns-clause-few : goal.returns-clause-few

@@ -1,0 +1,11 @@
+//! Which answers an event may be given, whatever the state.
+//!
+//! `specs/Rows` says it of each event, and `CallRows` of an id call and of a change of sets or
+//! securebits, by their arguments.
+#![tactic(auto)]
+
+mod call_rows;
+mod rows;
+mod told_rows;
+
+pub use rows::can_answer;

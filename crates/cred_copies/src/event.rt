@@ -1,0 +1,93 @@
+//! Events.
+ghost use Rattle.std.specs.Prelude.{◌≡◌, IfOk, OnErr};
+ghost use Rattle.cred_copies.specs.Lists.{BeginsCall, BeginsSetGroups};
+
+use cred_event::Event;
+use cred_ids::NoMemory;
+
+/// An equal event.
+///
+/// # Errors
+///
+/// `NoMemory` where the list of a `setgroups` could not be copied; no other event takes memory.
+pub fn copy_event(e: &Event) -> Result<Event, NoMemory>
+    ensures equal { IfOk result (λ copied. copied ≡ e.now) }
+    ensures refusal { OnErr result (BeginsSetGroups e.now) }
+{
+    match e {
+        Event::Begin { task, call } => Ok(Event::Begin {
+            task: *task,
+            call: call.copy()?,
+        }),
+        _ => Ok(copy_plain(e)),
+    }
+}
+
+/// An equal event, of one that is no id call.
+fn copy_plain(e: &Event) -> Event
+    requires { BeginsCall e.now → ⊥ }
+    ensures { result ≡ e.now }
+{
+    match *e {
+        Event::Init {
+            task,
+            process,
+            user,
+            group,
+            ns,
+        } => Event::Init {
+            task,
+            process,
+            user,
+            group,
+            ns,
+        },
+        Event::Take { label, task, side } => Event::Take { label, task, side },
+        Event::TakeFile { label, fd } => Event::TakeFile { label, fd },
+        Event::Release { label } => Event::Release { label },
+        Event::Ask { label, query } => Event::Ask { label, query },
+        Event::Signal {
+            from,
+            hold,
+            to,
+            target,
+        } => Event::Signal {
+            from,
+            hold,
+            to,
+            target,
+        },
+        Event::Prepare { label, task, hold } => Event::Prepare { label, task, hold },
+        Event::Alter { label, change } => Event::Alter { label, change },
+        Event::Commit { label } => Event::Commit { label },
+        Event::Abort { label } => Event::Abort { label },
+        Event::Override { task, label } => Event::Override { task, label },
+        Event::Revert { task } => Event::Revert { task },
+        Event::Begin { .. } => unreachable!(),
+        Event::Act { cast } => Event::Act { cast },
+        Event::OpenFile {
+            hold,
+            file,
+            want,
+            fd,
+        } => Event::OpenFile {
+            hold,
+            file,
+            want,
+            fd,
+        },
+        Event::CloseFile { fd } => Event::CloseFile { fd },
+        Event::Spawn { task, child } => Event::Spawn { task, child },
+        Event::Fork {
+            task,
+            child,
+            process,
+        } => Event::Fork {
+            task,
+            child,
+            process,
+        },
+        Event::Exit { task } => Event::Exit { task },
+        Event::Sweep => Event::Sweep,
+    }
+}

@@ -1,0 +1,5 @@
+pub mod Own
+pub mod LanesOfLines
+pub mod Steps
+pub mod MoreNamespaces
+pub mod FirstBadLine

@@ -1,0 +1,3 @@
+pub mod ReportLine
+pub mod Verdicts
+pub mod Decoded

@@ -1,0 +1,3 @@
+pub mod Parts
+pub mod Auditing
+pub mod Decoding

@@ -1,0 +1,123 @@
+//! Saying whether a report is the report of a script.
+ghost use Rattle.std.specs.Prelude.{◌≡◌, ◌≢◌, ◌≤◌, ◌⊎◌, IfOk, MatchBool};
+ghost use Rattle.std.specs.Prelude.{length, string_bytes};
+ghost use Rattle.std.specs.Option.{option_map};
+ghost use Rattle.cred_ids.specs.Limits.{LINE_LIMIT, AUDIT_LIMIT};
+ghost use Rattle.cred_spelling.specs.Lines.{lines_of};
+ghost use Rattle.cred_inspect.specs.Auditing.{AuditSuits, IsAuditWithin, Judges, LeavesVerdict};
+ghost use Rattle.cred_inspect.specs.Auditing.{Says, Writes, WritesPrefix, no_report_text};
+ghost use Rattle.cred_said.specs.Ends.{IsTooLarge, IsWhole, IsWithin};
+ghost use Rattle.cred_said.specs.Leaves.{IsReading, IsWriting};
+ghost use Rattle.cred_inspect.specs.Parts as spec;
+ghost use Rattle.cred_inspect.specs.Parts.{script_part};
+
+use crate::parts::parts_of;
+use cred_audit::{Verdict, audit};
+use cred_grammar::{line_count, read};
+use cred_ids::{NoMemory, limits};
+use cred_io::{ReadRefusal, Sink, Source, read_all};
+use cred_said::{Said, Status, bad_line, tell_said};
+use std::alloc::Global;
+
+/// Reads an input to its end, and says whether its report is its script's.
+pub fn read_and_audit<S: Source, K: Sink>(alloc: Global, source: &mut S, sink: &mut K) -> Status
+    ensures verdict { LeavesVerdict result (S.left source.old) (S.left source.new)
+        (K.written sink.old) (K.written sink.new) }
+    ensures reading { IsReading AUDIT_LIMIT result (S.left source.old) (S.left source.new)
+        (S.faults source.old) (S.faults source.new) }
+    ensures writing { IsWriting result (K.handed_on sink.new)
+        (K.faults sink.old) (K.faults sink.new) }
+    ensures silent { (result ≡ Status.ReadFault) ⊎ (result ≡ Status.TooLarge)
+        → sink.new ≡ sink.old }
+{
+    match read_all(alloc, source, limits::AUDIT_LIMIT) {
+        Ok(bytes) => run_audit(alloc, bytes.items(), sink),
+        Err(ReadRefusal::Fault) => Status::ReadFault,
+        Err(ReadRefusal::TooLarge) => Status::TooLarge,
+        Err(ReadRefusal::Memory) => Status::Memory,
+    }
+}
+
+/// Says whether the report in an input is its script's, or where it goes wrong, or why there
+/// is nothing to be said; writes nothing where the script is too large.
+fn run_audit<K: Sink>(alloc: Global, input: &[u8], sink: &mut K) -> Status
+    requires { length input.now ≤ AUDIT_LIMIT }
+    ensures whole { IsWhole result
+        → Writes result (K.written sink.old) (K.written sink.new) input.now }
+    ensures too_large { result ≡ Status.TooLarge
+        → IsTooLarge (script_part input.now) × (sink.new ≡ sink.old) }
+    ensures no_read_fault { result ≢ Status.ReadFault }
+    ensures suits { AuditSuits input.now result }
+    ensures writing { IsWriting result (K.handed_on sink.new)
+        (K.faults sink.old) (K.faults sink.new) }
+    ensures prefix { (sink.new ≡ sink.old) ⊎ (IsAuditWithin input.now
+        × WritesPrefix (K.written sink.old) (K.written sink.new) input.now) }
+{
+    let parts = parts_of(input);
+    if is_too_large(script_part(input, parts)) {
+        return Status::TooLarge;
+    }
+    tell_said(sink, say(alloc, input, parts))
+}
+
+/// What is to be a script: where no line is `report`, the whole input.
+fn script_part<'b>(input: &'b [u8], parts: Option<(&'b [u8], &'b [u8])>) -> &'b [u8]
+    requires { option_map (λ parts. (parts.0.now, parts.1.now)) parts ≡ spec.parts_of input.now }
+    ensures { result.now ≡ spec.script_part input.now }
+{
+    match parts {
+        Some((script, _)) => script,
+        None => input,
+    }
+}
+
+/// Whether this has more bytes, or more lines, than a script may have.
+fn is_too_large(script: &[u8]) -> bool
+    ensures { MatchBool result (IsTooLarge script.now) (IsWithin script.now) }
+{
+    script.len() > limits::BYTE_LIMIT as usize || line_count(script) > limits::LINE_LIMIT
+}
+
+/// What is said of an input within the limits.
+fn say(alloc: Global, input: &[u8], parts: Option<(&[u8], &[u8])>) -> Result<Said, NoMemory>
+    requires parts { option_map (λ parts. (parts.0.now, parts.1.now)) parts
+        ≡ spec.parts_of input.now }
+    requires within { IsWithin (spec.script_part input.now) }
+    ensures { IfOk result (λ said. Says input.now said.status said.text.items) }
+{
+    match parts {
+        Some((script, report)) => judge(alloc, script, report),
+        None => Ok(Said::of(Status::Bad, no_report(alloc, input)?)),
+    }
+}
+
+/// What is said of an input of which no line is `report`.
+fn no_report(alloc: Global, input: &[u8]) -> Result<String, NoMemory>
+    requires { length (lines_of input.now) ≤ LINE_LIMIT }
+    ensures { IfOk result (λ text. string_bytes text ≡ no_report_text input.now) }
+{
+    let line = line_count(input) + 1;
+    Ok(format!(in alloc; "bad {line} report\n")?)
+}
+
+/// What is said of a script and of what is to be its report.
+fn judge(alloc: Global, script: &[u8], report: &[u8]) -> Result<Said, NoMemory>
+    requires { length (lines_of script.now) ≤ LINE_LIMIT }
+    ensures { IfOk result (λ said. Judges script.now report.now said.status
+        said.text.items) }
+{
+    match read(alloc, script) {
+        Ok(script) => {
+            let verdict = audit(alloc, &script, report);
+            drop(script);
+            match verdict? {
+                Verdict::Legal => Ok(Said::of(Status::Done, String::from_str(alloc, "legal\n")?)),
+                Verdict::NotLegal { entry } => Ok(Said::of(
+                    Status::NotLegal,
+                    format!(in alloc; "not legal {entry}\n")?,
+                )),
+            }
+        }
+        Err(refusal) => bad_line(alloc, refusal),
+    }
+}

@@ -1,0 +1,71 @@
+//! What the bytes of a file's capability attribute say.
+ghost use Rattle.std.specs.Prelude.{◌≡◌, ◌++◌, IfOk, OnOk, codes, string_bytes};
+ghost use Rattle.cred_pen.specs.Numbers.{set_text};
+ghost use Rattle.cred_inspect.specs.Decoding.{LeavesAttribute, SaysBytes};
+ghost use Rattle.cred_said.specs.Leaves.{IsWriting};
+ghost use Rattle.cred_said.specs.Texts as spec;
+ghost use Rattle.cred_said.specs.Texts.{attr_text};
+
+use cred_filecap::{AttrRefusal, FileCaps, decode};
+use cred_ids::NoMemory;
+use cred_io::Sink;
+use cred_pen::{append_flag, append_number, append_set, append_word};
+use cred_said::{Said, Status, tell_said};
+use std::alloc::Global;
+
+/// Writes what the bytes of an attribute say, or why they are none.
+pub fn show<K: Sink>(alloc: Global, bytes: &[u8], sink: &mut K) -> Status
+    ensures attribute { LeavesAttribute bytes.now result (K.written sink.old) (K.written sink.new) }
+    ensures writing { IsWriting result (K.handed_on sink.new)
+        (K.faults sink.old) (K.faults sink.new) }
+{
+    tell_said(sink, say(alloc, bytes))
+}
+
+/// What is said of the bytes.
+fn say(alloc: Global, bytes: &[u8]) -> Result<Said, NoMemory>
+    ensures { IfOk result (λ said. SaysBytes bytes.now said.status said.text.items) }
+{
+    match decode(bytes) {
+        Ok(caps) => Ok(Said {
+            status: Status::Done,
+            text: text_of(alloc, caps)?,
+        }),
+        Err(refusal) => Ok(Said::of(Status::Bad, refusal_text(alloc, refusal)?)),
+    }
+}
+
+/// The text of what an attribute says.
+fn text_of(alloc: Global, caps: FileCaps) -> Result<Vec<u8>, NoMemory>
+    ensures { IfOk result (λ text. text.items ≡ attr_text caps) }
+{
+    let mut text = Vec::new(alloc);
+    append_number(&mut text, "version ", u32::from(caps.version))?;
+    append_sets(&mut text, caps)?;
+    append_word(&mut text, " effective")?;
+    append_flag(&mut text, caps.effective)?;
+    append_number(&mut text, " root ", caps.root)?;
+    append_word(&mut text, "\n")?;
+    Ok(text)
+}
+
+/// Appends the text of its two sets.
+fn append_sets(text: &mut Vec<u8>, caps: FileCaps) -> Result<(), NoMemory>
+    ensures { OnOk result (text.new.items ≡ text.old.items
+        ++ codes " perm" ++ set_text caps.perm ++ codes " inh" ++ set_text caps.inh) }
+{
+    append_word(text, " perm")?;
+    append_set(text, caps.perm)?;
+    append_word(text, " inh")?;
+    append_set(text, caps.inh)
+}
+
+/// The text of why bytes are no attribute.
+fn refusal_text(alloc: Global, refusal: AttrRefusal) -> Result<String, NoMemory>
+    ensures { IfOk result (λ text. string_bytes text ≡ spec.refusal_text refusal) }
+{
+    match refusal {
+        AttrRefusal::BadLength(n) => Ok(format!(in alloc; "bad length {n}\n")?),
+        AttrRefusal::BadRevision(n) => Ok(format!(in alloc; "bad revision {n}\n")?),
+    }
+}

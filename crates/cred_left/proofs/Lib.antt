@@ -1,0 +1,4 @@
+pub mod Waiting
+pub mod WaitingSteps
+pub mod Measure
+pub mod Stages

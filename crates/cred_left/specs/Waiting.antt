@@ -1,0 +1,11 @@
+-- How many tasks wait.
+use Rattle.std.specs.Prelude.{ℕ, List, length}
+use Rattle.std.specs.List.{sum_by}
+use Rattle.cred_model.specs.State.{State, Broadcast}
+
+-- how many tasks wait to make a call that one of their process has begun
+abbrev pub waiting_in : List Broadcast → ℕ
+waiting_in casts = sum_by (λ cast. length cast.waiting) casts
+
+abbrev pub waiting : State → ℕ
+waiting s = waiting_in s.casts

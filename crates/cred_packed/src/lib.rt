@@ -1,0 +1,9 @@
+//! A credential laid out in words of 64 bits, and read from them. What each word holds, and which
+//! words are a credential's, is said in `cred_record`.
+#![tactic(auto)]
+
+mod reading;
+mod writing;
+
+pub use reading::{group_count, group_in, ids_in, known_head, of_words};
+pub use writing::{head, to_words, word_of_groups, words_of_groups};

@@ -1,7 +1,0 @@
-use Rattle.std.proofs.Common.{◌≡◌, take, drop}
-use Rattle.cred_record.specs.declared.layout.TheConstants.{GROUPS}
-use Rattle.cred_record.specs.Words.{unpaired}
-use Rattle.cred_record.proofs.reading.group_ids.Given as goal
-
-abbrev pub invariant-loop-place : goal.invariant-loop-place
-invariant-loop-place l = l.ids.items ≡ take l.place (unpaired (drop GROUPS l.words))

@@ -1,0 +1,78 @@
+//! Short texts: what a command says in place of a report. Here alone they are written, and handed
+//! on: what a buffer keeps back can still be lost.
+ghost use Rattle.std.specs.Prelude.{◌≡◌, true, IfOk, OnOk, OnErr, string_bytes};
+ghost use Rattle.std.specs.Io.KnownBytes.{Appends};
+ghost use Rattle.cred_io.specs.Causes.{CountsFaults};
+ghost use Rattle.cred_io.specs.Ends.{AppendsPrefix};
+ghost use Rattle.cred_said.specs.Ends.{IsWhole};
+ghost use Rattle.cred_said.specs.Leaves.{IsWriting};
+ghost use Rattle.cred_said.specs.Telling.{Tells, TellsSaid};
+
+use crate::status::{Status, finish};
+use cred_ids::NoMemory;
+use cred_io::{Sink, SinkRefusal, write_all};
+
+/// What is said in place of a report, and the status if all of it was written.
+#[derive(Drop, Debug)]
+pub struct Said {
+    /// How the command ends, if all of the text was written.
+    pub status: Status,
+    /// What is said.
+    pub text: Vec<u8>,
+}
+
+impl Said {
+    /// This text, with this status.
+    pub fn of(status: Status, text: String) -> Said
+        ensures status { result.status ≡ status }
+        ensures text { result.text.items ≡ string_bytes text }
+    {
+        Said {
+            status,
+            text: text.into_bytes(),
+        }
+    }
+}
+
+/// Writes a short text, and says how the command ends: with this status, if all of it was written
+/// and handed on.
+pub fn tell<K: Sink>(sink: &mut K, status: Status, text: &[u8]) -> Status
+    requires { IsWhole status }
+    ensures told { Tells status text.now result (K.written sink.old) (K.written sink.new) }
+    ensures writing { IsWriting result (K.handed_on sink.new)
+        (K.faults sink.old) (K.faults sink.new) }
+{
+    finish(write_text(sink, text), status)
+}
+
+/// The same of what is said; nothing is written where memory ran out before there was a text.
+pub fn tell_said<K: Sink>(sink: &mut K, said: Result<Said, NoMemory>) -> Status
+    requires { IfOk said (λ said. IsWhole said.status) }
+    ensures told { TellsSaid said result (K.written sink.old) (K.written sink.new)
+        (sink.new ≡ sink.old) }
+    ensures writing { IsWriting result (K.handed_on sink.new)
+        (K.faults sink.old) (K.faults sink.new) }
+{
+    match said {
+        Ok(said) => tell(sink, said.status, &said.text),
+        Err(NoMemory) => Status::Memory,
+    }
+}
+
+/// Writes a short text, and hands it on.
+///
+/// # Errors
+///
+/// The sink's refusal: a prefix of the text was written.
+#[tactic(auto, using(crate::proofs::Prefixes::flushed))]
+fn write_text<K: Sink>(sink: &mut K, text: &[u8]) -> Result<(), SinkRefusal>
+    ensures ok { OnOk result (Appends (K.written sink.old) (K.written sink.new) text.now) }
+    ensures err { OnErr result
+        (AppendsPrefix (K.written sink.old) (K.written sink.new) text.now) }
+    ensures handed_on { OnOk result (K.handed_on sink.new ≡ true) }
+    ensures cause { CountsFaults (result ≡ Err SinkRefusal.Failed)
+        (K.faults sink.old) (K.faults sink.new) }
+{
+    write_all(sink, text)?;
+    sink.flush()
+}

@@ -1,5 +1,0 @@
-use Rattle.cred_script.proofs.Own.{call_own}
-use Rattle.cred_script.proofs.reading.Reading.add_call.Goals as goal
-
-pub add_held-requires-clause-own : goal.add_held-requires-clause-own
-add_held-requires-clause-own c = call_own _ _ _ _ c.in_ok-content.ensures
