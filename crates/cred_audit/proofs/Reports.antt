@@ -17,7 +17,8 @@ use Rattle.cred_audit.specs.Report.{IsReport, Begins, IsFault}
 use Rattle.cred_audit.specs.Next.{ComesNext, IsLaneAt}
 use Rattle.cred_audit.specs.Run.{IsAfter, IsRun, GoesOn, ReadsEntry, GoesWrong, RunHasEnded, IsLeft}
 use Rattle.cred_audit.specs.declared.run.Run.{Run}
-use Rattle.cred_audit.proofs.Prefixes.{so_far_prefix, comes_behind, longer_begins}
+use Rattle.cred_audit.proofs.Prefixes.{longer_begins}
+use Rattle.cred_laws.proofs.Prefixes.{so_far_prefix, comes_behind}
 
 -- ---- texts
 

@@ -11,6 +11,7 @@ pub mod ChangeLaws
 pub mod MadeLaws
 pub mod PermittedLaws
 pub mod OrderLaws
+pub mod Prefixes
 pub mod LegalLaws
 pub mod AnsweredLaws
 pub mod BegunLaws

@@ -1,3 +1,5 @@
 pub mod Prefixes
 pub mod Finished
 pub mod Telling
+pub mod Cuts
+pub mod Runs

@@ -3,8 +3,7 @@
 
 use cred_ids::NoMemory;
 use cred_io::{StdSink, StdSource};
-use cred_lanes::NoGate;
-use cred_program::exit_code;
+use cred_program::{NoGate, exit_code};
 use std::io::ErrorKind;
 use std::process::ExitCode;
 use std::rt::Runtime;

@@ -1,6 +1,6 @@
 use Rattle.std.proofs.Common.{ap}
 use Rattle.cred_model.specs.Journal.{IsSequence}
-use Rattle.cred_commands.proofs.Runs.{leaves_report}
+use Rattle.cred_said.proofs.Runs.{leaves_report}
 use Rattle.cred_commands.proofs.ordered.read_and_run.Goals as goal
 
 pub returns-in-Ok-clause-report : goal.returns-in-Ok-clause-report

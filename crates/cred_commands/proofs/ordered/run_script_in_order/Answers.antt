@@ -3,7 +3,7 @@ use Rattle.std.proofs.lemmas.Result.{IfOk-weaker}
 use Rattle.cred_laws.proofs.OrderLaws.{sequence_is_legal}
 use Rattle.cred_model.specs.Journal.{IsSequence}
 use Rattle.cred_said.specs.Ends.{IsWithin}
-use Rattle.cred_commands.proofs.Runs.{IsScript, ran_refused, ran_script, refusal_whole}
+use Rattle.cred_said.proofs.Runs.{IsScript, ran_refused, ran_script, refusal_whole}
 use Rattle.cred_commands.proofs.ordered.run_script_in_order.Goals as goal
 
 pub returns-in-Ok-clause-runs : goal.returns-in-Ok-clause-runs

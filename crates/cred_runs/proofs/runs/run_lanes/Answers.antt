@@ -2,7 +2,7 @@ use Rattle.std.proofs.Common.{arith}
 use Rattle.std.proofs.lemmas.Result.{IfOk-weaker}
 use Rattle.cred_model.specs.Journal.{IsLegal}
 use Rattle.cred_said.specs.Ends.{IsWithin}
-use Rattle.cred_commands.proofs.Runs.{IsScript, ran_refused, ran_script, refusal_whole}
+use Rattle.cred_said.proofs.Runs.{IsScript, ran_refused, ran_script, refusal_whole}
 use Rattle.cred_runs.proofs.runs.run_lanes.Goals as goal
 
 pub returns-in-Ok-lanes-clause-runs : goal.returns-in-Ok-lanes-clause-runs

@@ -9,7 +9,7 @@ use Rattle.cred_event.specs.declared.entry.Entry.{Entry}
 use Rattle.cred_model.specs.Script.{Script}
 use Rattle.cred_model.specs.Journal.{SoFar}
 use Rattle.cred_report.specs.Text.{entry_text, text}
-use Rattle.cred_audit.proofs.Prefixes.{so_far_prefix, comes_behind}
+use Rattle.cred_laws.proofs.Prefixes.{so_far_prefix, comes_behind}
 use Rattle.cred_said.specs.Cuts.{IsCut, AppendsCut}
 
 -- The texts of the elements before one, and a part of its own.

@@ -26,7 +26,7 @@ use Rattle.cred_said.specs.Texts.{bad_text}
 use Rattle.cred_said.specs.declared.said.Said.{Said}
 use Rattle.cred_said.specs.declared.status.Status.{Status}
 use Rattle.cred_said.specs.declared.status.Status.TheVariants as status
-use Rattle.cred_commands.proofs.Cuts.{cut_written}
+use Rattle.cred_said.proofs.Cuts.{cut_written}
 use Rattle.cred_said.proofs.Finished.{for_text_apart}
 use Rattle.cred_said.proofs.Telling.{SaidOne, by_ends, or_so, same_or_so, told_one}
 
