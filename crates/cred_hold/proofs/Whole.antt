@@ -64,24 +64,24 @@ bits_more bits word first i ws is h = record {
       (λ k. bit_or (before k) (now k));
 }
 
--- the bits of the words up to j, where those from i on are looked at together
-pub bits_join : (bits more first i j : ℕ) (ws : List ℕ) → i ≤ j → ((more ≡ 0) ↔ AreZerosTo i j ws) → Bits bits first i ws → Bits (bit_or bits more) first j ws
-bits_join bits more first i j ws onward e h = record {
+-- the bits of the words from i on, where those up to the first of the others are looked at together
+pub bits_front : (bits more i first j : ℕ) (ws : List ℕ) → i ≤ first → ((more ≡ 0) ↔ AreZerosTo i first ws) → Bits bits first j ws → Bits (bit_or bits more) i j ws
+bits_front bits more i first j ws onward e h = record {
   from = let a = h.from in omega arith;
   zeros = λ none k a b.
       let l = le_or_l bits more in
       let r = le_or_r bits more in
-      let before : bits ≡ 0 = omega arith in
+      let others : bits ≡ 0 = omega arith in
       let now : more ≡ 0 = omega arith in
       ⊎_elim
-      (λ (below : k < i). h.zeros before k a below)
-      (λ (from : i ≤ k). e.0 now k from b)
-      (cases_lt k i);
+      (λ (below : k < first). e.0 now k a below)
+      (λ (from : first ≤ k). h.zeros others k from b)
+      (cases_lt k first);
   none = λ all.
       let a = h.from in
-      let before : bits ≡ 0 = h.none (λ k a b. all k a (omega arith)) in
-      let now : more ≡ 0 = e.1 (λ k from b. all k (omega arith) b) in
-      (λ k. bit_or (before k) (now k));
+      let others : bits ≡ 0 = h.none (λ k from b. all k (omega arith) b) in
+      let now : more ≡ 0 = e.1 (λ k from b. all k from (omega arith)) in
+      (λ k. bit_or (others k) (now k));
 }
 
 -- all words were looked at

@@ -36,8 +36,9 @@ pub(crate) fn gather<const N: usize>(
     words
 }
 
-/// How many words are looked at in a row, so that the loop's own steps are few.
-const ROW: usize = 16;
+/// How many words are looked at in a row, so that the loop's own steps are few. Rows are taken from
+/// the last word on: then a row's place doesn't hang on where the words begin that are looked at.
+const ROW: usize = 32;
 
 /// The bits of so many words of the slot that is held, from `first` on, together. Each is loaded.
 #[inline(always)]
@@ -66,10 +67,10 @@ fn read_zeros(cells: &Cells, hold: &mut Hold, slot: u32, first: usize) -> bool
 {
     let mut bits = 0;
     for row in 0..(WORDS - first) / ROW {
-        bits |= read_bits(cells, hold, slot, first + row * ROW, ROW);
+        bits |= read_bits(cells, hold, slot, WORDS - (row + 1) * ROW, ROW);
     }
     let rest = (WORDS - first) % ROW;
-    bits |= read_bits(cells, hold, slot, WORDS - rest, rest);
+    bits |= read_bits(cells, hold, slot, first, rest);
     bits == 0
 }
 
@@ -197,10 +198,10 @@ fn see_zeros(cells: &Cells, writer: &mut Writer, slot: u32, first: usize) -> boo
 {
     let mut bits = 0;
     for row in 0..(WORDS - first) / ROW {
-        bits |= see_bits(cells, writer, slot, first + row * ROW, ROW);
+        bits |= see_bits(cells, writer, slot, WORDS - (row + 1) * ROW, ROW);
     }
     let rest = (WORDS - first) % ROW;
-    bits |= see_bits(cells, writer, slot, WORDS - rest, rest);
+    bits |= see_bits(cells, writer, slot, first, rest);
     bits == 0
 }
 
