@@ -1,5 +1,5 @@
 //! What the lines of a script hold, and their lanes.
-use cred_event::Content;
+use cred_event::{Content, Event};
 use cred_grammar::{line_count, read};
 use cred_ids::NoMemory;
 use cred_script::Script;
@@ -14,92 +14,59 @@ pub(crate) fn script_of(alloc: Global, text: &str) -> Result<Script, Fail> {
     Ok(read(alloc, text.as_bytes())?)
 }
 
-/// A script, and what each of its lines holds, with its lane before it.
+/// A script, and what each of its lines holds, as `text_of` says it, with its lane before it.
 type Row = (&'static str, &'static [&'static str]);
 
 const ROWS: [Row; 29] = [
     (
         "init t1 p2 5 6 n0\n#\nt3 setresuid 1 -1 2\nt4 ids\ntakereal h5 t6\nask h7 caps\n",
         &[
-            "0 One(Init { task: 1, process: 2, user: Id(5), group: Id(6), ns: 0 })",
+            "0 One(Init 1 2 5 6 0)",
             "0 Nothing",
-            "0 Id { task: 3, call: SetResuid(Set(Id(1)), Keep, Set(Id(2))) }",
-            "0 Question { task: 4, query: Ids }",
-            "0 One(Take { label: 5, task: 6, side: Objective })",
-            "0 One(Ask { label: 7, query: Caps })",
+            "0 Id 3 SetResuid(Set(Id(1)), Keep, Set(Id(2)))",
+            "0 Question 4 Ids",
+            "0 One(Take 5 6 Objective)",
+            "0 One(Ask 7 Caps)",
         ],
     ),
-    (
-        "t1 setfsuid 7",
-        &["0 Change { task: 1, change: SetFs(User, Set(Id(7))) }"],
-    ),
-    (
-        "t1 setfsgid -1",
-        &["0 Change { task: 1, change: SetFs(Group, Keep) }"],
-    ),
+    ("t1 setfsuid 7", &["0 Change 1 SetFs(User, Set(Id(7)))"]),
+    ("t1 setfsgid -1", &["0 Change 1 SetFs(Group, Keep)"]),
     (
         "t1 capset 00000000000000ff aB 1FFFFFFFFFF",
         &[
-            "0 Change { task: 1, change: Adjust(Capset { perm: CapSet { bits: Bits(255) }, \
-             inh: CapSet { bits: Bits(171) }, eff: CapSet { bits: Bits(2199023255551) } }) }",
+            "0 Change 1 Adjust(Capset { perm: CapSet { bits: Bits(255) }, \
+             inh: CapSet { bits: Bits(171) }, eff: CapSet { bits: Bits(2199023255551) } })",
         ],
     ),
     (
         "t1 capdrop CAP_NET_RAW",
-        &["0 Change { task: 1, change: Adjust(BoundDrop(13)) }"],
+        &["0 Change 1 Adjust(BoundDrop(13))"],
     ),
-    (
-        "t1 ambraise 41",
-        &["0 Change { task: 1, change: Adjust(AmbRaise(41)) }"],
-    ),
+    ("t1 ambraise 41", &["0 Change 1 Adjust(AmbRaise(41))"]),
     (
         "t1 amblower CAP_CHECKPOINT_RESTORE",
-        &["0 Change { task: 1, change: Adjust(AmbLower(40)) }"],
+        &["0 Change 1 Adjust(AmbLower(40))"],
     ),
-    (
-        "t1 ambclear",
-        &["0 Change { task: 1, change: Adjust(AmbClear) }"],
-    ),
+    ("t1 ambclear", &["0 Change 1 Adjust(AmbClear)"]),
     (
         "t1 securebits 4294967295",
-        &["0 Change { task: 1, change: Adjust(Bits(4294967295)) }"],
+        &["0 Change 1 Adjust(Bits(4294967295))"],
     ),
-    (
-        "t1 keepcaps 1",
-        &["0 Change { task: 1, change: Adjust(KeepCaps(1)) }"],
-    ),
-    (
-        "t1 nonewprivs 0",
-        &["0 Change { task: 1, change: Adjust(NoNewPrivs(0)) }"],
-    ),
-    ("t2 bits", &["0 Question { task: 2, query: Bits }"]),
-    (
-        "t1 capable CAP_CHOWN",
-        &["0 Question { task: 1, query: Capable(0) }"],
-    ),
-    (
-        "t1 bset 4294967295",
-        &["0 Question { task: 1, query: Bset(4294967295) }"],
-    ),
-    (
-        "t1 ambis CAP_SYS_ADMIN",
-        &["0 Question { task: 1, query: AmbIs(21) }"],
-    ),
-    ("ask h3 bits", &["0 One(Ask { label: 3, query: Bits })"]),
-    (
-        "ask h3 capable 41",
-        &["0 One(Ask { label: 3, query: Capable(41) })"],
-    ),
-    (
-        "prepare h1 t2 h3",
-        &["0 One(Prepare { label: 1, task: 2, hold: 3 })"],
-    ),
+    ("t1 keepcaps 1", &["0 Change 1 Adjust(KeepCaps(1))"]),
+    ("t1 nonewprivs 0", &["0 Change 1 Adjust(NoNewPrivs(0))"]),
+    ("t2 bits", &["0 Question 2 Bits"]),
+    ("t1 capable CAP_CHOWN", &["0 Question 1 Capable(0)"]),
+    ("t1 bset 4294967295", &["0 Question 1 Bset(4294967295)"]),
+    ("t1 ambis CAP_SYS_ADMIN", &["0 Question 1 AmbIs(21)"]),
+    ("ask h3 bits", &["0 One(Ask 3 Bits)"]),
+    ("ask h3 capable 41", &["0 One(Ask 3 Capable(41))"]),
+    ("prepare h1 t2 h3", &["0 One(Prepare 1 2 3)"]),
     (
         "change h4 setfsgid 5",
-        &["0 One(Alter { label: 4, change: SetFs(Group, Set(Id(5))) })"],
+        &["0 One(Alter 4 SetFs(Group, Set(Id(5))))"],
     ),
-    ("commit h6", &["0 One(Commit { label: 6 })"]),
-    ("abort h7", &["0 One(Abort { label: 7 })"]),
+    ("commit h6", &["0 One(Commit 6)"]),
+    ("abort h7", &["0 One(Abort 7)"]),
     (
         // Two files, and lines that name them.
         "file a reg 1 2 4750 nosuid caps 0x00fF\nfile b dir 3 4 0001\n\
@@ -107,10 +74,8 @@ const ROWS: [Row; 29] = [
         &[
             "0 Nothing",
             "0 Nothing",
-            "0 Question { task: 5, query: \
-             Check { file: 1, want: Want { r: true, w: false, x: true } } }",
-            "0 One(Ask { label: 6, query: \
-             Check { file: 0, want: Want { r: false, w: true, x: false } } })",
+            "0 Question 5 Check { file: 1, want: Want { r: true, w: false, x: true } }",
+            "0 One(Ask 6 Check { file: 0, want: Want { r: false, w: true, x: false } })",
         ],
     ),
     (
@@ -121,15 +86,15 @@ const ROWS: [Row; 29] = [
         &[
             "0 Nothing",
             "0 Nothing",
-            "0 Open { task: 1, file: 1, want: Want { r: true, w: false, x: true }, fd: 3 }",
-            "0 One(CloseFile { fd: 4 })",
-            "0 Fcap { task: 3, fd: 5, cap: 13 }",
-            "0 Access { task: 6, file: 0, want: Want { r: false, w: true, x: false } }",
-            "0 Signal { task: 7, to: 8 }",
-            "0 One(TakeFile { label: 9, fd: 10 })",
-            "0 One(Override { task: 11, label: 12 })",
-            "0 One(Revert { task: 13 })",
-            "0 One(Alter { label: 14, change: Access })",
+            "0 Open 1 1 Want { r: true, w: false, x: true } 3",
+            "0 One(CloseFile 4)",
+            "0 Fcap 3 5 13",
+            "0 Access 6 0 Want { r: false, w: true, x: false }",
+            "0 Signal 7 8",
+            "0 One(TakeFile 9 10)",
+            "0 One(Override 11 12)",
+            "0 One(Revert 13)",
+            "0 One(Alter 14 Access)",
         ],
     ),
     (
@@ -143,18 +108,18 @@ const ROWS: [Row; 29] = [
             "0 Nothing",
             "0 Nothing",
             "0 Nothing",
-            "0 One(Init { task: 1, process: 2, user: Id(5), group: Id(6), ns: 7 })",
-            "0 One(Init { task: 2, process: 1, user: Id(0), group: Id(0), ns: 0 })",
-            "0 One(Fork { task: 1, child: 3, process: 4 })",
-            "0 One(Exit { task: 5 })",
-            "0 Change { task: 1, change: Exec { file: 1 } }",
-            "0 One(Alter { label: 6, change: Exec { file: 0 } })",
-            "0 One(Spawn { task: 1, child: 7 })",
-            "0 One(Act { cast: 20000 })",
+            "0 One(Init 1 2 5 6 7)",
+            "0 One(Init 2 1 0 0 0)",
+            "0 One(Fork 1 3 4)",
+            "0 One(Exit 5)",
+            "0 Change 1 Exec { file: 1 }",
+            "0 One(Alter 6 Exec { file: 0 })",
+            "0 One(Spawn 1 7)",
+            "0 One(Act 20000)",
         ],
     ),
     ("", &[]),
-    ("t1 ids", &["0 Question { task: 1, query: Ids }"]),
+    ("t1 ids", &["0 Question 1 Ids"]),
     // A lane line belongs to the lane that it opens.
     ("lane 1", &["1 Nothing"]),
     (
@@ -167,20 +132,85 @@ const ROWS: [Row; 29] = [
             "0 One(Sweep)",
             "0 Nothing",
             "2 Nothing",
-            "2 Question { task: 1, query: Ids }",
+            "2 Question 1 Ids",
             "2 Nothing",
             "15 Nothing",
-            "15 Question { task: 2, query: Ids }",
+            "15 Question 2 Ids",
             "2 Nothing",
-            "2 Question { task: 1, query: Ids }",
+            "2 Question 1 Ids",
         ],
     ),
 ];
 
+/// The name of an event, and what it has.
+fn event_text(alloc: Global, event: &Event) -> Result<String, NoMemory> {
+    let text = match event {
+        Event::Init {
+            task,
+            process,
+            user,
+            group,
+            ns,
+        } => {
+            let (user, group) = (user.number(), group.number());
+            format!(in alloc; "Init {task} {process} {user} {group} {ns}")
+        }
+        Event::Take { label, task, side } => format!(in alloc; "Take {label} {task} {side:?}"),
+        Event::TakeFile { label, fd } => format!(in alloc; "TakeFile {label} {fd}"),
+        Event::Ask { label, query } => format!(in alloc; "Ask {label} {query:?}"),
+        Event::Prepare { label, task, hold } => format!(in alloc; "Prepare {label} {task} {hold}"),
+        Event::Alter { label, change } => format!(in alloc; "Alter {label} {change:?}"),
+        Event::Commit { label } => format!(in alloc; "Commit {label}"),
+        Event::Abort { label } => format!(in alloc; "Abort {label}"),
+        Event::Override { task, label } => format!(in alloc; "Override {task} {label}"),
+        Event::Revert { task } => format!(in alloc; "Revert {task}"),
+        Event::Act { cast } => format!(in alloc; "Act {cast}"),
+        Event::CloseFile { fd } => format!(in alloc; "CloseFile {fd}"),
+        Event::Spawn { task, child } => format!(in alloc; "Spawn {task} {child}"),
+        Event::Fork {
+            task,
+            child,
+            process,
+        } => format!(in alloc; "Fork {task} {child} {process}"),
+        Event::Exit { task } => format!(in alloc; "Exit {task}"),
+        Event::Sweep => format!(in alloc; "Sweep"),
+        _ => format!(in alloc; "another event"),
+    };
+    Ok(text?)
+}
+
+/// What a line holds: its kind, and what it has.
+fn text_of(alloc: Global, content: &Content) -> Result<String, NoMemory> {
+    let text = match content {
+        Content::Nothing => format!(in alloc; "Nothing"),
+        Content::One(event) => {
+            let event = event_text(alloc, event)?;
+            let text = format!(in alloc; "One({event})");
+            drop(event);
+            text
+        }
+        Content::Id { task, call } => format!(in alloc; "Id {task} {call:?}"),
+        Content::Question { task, query } => format!(in alloc; "Question {task} {query:?}"),
+        Content::Open {
+            task,
+            file,
+            want,
+            fd,
+        } => format!(in alloc; "Open {task} {file} {want:?} {fd}"),
+        Content::Fcap { task, fd, cap } => format!(in alloc; "Fcap {task} {fd} {cap}"),
+        Content::Signal { task, to } => format!(in alloc; "Signal {task} {to}"),
+        Content::Change { task, change } => format!(in alloc; "Change {task} {change:?}"),
+        Content::Access { task, file, want } => format!(in alloc; "Access {task} {file} {want:?}"),
+    };
+    Ok(text?)
+}
+
 /// Whether a line has this lane, and holds this.
 fn holds(alloc: Global, lane: u32, content: &Content, want: &str) -> Result<bool, NoMemory> {
-    let got = format!(in alloc; "{lane} {content:?}")?;
-    Ok(got.as_str() == want)
+    let content = text_of(alloc, content)?;
+    let got = format!(in alloc; "{lane} {content}");
+    drop(content);
+    Ok(got?.as_str() == want)
 }
 
 /// Whether the lines of the script hold this, and there is no other line. The greatest lane that is
