@@ -65,8 +65,8 @@ bits_more bits word first i ws is h = record {
 }
 
 -- the bits of the words from i on, where those up to the first of the others are looked at together
-pub bits_front : (bits more i first j : ℕ) (ws : List ℕ) → i ≤ first → ((more ≡ 0) ↔ AreZerosTo i first ws) → Bits bits first j ws → Bits (bit_or bits more) i j ws
-bits_front bits more i first j ws onward e h = record {
+pub bits_before : (bits more i first j : ℕ) (ws : List ℕ) → i ≤ first → ((more ≡ 0) ↔ AreZerosTo i first ws) → Bits bits first j ws → Bits (bit_or bits more) i j ws
+bits_before bits more i first j ws onward e h = record {
   from = let a = h.from in omega arith;
   zeros = λ none k a b.
       let l = le_or_l bits more in

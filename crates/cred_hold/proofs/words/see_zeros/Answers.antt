@@ -5,7 +5,7 @@ use Rattle.cred_words.specs.Seen.{Lending}
 use Rattle.cred_words.proofs.Opens.{width_is}
 use Rattle.cred_hold.specs.Tokens.{AreZerosTo}
 use Rattle.cred_hold.specs.declared.words.TheConstants.{ROW}
-use Rattle.cred_hold.proofs.Whole.{Bits, bits_start, bits_front, bits_there, bits_back}
+use Rattle.cred_hold.proofs.Whole.{Bits, bits_start, bits_before, bits_there, bits_back}
 use Rattle.cred_hold.proofs.words.see_zeros.Goals as goal
 
 pub overflow_sub-row-end : goal.overflow_sub-row-end
@@ -42,7 +42,7 @@ loop-row-preserved c =
     let told = subst (λ (h : Lending). (more ≡ 0) ↔ AreZerosTo n (n + ROW) h.token.words) i.0 e.value in
     let next : n + ROW ≡ first = omega arith in
     let row = subst (λ (m : ℕ). (more ≡ 0) ↔ AreZerosTo n m ws) next told in
-    (e.same ∙ i.0, bits_front c.loop-row.bits more n first WORDS ws (omega arith) row i.1, omega arith)
+    (e.same ∙ i.0, bits_before c.loop-row.bits more n first WORDS ws (omega arith) row i.1, omega arith)
 
 pub see_bits-bits-requires-2-clause-within : goal.see_bits-bits-requires-2-clause-within
 see_bits-bits-requires-2-clause-within c = let w = width_is in let within = c.requires.within in omega arith
@@ -61,7 +61,7 @@ returns-clause-value c =
     let at : WORDS - c.loop-row.row * ROW ≡ first + rest = omega arith in
     let rows = subst (λ (m : ℕ). Bits c.loop-row.bits m WORDS ws) at i.1 in
     let told = subst (λ (h : Lending). (more ≡ 0) ↔ AreZerosTo first (first + rest) h.token.words) i.0 c.see_bits-bits-2.ensures.value in
-    let bits = bits_front c.loop-row.bits more first (first + rest) WORDS ws (omega arith) told rows in (
+    let bits = bits_before c.loop-row.bits more first (first + rest) WORDS ws (omega arith) told rows in (
       (λ yes. bits_there _ first WORDS ws (omega arith) bits (eqb-true (bit_or c.loop-row.bits more) 0 yes)),
       (λ zeros. eq-eqb (bit_or c.loop-row.bits more) 0 (bits_back _ first WORDS ws (omega arith) bits zeros)),
     )
