@@ -7,7 +7,7 @@ ghost use Rattle.cred_program.specs.Words.{texts};
 use crate::program::credtrace;
 use cred_ids::NoMemory;
 use cred_io::{Sink, Source};
-use cred_lanes::Gate;
+use cred_runs::Gate;
 use cred_said::Status;
 use std::alloc::Global;
 use std::sync::Wait;

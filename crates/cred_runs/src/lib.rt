@@ -5,4 +5,5 @@
 mod report;
 mod runs;
 
+pub use cred_lanes::{Gate, NoGate};
 pub use runs::read_and_lanes;
