@@ -1,10 +1,11 @@
 //! The three classes of tasks for which a file has permission bits.
 ghost use Rattle.std.specs.Prelude.{◌≡◌, ◌≤◌};
+ghost use Rattle.cred_record.specs.Credential.{Credential};
 ghost use Rattle.cred_access.specs.Class.{place};
 ghost use Rattle.cred_rules.specs.Access.{in_group, class_of};
 
-use cred_ids::Id;
-use cred_record::{Cred, FileInfo};
+use cred_ids::{Groups, Id, Ids4};
+use cred_record::FileInfo;
 
 /// A class of tasks, as a file's mode divides them (inode(7)).
 #[derive(Clone, Copy, PartialEq, Eq, Debug)]
@@ -33,19 +34,21 @@ impl Class {
 }
 
 /// Whether the group is the task's filesystem group or one of its supplementary groups.
-fn in_group(cred: &Cred, group: Id) -> bool
-    ensures { result ≡ in_group cred.now group }
+fn in_group(gid: &Ids4, groups: &Groups, group: Id) -> bool
+    ensures { (cred : Credential) → cred.gid ≡ gid.now → cred.groups ≡ groups.now
+        → result ≡ in_group cred group }
 {
-    cred.gid.fs == group || cred.groups.items().contains(&group)
+    gid.fs == group || groups.items().contains(&group)
 }
 
-/// The one class of the file that the task is in.
-pub fn class_of(cred: &Cred, file: &FileInfo) -> Class
-    ensures { place result ≡ class_of cred.now file.now }
+/// The one class of the file that a task with these ids and groups is in.
+pub fn class_of(uid: &Ids4, gid: &Ids4, groups: &Groups, file: &FileInfo) -> Class
+    ensures { (cred : Credential) → cred.uid ≡ uid.now → cred.gid ≡ gid.now
+        → cred.groups ≡ groups.now → place result ≡ class_of cred file.now }
 {
-    if cred.uid.fs == file.owner {
+    if uid.fs == file.owner {
         Class::Owner
-    } else if in_group(cred, file.group) {
+    } else if in_group(gid, groups, file.group) {
         Class::Group
     } else {
         Class::Others

@@ -1,11 +1,12 @@
 //! Whether a task may read, write, execute or search a file.
 ghost use Rattle.std.specs.Prelude.{◌≡◌};
+ghost use Rattle.cred_record.specs.Credential.{Credential};
 ghost use Rattle.cred_rules.specs.Access.{is_within, override_passes, read_search_passes, may};
 
 use crate::class::class_of;
 use crate::mode::{has_execute_bit, permits};
-use crate::rights::capable;
-use cred_caps::Cap;
+use cred_caps::{Cap, CapSet};
+use cred_ids::{Groups, Ids4};
 use cred_record::{Cred, FileInfo, FileKind, Want};
 
 /// Whether all that is asked for is permitted.
@@ -43,7 +44,23 @@ fn read_search_passes(file: &FileInfo, asked: Want) -> bool
 pub fn may(cred: &Cred, file: &FileInfo, want: Want) -> bool
     ensures { result ≡ may cred.now file.now want }
 {
-    is_within(want, permits(file.mode, class_of(cred, file)))
-        || capable(cred, Cap::DAC_OVERRIDE) && override_passes(file, want)
-        || capable(cred, Cap::DAC_READ_SEARCH) && read_search_passes(file, want)
+    may_by(&cred.uid, &cred.gid, &cred.groups, cred.eff, file, want)
+}
+
+/// Whether a task with these ids, these groups and this effective set may do to the file all that
+/// it asks for: all that `may` asks of the credential.
+pub fn may_by(
+    uid: &Ids4,
+    gid: &Ids4,
+    groups: &Groups,
+    effective: CapSet,
+    file: &FileInfo,
+    want: Want,
+) -> bool
+    ensures { (cred : Credential) → cred.uid ≡ uid.now → cred.gid ≡ gid.now
+        → cred.groups ≡ groups.now → cred.eff ≡ effective → result ≡ may cred file.now want }
+{
+    is_within(want, permits(file.mode, class_of(uid, gid, groups, file)))
+        || effective.has(Cap::DAC_OVERRIDE) && override_passes(file, want)
+        || effective.has(Cap::DAC_READ_SEARCH) && read_search_passes(file, want)
 }

@@ -8,7 +8,7 @@ mod mode;
 mod real;
 mod rights;
 
-pub use file::may;
+pub use file::{may, may_by};
 pub use mode::has_bit;
 pub use real::access_cred;
 pub use rights::{capable, may_signal, may_signal_by};

@@ -2,10 +2,11 @@
 ghost use Rattle.std.specs.Prelude.{◌≡◌, Some, None, IfOk, [], ◌∷◌};
 
 use crate::parts::{known_caps, known_ids};
-use crate::words::{gather, read_whole, scatter};
+use crate::words::{gather, groups_of, read_whole, scatter};
 use cred_caps::CapSet;
-use cred_ids::{Ids4, NoMemory};
-use cred_record::layout::{PERMITTED, USER};
+use cred_ids::{Groups, Ids4, NoMemory};
+use cred_packed::group_count;
+use cred_record::layout::{FLAGS, PERMITTED, USER};
 use cred_record::{Cred, is_credential};
 use cred_words::{Cells, cells};
 use std::alloc::Global;
@@ -104,6 +105,21 @@ pub fn read_caps(cells: &Cells, hold: &mut Hold) -> [CapSet; 5]
     ensures same { hold.new ≡ hold.old }
 {
     known_caps(gather::<5>(cells, &mut hold.inner, hold.slot, PERMITTED))
+}
+
+/// The groups of the credential that is held. It waits for nobody.
+///
+/// # Errors
+///
+/// `NoMemory` if the allocation of the groups fails. The hold stays as it was, as on success.
+pub fn read_groups(alloc: Global, cells: &Cells, hold: &mut Hold) -> Result<Groups, NoMemory>
+    requires { hold.old.id ≡ cells.now }
+    ensures value { IfOk result (λ groups. groups ≡ hold.old.cred.groups) }
+    ensures same { hold.new ≡ hold.old }
+{
+    let [flags] = gather::<1>(cells, &mut hold.inner, hold.slot, FLAGS);
+    let count = group_count(flags);
+    groups_of(alloc, cells, &mut hold.inner, hold.slot, count)
 }
 
 /// Puts a credential on the writer's slot. It takes no memory and waits for nobody.

@@ -75,7 +75,7 @@ fn read_zeros(cells: &Cells, hold: &mut Hold, slot: u32, first: usize) -> bool
 }
 
 /// The groups of the slot that is held, whose words are a credential's. There are `count`.
-fn read_groups(
+pub(crate) fn groups_of(
     alloc: Global,
     cells: &Cells,
     hold: &mut Hold,
@@ -116,7 +116,7 @@ pub(crate) fn read_whole(
 {
     let first = gather::<GROUPS>(cells, hold, slot, 0);
     let count = group_count(first[FLAGS]);
-    let groups = read_groups(alloc, cells, hold, slot, count)?;
+    let groups = groups_of(alloc, cells, hold, slot, count)?;
     if read_zeros(cells, hold, slot, GROUPS + count.div_ceil(2)) {
         Ok(known_head(&first, groups))
     } else {

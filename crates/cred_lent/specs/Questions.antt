@@ -1,4 +1,4 @@
--- Which questions read a whole credential.
+-- Which questions read groups, or a whole credential.
 use Rattle.std.specs.Prelude.{Bool, true, false}
 use Rattle.cred_event.specs.declared.event.Query.{Query}
 use Rattle.cred_event.specs.declared.event.Query.TheVariants.{Groups, Bits, Check}

@@ -2,15 +2,16 @@
 ghost use Rattle.std.specs.Prelude.{◌≡◌, true, IfOk, OnErr};
 ghost use Rattle.std.specs.Option.{option_map};
 ghost use Rattle.cred_rules.specs.Adjust.{read_in};
-ghost use Rattle.cred_model.specs.Answers.{flag, reply};
+ghost use Rattle.cred_model.specs.Answers.{checked, flag, reply};
 ghost use Rattle.cred_lent.specs.Questions.{is_on_whole};
 
+use cred_access::may_by;
 use cred_caps::{Cap, CapSet};
 use cred_decide::reply;
 use cred_event::{Answer, Query, Told};
-use cred_hold::{Cells, Hold, read, read_caps, read_ids};
+use cred_hold::{Cells, Hold, read, read_caps, read_groups, read_ids};
 use cred_ids::NoMemory;
-use cred_record::FileInfo;
+use cred_record::{FileInfo, Want};
 use std::alloc::Global;
 
 /// The answer to a question about the credential that is held, as `cred_decide::reply` has it.
@@ -19,8 +20,8 @@ use std::alloc::Global;
 ///
 /// # Errors
 ///
-/// `NoMemory` where the whole credential is read, as `is_on_whole` of `specs/Questions.antt` says,
-/// and an allocation fails. A question about ids or about capability sets takes no memory.
+/// `NoMemory` where the groups or the whole credential are read, as `is_on_whole` of
+/// `specs/Questions.antt` says, and an allocation fails. A question about ids or about capability sets takes no memory.
 pub fn decide(
     alloc: Global,
     cells: &Cells,
@@ -61,12 +62,39 @@ pub fn decide(
             let [_, _, _, _, amb] = read_caps(cells, hold);
             return Ok(flag(amb, n));
         }
-        Query::Groups | Query::Bits | Query::Check { .. } => {
+        Query::Check { want, .. } => return checked(alloc, cells, hold, file, want),
+        Query::Groups | Query::Bits => {
             let cred = read(alloc, cells, hold)?;
             return reply(alloc, file, &cred, query);
         }
     };
     Ok(Answer::Told(told))
+}
+
+/// The answer to the check of a file, by the parts of the credential that the check asks of.
+fn checked(
+    alloc: Global,
+    cells: &Cells,
+    hold: &mut Hold,
+    file: Option<&FileInfo>,
+    want: Want,
+) -> Result<Answer, NoMemory>
+    requires own { hold.old.id ≡ cells.now }
+    ensures told { IfOk result (λ answer. answer
+        ≡ checked hold.old.cred (option_map (λ file. file.now) file.entry) want) }
+    ensures same { hold.new ≡ hold.old }
+{
+    let Some(file) = file else {
+        return Ok(Answer::Eacces);
+    };
+    let (uid, gid) = read_ids(cells, hold);
+    let [_, _, effective, _, _] = read_caps(cells, hold);
+    let groups = read_groups(alloc, cells, hold)?;
+    if may_by(&uid, &gid, &groups, effective, file, want) {
+        Ok(Answer::Done)
+    } else {
+        Ok(Answer::Eacces)
+    }
 }
 
 /// The answer to the question whether capability n is in the set: a number of none is refused.

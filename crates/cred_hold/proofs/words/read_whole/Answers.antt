@@ -16,11 +16,11 @@ gather-first-requires c =
     let w = width_is in
     (omega arith, (c.requires.own, (c.requires.slot, (length-known _ c.requires.known ∙ sym width_is, omega arith))))
 
-pub read_groups-requires-clause-known : goal.read_groups-requires-clause-known
-read_groups-requires-clause-known c = ap (λ h. are_words h.token.words) c.gather-first.ensures.same ∙ c.requires.known
+pub groups_of-requires-clause-known : goal.groups_of-requires-clause-known
+groups_of-requires-clause-known c = ap (λ h. are_words h.token.words) c.gather-first.ensures.same ∙ c.requires.known
 
-pub read_groups-requires-clause-count : goal.read_groups-requires-clause-count
-read_groups-requires-clause-count c =
+pub groups_of-requires-clause-count : goal.groups_of-requires-clause-count
+groups_of-requires-clause-count c =
     let ws = c.args.hold.now.token.words in
     c.group_count-count.ensures ∙
     ap group_count (part-at ws c.gather-first.result GROUPS 0 FLAGS c.gather-first.ensures.words (omega arith)) ∙

@@ -9,7 +9,7 @@ use Rattle.cred_record.proofs.Blank.{groups-there, groups-listed}
 use Rattle.cred_record.proofs.Halves.{half-at}
 use Rattle.cred_words.proofs.Opens.{width_is}
 use Rattle.cred_hold.proofs.Whole.{length-known}
-use Rattle.cred_hold.proofs.words.read_groups.Goals as goal
+use Rattle.cred_hold.proofs.words.groups_of.Goals as goal
 
 pub read_word-word-requires-clause-within : goal.read_word-word-requires-clause-within
 read_word-word-requires-clause-within c =
