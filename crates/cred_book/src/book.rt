@@ -19,7 +19,7 @@ ghost use Rattle.cred_book.specs.declared.step.Step.TheVariants.{More};
 mod works;
 
 use crate::ended::lines_without_events;
-use crate::journal::Journal;
+use crate::journal::{Journal, room_for_entries};
 use crate::outs::none_out;
 use crate::step::Step;
 use cred_copies::copy_answer;
@@ -81,7 +81,8 @@ impl Book {
     ///
     /// # Errors
     ///
-    /// `NoMemory` if an allocation of the state, of the cursors or of the counts fails.
+    /// `NoMemory` if an allocation of the state, of the journal, of the cursors or of the counts
+    /// fails.
     pub fn new(alloc: Global, script: Script) -> Result<(Book, Cells), NoMemory>
         ensures script { IfOk result (λ made. made.0.script ≡ script) }
         ensures journal { IfOk result (λ made. made.0.journal ≡ []) }
@@ -93,11 +94,12 @@ impl Book {
         let cursors = Cursors::new(alloc, &script)?;
         let ended = lines_without_events(alloc, &script)?;
         let outs = none_out(alloc, &script)?;
+        let journal = room_for_entries(alloc, &script)?;
         let (cells, state) = State::new(alloc)?;
         let book = Book {
             script,
             state,
-            journal: Vec::new(alloc),
+            journal,
             cursors,
             ended,
             outs,

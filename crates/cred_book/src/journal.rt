@@ -1,7 +1,10 @@
 //! What a run leaves.
+ghost use Rattle.std.specs.Prelude.{◌≡◌, [], IfOk};
 
 use cred_event::Entry;
+use cred_ids::NoMemory;
 use cred_script::Script;
+use std::alloc::Global;
 
 /// The journal of a run, with its script.
 #[derive(Drop)]
@@ -10,4 +13,19 @@ pub struct Journal {
     pub script: Script,
     /// The entries, in the order in which they were entered.
     pub entries: Vec<Entry>,
+}
+
+/// How many entries a line makes in most scripts, or fewer.
+const MOSTLY: usize = 2;
+
+/// No entries yet, with room for those of most scripts: a list that has to grow is moved, and each
+/// page of its new place costs the kernel a fault.
+///
+/// # Errors
+///
+/// `NoMemory` if the room could not be allocated.
+pub(crate) fn room_for_entries(alloc: Global, script: &Script) -> Result<Vec<Entry>, NoMemory>
+    ensures { IfOk result (λ entries. entries.items ≡ []) }
+{
+    Ok(Vec::with_capacity(alloc, MOSTLY * script.lines() as usize)?)
 }

@@ -19,6 +19,18 @@ use cred_work::{Work, perform};
 use std::alloc::Global;
 use std::marker::{Model, PhantomData};
 use std::sync::{Mutex, MutexGuard, Wait};
+use std::thread::Parker;
+use std::time::Duration;
+
+/// How long a worker that finds the lock taken sleeps before it tries again, in microseconds. In a
+/// script of questions a work goes out at every other line, and the lock is let go of for each. A
+/// lock that then woke who waits for it would put one thread to sleep and wake another each time,
+/// which costs more than the line, and what it guards would go from processor to processor. Who
+/// has the lock doesn't know of a nap, and gets the lock again.
+const NAP: u64 = 200;
+
+/// How often a worker tries before it asks to be woken, so that no lane is left out for long.
+const NAPS: u32 = 100;
 
 /// A book and a roll behind one lock, and the book's cells beside it, which the threads of all
 /// lanes share. The cells are the name's, and whenever the lock is free, the book is of the name's
@@ -78,6 +90,16 @@ impl<K: Name> Kernel<K> {
 
     /// Gets the lock, for which it may wait.
     pub fn lock<R: Wait>(&self, rt: &R) -> KernelGuard<'_, K> {
+        let parker = Parker::new();
+        for _ in 0..NAPS {
+            if let Some(locked) = self.lock.try_lock() {
+                return KernelGuard {
+                    kernel: self,
+                    locked,
+                };
+            }
+            parker.park_timeout(rt, Duration::from_micros(NAP));
+        }
         KernelGuard {
             kernel: self,
             locked: self.lock.lock(rt),

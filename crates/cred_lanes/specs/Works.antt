@@ -1,7 +1,6 @@
 -- What the workers give back.
 use Rattle.std.specs.Prelude.{◌≡◌, ℕ, ◌+◌, ◌<◌, List, length, slice_index_or, Result, IfOk}
-use Rattle.std.specs.Prelude.{Some, None, MatchOption}
-use Rattle.std.specs.declared.option.Option.{Option}
+use Rattle.std.specs.Prelude.{Some, None}
 use Rattle.atomic_table.specs.Seated.{TableId}
 use Rattle.cred_model.specs.Script.{Script}
 use Rattle.cred_work.specs.declared.work.Work.{Work}
@@ -28,12 +27,13 @@ pub record IsDue (script : Script) (cells : TableId) (work decided : Work) : Typ
   pub work_is : IsWorkOf script cells decided
   pub right : IsDecided decided
 
--- What a worker comes back to the lock with: nothing where no work of its lane is out, and else
--- that work, which is decided.
-abbrev pub IsReturn : Script → TableId → Seen → Option Work → Type 0
-IsReturn script cells turn decided =
-    MatchOption decided (turn.numbers.out ≡ None) (λ work.
-    (turn.numbers.out ≡ Some work.line) × IsDue script cells work work)
+-- What a worker comes back to the lock with, by what its last step came to: the work of its lane
+-- that is out, which is decided, or nothing where none is out.
+abbrev pub IsReturn : Script → TableId → Seen → Step → Type 0
+IsReturn script cells turn More = turn.numbers.out ≡ None
+IsReturn script cells turn (step.Work work) =
+    (turn.numbers.out ≡ Some work.line) × IsDue script cells work work
+IsReturn script cells turn Ended = turn.numbers.out ≡ None
 
 -- How a worker leaves the lock: no work of its lane is out; or one is, and it has it; or its lane
 -- has ended.

@@ -1,5 +1,5 @@
 //! The workers, one for each lane.
-ghost use Rattle.std.specs.Prelude.{◌≡◌, length, IfOk, None, Some, MatchOption};
+ghost use Rattle.std.specs.Prelude.{◌≡◌, length, IfOk, OnOk, None, Some};
 ghost use Rattle.cred_script.specs.Lanes.{lanes};
 ghost use Rattle.cred_work.specs.Works.{IsDecided};
 ghost use Rattle.cred_book.specs.Works.{IsWorkOf};
@@ -68,20 +68,21 @@ fn work<K: Name, G: Gate, R: Wait>(
     ensures { IfOk result (Finished K.script turn) }
 {
     let mut turn = turn;
-    let mut decided = None;
+    let mut step = Step::More;
     for _ in rt.forever() {
-        decided = match go_on(rt, kernel, &mut turn, decided)? {
-            Step::More => None,
-            Step::Work(work) => Some(decide(alloc, kernel, gate, turn.lane(), work)?),
+        step = go_on(rt, kernel, &mut turn, step)?;
+        match &mut step {
+            Step::More => (),
+            Step::Work(work) => decide(alloc, kernel, gate, turn.lane(), work)?,
             Step::Ended => return Ok(turn),
-        };
+        }
     }
     unreachable!()
 }
 
-/// Gets the lock, goes on with the turn's lane, and lets go of the lock. It enters the work that was
-/// decided, if there is one, and then makes some events, up to the next that waits for a decision,
-/// or to the lane's end. No call changes the turn's lane.
+/// Gets the lock, goes on with the turn's lane, and lets go of the lock. It enters the work that
+/// the last step gave out, if it did, which is decided, and then makes some events, up to the next
+/// that waits for a decision, or to the lane's end. No call changes the turn's lane.
 ///
 /// # Errors
 ///
@@ -91,13 +92,13 @@ fn go_on<K: Name, R: Wait>(
     rt: &R,
     kernel: &Kernel<K>,
     turn: &mut Turn<K>,
-    decided: Option<Work>,
+    last: Step,
 ) -> Result<Step, NoMemory>
-    requires { IsReturn K.script K.cells turn.old decided }
+    requires { IsReturn K.script K.cells turn.old last }
     ensures { IfOk result (HasGoneOn K.script K.cells turn.old turn.new) }
 {
     let mut kernel = kernel.lock(rt);
-    if let Some(work) = decided {
+    if let Step::Work(work) = last {
         enter(&mut kernel, turn, work)?;
     }
     advance_some(&mut kernel, turn)
@@ -143,15 +144,16 @@ fn advance_some<K: Name>(
 {
     let most = 1 + turn.entered() / PART;
     for _ in 0..most {
-        match kernel.advance(turn)? {
-            Step::More => (),
-            step => return Ok(step),
+        let step = kernel.advance(turn);
+        if !matches!(step, Ok(Step::More)) {
+            return step;
         }
     }
     Ok(Step::More)
 }
 
-/// Decides a work without the lock. The gate is called before the decision and after it.
+/// Decides a work without the lock, where it stands: a work is large, and moving it takes longer
+/// than most decisions. The gate is called before the decision and after it.
 ///
 /// # Errors
 ///
@@ -161,20 +163,16 @@ fn decide<K: Name, G: Gate>(
     kernel: &Kernel<K>,
     gate: &G,
     lane: u32,
-    work: Work,
-) -> Result<Work, NoMemory>
-    requires { IsWorkOf K.script K.cells work }
-    ensures { IfOk result (IsDue K.script K.cells work) }
+    work: &mut Work,
+) -> Result<(), NoMemory>
+    requires { IsWorkOf K.script K.cells work.old }
+    ensures { OnOk result (IsDue K.script K.cells work.old work.new) }
 {
-    let mut work = work;
     let line = work.line();
     gate.pause(lane, line, Place::BeforeDecision);
-    let Ok(()) = kernel.do_work(alloc, &mut work) else {
-        drop(work);
-        return Err(NoMemory);
-    };
+    kernel.do_work(alloc, work)?;
     gate.pause(lane, line, Place::AfterDecision);
-    Ok(work)
+    Ok(())
 }
 
 /// The turns, where every worker has ended its lane.

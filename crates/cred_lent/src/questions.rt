@@ -21,7 +21,8 @@ use std::alloc::Global;
 /// # Errors
 ///
 /// `NoMemory` where the groups or the whole credential are read, as `is_on_whole` of
-/// `specs/Questions.antt` says, and an allocation fails. A question about ids or about capability sets takes no memory.
+/// `specs/Questions.antt` says, and an allocation fails. A question about ids or about capability
+/// sets takes no memory.
 pub fn decide(
     alloc: Global,
     cells: &Cells,

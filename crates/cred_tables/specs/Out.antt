@@ -54,8 +54,8 @@ AreOut s out = All (λ e. Has (hold_token s e.label ++ kept_tokens s e.label) e)
 abbrev pub AreHome : Event → List Entry → Type 0
 AreHome event out = All (λ e. Contains (event_labels event) e.label → ⊥) out
 
--- Where nothing is lent on the slot that a label keeps, its words have what was prepared, or nothing
--- where it was never changed.
+-- Where nothing is lent on the slot that a label keeps, its words have what was prepared, or
+-- nothing where it was never changed.
 abbrev pub ArePut : List Prepared → List Entry → List (Option Credential) → Type 0
 ArePut prepared out places =
     All (λ p. IsAlone out p.slot

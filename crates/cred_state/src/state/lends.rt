@@ -16,6 +16,10 @@ use cred_hold::{Cells, Hold, Writer};
 use cred_lent::Lent;
 use cred_tables::Numbered;
 
+/// The namespace of an event that is decided by none. No script declares it, so that its root ids,
+/// of which there are none, take no memory where they are copied.
+const NO_NS: u32 = u32::MAX;
+
 impl State {
     /// Lends what the event is decided on, under the labels that it names: nothing where it isn't
     /// decided so, or where a label that it names isn't there. It takes no memory.
@@ -81,7 +85,7 @@ impl State {
                 label,
                 change: Change::Exec { .. },
             } => self.base_ns(cells, *label).unwrap_or(0),
-            _ => 0,
+            _ => NO_NS,
         }
     }
 

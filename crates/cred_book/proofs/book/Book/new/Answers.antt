@@ -10,16 +10,16 @@ use Rattle.cred_book.proofs.book.Book.new.Goals as goal
 
 pub invariant_of-book : goal.invariant_of-book
 invariant_of-book c = (
-  rw (c.in_ok-cells.ensures.state, c.new-3.ensures.items) (like_self opening, λ k lt. absurd (omega arith)),
-  subst (AreOut (replay c.args.script c.new-3.result.items)) (sym c.in_ok-cells.ensures.out)
-      (has_out (replay c.args.script c.new-3.result.items) [] (λ e has. absurd has)),
+  rw (c.in_ok-cells.ensures.state, c.in_ok-journal.ensures) (like_self opening, λ k lt. absurd (omega arith)),
+  subst (AreOut (replay c.args.script c.in_ok-journal.journal.items)) (sym c.in_ok-cells.ensures.out)
+      (has_out (replay c.args.script c.in_ok-journal.journal.items) [] (λ e has. absurd has)),
 )
 
 pub returns-clause-home : goal.returns-clause-home
 returns-clause-home c =
     let book : Recorded = record {
       script = c.args.script;
-      journal = c.new-3.result.items;
+      journal = c.in_ok-journal.journal.items;
       cursors = c.in_ok-cursors.cursors;
       ended = c.in_ok-ended.ended.items;
       outs = c.in_ok-outs.outs.items;
@@ -31,14 +31,14 @@ pub returns-clause-stands : goal.returns-clause-stands
 returns-clause-stands c =
     let book : Recorded = record {
       script = c.args.script;
-      journal = c.new-3.result.items;
+      journal = c.in_ok-journal.journal.items;
       cursors = c.in_ok-cursors.cursors;
       ended = c.in_ok-ended.ended.items;
       outs = c.in_ok-outs.outs.items;
       words = c.in_ok-cells.state.words;
     } in
     nothing_run book (record {
-      journal = c.new-3.ensures.items;
+      journal = c.in_ok-journal.ensures;
       cursors = c.in_ok-cursors.ensures.cursors;
       ended = c.in_ok-ended.ensures.ended;
       places = c.in_ok-ended.ensures.places;
