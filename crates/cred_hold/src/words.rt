@@ -75,6 +75,7 @@ fn read_zeros(cells: &Cells, hold: &mut Hold, slot: u32, first: usize) -> bool
 }
 
 /// The groups of the slot that is held, whose words are a credential's. There are `count`.
+#[inline(always)]
 pub(crate) fn groups_of(
     alloc: Global,
     cells: &Cells,

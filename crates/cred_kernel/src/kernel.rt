@@ -22,14 +22,14 @@ use std::sync::{Mutex, MutexGuard, Wait};
 use std::thread::Parker;
 use std::time::Duration;
 
-/// How long a worker that finds the lock taken sleeps before it tries again, in microseconds. In a
-/// script of questions a work goes out at every other line, and the lock is let go of for each. A
-/// lock that then woke who waits for it would put one thread to sleep and wake another each time,
-/// which costs more than the line, and what it guards would go from processor to processor. Who
-/// has the lock doesn't know of a nap, and gets the lock again.
-const NAP: u64 = 200;
+/// How long a worker that finds the lock taken naps before it tries again, in microseconds. Works
+/// go out at every other line, and the lock is let go of for each. A lock that woke who waits for
+/// it would put a thread to sleep and wake another as often, which costs more than the line, and
+/// what lies under the lock would go from processor to processor. Of a nap whoever has the lock
+/// knows nothing, and mostly gets it again.
+const NAP: u64 = 500;
 
-/// How often a worker tries before it asks to be woken, so that no lane is left out for long.
+/// How often a worker tries before it waits to be woken, so that no lane is left out for long.
 const NAPS: u32 = 100;
 
 /// A book and a roll behind one lock, and the book's cells beside it, which the threads of all
@@ -90,6 +90,7 @@ impl<K: Name> Kernel<K> {
 
     /// Gets the lock, for which it may wait.
     pub fn lock<R: Wait>(&self, rt: &R) -> KernelGuard<'_, K> {
+        // Nobody unparks this one: to park on it is to nap.
         let parker = Parker::new();
         for _ in 0..NAPS {
             if let Some(locked) = self.lock.try_lock() {

@@ -81,7 +81,7 @@ fn work<K: Name, G: Gate, R: Wait>(
 }
 
 /// Gets the lock, goes on with the turn's lane, and lets go of the lock. It enters the work that
-/// the last step gave out, if it did, which is decided, and then makes some events, up to the next
+/// came of the last step, if one did, which is decided, and then makes some events, up to the next
 /// that waits for a decision, or to the lane's end. No call changes the turn's lane.
 ///
 /// # Errors
@@ -152,8 +152,8 @@ fn advance_some<K: Name>(
     Ok(Step::More)
 }
 
-/// Decides a work without the lock, where it stands: a work is large, and moving it takes longer
-/// than most decisions. The gate is called before the decision and after it.
+/// Decides a work without the lock, where it stands: it is large, and to move it takes as long as
+/// most decisions. The gate is called before the decision and after it.
 ///
 /// # Errors
 ///
