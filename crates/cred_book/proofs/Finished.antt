@@ -1,35 +1,35 @@
 -- A work that comes back is the one that was out: its tokens and its event are those of the lane's next event.
-use Rattle.std.proofs.Common.{◌≡◌, ◌≢◌, ℕ, ◌+◌, ◌-◌, ◌<◌, ◌==◌, ◌&&◌, Bool, true, false, List, [], ◌∷◌, ◌++◌, length, slice_get, ◌⊎◌, inl, inr, Option, Some, None, is_some, refl, sym, ap, ◌∙◌, subst, arith}
-use Rattle.std.specs.List.{Contains, count_by}
+use Rattle.std.proofs.Common.{◌≡◌, ◌≢◌, ℕ, ◌&&◌, Bool, true, false, List, [], ◌∷◌, ◌++◌, ◌⊎◌, inl, inr, Option, Some, None, is_some, refl, sym, ap, ◌∙◌, subst}
+use Rattle.std.specs.List.{Contains}
 use Rattle.std.specs.Option.{IfSome}
 use Rattle.std.proofs.lemmas.Bool.{cases_eq, eq-eqb}
-use Rattle.std.proofs.lemmas.List.Elements.{Contains-append_left, Contains-push}
+use Rattle.std.proofs.lemmas.List.Elements.{Contains-push}
 use Rattle.cred_event.specs.declared.content.Stage.{Stage}
 use Rattle.cred_event.specs.declared.event.Event.{Event}
 use Rattle.cred_event.specs.declared.event.Event.TheVariants.{Ask, Signal, Alter, OpenFile}
 use Rattle.cred_model.specs.Script.{Script, Line}
-use Rattle.cred_model.specs.State.{State, Hold, Numbered, Prepared, hold_of, held_by, numbered, prepared_of}
+use Rattle.cred_model.specs.State.{State, Hold, Numbered, Prepared, hold_of, held_by, prepared_of}
 use Rattle.cred_model.specs.Course.{event_in}
 use Rattle.cred_model.specs.Journal.{Due, due_in, replay}
 use Rattle.cred_names.specs.Labels.{event_labels}
 use Rattle.cred_sound.specs.Sound.{IsSound}
 use Rattle.cred_script.specs.Lines.{line_at}
 use Rattle.cred_cursor.proofs.Courses.{line_at-place}
-use Rattle.cred_words.specs.Lists.{Has, IsTaken}
+use Rattle.cred_words.specs.Lists.{Has}
 use Rattle.cred_hold.specs.Tokens.{Entry, Held, Written, entry}
 use Rattle.cred_lent.specs.Decisions.{AreFor}
 use Rattle.cred_lent.specs.declared.lent.Lent.{Lent}
 use Rattle.cred_lent.specs.declared.lent.Lent.TheVariants.{One, Two, Kept}
-use Rattle.cred_work.specs.declared.work.Work.{Work}
-use Rattle.cred_tables.specs.Out.{AreBack, AreOut, hold_token, kept_tokens, tokens_in, waits_in}
+use Rattle.cred_work.specs.Work.{Work}
+use Rattle.cred_tables.specs.Out.{AreOut, hold_token, kept_tokens, tokens_in, waits_in}
 use Rattle.cred_tables.proofs.Back.{has_taken, taken_has}
 use Rattle.cred_tables.proofs.Outs.{base_out, hold_out, hold_token_is, kept_tokens_are, writer_out}
 use Rattle.cred_state.specs.Lending.{AreTaken, entries_of}
 use Rattle.cred_state.proofs.Lines.{IsLines, may_wait, names_own, same_event, waiting_may}
 use Rattle.cred_state.proofs.Stays.{base_sealed, held_sealed}
-use Rattle.cred_book.specs.Book.{Recorded, out_of}
+use Rattle.cred_book.specs.Book.{Recorded}
 use Rattle.cred_book.specs.Cursor.{Stands}
-use Rattle.cred_book.specs.Works.{IsLanes, IsOutOf, MayMake}
+use Rattle.cred_book.specs.Works.{IsLanes, IsOutOf}
 use Rattle.cred_book.proofs.Apart.{IsOfPlace, due_from, names_at, names_differ, never_setup, next_made}
 use Rattle.cred_book.proofs.Joined.{has_passes}
 use Rattle.cred_book.proofs.Lent.{HasLent, lent_by, lent_under, under, work_next}

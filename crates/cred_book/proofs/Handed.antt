@@ -1,10 +1,10 @@
 -- A lane's work goes out, and comes back decided.
-use Rattle.std.proofs.Common.{◌≡◌, ℕ, ◌+◌, ◌<◌, Bool, true, false, List, [], ◌∷◌, ◌++◌, length, set, Option, Some, None, is_some, refl, sym, ap, ◌∙◌, subst, arith}
+use Rattle.std.proofs.Common.{◌≡◌, ℕ, ◌+◌, ◌<◌, Bool, true, false, [], ◌∷◌, ◌++◌, set, Option, Some, None, refl, sym, ap, ◌∙◌, subst, arith}
 use Rattle.std.specs.List.{count_by}
 use Rattle.std.specs.Option.{IfSome, option_and_then, option_map_or}
 use Rattle.cred_event.specs.declared.content.Stage.{Stage}
 use Rattle.cred_event.specs.declared.event.Event.{Event}
-use Rattle.cred_event.specs.declared.event.Event.TheVariants.{Alter}
+use Rattle.cred_event.specs.declared.event.Event.TheVariants.{Ask, Signal, Alter, OpenFile}
 use Rattle.cred_event.specs.declared.event.Change.TheVariants.{Exec}
 use Rattle.cred_event.specs.declared.entry.Entry as logged
 use Rattle.cred_record.specs.Credential.{Credential}
@@ -16,7 +16,7 @@ use Rattle.cred_model.specs.Course.{Course, event_at, event_in}
 use Rattle.cred_model.specs.Journal.{entry_of, next, replay}
 use Rattle.cred_model.specs.Named.{event_files}
 use Rattle.cred_script.specs.Lines.{line_at}
-use Rattle.cred_cursor.specs.Cursor.{IsOfLine, MovesOnTo}
+use Rattle.cred_cursor.specs.Cursor.{MovesOnTo}
 use Rattle.cred_cursor.specs.Cursors.{due_of}
 use Rattle.cred_cursor.proofs.Turns.{next_some}
 use Rattle.cred_sound.proofs.Sound.{sound_after}
@@ -24,16 +24,16 @@ use Rattle.cred_words.specs.Lists.{Has}
 use Rattle.cred_hold.specs.Tokens.{Entry, entry}
 use Rattle.cred_lent.specs.Decisions.{AreFor, AreOf}
 use Rattle.cred_lent.specs.declared.lent.Lent.{Lent}
-use Rattle.cred_lent.specs.declared.lent.Lent.TheVariants.{One, Two, Kept}
-use Rattle.cred_work.specs.declared.work.Work.{Work}
+use Rattle.cred_lent.specs.declared.lent.Lent.TheVariants.{Kept}
+use Rattle.cred_work.specs.Work.{Work}
 use Rattle.cred_tables.specs.Kept.{Words}
 use Rattle.cred_tables.specs.Out.{AreBack, AreOut, tokens_in, waits_in}
 use Rattle.cred_tables.proofs.Outs.{tokens_like}
-use Rattle.cred_state.specs.Lending.{AreTaken, IsChain, IsNs, entries_of}
+use Rattle.cred_state.specs.Lending.{IsChain, IsNs, entries_of}
 use Rattle.cred_book.specs.Book.{Recorded, answer_of, out_of, with_event}
 use Rattle.cred_book.specs.Counts.{Counts, HasEntered, count_of}
 use Rattle.cred_book.specs.Cursor.{Finishes, Makes, Stands, left, moved_on}
-use Rattle.cred_book.specs.Works.{IsChainFor, IsEntered, IsLanes, IsOutOf, IsWorkOf, MayMake, lane_tokens, with_work}
+use Rattle.cred_book.specs.Works.{IsChainFor, IsEntered, IsLanes, IsOutOf, MayMake, lane_tokens, may_wait, with_work}
 use Rattle.cred_book.specs.declared.step.Step.TheVariants as step
 use Rattle.cred_book.proofs.Apart.{IsNext}
 use Rattle.cred_book.proofs.Cursors.{Moves, due_left, lane_has_out, makes_more, moves}
@@ -84,6 +84,14 @@ may_make script course event has = by (line_at script course.line) has
         → IfSome o (λ line. (stage : Stage) × (event_in course.line line.content stage ≡ Some event))
     by None has = tt
     by (Some line) has = of line course.stage has
+
+-- an event of another kind never waits
+pub never_waits : (s : State) (event : Event) → may_wait event ≡ false → waits_in s event ≡ false
+never_waits s (Ask label query) other = cc
+never_waits s (OpenFile hold file want fd) other = cc
+never_waits s (Signal from hold to target) other = cc
+never_waits s (Alter label change) other = cc
+never_waits s event other = refl
 
 -- the work of the lane's next event, before it is decided
 pub record IsDueWork (book : Recorded) (lane : ℕ) (course : Course) (work : Work) : Type 0 where

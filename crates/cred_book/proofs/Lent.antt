@@ -1,8 +1,8 @@
 -- What is lent for the works of a book, and under which labels.
-use Rattle.std.proofs.Common.{if◌then◌else◌, ◌≡◌, ◌≢◌, ℕ, ◌+◌, ◌<◌, ◌==◌, cond, Bool, true, false, List, [], ◌∷◌, ◌++◌, get_or, length, ◌⊎◌, inl, inr, Option, Some, None, is_some, refl, sym, ap, ◌∙◌, subst, arith}
-use Rattle.std.specs.List.{Contains, count_by, flat_map, range_with_len}
+use Rattle.std.proofs.Common.{◌≡◌, ◌≢◌, ℕ, ◌<◌, ◌==◌, cond, Bool, true, List, [], ◌∷◌, ◌++◌, get_or, length, ◌⊎◌, inl, inr, Option, Some, None, is_some, refl, sym, ap, ◌∙◌, subst, arith}
+use Rattle.std.specs.List.{Contains, count_by, range_with_len}
 use Rattle.std.specs.Option.{IfSome, option_map_or}
-use Rattle.std.proofs.lemmas.Bool.{cases_eq, eqb-true, eq-eqb}
+use Rattle.std.proofs.lemmas.Bool.{eqb-true, eq-eqb}
 use Rattle.std.proofs.lemmas.List.Elements.{Contains-append_left, Contains-push}
 use Rattle.std.proofs.lemmas.List.Sums.{get_or-le-sum_by}
 use Rattle.cred_event.specs.declared.event.Event.{Event}
@@ -20,7 +20,7 @@ use Rattle.cred_tables.proofs.Outs.{IsToken, has_first, has_last, has_out, held_
 use Rattle.cred_state.specs.Lending.{entries_of, with_lent}
 use Rattle.cred_book.specs.Book.{Recorded, out_of}
 use Rattle.cred_book.specs.Cursor.{Stands}
-use Rattle.cred_book.specs.Works.{IsOutOf, lane_tokens, tokens_out}
+use Rattle.cred_book.specs.Works.{IsOutOf, lane_tokens}
 use Rattle.cred_book.proofs.Apart.{IsNext, labels_apart}
 use Rattle.cred_book.proofs.Joined.{Passes, one_if, count-joined, has-append, some_passes, some_place}
 

@@ -1,5 +1,5 @@
 -- The works that are out when another lane has one entry more, or when a lane's own work goes out or comes back.
-use Rattle.std.proofs.Common.{if◌then◌else◌, ◌≡◌, ◌≢◌, ℕ, zero, suc, ◌+◌, ◌<◌, ◌==◌, cond, Bool, true, false, List, [], ◌∷◌, ◌++◌, length, set, slice_get, ◌⊎◌, inl, inr, Option, Some, None, is_some, refl, sym, ap, ◌∙◌, subst, arith}
+use Rattle.std.proofs.Common.{◌≡◌, ◌≢◌, ℕ, zero, suc, ◌+◌, ◌<◌, Bool, true, List, [], ◌∷◌, ◌++◌, length, set, slice_get, ◌⊎◌, inl, inr, Option, Some, None, refl, sym, ap, ◌∙◌, subst, arith}
 use Rattle.std.specs.List.{All, Contains, count_by, range_with_len, sum_by}
 use Rattle.std.specs.Option.{IfSome, option_and_then}
 use Rattle.std.proofs.lemmas.Bool.{cases_eq}
@@ -7,12 +7,10 @@ use Rattle.std.proofs.lemmas.List.{length-set}
 use Rattle.std.proofs.lemmas.List.Elements.{All-contains_itself, All-weaker}
 use Rattle.cred_event.specs.declared.event.Event.{Event}
 use Rattle.cred_event.specs.declared.entry.Entry as entered
-use Rattle.cred_model.specs.Script.{Line}
 use Rattle.cred_model.specs.State.{State}
 use Rattle.cred_model.specs.Course as model
 use Rattle.cred_model.specs.Course.{Course}
-use Rattle.cred_model.specs.Step.{step}
-use Rattle.cred_model.specs.Journal.{Due, due_in, entry_of, replay}
+use Rattle.cred_model.specs.Journal.{entry_of, replay}
 use Rattle.cred_model.proofs.Journals.{replay-push}
 use Rattle.cred_names.specs.Labels.{event_labels}
 use Rattle.cred_sound.proofs.Sound.{sound_after}

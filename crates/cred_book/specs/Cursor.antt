@@ -1,5 +1,5 @@
 -- A book's cursors, and the steps that they are moved on by.
-use Rattle.std.specs.Prelude.{◌≡◌, ◌≤◌, ◌==◌, ℕ, ◌+◌, List, [], ◌∷◌, ◌++◌, length, set, Some, None}
+use Rattle.std.specs.Prelude.{◌≡◌, ◌≤◌, ◌==◌, ℕ, ◌+◌, [], ◌∷◌, ◌++◌, length, set, Some, None}
 use Rattle.std.specs.Prelude.{Bool, true, false, not, slice_index_or, IfSome}
 use Rattle.std.specs.declared.option.Option.{Option}
 use Rattle.std.specs.List.{sum_by}
@@ -14,7 +14,7 @@ use Rattle.cred_cursor.specs.Cursor.{left_at}
 use Rattle.cred_cursor.specs.Cursors.{AreCursors}
 use Rattle.cred_left.specs.Waiting.{waiting}
 use Rattle.cred_tables.specs.Out.{AreSameTokens, waits_in}
-use Rattle.cred_work.specs.declared.work.Work.{Work}
+use Rattle.cred_work.specs.Work.{Work}
 use Rattle.cred_book.specs.Book.{Recorded, out_of}
 use Rattle.cred_book.specs.Counts.{AreEnded, count_of}
 use Rattle.cred_book.specs.Works.{AreNamedApart, IsBack, IsLanes, IsOutOf, tokens_out}

@@ -21,7 +21,7 @@ mod works;
 use crate::ended::lines_without_events;
 use crate::journal::{Journal, room_for_entries};
 use crate::outs::none_out;
-use crate::step::Step;
+use crate::step::{Handed, Step};
 use cred_copies::copy_answer;
 use cred_course::Course;
 use cred_cursor::{Cursors, cursor_after, next_event};
@@ -30,7 +30,6 @@ use cred_hold::Cells;
 use cred_ids::NoMemory;
 use cred_script::Script;
 use cred_state::State;
-use cred_work::Work;
 use std::alloc::Global;
 use std::marker::Model;
 
@@ -213,21 +212,11 @@ impl Book {
         let Some(event) = next_event(&self.script, course)? else {
             return Ok(Step::Ended);
         };
-        let ns = self.deciding_ns(cells, &event);
-        let (file, chain) = self.copies(&event, ns)?;
         let line = course.line();
-        if let Some(lent) = self.lend(cells, lane, line, &event) {
-            return Ok(Step::Work(Work {
-                line,
-                event,
-                file,
-                chain,
-                lent,
-                decided: None,
-            }));
-        }
-        drop(file);
-        drop(chain);
+        let event = match self.hand_out(cells, lane, line, event)? {
+            Handed::Out(work) => return Ok(Step::Work(work)),
+            Handed::Back(event) => event,
+        };
         let cursor = self.enter(cells, lane, course, event)?;
         self.move_on(lane, line, cursor);
         Ok(Step::More)

@@ -12,7 +12,7 @@ use Rattle.cred_lent.specs.declared.lent.Lent.TheVariants.{One, Two, Kept}
 use Rattle.cred_lent.specs.declared.lent.Decided.{Decided}
 use Rattle.cred_lent.specs.declared.lent.Decided.TheVariants.{Told, May, Put}
 use Rattle.cred_state.specs.Lending.{IsChain}
-use Rattle.cred_work.specs.declared.work.Work.{Work}
+use Rattle.cred_work.specs.Work.{Work}
 use Rattle.cred_work.specs.Works.{IsDecided, Stays}
 use Rattle.cred_book.specs.Works.{IsWorkOf}
 

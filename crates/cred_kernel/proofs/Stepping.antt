@@ -6,7 +6,7 @@ use Rattle.cred_event.specs.declared.entry.Entry.{Entry}
 use Rattle.cred_model.specs.Script.{Script}
 use Rattle.cred_model.specs.Journal.{due_in}
 use Rattle.cred_turn.specs.declared.numbers.Numbers.{Numbers}
-use Rattle.cred_work.specs.declared.work.Work.{Work}
+use Rattle.cred_work.specs.Work.{Work}
 use Rattle.cred_book.specs.Book.{Recorded}
 use Rattle.cred_book.specs.Counts as counts
 use Rattle.cred_book.specs.Counts.{Counts, IsOutNow, IsSetUp, decided_of, ended_of, entered_of, lines_in}

@@ -3,7 +3,7 @@ use Rattle.std.specs.Prelude.{◌≡◌, ℕ, ◌+◌, ◌<◌, Some, None, Resu
 use Rattle.atomic_table.specs.Seated.{TableId}
 use Rattle.cred_model.specs.Script.{Script}
 use Rattle.cred_turn.specs.declared.numbers.Numbers.{Numbers}
-use Rattle.cred_work.specs.declared.work.Work.{Work}
+use Rattle.cred_work.specs.Work.{Work}
 use Rattle.cred_book.specs.Counts.{IsSameOrNext, lines_in}
 use Rattle.cred_book.specs.Works.{IsWorkOf}
 use Rattle.cred_book.specs.declared.step.Step.{Step}

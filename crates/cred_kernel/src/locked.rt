@@ -107,7 +107,7 @@ fn stepped(before: Numbers, step: &Result<Step, NoMemory>, ended: u32) -> Number
         },
         Ok(Step::Work(work)) => Numbers {
             ended,
-            out: Some(work.line),
+            out: Some(work.line()),
             ..before
         },
         Ok(Step::Ended) | Err(_) => Numbers { ended, ..before },

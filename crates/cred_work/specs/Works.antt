@@ -2,7 +2,7 @@
 use Rattle.std.specs.Prelude.{◌≡◌, Some, IfSome}
 use Rattle.cred_lent.specs.Decisions.{IsRight, left_by}
 use Rattle.cred_lent.specs.declared.lent.Decided.{Decided}
-use Rattle.cred_work.specs.declared.work.Work.{Work}
+use Rattle.cred_work.specs.Work.{Work}
 
 -- the work is the same, but for its decision, and for what its writer has put by that
 pub record Stays (before after : Work) : Type 0 where

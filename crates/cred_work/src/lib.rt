@@ -6,4 +6,4 @@ mod performing;
 mod work;
 
 pub use performing::perform;
-pub use work::Work;
+pub use work::{Asked, Work};

@@ -22,14 +22,16 @@ pub fn perform(alloc: Global, cells: &Cells, work: &mut Work) -> Result<(), NoMe
     ensures stays { OnOk result (Stays work.old work.new) }
     ensures same { OnErr result (work.new ≡ work.old) }
 {
+    let Work { parts, lent } = work;
+    let parts = parts.as_mut();
     let decided = decide_event(
         alloc,
         cells,
-        &work.event,
-        work.file.as_ref(),
-        work.chain.items(),
-        &mut work.lent,
+        &parts.event,
+        parts.file.as_ref(),
+        parts.chain.items(),
+        lent,
     )?;
-    work.decided = Some(decided);
+    parts.decided = Some(decided);
     Ok(())
 }

@@ -1,6 +1,6 @@
 //! Works that go out, and that come back decided.
 ghost use Rattle.std.specs.Prelude.{◌≡◌, ◌<◌, length, set, true, is_some, None, IfOk, IfErr};
-ghost use Rattle.std.specs.Prelude.{IfNone, IfSome, OnOk};
+ghost use Rattle.std.specs.Prelude.{IfNone, IfSome, OnOk, OnErr};
 ghost use Rattle.cred_model.specs.Course as course_model;
 ghost use Rattle.cred_model.specs.Journal as model;
 ghost use Rattle.cred_model.specs.Journal.{replay};
@@ -15,12 +15,13 @@ ghost use Rattle.cred_state.specs.Lending.{entries_of};
 ghost use Rattle.cred_book.specs.Book.{answer_of};
 ghost use Rattle.cred_book.specs.Counts.{HasEntered};
 ghost use Rattle.cred_book.specs.Cursor.{Finishes, Stands, left};
-ghost use Rattle.cred_book.specs.Works.{IsChainFor, IsEntered, IsLanes, IsWorkOf, with_out};
+ghost use Rattle.cred_book.specs.Works.{IsChainFor, IsEntered, IsHanded, IsLanes, IsWorkOf};
+ghost use Rattle.cred_book.specs.Works.{may_wait, with_out};
 ghost use Rattle.cred_book.specs.declared.step.Step.TheVariants.{More};
 
 use crate::book::Book;
 use crate::outs::copy_file;
-use crate::step::{Step, Unfinished};
+use crate::step::{Handed, Step, Unfinished};
 use cred_course::Course;
 use cred_cursor::cursor_after;
 use cred_declared::{chain_of as declared_chain, event_file};
@@ -30,7 +31,7 @@ use cred_ids::NoMemory;
 use cred_lent::{Decided, Lent};
 use cred_record::{FileInfo, IdList};
 use cred_state::Unentered;
-use cred_work::Work;
+use cred_work::{Asked, Work};
 
 impl Book {
     /// Takes a work of the lane back, which is decided, and enters its event, the lane's next one.
@@ -63,9 +64,41 @@ impl Book {
         Ok(Step::More)
     }
 
+    /// Hands the event of the lane's line out as a work, with its tokens, where it waits for a
+    /// decision. Else it is handed back, and the book is as it was.
+    ///
+    /// # Errors
+    ///
+    /// `NoMemory` if an allocation of what the work has fails: nothing was lent, and the book is as
+    /// it was.
+    pub(super) fn hand_out(
+        &mut self,
+        cells: &Cells,
+        lane: u32,
+        line: u32,
+        event: Event,
+    ) -> Result<Handed, NoMemory>
+        requires own { self.old.words.id ≡ cells.now }
+        requires home { AreHome event self.old.words.out }
+        requires place { lane < length self.old.outs }
+        ensures handed { IfOk result (IsHanded self.old self.new lane line event) }
+        ensures err { OnErr result (self.new ≡ self.old) }
+    {
+        if !may_wait(&event) {
+            return Ok(Handed::Back(event));
+        }
+        let ns = self.deciding_ns(cells, &event);
+        let (file, chain) = self.copies(&event, ns)?;
+        let asked = Asked::new(self.alloc, line, event, file, chain)?;
+        match self.lend(cells, lane, line, asked.event()) {
+            Some(lent) => Ok(Handed::Out(Work::of(asked, lent, None))),
+            None => Ok(Handed::Back(asked.into_event())),
+        }
+    }
+
     /// The user namespace whose root ids the event is decided by: that of its label's base. Only an
     /// execve is decided by any.
-    pub(super) fn deciding_ns(&mut self, cells: &Cells, event: &Event) -> u32
+    fn deciding_ns(&mut self, cells: &Cells, event: &Event) -> u32
         requires own { self.old.words.id ≡ cells.now }
         ensures chain { IsChainFor self.old event.now (chain_of self.old.script result) }
         ensures same { self.new ≡ self.old }
@@ -79,11 +112,7 @@ impl Book {
     /// # Errors
     ///
     /// `NoMemory` if an allocation of one of them fails.
-    pub(super) fn copies(
-        &self,
-        event: &Event,
-        ns: u32,
-    ) -> Result<(Option<FileInfo>, IdList), NoMemory>
+    fn copies(&self, event: &Event, ns: u32) -> Result<(Option<FileInfo>, IdList), NoMemory>
         ensures file { IfOk result (λ made.
             made.0 ≡ info_of self.now.script (event_files event.now)) }
         ensures chain { IfOk result (λ made. made.1 ≡ chain_of self.now.script ns) }
@@ -98,13 +127,7 @@ impl Book {
 
     /// Lends what the event of the lane's line is decided on, which is then out. `None` where it
     /// doesn't wait for a decision: the book is as it was. No memory is taken.
-    pub(super) fn lend(
-        &mut self,
-        cells: &Cells,
-        lane: u32,
-        line: u32,
-        event: &Event,
-    ) -> Option<Lent>
+    fn lend(&mut self, cells: &Cells, lane: u32, line: u32, event: &Event) -> Option<Lent>
         requires own { self.old.words.id ≡ cells.now }
         requires home { AreHome event.now self.old.words.out }
         requires place { lane < length self.old.outs }
@@ -151,24 +174,17 @@ impl Book {
         let Ok(()) = self.journal.reserve(1) else {
             return Err(Unfinished { work });
         };
-        let Work {
-            line,
-            event,
-            file,
-            chain,
-            lent,
-            decided,
-        } = work;
+        let (asked, lent, decided) = work.apart();
         let Some(decided) = decided else {
             unreachable!()
         };
+        let line = asked.line();
         match self
             .state
-            .enter(cells, &self.script, line, &event, lent, decided)
+            .enter(cells, &self.script, line, asked.event(), lent, decided)
         {
             Ok(answer) => {
-                drop(file);
-                drop(chain);
+                let event = asked.into_event();
                 let cursor = cursor_after(&self.script, lane, course, &answer);
                 self.journal.push_reserved(Entry {
                     line,
@@ -178,14 +194,7 @@ impl Book {
                 Ok(cursor)
             }
             Err(Unentered { hold, answer }) => Err(Unfinished {
-                work: Work {
-                    line,
-                    event,
-                    file,
-                    chain,
-                    lent: Lent::One(hold),
-                    decided: Some(Decided::Told(answer)),
-                },
+                work: Work::of(asked, Lent::One(hold), Some(Decided::Told(answer))),
             }),
         }
     }
@@ -197,4 +206,14 @@ impl Book {
     {
         self.outs[lane as usize] = None;
     }
+}
+
+/// Whether an event of this kind waits for a decision where its labels are there.
+fn may_wait(event: &Event) -> bool
+    ensures { result ≡ may_wait event.now }
+{
+    matches!(
+        event,
+        Event::Ask { .. } | Event::OpenFile { .. } | Event::Signal { .. } | Event::Alter { .. }
+    )
 }

@@ -9,7 +9,7 @@ use cred_hold::{Cells, Master, make};
 use cred_ids::{Arg, Id, Kind, NoMemory};
 use cred_lent::{Built, Decided, Lent};
 use cred_record::{Cred, IdList, first};
-use cred_work::{Work, perform};
+use cred_work::{Asked, Work, perform};
 use std::alloc::Global;
 use std::test::Fail;
 
@@ -23,16 +23,12 @@ fn decided(
     requires own { AreOf cells.now lent }
     requires labels { AreFor event lent }
 {
-    let mut work = Work {
-        line: 1,
-        event,
-        file: None,
-        chain: IdList::of(alloc, &[])?,
-        lent,
-        decided: None,
-    };
+    let chain = IdList::of(alloc, &[])?;
+    let asked = Asked::new(alloc, 1, event, None, chain)?;
+    let mut work = Work::of(asked, lent, None);
     perform(alloc, cells, &mut work)?;
-    Ok(work.decided)
+    let (_, _, decided) = work.apart();
+    Ok(decided)
 }
 
 /// What a question about the groups of the credential is decided as.

@@ -2,13 +2,18 @@ use Rattle.std.proofs.Common.{◌≡◌, ℕ, List, [], ◌∷◌, ◌++◌, sym
 use Rattle.std.specs.Option.{IfSome}
 use Rattle.cred_event.specs.declared.answer.Answer.{Answer}
 use Rattle.cred_event.specs.declared.entry.Entry.{Entry}
+use Rattle.cred_event.specs.declared.event.Event.{Event}
 use Rattle.cred_model.specs.Course as model
 use Rattle.cred_model.specs.Journal.{replay}
+use Rattle.cred_model.specs.Like.{GivesLike}
+use Rattle.cred_model.specs.Step.{done}
 use Rattle.cred_script.specs.Lines.{line_at}
 use Rattle.cred_cursor.specs.Cursor.{MovesOnTo}
-use Rattle.cred_work.specs.declared.work.Work.{Work}
+use Rattle.cred_lent.specs.declared.lent.Lent.{Lent}
+use Rattle.cred_work.specs.Work.{Work}
+use Rattle.cred_tables.specs.Out.{AreBack}
 use Rattle.cred_tables.proofs.Outs.{out_like}
-use Rattle.cred_state.specs.Lending.{entries_of}
+use Rattle.cred_state.specs.Lending.{AreTaken, entries_of}
 use Rattle.cred_book.specs.Book.{Recorded, answer_of}
 use Rattle.cred_book.proofs.Entered.{enters, follows_sound, out_left, replays}
 use Rattle.cred_book.proofs.Finished.{left_there, lent_waits}
@@ -26,23 +31,53 @@ pub invariant_of-self-in-Ok-enter : goal.invariant_of-self-in-Ok-enter
 invariant_of-self-in-Ok-enter c =
     let b = c.self.inside in
     let w : Work = c.args.work in
-    let entry : Entry = record { line = w.line; event = w.event; answer = c.in-Ok-enter.answer } in
-    let longer = c.push_reserved.ensures.items ∙ ap (λ (js : List Entry). js ++ entry ∷ []) c.reserve.ensures.items in (
-      enters b.script b.state.state c.enter.new.self.state b.journal.items c.push_reserved.new.self.items entry c.self.invariant.0
-          c.in-Ok-enter.ensures.ok longer,
-      out_left b.script b.journal.items c.push_reserved.new.self.items entry b.state.words.out c.enter.new.self.words.out
-          (lent_waits w.event w.lent c.requires.of.labels)
-          (left_there (entries_of w.lent) b.state.words.out c.enter.new.self.words.out c.in-Ok-enter.ensures.taken) c.self.invariant.1 longer,
+    let apart = c.apart-asked.ensures in
+    let line : c.line-line.result ≡ w.line = c.line-line.ensures ∙ ap (λ (x : Work). x.line) (sym apart) in
+    let event : c.event.result.now ≡ w.event = c.event.ensures ∙ ap (λ (x : Work). x.event) (sym apart) in
+    let entered : c.into_event-event.result ≡ w.event = c.into_event-event.ensures ∙ ap (λ (x : Work). x.event) (sym apart) in
+    let lent : c.apart-asked.result.1 ≡ w.lent = ap (λ (x : Work). x.lent) (sym apart) in
+    let taken : AreTaken (entries_of w.lent) b.state.words.out c.enter.new.self.words.out
+    = subst (λ (l : Lent). AreTaken (entries_of l) b.state.words.out c.enter.new.self.words.out) lent c.in-Ok-enter.ensures.taken in
+    let ok : GivesLike b.state.state (done b.script b.state.state w.line w.event) c.in-Ok-enter.answer c.enter.new.self.state
+    = subst (λ (n : ℕ). GivesLike b.state.state (done b.script b.state.state n w.event) c.in-Ok-enter.answer c.enter.new.self.state) line
+    (subst (λ (e : Event). GivesLike b.state.state (done b.script b.state.state c.line-line.result e) c.in-Ok-enter.answer c.enter.new.self.state) event
+    c.in-Ok-enter.ensures.ok) in
+    let entry : ℕ → Event → Answer → Entry = λ line event answer. record { line = line; event = event; answer = answer } in
+    let longer = c.push_reserved.ensures.items
+    ∙ ap (λ (js : List Entry). js ++ entry c.line-line.result c.into_event-event.result c.in-Ok-enter.answer ∷ []) c.reserve.ensures.items
+    ∙ ap (λ (n : ℕ). b.journal.items ++ entry n c.into_event-event.result c.in-Ok-enter.answer ∷ []) line
+    ∙ ap (λ (e : Event). b.journal.items ++ entry w.line e c.in-Ok-enter.answer ∷ []) entered in (
+      enters b.script b.state.state c.enter.new.self.state b.journal.items c.push_reserved.new.self.items (entry w.line w.event c.in-Ok-enter.answer)
+          c.self.invariant.0 ok longer,
+      out_left b.script b.journal.items c.push_reserved.new.self.items (entry w.line w.event c.in-Ok-enter.answer) b.state.words.out
+          c.enter.new.self.words.out (lent_waits w.event w.lent c.requires.of.labels)
+          (left_there (entries_of w.lent) b.state.words.out c.enter.new.self.words.out taken) c.self.invariant.1 longer,
     )
 
 pub returns-in-Ok-enter-clause-entered : goal.returns-in-Ok-enter-clause-entered
 returns-in-Ok-enter-clause-entered c =
     let b = c.self.inside in
     let w : Work = c.args.work in
-    let entry : Answer → Entry = λ answer. record { line = w.line; event = w.event; answer = answer } in
-    let longer = c.push_reserved.ensures.items ∙ ap (λ (js : List Entry). js ++ entry c.in-Ok-enter.answer ∷ []) c.reserve.ensures.items in
-    let made = replays b.script b.state.state c.enter.new.self.state b.journal.items (entry c.in-Ok-enter.answer) c.self.invariant.0 c.in-Ok-enter.ensures.ok in
-    let grown = longer ∙ ap (λ (answer : Answer). b.journal.items ++ entry answer ∷ []) (sym made.answers) in
+    let apart = c.apart-asked.ensures in
+    let line : c.line-line.result ≡ w.line = c.line-line.ensures ∙ ap (λ (x : Work). x.line) (sym apart) in
+    let event : c.event.result.now ≡ w.event = c.event.ensures ∙ ap (λ (x : Work). x.event) (sym apart) in
+    let entered : c.into_event-event.result ≡ w.event = c.into_event-event.ensures ∙ ap (λ (x : Work). x.event) (sym apart) in
+    let lent : c.apart-asked.result.1 ≡ w.lent = ap (λ (x : Work). x.lent) (sym apart) in
+    let taken : AreTaken (entries_of w.lent) b.state.words.out c.enter.new.self.words.out
+    = subst (λ (l : Lent). AreTaken (entries_of l) b.state.words.out c.enter.new.self.words.out) lent c.in-Ok-enter.ensures.taken in
+    let back : AreBack (entries_of w.lent) b.state.words c.enter.new.self.words
+    = subst (λ (l : Lent). AreBack (entries_of l) b.state.words c.enter.new.self.words) lent c.in-Ok-enter.ensures.back in
+    let ok : GivesLike b.state.state (done b.script b.state.state w.line w.event) c.in-Ok-enter.answer c.enter.new.self.state
+    = subst (λ (n : ℕ). GivesLike b.state.state (done b.script b.state.state n w.event) c.in-Ok-enter.answer c.enter.new.self.state) line
+    (subst (λ (e : Event). GivesLike b.state.state (done b.script b.state.state c.line-line.result e) c.in-Ok-enter.answer c.enter.new.self.state) event
+    c.in-Ok-enter.ensures.ok) in
+    let entry : ℕ → Event → Answer → Entry = λ line event answer. record { line = line; event = event; answer = answer } in
+    let longer = c.push_reserved.ensures.items
+    ∙ ap (λ (js : List Entry). js ++ entry c.line-line.result c.into_event-event.result c.in-Ok-enter.answer ∷ []) c.reserve.ensures.items
+    ∙ ap (λ (n : ℕ). b.journal.items ++ entry n c.into_event-event.result c.in-Ok-enter.answer ∷ []) line
+    ∙ ap (λ (e : Event). b.journal.items ++ entry w.line e c.in-Ok-enter.answer ∷ []) entered in
+    let made = replays b.script b.state.state c.enter.new.self.state b.journal.items (entry w.line w.event c.in-Ok-enter.answer) c.self.invariant.0 ok in
+    let grown = longer ∙ ap (λ (answer : Answer). b.journal.items ++ entry w.line w.event answer ∷ []) (sym made.answers) in
     rw (← c.self.view_is)
     (record {
       same = λ k. record {
@@ -53,16 +88,23 @@ returns-in-Ok-enter-clause-entered c =
         outs = b.outs.items;
         words = c.enter.new.self.words;
       };
-      words = c.in-Ok-enter.ensures.back;
-      taken = c.in-Ok-enter.ensures.taken;
+      words = back;
+      taken = taken;
     })
 
 pub returns-in-Ok-enter-clause-passes : goal.returns-in-Ok-enter-clause-passes
 returns-in-Ok-enter-clause-passes c =
     let b = c.self.inside in
     let w : Work = c.args.work in
+    let apart = c.apart-asked.ensures in
+    let line : c.line-line.result ≡ w.line = c.line-line.ensures ∙ ap (λ (x : Work). x.line) (sym apart) in
+    let event : c.event.result.now ≡ w.event = c.event.ensures ∙ ap (λ (x : Work). x.event) (sym apart) in
+    let ok : GivesLike b.state.state (done b.script b.state.state w.line w.event) c.in-Ok-enter.answer c.enter.new.self.state
+    = subst (λ (n : ℕ). GivesLike b.state.state (done b.script b.state.state n w.event) c.in-Ok-enter.answer c.enter.new.self.state) line
+    (subst (λ (e : Event). GivesLike b.state.state (done b.script b.state.state c.line-line.result e) c.in-Ok-enter.answer c.enter.new.self.state) event
+    c.in-Ok-enter.ensures.ok) in
     let entry : Entry = record { line = w.line; event = w.event; answer = c.in-Ok-enter.answer } in
-    let made = replays b.script b.state.state c.enter.new.self.state b.journal.items entry c.self.invariant.0 c.in-Ok-enter.ensures.ok in
+    let made = replays b.script b.state.state c.enter.new.self.state b.journal.items entry c.self.invariant.0 ok in
     let book : Recorded = record {
       script = b.script;
       journal = b.journal.items;

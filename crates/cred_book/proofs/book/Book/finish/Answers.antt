@@ -1,4 +1,4 @@
-use Rattle.std.proofs.Common.{◌≡◌, ◌<◌, length, get_or, Option, Some, None, is_some, refl, sym, ap, ◌∙◌, subst}
+use Rattle.std.proofs.Common.{◌≡◌, ◌<◌, length, get_or, Option, Some, None, refl, sym, ap, ◌∙◌, subst}
 use Rattle.cred_ids.specs.Limits.{LINE_LIMIT}
 use Rattle.cred_model.specs.Course.{Course}
 use Rattle.cred_model.specs.Journal.{replay}

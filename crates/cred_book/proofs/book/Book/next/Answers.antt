@@ -1,24 +1,22 @@
-use Rattle.std.proofs.Common.{◌≡◌, ◌<◌, length, get_or, true, false, Option, Some, None, is_some, refl, sym, ap, ◌∙◌, subst}
+use Rattle.std.proofs.Common.{◌≡◌, ◌<◌, length, get_or, false, Option, Some, None, is_some, refl, sym, ap, ◌∙◌, subst}
 use Rattle.std.specs.Option.{IfSome, option_and_then}
 use Rattle.cred_ids.specs.Limits.{LINE_LIMIT}
 use Rattle.cred_event.specs.declared.event.Event.{Event}
-use Rattle.cred_model.specs.Script.{Script, Line, chain_of, info_of}
+use Rattle.cred_model.specs.Script.{Script, Line}
 use Rattle.cred_model.specs.Course as model
 use Rattle.cred_model.specs.Course.{Course, event_at}
 use Rattle.cred_model.specs.Journal.{replay}
-use Rattle.cred_model.specs.Named.{IsEventOf, event_files}
+use Rattle.cred_model.specs.Named.{IsEventOf}
 use Rattle.cred_script.specs.Lines.{line_at}
 use Rattle.cred_cursor.specs.Cursor.{IsOfLine, MovesOnTo}
 use Rattle.cred_cursor.specs.Cursors.{due_of}
 use Rattle.cred_cursor.proofs.Turns.{lane_has_place}
-use Rattle.cred_lent.specs.Decisions.{AreOf}
-use Rattle.cred_work.specs.declared.work.Work.{Work}
+use Rattle.cred_work.specs.Work.{Work}
 use Rattle.cred_tables.specs.Kept.{Words}
-use Rattle.cred_tables.specs.Out.{AreHome, tokens_in, waits_in}
-use Rattle.cred_state.specs.Lending.{entries_of}
+use Rattle.cred_tables.specs.Out.{AreHome, waits_in}
 use Rattle.cred_book.specs.Book.{Recorded, answer_of, with_event}
 use Rattle.cred_book.specs.Cursor.{moved_on}
-use Rattle.cred_book.specs.Works.{IsChainFor, with_out, with_work}
+use Rattle.cred_book.specs.Works.{GoesOut, IsHanded, with_work}
 use Rattle.cred_book.proofs.Cursors.{due_counts, due_found, due_goes_on, due_makes, due_of_line, lane_has_out, none_counted, none_made}
 use Rattle.cred_book.proofs.Handed.{EntersMore, HandsOut, enters_more, hands_out, made_event}
 use Rattle.cred_book.proofs.Lent.{next_home}
@@ -50,29 +48,27 @@ next_event-requires c =
       line = subst (λ (b : Recorded). IsOfLine b.script c.in-Some.course) (sym c.self.view_is) (due_of_line book c.args.lane c.in-Some.course c.requires.stands here);
     }
 
-pub lend-requires-clause-home : goal.lend-requires-clause-home
-lend-requires-clause-home c =
+pub hand_out-requires-clause-home : goal.hand_out-requires-clause-home
+hand_out-requires-clause-home c =
     let book : Recorded = c.args.self.now in
     let course : Course = c.in-Some.course in
     let here : due_of book.cursors c.args.lane ≡ Some course
     = due_found _ book c.args.lane _ _ c.self.view_is c.due.ensures c.in-Some.is in
     let has : event_of book.script course ≡ Some c.in-Some-2.event
     = made_event _ book course _ _ c.self.view_is c.in_ok-event.ensures.event c.in-Some-2.is in
-    let home : AreHome c.in-Some-2.event book.words.out
-    = next_home book c.args.lane (record { line = course.line; event = c.in-Some-2.event }) c.requires.stands c.requires.home
-    (next_is book.script book.journal book.cursors c.args.lane course c.in-Some-2.event c.requires.stands.cursors here has) in
-    subst (λ (b : Recorded). AreHome c.in-Some-2.event b.words.out) (sym c.deciding_ns-ns.ensures.same) home
+    next_home book c.args.lane (record { line = course.line; event = c.in-Some-2.event }) c.requires.stands c.requires.home
+    (next_is book.script book.journal book.cursors c.args.lane course c.in-Some-2.event c.requires.stands.cursors here has)
 
-pub lend-requires-clause-place : goal.lend-requires-clause-place
-lend-requires-clause-place c =
+pub hand_out-requires-clause-place : goal.hand_out-requires-clause-place
+hand_out-requires-clause-place c =
     let book : Recorded = c.args.self.now in
     let course : Course = c.in-Some.course in
     let here : due_of book.cursors c.args.lane ≡ Some course
     = due_found _ book c.args.lane _ _ c.self.view_is c.due.ensures c.in-Some.is in
-    subst (λ (b : Recorded). c.args.lane < length b.outs) (sym c.deciding_ns-ns.ensures.same) (lane_has_out book c.args.lane course c.requires.stands here)
+    lane_has_out book c.args.lane course c.requires.stands here
 
-pub returns-in-Some-lend : goal.returns-in-Some-lend
-returns-in-Some-lend c =
+pub returns-in-Out : goal.returns-in-Out
+returns-in-Out c =
     let book : Recorded = c.args.self.now in
     let course : Course = c.in-Some.course in
     let here : due_of book.cursors c.args.lane ≡ Some course
@@ -80,38 +76,27 @@ returns-in-Some-lend c =
     let has : event_of book.script course ≡ Some c.in-Some-2.event
     = made_event _ book course _ _ c.self.view_is c.in_ok-event.ensures.event c.in-Some-2.is in
     let lane = c.args.lane in
-    let work : Work = record {
-      line = c.line-line.result;
-      event = c.in-Some-2.event;
-      file = c.in_ok-file.file;
-      chain = c.in_ok-file.chain;
-      lent = c.in-Some-lend.lent;
-      decided = None;
-    } in
-    let same : c.deciding_ns-ns.new.self ≡ book = c.deciding_ns-ns.ensures.same in
-    let is : c.lend.new.self ≡ with_work book lane work
-    = c.in-Some-lend.ensures.lent ∙ ap (λ (b : Recorded). with_out b lane c.line-line.result c.in-Some-lend.lent) same in
-    let seen = λ (b : Recorded). replay b.script b.journal in
-    let own : AreOf book.words.id work.lent = subst (λ id. AreOf id work.lent) (sym c.requires.own) c.in-Some-lend.ensures.of.0 in
-    let chain : work.chain ≡ chain_of book.script c.deciding_ns-ns.result
-    = c.in_ok-file.ensures.chain ∙ ap (λ (b : Recorded). chain_of b.script c.deciding_ns-ns.result) same in
+    let after : Recorded = c.hand_out.new.self in
+    let work : Work = c.in-Out.work in
+    let goes : GoesOut book after lane c.line-line.result c.in-Some-2.event work
+    = subst (IsHanded book after lane c.line-line.result c.in-Some-2.event) c.in-Out.is c.in_ok-work.ensures.handed in
     let h : HandsOut book (with_work book lane work) lane work
     = hands_out book lane course work c.requires.stands c.requires.home (record {
       due = here;
-      has = has;
-      line = sym c.line-line.ensures.value;
-      undecided = refl;
-      waits = subst (λ (b : Recorded). waits_in (seen b) work.event ≡ true) same (sym c.in-Some-lend.ensures.waits);
-      own = own;
-      labels = c.in-Some-lend.ensures.of.1;
-      tokens = subst (λ (b : Recorded). entries_of work.lent ≡ tokens_in (seen b) work.event) same c.in-Some-lend.ensures.tokens;
-      file = c.in_ok-file.ensures.file ∙ ap (λ (b : Recorded). info_of b.script (event_files work.event)) same;
-      chain = subst (λ ids. IsChainFor book work.event ids) (sym chain) c.deciding_ns-ns.ensures.chain;
+      has = has ∙ ap Some (sym goes.event);
+      line = sym (goes.line ∙ c.line-line.ensures.value);
+      undecided = goes.undecided;
+      waits = goes.waits;
+      own = goes.own;
+      labels = goes.labels;
+      tokens = goes.tokens;
+      file = goes.file;
+      chain = goes.chain;
     }) in
-    let r : HandsOut book c.lend.new.self lane work = subst (λ b. HandsOut book b lane work) (sym is) h in
+    let r : HandsOut book after lane work = subst (λ b. HandsOut book b lane work) (sym goes.lent) h in
     record {
-      script = ap (λ (b : Recorded). b.script) is;
-      cells = ap (λ (b : Recorded). b.words.id) is;
+      script = ap (λ (b : Recorded). b.script) goes.lent;
+      cells = ap (λ (b : Recorded). b.words.id) goes.lent;
       stands = r.stands;
       made = r.made;
       falls = λ more. cc;
@@ -122,12 +107,14 @@ returns-in-Some-lend c =
 pub enter-requires-clause-kind : goal.enter-requires-clause-kind
 enter-requires-clause-kind c =
     let book : Recorded = c.args.self.now in
-    let none : c.lend.new.self ≡ book = c.in_default-lend.ensures.none ∙ c.deciding_ns-ns.ensures.same in
+    let back = subst (IsHanded book c.hand_out.new.self c.args.lane c.line-line.result c.in-Some-2.event) c.in-Back.is c.in_ok-work.ensures.handed in
+    let none : c.hand_out.new.self ≡ book = back.2 in
     let kind : IsEventOf (length book.script.files) book.script.namespaces c.in-Some-2.event
     = rw (← c.self.view_is)
     (subst (λ (o : Option Event). IfSome o (IsEventOf (length c.self.inside.script.files) c.self.inside.script.namespaces)) c.in-Some-2.is
     c.in_ok-event.ensures.named) in
-    subst (λ (b : Recorded). IsEventOf (length b.script.files) b.script.namespaces c.in-Some-2.event) (sym none) kind
+    subst (λ (b : Recorded). IsEventOf (length b.script.files) b.script.namespaces c.in-Back.event) (sym none)
+    (subst (IsEventOf (length book.script.files) book.script.namespaces) (sym back.0) kind)
 
 pub enter-requires-clause-line : goal.enter-requires-clause-line
 enter-requires-clause-line c =
@@ -135,7 +122,8 @@ enter-requires-clause-line c =
     let course : Course = c.in-Some.course in
     let here : due_of book.cursors c.args.lane ≡ Some course
     = due_found _ book c.args.lane _ _ c.self.view_is c.due.ensures c.in-Some.is in
-    let none : c.lend.new.self ≡ book = c.in_default-lend.ensures.none ∙ c.deciding_ns-ns.ensures.same in
+    let back = subst (IsHanded book c.hand_out.new.self c.args.lane c.line-line.result c.in-Some-2.event) c.in-Back.is c.in_ok-work.ensures.handed in
+    let none : c.hand_out.new.self ≡ book = back.2 in
     subst (λ (b : Recorded). IsOfLine b.script course) (sym none) (due_of_line book c.args.lane course c.requires.stands here)
 
 pub enter-requires-clause-home : goal.enter-requires-clause-home
@@ -149,8 +137,9 @@ enter-requires-clause-home c =
     let home : AreHome c.in-Some-2.event book.words.out
     = next_home book c.args.lane (record { line = course.line; event = c.in-Some-2.event }) c.requires.stands c.requires.home
     (next_is book.script book.journal book.cursors c.args.lane course c.in-Some-2.event c.requires.stands.cursors here has) in
-    let none : c.lend.new.self ≡ book = c.in_default-lend.ensures.none ∙ c.deciding_ns-ns.ensures.same in
-    subst (λ (b : Recorded). AreHome c.in-Some-2.event b.words.out) (sym none) home
+    let back = subst (IsHanded book c.hand_out.new.self c.args.lane c.line-line.result c.in-Some-2.event) c.in-Back.is c.in_ok-work.ensures.handed in
+    let none : c.hand_out.new.self ≡ book = back.2 in
+    subst (λ (b : Recorded). AreHome c.in-Back.event b.words.out) (sym none) (subst (λ event. AreHome event book.words.out) (sym back.0) home)
 
 pub enter-requires-clause-going : goal.enter-requires-clause-going
 enter-requires-clause-going c =
@@ -177,10 +166,11 @@ move_on-requires c =
     let course : Course = c.in-Some.course in
     let here : due_of book.cursors c.args.lane ≡ Some course
     = due_found _ book c.args.lane _ _ c.self.view_is c.due.ensures c.in-Some.is in
-    let none : c.lend.new.self ≡ book = c.in_default-lend.ensures.none ∙ c.deciding_ns-ns.ensures.same in
+    let back = subst (IsHanded book c.hand_out.new.self c.args.lane c.line-line.result c.in-Some-2.event) c.in-Back.is c.in_ok-work.ensures.handed in
+    let none : c.hand_out.new.self ≡ book = back.2 in
     let may = due_counts book c.args.lane course c.requires.stands here in
-    let same : with_event book course.line c.in-Some-2.event ≡ c.enter.new.self
-    = ap (λ (b : Recorded). with_event b course.line c.in-Some-2.event) (sym none) ∙ sym c.in_ok-cursor.ensures.entered in
+    let same : with_event book course.line c.in-Back.event ≡ c.enter.new.self
+    = ap (λ (b : Recorded). with_event b course.line c.in-Back.event) (sym none) ∙ sym c.in_ok-cursor.ensures.entered in
     record {
       cursors = subst (λ (b : Recorded). c.args.lane < length b.cursors) same (lane_has_place book.cursors c.args.lane course here);
       counts = subst (λ (b : Recorded). c.args.lane < length b.ended) same may.0;
@@ -193,24 +183,26 @@ returns c =
     let course : Course = c.in-Some.course in
     let here : due_of book.cursors c.args.lane ≡ Some course
     = due_found _ book c.args.lane _ _ c.self.view_is c.due.ensures c.in-Some.is in
-    let has : event_of book.script course ≡ Some c.in-Some-2.event
-    = made_event _ book course _ _ c.self.view_is c.in_ok-event.ensures.event c.in-Some-2.is in
-    let none : c.lend.new.self ≡ book = c.in_default-lend.ensures.none ∙ c.deciding_ns-ns.ensures.same in
+    let back = subst (IsHanded book c.hand_out.new.self c.args.lane c.line-line.result c.in-Some-2.event) c.in-Back.is c.in_ok-work.ensures.handed in
+    let none : c.hand_out.new.self ≡ book = back.2 in
+    let event : Event = c.in-Back.event in
+    let has : event_of book.script course ≡ Some event
+    = made_event _ book course _ _ c.self.view_is c.in_ok-event.ensures.event c.in-Some-2.is ∙ ap Some (sym back.0) in
     let lane = c.args.lane in
     let to : Option Course = c.in_ok-cursor.cursor in
     let after : Recorded = c.move_on.new.self in
-    let same : moved_on (with_event book course.line c.in-Some-2.event) lane course.line to ≡ after
+    let same : moved_on (with_event book course.line event) lane course.line to ≡ after
     = sym (c.move_on.ensures ∙ ap (λ (b : Recorded). moved_on b lane c.line-line.result to) c.in_ok-cursor.ensures.entered
-    ∙ ap (λ n. moved_on (with_event c.lend.new.self course.line c.in-Some-2.event) lane n to) c.line-line.ensures.value
-    ∙ ap (λ (b : Recorded). moved_on (with_event b course.line c.in-Some-2.event) lane course.line to) none) in
-    let free : waits_in (replay book.script book.journal) c.in-Some-2.event ≡ false
-    = subst (λ (b : Recorded). waits_in (replay b.script b.journal) c.in-Some-2.event ≡ false) c.deciding_ns-ns.ensures.same (sym c.in_default-lend.ensures.waits) in
-    let goes : GoesOn book lane course c.in-Some-2.event to = record {
+    ∙ ap (λ n. moved_on (with_event c.hand_out.new.self course.line event) lane n to) c.line-line.ensures.value
+    ∙ ap (λ (b : Recorded). moved_on (with_event b course.line event) lane course.line to) none) in
+    let free : waits_in (replay book.script book.journal) event ≡ false
+    = ap (waits_in (replay book.script book.journal)) back.0 ∙ back.1 in
+    let goes : GoesOn book lane course event to = record {
       stands = c.requires.stands;
       due = here;
       has = has;
       passes = subst (λ (r : Recorded). IfSome (line_at r.script course.line)
-          (λ line. MovesOnTo r.script lane (model.after line.content course (answer_of r course.line c.in-Some-2.event)) to)) none
+          (λ line. MovesOnTo r.script lane (model.after line.content course (answer_of r course.line event)) to)) none
           c.in_ok-cursor.ensures.passes;
     } in
     let e = enters_more goes c.requires.home free in
