@@ -18,9 +18,8 @@ ghost use Rattle.cred_book.specs.declared.step.Step.TheVariants.{More};
 
 mod works;
 
-use crate::ended::lines_without_events;
-use crate::journal::{Journal, room_for_entries};
-use crate::outs::none_out;
+use crate::beginning::{Beginning, begin};
+use crate::journal::Journal;
 use crate::step::{Handed, Step};
 use cred_copies::copy_answer;
 use cred_course::Course;
@@ -40,7 +39,6 @@ use std::marker::Model;
 /// Every entry has the answer that its event gets in the state after the entries before it. The
 /// credentials stand in the shared words alone. Each token of them that is out is that of its label
 /// in this state.
-#[derive(Drop)]
 pub struct Book {
     script: Script,
     state: State,
@@ -74,6 +72,28 @@ impl Model for Book {
         × AreOut (replay b.script b.journal.items) b.state.words.out };
 }
 
+/// Written out, so that it is proved here alone: of a derived one, each crate above that lets go of
+/// a book proves all parts anew.
+impl Drop for Book {
+    fn drop(self) {
+        let Book {
+            script,
+            state,
+            journal,
+            cursors,
+            ended,
+            outs,
+            alloc: _,
+        } = self;
+        drop(script);
+        drop(state);
+        drop(journal);
+        drop(cursors);
+        drop(ended);
+        drop(outs);
+    }
+}
+
 impl Book {
     /// The book of a script of which nothing has run, and the cells that its credentials stand in.
     /// Its cursors and its counts of ended lines are the journal's. No work is out.
@@ -90,11 +110,18 @@ impl Book {
         ensures home { IfOk result (λ made. (made.0.words.out ≡ [])
             × ((lane : ℕ) → out_of made.0 lane ≡ None)) }
     {
-        let cursors = Cursors::new(alloc, &script)?;
-        let ended = lines_without_events(alloc, &script)?;
-        let outs = none_out(alloc, &script)?;
-        let journal = room_for_entries(alloc, &script)?;
-        let (cells, state) = State::new(alloc)?;
+        let Ok(begun) = begin(alloc, &script) else {
+            drop(script);
+            return Err(NoMemory);
+        };
+        let Beginning {
+            state,
+            cells,
+            journal,
+            cursors,
+            ended,
+            outs,
+        } = begun;
         let book = Book {
             script,
             state,
@@ -128,11 +155,17 @@ impl Book {
     {
         let Book {
             script,
-            journal,
             state,
-            ..
+            journal,
+            cursors,
+            ended,
+            outs,
+            alloc: _,
         } = self;
         drop(state);
+        drop(cursors);
+        drop(ended);
+        drop(outs);
         Journal {
             script,
             entries: journal,
@@ -172,14 +205,24 @@ impl Book {
         ensures answer { IfOk result (λ answer. answer ≡ answer_of self.old line event) }
         ensures err { OnErr result (self.new ≡ self.old) }
     {
-        self.journal.reserve(1)?;
-        let answer = self.state.step(cells, &self.script, line, &event)?;
-        let copied = copy_answer(&answer)?;
-        self.journal.push(Entry {
+        let Ok(()) = self.journal.reserve(1) else {
+            drop(event);
+            return Err(NoMemory);
+        };
+        let Ok(answer) = self.state.step(cells, &self.script, line, &event) else {
+            drop(event);
+            return Err(NoMemory);
+        };
+        let Ok(copied) = copy_answer(&answer) else {
+            drop(event);
+            drop(answer);
+            return Err(NoMemory);
+        };
+        self.journal.push_reserved(Entry {
             line,
             event,
             answer,
-        })?;
+        });
         Ok(copied)
     }
 
@@ -252,9 +295,15 @@ impl Book {
             cursor)) }
         ensures err { OnErr result (self.new ≡ self.old) }
     {
-        self.journal.reserve(1)?;
+        let Ok(()) = self.journal.reserve(1) else {
+            drop(event);
+            return Err(NoMemory);
+        };
         let line = course.line();
-        let answer = self.state.step(cells, &self.script, line, &event)?;
+        let Ok(answer) = self.state.step(cells, &self.script, line, &event) else {
+            drop(event);
+            return Err(NoMemory);
+        };
         let cursor = cursor_after(&self.script, lane, course, &answer);
         self.journal.push_reserved(Entry {
             line,

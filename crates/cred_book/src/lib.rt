@@ -1,6 +1,7 @@
 //! The book: the journal of a run, with the state that it leads to.
 #![tactic(auto)]
 
+mod beginning;
 mod book;
 mod ended;
 mod journal;

@@ -26,10 +26,10 @@ step-requires-clause-out c =
 
 pub invariant_of-self-2 : goal.invariant_of-self-2
 invariant_of-self-2 c =
-    let entry : Entry = record { line = c.line-line.result; event = c.args.event; answer = c.in_ok-answer.answer } in
-    let longer = c.push_reserved.ensures.items ∙ ap (λ (js : List Entry). js ++ entry ∷ []) c.in_ok-reserve.ensures.items in (
+    let entry : Entry = record { line = c.line-line.result; event = c.args.event; answer = c.in-Ok-step.answer } in
+    let longer = c.push_reserved.ensures.items ∙ ap (λ (js : List Entry). js ++ entry ∷ []) c.in-Ok.ensures.items in (
       enters c.self.inside.script c.self.inside.state.state c.step.new.self.state c.self.inside.journal.items c.push_reserved.new.self.items entry
-          c.self.invariant.0 c.in_ok-answer.ensures.ok longer,
+          c.self.invariant.0 c.in-Ok-step.ensures.ok longer,
       subst (λ (w : Words). AreOut (replay c.self.inside.script c.push_reserved.new.self.items) w.out) (sym c.step.ensures.words)
           (out_after c.self.inside.script c.self.inside.journal.items c.push_reserved.new.self.items entry c.self.inside.state.words.out
           (subst (λ (r : Recorded). AreHome c.args.event r.words.out) (sym c.self.view_is) c.requires.home) c.self.invariant.1 longer),
@@ -40,8 +40,8 @@ returns-clause-entered c =
     let b = c.self.inside in
     let number : c.line-line.result ≡ c.args.course.line = c.line-line.ensures.value in
     let entry : ℕ → Answer → Entry = λ line answer. record { line = line; event = c.args.event; answer = answer } in
-    let longer = c.push_reserved.ensures.items ∙ ap (λ (js : List Entry). js ++ entry c.line-line.result c.in_ok-answer.answer ∷ []) c.in_ok-reserve.ensures.items in
-    let made = replays b.script b.state.state c.step.new.self.state b.journal.items (entry c.line-line.result c.in_ok-answer.answer) c.self.invariant.0 c.in_ok-answer.ensures.ok in
+    let longer = c.push_reserved.ensures.items ∙ ap (λ (js : List Entry). js ++ entry c.line-line.result c.in-Ok-step.answer ∷ []) c.in-Ok.ensures.items in
+    let made = replays b.script b.state.state c.step.new.self.state b.journal.items (entry c.line-line.result c.in-Ok-step.answer) c.self.invariant.0 c.in-Ok-step.ensures.ok in
     rw (← c.self.view_is)
     (let grown = longer ∙ ap (λ (answer : Answer). b.journal.items ++ entry c.line-line.result answer ∷ []) (sym made.answers)
     ∙ ap (λ (n : ℕ). b.journal.items ++ entry n (answer_of (record { script = b.script; journal = b.journal.items; cursors = b.cursors; ended = b.ended.items; outs = b.outs.items; words = b.state.words }) n c.args.event) ∷ []) number in
@@ -51,10 +51,10 @@ pub returns-clause-passes : goal.returns-clause-passes
 returns-clause-passes c =
     let b = c.self.inside in
     let number : c.line-line.result ≡ c.args.course.line = c.line-line.ensures.value in
-    let entry : Entry = record { line = c.line-line.result; event = c.args.event; answer = c.in_ok-answer.answer } in
-    let made = replays b.script b.state.state c.step.new.self.state b.journal.items entry c.self.invariant.0 c.in_ok-answer.ensures.ok in
+    let entry : Entry = record { line = c.line-line.result; event = c.args.event; answer = c.in-Ok-step.answer } in
+    let made = replays b.script b.state.state c.step.new.self.state b.journal.items entry c.self.invariant.0 c.in-Ok-step.ensures.ok in
     let book : Recorded = record { script = b.script; journal = b.journal.items; cursors = b.cursors; ended = b.ended.items; outs = b.outs.items; words = b.state.words } in
-    let answer : c.in_ok-answer.answer ≡ answer_of book c.args.course.line c.args.event
+    let answer : c.in-Ok-step.answer ≡ answer_of book c.args.course.line c.args.event
     = sym made.answers ∙ ap (λ (n : ℕ). answer_of book n c.args.event) number in
     let passes = subst
     (λ (a : Answer). IfSome (line_at b.script c.args.course.line) (λ line. MovesOnTo b.script c.args.lane (model.after line.content c.args.course a) c.cursor_after-cursor.result))

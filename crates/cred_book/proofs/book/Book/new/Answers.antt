@@ -10,41 +10,43 @@ use Rattle.cred_book.proofs.book.Book.new.Goals as goal
 
 pub invariant_of-book : goal.invariant_of-book
 invariant_of-book c = (
-  rw (c.in_ok-cells.ensures.state, c.in_ok-journal.ensures) (like_self opening, λ k lt. absurd (omega arith)),
-  subst (AreOut (replay c.args.script c.in_ok-journal.journal.items)) (sym c.in_ok-cells.ensures.out)
-      (has_out (replay c.args.script c.in_ok-journal.journal.items) [] (λ e has. absurd has)),
+  rw (c.in-Ok.ensures.state, c.in-Ok.ensures.journal) (like_self opening, λ k lt. absurd (omega arith)),
+  subst (AreOut (replay c.args.script c.in-Ok.begun.journal.items)) (sym c.in-Ok.ensures.lent)
+      (has_out (replay c.args.script c.in-Ok.begun.journal.items) [] (λ e has. absurd has)),
 )
 
 pub returns-clause-home : goal.returns-clause-home
 returns-clause-home c =
+    let begun = c.in-Ok.begun in
     let book : Recorded = record {
       script = c.args.script;
-      journal = c.in_ok-journal.journal.items;
-      cursors = c.in_ok-cursors.cursors;
-      ended = c.in_ok-ended.ended.items;
-      outs = c.in_ok-outs.outs.items;
-      words = c.in_ok-cells.state.words;
+      journal = begun.journal.items;
+      cursors = begun.cursors;
+      ended = begun.ended.items;
+      outs = begun.outs.items;
+      words = begun.state.words;
     } in
-    (c.in_ok-cells.ensures.out, λ lane. no_work book _ lane c.in_ok-outs.ensures)
+    (c.in-Ok.ensures.lent, λ lane. no_work book _ lane c.in-Ok.ensures.outs)
 
 pub returns-clause-stands : goal.returns-clause-stands
 returns-clause-stands c =
+    let begun = c.in-Ok.begun in
     let book : Recorded = record {
       script = c.args.script;
-      journal = c.in_ok-journal.journal.items;
-      cursors = c.in_ok-cursors.cursors;
-      ended = c.in_ok-ended.ended.items;
-      outs = c.in_ok-outs.outs.items;
-      words = c.in_ok-cells.state.words;
+      journal = begun.journal.items;
+      cursors = begun.cursors;
+      ended = begun.ended.items;
+      outs = begun.outs.items;
+      words = begun.state.words;
     } in
     nothing_run book (record {
-      journal = c.in_ok-journal.ensures;
-      cursors = c.in_ok-cursors.ensures.cursors;
-      ended = c.in_ok-ended.ensures.ended;
-      places = c.in_ok-ended.ensures.places;
-      few = c.lines_without_events.ensures.few;
-      setup = c.lines_without_events.ensures.setup;
-      named = c.in_ok-ended.ensures.named;
-      outs = c.in_ok-outs.ensures;
-      lent = c.in_ok-cells.ensures.out;
+      journal = c.in-Ok.ensures.journal;
+      cursors = c.in-Ok.ensures.cursors;
+      ended = c.in-Ok.ensures.ended;
+      places = c.in-Ok.ensures.places;
+      few = c.in-Ok.ensures.few;
+      setup = c.in-Ok.ensures.setup;
+      named = c.in-Ok.ensures.named;
+      outs = c.in-Ok.ensures.outs;
+      lent = c.in-Ok.ensures.lent;
     })
