@@ -4,9 +4,9 @@ use Rattle.std.specs.Option.{IfSome, IsSome, option_and_then, option_map}
 use Rattle.std.proofs.lemmas.Option.{slice_get_within}
 use Rattle.cred_ids.specs.Limits.{SLOTS}
 use Rattle.cred_record.specs.Credential.{Credential}
-use Rattle.cred_record.specs.Answer.{AnswersBy}
 use Rattle.cred_record.specs.declared.id_call.IdCall.{IdCall}
 use Rattle.cred_record.specs.declared.refusal.Denial.{Denial}
+use Rattle.cred_record.specs.declared.refusal.Denial.TheVariants as denial
 use Rattle.cred_record.specs.declared.refusal.Refusal.{Refusal}
 use Rattle.cred_record.specs.declared.refusal.Refusal.TheVariants as refusal
 use Rattle.cred_rules.specs.SetId.{set_id}
@@ -38,6 +38,7 @@ use Rattle.cred_tables.proofs.Filled.{filled_same, no_more_swept}
 use Rattle.cred_tables.proofs.InUse.{Differ}
 use Rattle.cred_model.proofs.Places.{if_some}
 use Rattle.cred_tables.proofs.Sealing.{Drops, roomy, in_free_or, in_none_or}
+use Rattle.cred_state.specs.Lending.{IsMade}
 
 -- ---- what was found
 
@@ -147,12 +148,18 @@ abort_held Perm t = refl
 abort_held Full t = refl
 
 -- where an allocation wasn't what failed, and no credential was made, the call's rule denies it
-pub denied : {X : Type 0} (given : Result X Denial) (why : Refusal) → AnswersBy (Err why) given → (why ≡ refusal.Perm) ⊎ (why ≡ refusal.Invalid)
+pub denied : (given : Result Credential Denial) (why : Refusal) → IsMade given (Err why) → (why ≡ refusal.Perm) ⊎ (why ≡ refusal.Invalid)
     → (denial : Denial) × (given ≡ Err denial)
-denied (Ok x) why (inl is) other = cc
-denied (Ok x) why (inr is) (inl other) = cc
-denied (Ok x) why (inr is) (inr other) = cc
-denied (Err denial) why is other = (denial, refl)
+denied given refusal.Perm is other = (denial.Perm, is)
+denied given refusal.Invalid is other = (denial.Invalid, is)
+denied given refusal.Memory is (inl other) = cc
+denied given refusal.Memory is (inr other) = cc
+
+-- what an equation says, where there is an answer
+pub gives_ok : {E : Type 0} (before after : State) (event : Result (Answer × State) Answer) (made : Result Answer E) → IfOk made (λ answer. outcome before event ≡ (answer, after))
+    → IfOk made (λ answer. IsOutcomeLike (outcome before event) answer after)
+gives_ok before after event (Ok answer) gives = does_same _ _ _ gives
+gives_ok before after event (Err why) gives = tt
 
 -- the act, where it ended the process: what was left before the end is the state in which it was
 -- made

@@ -1,11 +1,13 @@
 -- A first task is created.
-use Rattle.std.proofs.Common.{◌≡◌, ℕ, ◌<◌, Bool, true, false, not, ◌==◌, nat_lt, List, [], ◌∷◌, ◌++◌, find, length, slice_set, count_by, Option, None, Some, Ok, refl, sym, ap, ◌∙◌, subst, arith}
+use Rattle.std.proofs.Common.{◌≡◌, ℕ, ◌<◌, Bool, true, false, not, ◌==◌, nat_lt, List, [], ◌∷◌, ◌++◌, find, length, slice_set, count_by, Option, None, Some, Ok, Err, is_some, refl, sym, ap, ◌∙◌, subst, arith}
 use Rattle.std.proofs.lemmas.Bool.Decides.{nat_tests}
 use Rattle.cred_ids.specs.Limits.{SLOTS}
 use Rattle.cred_record.specs.Credential.{Credential, first_credential}
 use Rattle.cred_event.specs.declared.answer.Answer.{Answer}
-use Rattle.cred_event.specs.declared.answer.Answer.TheVariants.{Sealed, TableFull}
-use Rattle.cred_model.specs.State.{State, Task, Broadcast, cast_in}
+use Rattle.cred_event.specs.declared.answer.Answer.TheVariants.{Busy, Exists, Sealed, TableFull, TooMany}
+use Rattle.cred_event.specs.declared.answer.Named.TheVariants as named
+use Rattle.cred_event.specs.declared.answer.Counted.TheVariants as counted
+use Rattle.cred_model.specs.State.{State, Task, Broadcast, cast_in, task_of}
 use Rattle.cred_model.specs.Casts.{not_busy}
 use Rattle.cred_model.specs.Slots.{in_use}
 use Rattle.cred_model.specs.Like.{IsOutcomeLike}
@@ -37,7 +39,7 @@ init_does task process user group ns root s slot =
     let number = length s.creds in
     (Sealed number slot, created s (first_task task process number) (first_credential user group ns root) slot)
 
-few_tasks : (n : ℕ) → n < 64 → nat_lt n 64 ≡ true
+pub few_tasks : (n : ℕ) → n < 64 → nat_lt n 64 ≡ true
 few_tasks n few = grind (arith, nat_tests)
 
 init_tests : (s : State) (task process user group ns root : ℕ) → not_busy (cast_in s process) ≡ Ok tt → find (λ t. t.number == task) s.tasks ≡ None → length s.tasks < 64
@@ -45,43 +47,59 @@ init_tests : (s : State) (task process user group ns root : ℕ) → not_busy (c
 unfolding init_does
 init_tests s task process user group ns root idle new few = rw (idle, new, few_tasks (length s.tasks) few) refl
 
-module _ {parts : Parts} {store : List (Option Credential)} {t : Table} (is : IsKept parts store t)
-    (after : Table) (task process user group ns root : ℕ) where
+-- ---- what refuses it
+
+module _ (s : State) (task process user group ns root : ℕ) where
+  pub init_busy : (number : ℕ) → not_busy (cast_in s process) ≡ Err (Busy number) → outcome s (by_init s task process user group ns root) ≡ (Busy number, s)
+  init_busy number busy = rw busy refl
+
+  module _ (idle : not_busy (cast_in s process) ≡ Ok tt) where
+    pub init_exists : is_some (task_of s task) ≡ true → outcome s (by_init s task process user group ns root) ≡ (Exists named.Task task, s)
+    init_exists there = rw (idle, there) refl
+
+    pub init_many : task_of s task ≡ None → nat_lt (length s.tasks) 64 ≡ false → outcome s (by_init s task process user group ns root) ≡ (TooMany counted.Tasks, s)
+    init_many new many = rw (idle, new, many) refl
+
+pub many_by_test : (n : ℕ) (test : Bool) → test ≡ not (nat_lt n 64) → test ≡ true → nat_lt n 64 ≡ false
+many_by_test n test is many = grind (arith, nat_tests)
+
+-- ---- it is created
+
+module _ {parts : Parts} {store : List (Option Credential)} {t : Table} (is : IsKept parts store t) (after : Table) (task process : ℕ) where
   abbrev s : State
   s = state_of parts store t
 
-  pub init_full : not_busy (cast_in s process) ≡ Ok tt → find (λ u. u.number == task) parts.tasks ≡ None → length parts.tasks < 64 → table.free t ≡ None
-      → state_of parts store (table.swept_if_full t) ≡ state_of parts store after
-      → IsOutcomeLike (outcome s (by_init s task process user group ns root)) TableFull (state_of parts store after)
-  init_full idle new few none makes =
-      does_same _ _ _ (init_tests s task process user group ns root idle new few ∙ in_none is (init_does task process user group ns root) after none makes)
-
-  module _ {number slot : ℕ} (long : length store ≡ SLOTS) (seals : Seals t after number slot) where
+  module _ {number slot : ℕ} (long : length store ≡ SLOTS) (seals : Seals t after number slot) (cred : Credential) where
     abbrev pub first : List Task
     first = parts.tasks ++ first_task task process number ∷ []
 
-    abbrev pub put : List (Option Credential)
-    put = slice_set store slot (Some (first_credential user group ns root))
-
-    pub init_kept : IsKept (record parts { tasks = first }) put after
+    pub init_kept : IsKept (record parts { tasks = first }) (slice_set store slot (Some cred)) after
     init_kept = record {
       counted = record {
         counts = bag-more is.counted.counts seals.held (in_use-task s (first_task task process number) refl);
         keeps = keeps_same t after _ is.counted.keeps seals.kept;
       };
-      filled = filled_put store slot (first_credential user group ns root) (omega (arith, long, seals.in_table)) seals.sealed (no_more_sealed seals) is.filled;
+      filled = filled_put store slot cred (omega (arith, long, seals.in_table)) seals.sealed (no_more_sealed seals) is.filled;
     }
 
-    pub init_sealed : not_busy (cast_in s process) ≡ Ok tt → find (λ u. u.number == task) parts.tasks ≡ None → length parts.tasks < 64
-        → IsOutcomeLike (outcome s (by_init s task process user group ns root)) (Sealed number slot) (state_of (record parts { tasks = first }) put after)
+  module _ (idle : not_busy (cast_in s process) ≡ Ok tt) (new : find (λ u. u.number == task) parts.tasks ≡ None) (few : length parts.tasks < 64)
+      (user group ns root : ℕ) where
+    pub init_full : table.free t ≡ None → state_of parts store (table.swept_if_full t) ≡ state_of parts store after
+        → IsOutcomeLike (outcome s (by_init s task process user group ns root)) TableFull (state_of parts store after)
+    init_full none makes =
+        does_same _ _ _ (init_tests s task process user group ns root idle new few ∙ in_none is (init_does task process user group ns root) after none makes)
+
+    pub init_sealed : {number slot : ℕ} (long : length store ≡ SLOTS) (seals : Seals t after number slot)
+        → IsOutcomeLike (outcome s (by_init s task process user group ns root)) (Sealed number slot)
+        (state_of (record parts { tasks = parts.tasks ++ first_task task process number ∷ [] }) (slice_set store slot (Some (first_credential user group ns root))) after)
     unfolding init_does
-    init_sealed idle new few =
+    init_sealed {number} {slot} long seals =
         let c = first_credential user group ns root in
         let count = length-creds_in store t.sealed ∙ sym seals.counted in
         does_made
         (init_tests s task process user group ns root idle new few ∙ in_free is (init_does task process user group ns root) slot seals.takes
         ∙ ap (λ (n : ℕ). (Sealed n slot, created (roomy is) (first_task task process n) c slot)) count)
-        (stored_like store after t.sealed c slot (created (roomy is) (first_task task process number) c slot) init_kept seals.sealed (omega (arith, long, seals.in_table))
+        (stored_like store after t.sealed c slot (created (roomy is) (first_task task process number) c slot) (init_kept long seals c) seals.sealed (omega (arith, long, seals.in_table))
         (subst (λ (n : ℕ). IsAlone after n slot) seals.counted seals.alone) refl seals.deferred refl)
 
 -- ---- another task is created

@@ -1,5 +1,5 @@
 -- A label begins to prepare, changes what it prepares, and gives it up.
-use Rattle.std.proofs.Common.{◌≡◌, ◌≢◌, ℕ, ◌<◌, Bool, true, false, ◌==◌, ◌||◌, nat_lt, List, [], ◌∷◌, ◌++◌, find, map, position, remove, suc, take, drop, count_by, slice_get, slice_set, slice_index_or, length, Option, None, Some, Ok, is_some, refl, sym, ap, ◌∙◌, subst, arith}
+use Rattle.std.proofs.Common.{◌≡◌, ◌≢◌, ℕ, ◌<◌, ◌≤◌, Bool, true, false, ◌==◌, ◌||◌, nat_lt, List, [], ◌∷◌, ◌++◌, find, map, position, remove, suc, take, drop, count_by, slice_get, slice_set, slice_index_or, length, Option, None, Some, Ok, Err, is_some, refl, sym, ap, ◌∙◌, subst, arith}
 use Rattle.std.specs.List.{AllPairs}
 use Rattle.std.specs.Option.{option_map}
 use Rattle.std.proofs.lemmas.Bool.Decides.{nat_tests}
@@ -7,7 +7,9 @@ use Rattle.std.proofs.lemmas.List.{take-map, drop-map, map-append}
 use Rattle.std.proofs.lemmas.Option.{slice_get-map}
 use Rattle.cred_record.specs.Credential.{Credential}
 use Rattle.cred_event.specs.declared.answer.Answer.{Answer}
-use Rattle.cred_event.specs.declared.answer.Answer.TheVariants.{Done, Kept, TableFull}
+use Rattle.cred_event.specs.declared.answer.Answer.TheVariants.{Busy, Done, Exists, Kept, NoHold, NoTask, TableFull, TooMany}
+use Rattle.cred_event.specs.declared.answer.Named.TheVariants as named
+use Rattle.cred_event.specs.declared.answer.Counted.TheVariants as counted
 use Rattle.cred_model.specs.State.{State, Task, Hold, Prepared, Changed, task_of, begun_by, hold_of, prepared_of}
 use Rattle.cred_model.specs.Casts.{not_busy}
 use Rattle.cred_model.specs.Slots.{in_use, kept}
@@ -16,6 +18,7 @@ use Rattle.cred_model.specs.Moves.{in_slot, table_full, with_change}
 use Rattle.cred_model.specs.Like.{IsLike, IsOutcomeLike}
 use Rattle.cred_model.specs.Step.{by_abort, by_prepare, outcome}
 use Rattle.cred_slots.specs.Table.{Table, IsSameBag, is_kept, references_to}
+use Rattle.cred_state.specs.Refusals.{MayPrepare}
 use Rattle.cred_slots.specs.Table as table
 use Rattle.cred_slots.proofs.Tables.{held_is_referred}
 use Rattle.cred_tables.specs.Kept.{Parts, state_of, IsCounted, IsKept}
@@ -76,32 +79,53 @@ prepare_does label task base s slot =
 few_prepared : (n : ℕ) → n < 64 → nat_lt n 64 ≡ true
 few_prepared n few = grind (arith, nat_tests)
 
--- What the tests of a label that begins have found.
-pub record MayPrepare (s : State) (label task hold : ℕ) : Type 0 where
-  pub owner : Task
-  pub lives : task_of s task ≡ Some owner
-  pub idle : not_busy (begun_by s task) ≡ Ok tt
-  pub base : Hold
-  pub has : hold_of s hold ≡ Some base
-  pub new : hold_of s label ≡ None
-  pub unprepared : prepared_of s label ≡ None
-  pub few : length s.prepared < 64
+module _ (s : State) (label task hold : ℕ) where
+  pub prepare_no_task : task_of s task ≡ None → outcome s (by_prepare s label task hold) ≡ (NoTask task, s)
+  prepare_no_task none = rw none refl
 
-prepare_tests : (s : State) (label task hold : ℕ) (may : MayPrepare s label task hold)
+  module _ (owner : Task) (lives : task_of s task ≡ Some owner) where
+    pub prepare_busy : (number : ℕ) → not_busy (begun_by s task) ≡ Err (Busy number) → outcome s (by_prepare s label task hold) ≡ (Busy number, s)
+    prepare_busy number busy = rw (lives, busy) refl
+
+    module _ (idle : not_busy (begun_by s task) ≡ Ok tt) where
+      pub prepare_no_hold : hold_of s hold ≡ None → outcome s (by_prepare s label task hold) ≡ (NoHold hold, s)
+      prepare_no_hold none = rw (lives, idle, none) refl
+
+      module _ (base : Hold) (has : hold_of s hold ≡ Some base) where
+        pub prepare_exists : (is_some (hold_of s label) || is_some (prepared_of s label)) ≡ true → outcome s (by_prepare s label task hold) ≡ (Exists named.Label label, s)
+        prepare_exists there = by (hold_of s label) refl there
+          where
+            by : (held : Option Hold) → hold_of s label ≡ held → (is_some held || is_some (prepared_of s label)) ≡ true
+                → outcome s (by_prepare s label task hold) ≡ (Exists named.Label label, s)
+            by None at there = rw (lives, idle, has, at, there) refl
+            by (Some h) at there = rw (lives, idle, has, at) refl
+
+        pub prepare_many : hold_of s label ≡ None → prepared_of s label ≡ None → nat_lt (length s.prepared) 64 ≡ false
+            → outcome s (by_prepare s label task hold) ≡ (TooMany counted.Prepared, s)
+        prepare_many new unprepared many = rw (lives, idle, has, new, unprepared, many) refl
+
+pub many_prepared : (n m : ℕ) → m ≡ n → 64 ≤ m → nat_lt n 64 ≡ false
+many_prepared n m is many = grind (arith, nat_tests)
+
+pub no_number : (found : Option Hold) → None ≡ option_map (λ h. h.number) found → found ≡ None
+no_number None is = refl
+no_number (Some h) is = cc
+
+prepare_tests : (s : State) (label task hold number : ℕ) (may : MayPrepare s label task hold number)
     → outcome s (by_prepare s label task hold) ≡ in_slot s table_full (prepare_does label task may.base.number)
 unfolding prepare_does
-prepare_tests s label task hold may =
+prepare_tests s label task hold number may =
     rw (may.lives, may.idle, may.has, may.new, may.unprepared, few_prepared (length s.prepared) may.few) refl
 
 module _ {parts : Parts} {store : List (Option Credential)} {t : Table} (is : IsKept parts store t) where
   abbrev s : State
   s = state_of parts store t
 
-  pub prepare_full : (after : Table) (label task hold : ℕ) → MayPrepare s label task hold → table.free t ≡ None
+  pub prepare_full : (after : Table) (label task hold number : ℕ) → MayPrepare s label task hold number → table.free t ≡ None
       → state_of parts store (table.swept_if_full t) ≡ state_of parts store after
       → outcome s (by_prepare s label task hold) ≡ (TableFull, state_of parts store after)
-  prepare_full after label task hold may none makes =
-      prepare_tests s label task hold may ∙ in_none is (prepare_does label task may.base.number) after none makes
+  prepare_full after label task hold number may none makes =
+      prepare_tests s label task hold number may ∙ in_none is (prepare_does label task may.base.number) after none makes
 
   module _ (after : Table) (p : Prepared) (claim : Claims t after p.base p.slot) where
     abbrev begun : Parts
@@ -140,15 +164,15 @@ module _ {parts : Parts} {store : List (Option Credential)} {t : Table} (is : Is
     pub prepare_like : 0 < count_by (λ m. m == p.base) t.held → IsLike (state_of begun (slice_set store p.slot None) after) (state_of begun store after)
     prepare_like has = spare_like store after p.slot None (prepare_words has) (none_there has)
 
-  pub prepare_done : (after : Table) (label task hold slot : ℕ) (may : MayPrepare s label task hold) → Claims t after may.base.number slot
+  pub prepare_done : (after : Table) (label task hold slot number : ℕ) (may : MayPrepare s label task hold number) → Claims t after may.base.number slot
       → 0 < count_by (λ m. m == may.base.number) t.held
       → IsOutcomeLike (outcome s (by_prepare s label task hold)) (Kept slot)
       (state_of (record parts { prepared = parts.prepared ++ record { label = label; task = task; base = may.base.number; slot = slot; changed = None } ∷ [] }) (slice_set store slot None) after)
   unfolding prepare_does
-  prepare_done after label task hold slot may claim has =
+  prepare_done after label task hold slot number may claim has =
       let p : Prepared = record { label = label; task = task; base = may.base.number; slot = slot; changed = None } in
       does_made
-      (prepare_tests s label task hold may ∙ in_free is (prepare_does label task may.base.number) slot claim.takes
+      (prepare_tests s label task hold number may ∙ in_free is (prepare_does label task may.base.number) slot claim.takes
       ∙ ap (λ (r : State). (Kept slot, r)) (over_later (record parts { prepared = parts.prepared ++ p ∷ [] }) store t after claim.sealed claim.deferred))
       (prepare_like after p claim has)
 

@@ -2,6 +2,7 @@ pub mod OneChanged
 pub mod Overriding
 pub mod Broadcasts
 pub mod Inits
+pub mod Creating
 pub mod Begins
 pub mod Acts
 pub mod Made

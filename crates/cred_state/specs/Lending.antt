@@ -1,6 +1,6 @@
 -- A state of which tokens are lent for an event.
 use Rattle.std.specs.Prelude.{◌≡◌, ◌≢◌, ℕ, List, [], ◌∷◌, ◌++◌, Some, None, slice_set, ⊤, All}
-use Rattle.std.specs.Prelude.{IfSome, IsSome, Bool, true, false, ◌<◌, length}
+use Rattle.std.specs.Prelude.{IfSome, IsSome, Bool, true, false, ◌<◌, length, Result, Ok, Err}
 use Rattle.cred_ids.specs.Limits.{OPEN_FILES}
 use Rattle.cred_event.specs.declared.answer.Answer.{Answer}
 use Rattle.cred_event.specs.declared.answer.Answer.TheVariants.{Done}
@@ -8,8 +8,16 @@ use Rattle.std.specs.declared.option.Option.{Option}
 use Rattle.std.specs.Option.{option_and_then, option_map}
 use Rattle.atomic_table.specs.Seated.{TableId}
 use Rattle.cred_record.specs.Credential.{Credential}
+use Rattle.cred_record.specs.declared.refusal.Denial.{Denial}
+use Rattle.cred_record.specs.declared.refusal.Denial.TheVariants as denial
+use Rattle.cred_record.specs.declared.refusal.Refusal.{Refusal}
+use Rattle.cred_record.specs.declared.refusal.Refusal.TheVariants as refusal
 use Rattle.cred_event.specs.declared.event.Event.{Event}
 use Rattle.cred_event.specs.declared.event.Event.TheVariants.{Ask, Signal, Alter, OpenFile}
+use Rattle.cred_event.specs.declared.event.Event.TheVariants.{Init, Begin, Act, Spawn, Fork, Exit}
+use Rattle.cred_event.specs.declared.event.Event.TheVariants.{Take, TakeFile, Release, Prepare}
+use Rattle.cred_event.specs.declared.event.Event.TheVariants.{Commit, Abort, Override, Revert}
+use Rattle.cred_event.specs.declared.event.Event.TheVariants.{CloseFile, Sweep}
 use Rattle.cred_event.specs.declared.event.Change.TheVariants.{Exec}
 use Rattle.cred_event.specs.declared.event.Change.{Change}
 use Rattle.cred_model.specs.Named.{change_files}
@@ -133,6 +141,31 @@ is_decided (Alter label change) = true
 is_decided (OpenFile label file want fd) = true
 is_decided event = false
 
+-- a task is created by the event, ends by it, or makes an id call or a step of one
+abbrev pub is_of_task : Event → Bool
+is_of_task (Init task process user group ns) = true
+is_of_task (Begin task call) = true
+is_of_task (Act cast) = true
+is_of_task (Spawn task child) = true
+is_of_task (Fork task child process) = true
+is_of_task (Exit task) = true
+is_of_task event = false
+
+-- the event is on a label, on what a task acts with or on a descriptor, or is a sweep, and is
+-- decided on nothing that is lent
+abbrev pub is_of_label : Event → Bool
+is_of_label (Take label task side) = true
+is_of_label (TakeFile label fd) = true
+is_of_label (Release label) = true
+is_of_label (Prepare label task hold) = true
+is_of_label (Commit label) = true
+is_of_label (Abort label) = true
+is_of_label (Override task label) = true
+is_of_label (Revert task) = true
+is_of_label (CloseFile fd) = true
+is_of_label Sweep = true
+is_of_label event = false
+
 -- The label holds the credential of this number, which may open the file, and the descriptor is
 -- new.
 pub record MayOpen (s : State) (label fd opener : ℕ) (told : Answer) : Type 0 where
@@ -142,3 +175,11 @@ pub record MayOpen (s : State) (label fd opener : ℕ) (told : Answer) : Type 0 
   pub new : open_of s fd ≡ None
   pub room : length s.files < OPEN_FILES
   pub done : told ≡ Done
+
+-- The call was made as its rule says, or refused as the rule denies it. Where memory has run out
+-- nothing is said.
+abbrev pub IsMade : Result Credential Denial → Result Credential Refusal → Type 0
+IsMade given (Ok cred) = given ≡ Ok cred
+IsMade given (Err refusal.Perm) = given ≡ Err denial.Perm
+IsMade given (Err refusal.Invalid) = given ≡ Err denial.Invalid
+IsMade given (Err refusal.Memory) = ⊤

@@ -21,10 +21,10 @@ mod lends;
 mod overrides;
 mod prepare;
 mod returns;
+mod steps;
 mod tasks;
 
 use cred_cast::Casts;
-use cred_declared::root_of;
 use cred_event::{Answer, Counted, Event, Named, Side};
 use cred_files::Files;
 use cred_hold::{Cells, Master, make};
@@ -132,47 +132,26 @@ impl State {
         ensures words { self.new.words ≡ self.old.words }
     {
         match event {
-            Event::Init {
-                task,
-                process,
-                user,
-                group,
-                ns,
-            } => self.init(
-                cells,
-                *task,
-                *process,
-                *user,
-                *group,
-                *ns,
-                root_of(script, *ns),
-            ),
-            Event::Take { label, task, side } => self.take(*label, *task, *side),
-            Event::TakeFile { label, fd } => self.take_file(*label, *fd),
-            Event::Release { label } => Ok(self.release(*label)),
-            Event::Ask { .. } => self.decide(cells, script, line, event),
-            Event::Signal { .. } => self.decide(cells, script, line, event),
-            Event::Prepare { label, task, hold } => self.prepare(cells, *label, *task, *hold),
-            Event::Alter { .. } => self.decide(cells, script, line, event),
-            Event::Commit { label } => self.commit(*label),
-            Event::Abort { label } => Ok(self.abort(*label)),
-            Event::Override { task, label } => self.override_with(*task, *label),
-            Event::Revert { task } => Ok(self.revert(*task)),
-            Event::Begin { task, call } => self.begin(cells, line, *task, call),
-            Event::Act { cast } => self.act(cells, *cast),
-            Event::OpenFile { .. } => self.decide(cells, script, line, event),
-            Event::CloseFile { fd } => Ok(self.close_file(*fd)),
-            Event::Spawn { task, child } => self.spawn(*task, *child),
-            Event::Fork {
-                task,
-                child,
-                process,
-            } => self.fork(*task, *child, *process),
-            Event::Exit { task } => self.exit(*task),
-            Event::Sweep => {
-                self.slots.sweep();
-                Ok(Answer::Done)
-            }
+            Event::Ask { .. }
+            | Event::Signal { .. }
+            | Event::Alter { .. }
+            | Event::OpenFile { .. } => self.decide(cells, script, line, event),
+            Event::Init { .. }
+            | Event::Begin { .. }
+            | Event::Act { .. }
+            | Event::Spawn { .. }
+            | Event::Fork { .. }
+            | Event::Exit { .. } => self.step_task(cells, script, line, event),
+            Event::Take { .. }
+            | Event::TakeFile { .. }
+            | Event::Release { .. }
+            | Event::Prepare { .. }
+            | Event::Commit { .. }
+            | Event::Abort { .. }
+            | Event::Override { .. }
+            | Event::Revert { .. }
+            | Event::CloseFile { .. }
+            | Event::Sweep => self.step_label(cells, event),
         }
     }
 
@@ -255,7 +234,7 @@ impl State {
         self.holds.get(label).is_some() || self.prepared.get(label).is_some()
     }
 
-    fn take(&mut self, label: u32, task: u32, side: Side) -> Result<Answer, NoMemory>
+    pub(crate) fn take(&mut self, label: u32, task: u32, side: Side) -> Result<Answer, NoMemory>
         ensures ok { IfOk result (λ answer.
             Gives self.old.state (by_take self.old.state label task side) answer self.new.state) }
         ensures err { OnErr result (self.new ≡ self.old) }
@@ -291,7 +270,7 @@ impl State {
         Ok(Answer::Sealed { cred: number, slot })
     }
 
-    fn release(&mut self, label: u32) -> Answer
+    pub(crate) fn release(&mut self, label: u32) -> Answer
         ensures made { Gives self.old.state (by_release self.old.state label) result
             self.new.state }
         ensures words { self.new.words ≡ self.old.words }

@@ -10,7 +10,7 @@ use std::alloc::Global;
 use std::marker::Model;
 
 /// The number of a credential under each label, in the order in which the labels took hold.
-#[derive(Drop, Debug)]
+#[derive(Drop)]
 pub struct Holds {
     numbers: Labelled<u64>,
 }

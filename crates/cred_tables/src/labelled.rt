@@ -12,7 +12,7 @@ use std::marker::Model;
 /// Values under labels, in the order in which the labels came. The newest stands apart: a line
 /// looks for its own label, which is the newest, and then nothing is hashed. Contracts see the
 /// labels with their values. No label is there twice.
-#[derive(Drop, Debug)]
+#[derive(Drop)]
 pub struct Labelled<T> {
     older: IndexMap<u32, T>,
     newest: Option<(u32, T)>,

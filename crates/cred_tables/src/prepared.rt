@@ -15,7 +15,7 @@ use std::alloc::Global;
 use std::marker::Model;
 
 /// The last change of a prepared credential, what it made of the base, and what that one gains.
-#[derive(Drop, Debug)]
+#[derive(Drop)]
 pub struct Changed {
     pub change: Change,
     pub cred: Cred,
@@ -32,7 +32,7 @@ impl Model for Changed {
 
 /// What is prepared under a label: the task that it is for, the number of the credential that it is
 /// based on, the slot that is kept for it, and what the base has become, once it was changed.
-#[derive(Drop, Debug)]
+#[derive(Drop)]
 pub struct Preparation {
     pub task: u32,
     pub base: u64,
@@ -57,7 +57,7 @@ pub struct Ended {
 }
 
 /// What is prepared under each label, in the order in which the labels began.
-#[derive(Drop, Debug)]
+#[derive(Drop)]
 pub struct Preparing {
     entries: Labelled<Preparation>,
 }

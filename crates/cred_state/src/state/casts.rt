@@ -1,25 +1,27 @@
 //! The id calls, which every thread of a process makes, one after another, and the open broadcasts,
 //! which refuse other events while threads still wait in them (nptl(7)).
-ghost use Rattle.std.specs.Prelude.{◌≡◌, Ok, Err, IfOk, IfSome, MatchOption, MatchResult};
+ghost use Rattle.std.specs.Prelude.{◌≡◌, Ok, Err, Some, IfOk, IfSome, MatchOption, MatchResult};
 ghost use Rattle.std.specs.Prelude.{OnOk, OnErr};
 ghost use Rattle.std.specs.Option.{IsSome};
 ghost use Rattle.cred_event.specs.declared.answer.Answer.TheVariants.{Aborted, Busy};
 ghost use Rattle.cred_event.specs.declared.answer.Answer.TheVariants.{NoBroadcast};
 ghost use Rattle.cred_record.specs.declared.id_call.IdCall.{IdCall as Call};
-ghost use Rattle.cred_model.specs.State.{Broadcast, begun_by, cast_in, task_of};
+ghost use Rattle.cred_rules.specs.SetId.{set_id};
+ghost use Rattle.cred_model.specs.State.{Broadcast, begun_by, cast_in, cast_of, numbered, task_of};
 ghost use Rattle.cred_model.specs.Casts.{not_busy};
 ghost use Rattle.cred_model.specs.Like.{Gives, GivesLike};
 ghost use Rattle.cred_model.specs.Step.{aborted, by_act, by_begin};
 ghost use Rattle.cred_sound.specs.Sound.{IsSound};
 ghost use Rattle.cred_tables.specs.Begin.{ActsNext, MayBegin, at_abort};
-ghost use Rattle.cred_tables.specs.Kept.{seen_in};
+ghost use Rattle.cred_tables.specs.Kept.{cred_under, seen_in, IsInUse};
 ghost use Rattle.cred_tables.specs.Out.{AreOut};
+ghost use Rattle.cred_state.specs.Lending.{IsMade};
 
 use crate::state::State;
 use cred_event::{AbortCause, Answer, Named};
 use cred_hold::Cells;
 use cred_ids::NoMemory;
-use cred_record::{IdCall, Refusal};
+use cred_record::{Cred, IdCall, Refusal};
 use cred_setid::apply;
 use cred_tables::{Numbered, begin_in, drop_all, seal_next, sweep_at};
 
@@ -61,14 +63,58 @@ impl State {
             Ok(now) => now,
             Err(answer) => return Ok(answer),
         };
-        let old = now.number;
-        let own = self.read(cells, now)?;
-        let cred = match apply(self.alloc, &own, call) {
+        let cred = match self.called(cells, now, call) {
             Ok(cred) => cred,
             Err(Refusal::Perm) => return Ok(Answer::Eperm),
             Err(Refusal::Invalid) => return Ok(Answer::Einval),
             Err(Refusal::Memory) => return Err(NoMemory),
         };
+        let answer = self.begin_with(cells, line, task, call, now, &cred);
+        drop(cred);
+        answer
+    }
+
+    /// What an id call makes of the credential that was found. Something refers to it.
+    ///
+    /// # Errors
+    ///
+    /// What refuses the call. `Memory` also where the credential isn't read for want of memory.
+    fn called(&mut self, cells: &Cells, found: Numbered, call: &IdCall) -> Result<Cred, Refusal>
+        requires own { self.old.words.id ≡ cells.now }
+        requires found { numbered self.old.state.creds found.number
+            ≡ Some (seen_in self.old.state.creds found) }
+        requires used { IsInUse self.old.state found.number }
+        ensures made { IsMade (set_id (cred_under self.old.state.creds found.number) call.now)
+            result }
+        ensures same { self.new ≡ self.old }
+    {
+        let own = self.read(cells, found)?;
+        let made = apply(self.alloc, &own, call);
+        drop(own);
+        made
+    }
+
+    /// The call of a task that may make it, which makes this credential of the task's current one.
+    fn begin_with(
+        &mut self,
+        cells: &Cells,
+        line: u32,
+        task: u32,
+        call: &IdCall,
+        now: Numbered,
+        cred: &Cred,
+    ) -> Result<Answer, NoMemory>
+        requires own { self.old.words.id ≡ cells.now }
+        requires out { AreOut self.old.state self.old.words.out }
+        requires sound { IsSound self.old.state }
+        requires may { MayBegin self.old.state line task (seen_in self.old.state.creds now) }
+        requires made { set_id (cred_under self.old.state.creds now.number) call.now ≡ Ok cred.now }
+        ensures ok { IfOk result (λ answer.
+            GivesLike self.old.state (by_begin self.old.state line task call.now) answer
+            self.new.state) }
+        ensures err { OnErr result (self.new ≡ self.old) }
+        ensures words { self.new.words ≡ self.old.words }
+    {
         self.slots.reserve()?;
         let Some(slot) = self.slots.free_slot() else {
             self.slots.sweep();
@@ -77,9 +123,9 @@ impl State {
         // The others wait before the credential is sealed, since that may want memory.
         let left = begin_in(&self.tasks, &mut self.casts, line, task, call)?;
         let number = seal_next(&mut self.slots, slot);
-        self.master.set(cells, slot, &cred);
+        self.master.set(cells, slot, cred);
         self.tasks.set_current(task, number);
-        self.slots.drop_later(old);
+        self.slots.drop_later(now.number);
         Ok(Answer::Began {
             cred: number,
             slot,
@@ -107,31 +153,74 @@ impl State {
         let Some(next) = self.next_in(number) else {
             return Ok(Answer::NoBroadcast(number));
         };
-        let task = next.task;
-        let replaced = next.now.number;
-        let own = self.read(cells, next.now)?;
-        // It is there: a thread waits in the broadcast.
-        let (_, call) = self.casts.next(number).unwrap();
-        let cred = match apply(self.alloc, &own, call) {
+        let cred = match self.followed(cells, number, next) {
             Ok(cred) => cred,
             // Whether a call is valid is the call's alone, and its caller has made it: what the
             // thread lacks is the right.
             Err(Refusal::Perm | Refusal::Invalid) => {
-                return self.end_process_of(task, AbortCause::Perm);
+                return self.end_process_of(next.task, AbortCause::Perm);
             }
             Err(Refusal::Memory) => return Err(NoMemory),
         };
+        let answer = self.act_with(cells, number, next, &cred);
+        drop(cred);
+        answer
+    }
+
+    /// What the call of the broadcast makes of the current credential of the thread that is next.
+    ///
+    /// # Errors
+    ///
+    /// What refuses the call. `Memory` also where the credential isn't read for want of memory.
+    fn followed(&mut self, cells: &Cells, number: u32, next: Next) -> Result<Cred, Refusal>
+        requires own { self.old.words.id ≡ cells.now }
+        requires sound { IsSound self.old.state }
+        requires next { ActsNext self.old.state number next.task next.place
+            (seen_in self.old.state.creds next.now) }
+        ensures made { IfSome (cast_of self.old.state number) (λ cast.
+            IsMade (set_id (cred_under self.old.state.creds next.now.number) cast.call) result) }
+        ensures same { self.new ≡ self.old }
+    {
+        let own = self.read(cells, next.now)?;
+        // It is there: a thread waits in the broadcast.
+        let (_, call) = self.casts.next(number).unwrap();
+        let made = apply(self.alloc, &own, call);
+        drop(own);
+        made
+    }
+
+    /// The step of the thread that is next, where the call makes this credential of its current
+    /// one.
+    fn act_with(
+        &mut self,
+        cells: &Cells,
+        number: u32,
+        next: Next,
+        cred: &Cred,
+    ) -> Result<Answer, NoMemory>
+        requires own { self.old.words.id ≡ cells.now }
+        requires out { AreOut self.old.state self.old.words.out }
+        requires sound { IsSound self.old.state }
+        requires next { ActsNext self.old.state number next.task next.place
+            (seen_in self.old.state.creds next.now) }
+        requires made { IfSome (cast_of self.old.state number) (λ cast.
+            set_id (cred_under self.old.state.creds next.now.number) cast.call ≡ Ok cred.now) }
+        ensures ok { IfOk result (λ answer.
+            GivesLike self.old.state (by_act self.old.state number) answer self.new.state) }
+        ensures err { OnErr result (self.new ≡ self.old) }
+        ensures words { self.new.words ≡ self.old.words }
+    {
         self.slots.reserve()?;
         let Some(slot) = self.slots.free_slot() else {
-            return self.end_process_of(task, AbortCause::Full);
+            return self.end_process_of(next.task, AbortCause::Full);
         };
         let new = seal_next(&mut self.slots, slot);
-        self.master.set(cells, slot, &cred);
+        self.master.set(cells, slot, cred);
         self.tasks.set_current_at(next.place, new);
-        self.slots.drop_later(replaced);
-        let left = self.casts.acted(number, task);
+        self.slots.drop_later(next.now.number);
+        let left = self.casts.acted(number, next.task);
         Ok(Answer::Acted {
-            task,
+            task: next.task,
             cred: new,
             slot,
             left,

@@ -1,16 +1,20 @@
 //! The events on prepared labels.
-ghost use Rattle.std.specs.Prelude.{◌≡◌, IfOk, OnErr};
+ghost use Rattle.std.specs.Prelude.{◌≡◌, Ok, Some, IfOk, IfSome, MatchResult, OnErr};
 ghost use Rattle.std.specs.Option.{option_map, option_and_then};
-ghost use Rattle.cred_model.specs.State.{prepared_of, numbered};
+ghost use Rattle.cred_model.specs.State.{begun_by, numbered, prepared_of, task_of};
+ghost use Rattle.cred_model.specs.Casts.{not_busy};
+ghost use Rattle.cred_model.specs.Moves.{not_overridden};
 ghost use Rattle.cred_model.specs.Like.{Gives, GivesLike};
 ghost use Rattle.cred_sound.specs.Sound.{IsSound};
 ghost use Rattle.cred_event.specs.declared.event.Event.TheVariants.{Commit};
 ghost use Rattle.cred_model.specs.Step.{by_abort, by_commit, by_prepare};
 ghost use Rattle.cred_tables.specs.Kept.{seen_in};
+ghost use Rattle.cred_tables.specs.Prepared.{IsReady};
 ghost use Rattle.cred_tables.specs.Out.{AreHome, AreOut};
+ghost use Rattle.cred_state.specs.Refusals.{MayPrepare};
 
 use crate::state::State;
-use cred_event::{Answer, Counted, Named};
+use cred_event::{Answer, Change, Counted, Named};
 use cred_hold::Cells;
 use cred_ids::{NoMemory, limits};
 use cred_tables::{
@@ -41,24 +45,10 @@ impl State {
         ensures err { OnErr result (self.new ≡ self.old) }
         ensures words { self.new.words ≡ self.old.words }
     {
-        if !self.tasks.alive(task) {
-            return Ok(Answer::NoTask(task));
-        }
-        if let Some(cast) = self.begun(task) {
-            return Ok(Answer::Busy(cast));
-        }
-        let Some(base) = self.holds.get(hold) else {
-            return Ok(Answer::NoHold(hold));
+        let base = match self.may_prepare(label, task, hold) {
+            Ok(base) => base,
+            Err(answer) => return Ok(answer),
         };
-        if self.has_label(label) {
-            return Ok(Answer::Exists {
-                what: Named::Label,
-                number: label,
-            });
-        }
-        if self.prepared.len() >= limits::PREPARED {
-            return Ok(Answer::TooMany(Counted::Prepared));
-        }
         self.slots.reserve()?;
         // The label is entered before its slot is kept, since that may want memory.
         let Some(slot) = self.slots.free_slot() else {
@@ -78,6 +68,35 @@ impl State {
         self.slots.add(base);
         self.master.clear(cells, slot);
         Ok(Answer::Kept { slot })
+    }
+
+    /// The number of the credential that the hold has, where the label may prepare one on it for
+    /// the task. `Err` with what refuses it.
+    fn may_prepare(&self, label: u32, task: u32, hold: u32) -> Result<u64, Answer>
+        ensures { MatchResult result
+            (λ base. MayPrepare self.now.state label task hold base)
+            (λ answer. Gives self.now.state (by_prepare self.now.state label task hold) answer
+            self.now.state) }
+    {
+        if !self.tasks.alive(task) {
+            return Err(Answer::NoTask(task));
+        }
+        if let Some(cast) = self.begun(task) {
+            return Err(Answer::Busy(cast));
+        }
+        let Some(base) = self.holds.get(hold) else {
+            return Err(Answer::NoHold(hold));
+        };
+        if self.has_label(label) {
+            return Err(Answer::Exists {
+                what: Named::Label,
+                number: label,
+            });
+        }
+        if self.prepared.len() >= limits::PREPARED {
+            return Err(Answer::TooMany(Counted::Prepared));
+        }
+        Ok(base)
     }
 
     /// What the label prepared is sealed in the slot that was kept for it, and becomes its task's
@@ -117,6 +136,36 @@ impl State {
             self.abort(label);
             return Ok(Answer::Stale { base, now });
         }
+        self.commit_ready(label, task, now, change)
+    }
+
+    /// What the label prepared becomes the current credential of its task, whose current one is the
+    /// base.
+    ///
+    /// # Errors
+    ///
+    /// `NoMemory` if an allocation of room for the reference or of a list fails: the state is as it
+    /// was.
+    fn commit_ready(
+        &mut self,
+        label: u32,
+        task: u32,
+        now: u64,
+        change: Change,
+    ) -> Result<Answer, NoMemory>
+        requires out { AreOut self.old.state self.old.words.out }
+        requires home { AreHome (Commit label) self.old.words.out }
+        requires sound { IsSound self.old.state }
+        requires ready { IsReady self.old.state.prepared label task now change }
+        requires current { Some now ≡ option_map (λ t. t.current) (task_of self.old.state task) }
+        requires idle { not_busy (begun_by self.old.state task) ≡ Ok tt }
+        requires allowed { IfSome (task_of self.old.state task) (λ owner.
+            not_overridden owner ≡ Ok tt) }
+        ensures ok { IfOk result (λ answer.
+            GivesLike self.old.state (by_commit self.old.state label) answer self.new.state) }
+        ensures err { OnErr result (self.new ≡ self.old) }
+        ensures words { self.new.words ≡ self.old.words }
+    {
         self.slots.reserve()?;
         // It is there: the task is alive.
         let process = self.tasks.process_of(task).unwrap();

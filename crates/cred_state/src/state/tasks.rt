@@ -1,15 +1,23 @@
 //! The events by which tasks are created and end.
-ghost use Rattle.std.specs.Prelude.{◌≡◌, IfOk, OnErr};
+ghost use Rattle.std.specs.Prelude.{◌≡◌, ◌<◌, ℕ, true, length, Ok, None, Some, IfOk, OnErr};
+ghost use Rattle.std.specs.Prelude.{MatchOption, MatchResult};
+ghost use Rattle.cred_ids.specs.Limits.{TASKS};
+ghost use Rattle.cred_record.specs.Credential.{first_credential};
+ghost use Rattle.cred_model.specs.Casts.{not_busy};
 ghost use Rattle.cred_model.specs.Like.{Gives, GivesLike};
+ghost use Rattle.cred_model.specs.State.{cast_in, task_of};
 ghost use Rattle.cred_model.specs.Step.{by_exit, by_fork, by_init, by_spawn};
+ghost use Rattle.cred_procs.specs.Tasks.{has_process};
 ghost use Rattle.cred_sound.specs.Sound.{IsSound};
+ghost use Rattle.cred_tables.specs.Kept.{seen_in};
 ghost use Rattle.cred_tables.specs.Out.{AreOut};
+ghost use Rattle.cred_state.specs.Refusals.{by_creating, IsUnused, MayCreate};
 
 use crate::state::State;
 use cred_event::{Answer, Counted, Named};
 use cred_hold::Cells;
 use cred_ids::{Id, NoMemory};
-use cred_record::first;
+use cred_record::{Cred, first};
 use cred_tables::{Numbered, drop_all, seal_next, spawn_in};
 
 impl State {
@@ -51,6 +59,35 @@ impl State {
             return Ok(Answer::TooMany(Counted::Tasks));
         }
         let cred = first(self.alloc, user, group, ns, root)?;
+        let answer = self.start_with(cells, number, process, &cred);
+        drop(cred);
+        answer
+    }
+
+    /// A first task is created with this credential, which nothing refuses.
+    ///
+    /// # Errors
+    ///
+    /// `NoMemory` if an allocation of room for the task or for its reference fails: the state is as
+    /// it was.
+    fn start_with(
+        &mut self,
+        cells: &Cells,
+        number: u32,
+        process: u32,
+        cred: &Cred,
+    ) -> Result<Answer, NoMemory>
+        requires own { self.old.words.id ≡ cells.now }
+        requires out { AreOut self.old.state self.old.words.out }
+        requires idle { not_busy (cast_in self.old.state process) ≡ Ok tt }
+        requires new { task_of self.old.state number ≡ None }
+        requires room { length self.old.state.tasks < TASKS }
+        ensures ok { (user group ns root : ℕ) → cred.now ≡ first_credential user group ns root
+            → IfOk result (λ answer. GivesLike self.old.state
+            (by_init self.old.state number process user group ns root) answer self.new.state) }
+        ensures err { OnErr result (self.new ≡ self.old) }
+        ensures words { self.new.words ≡ self.old.words }
+    {
         self.slots.reserve()?;
         let Some(slot) = self.slots.free_slot() else {
             self.slots.sweep();
@@ -60,7 +97,7 @@ impl State {
         let next = self.slots.next_number();
         self.tasks.start(number, process, next)?;
         let current = seal_next(&mut self.slots, slot);
-        self.master.set(cells, slot, &cred);
+        self.master.set(cells, slot, cred);
         Ok(Answer::Sealed {
             cred: current,
             slot,
@@ -81,24 +118,10 @@ impl State {
         ensures err { OnErr result (self.new ≡ self.old) }
         ensures words { self.new.words ≡ self.old.words }
     {
-        let Some(Numbered { number, slot }) = self.current(task) else {
-            return Ok(Answer::NoTask(task));
+        let Numbered { number, slot } = match self.may_create(task, child, None) {
+            Ok(now) => now,
+            Err(answer) => return Ok(answer),
         };
-        if let Some(cast) = self.begun(task) {
-            return Ok(Answer::Busy(cast));
-        }
-        if self.tasks.alive(child) {
-            return Ok(Answer::Exists {
-                what: Named::Task,
-                number: child,
-            });
-        }
-        if let Some(depth) = self.overridden(task) {
-            return Ok(Answer::Overridden(depth));
-        }
-        if self.tasks.full() {
-            return Ok(Answer::TooMany(Counted::Tasks));
-        }
         self.slots.reserve()?;
         spawn_in(&mut self.tasks, &mut self.casts, task, child)?;
         self.slots.add(number);
@@ -119,34 +142,62 @@ impl State {
         ensures err { OnErr result (self.new ≡ self.old) }
         ensures words { self.new.words ≡ self.old.words }
     {
-        let Some(Numbered { number, slot }) = self.current(task) else {
-            return Ok(Answer::NoTask(task));
+        let Numbered { number, slot } = match self.may_create(task, child, Some(process)) {
+            Ok(now) => now,
+            Err(answer) => return Ok(answer),
         };
-        if let Some(cast) = self.begun(task) {
-            return Ok(Answer::Busy(cast));
-        }
-        if self.tasks.alive(child) {
-            return Ok(Answer::Exists {
-                what: Named::Task,
-                number: child,
-            });
-        }
-        if self.tasks.has_process(process) {
-            return Ok(Answer::Exists {
-                what: Named::Process,
-                number: process,
-            });
-        }
-        if let Some(depth) = self.overridden(task) {
-            return Ok(Answer::Overridden(depth));
-        }
-        if self.tasks.full() {
-            return Ok(Answer::TooMany(Counted::Tasks));
-        }
         self.slots.reserve()?;
         self.tasks.fork(task, child, process)?;
         self.slots.add(number);
         Ok(Answer::Sealed { cred: number, slot })
+    }
+
+    /// The current credential of a task that may create another, as a thread of its own process or
+    /// as the first of a new one. `Err` with what refuses it.
+    fn may_create(&self, task: u32, child: u32, process: Option<u32>) -> Result<Numbered, Answer>
+        ensures { MatchResult result
+            (λ now. MayCreate self.now.state task child (seen_in self.now.state.creds now)
+            × IsUnused self.now.state process)
+            (λ answer. Gives self.now.state (by_creating self.now.state task child process) answer
+            self.now.state) }
+    {
+        let Some(now) = self.current(task) else {
+            return Err(Answer::NoTask(task));
+        };
+        if let Some(cast) = self.begun(task) {
+            return Err(Answer::Busy(cast));
+        }
+        if self.tasks.alive(child) {
+            return Err(Answer::Exists {
+                what: Named::Task,
+                number: child,
+            });
+        }
+        if let Some(number) = self.in_use(process) {
+            return Err(Answer::Exists {
+                what: Named::Process,
+                number,
+            });
+        }
+        if let Some(depth) = self.overridden(task) {
+            return Err(Answer::Overridden(depth));
+        }
+        if self.tasks.full() {
+            return Err(Answer::TooMany(Counted::Tasks));
+        }
+        Ok(now)
+    }
+
+    /// The number of the process that is to be new, if a task is of it.
+    fn in_use(&self, process: Option<u32>) -> Option<u32>
+        ensures { MatchOption result (IsUnused self.now.state process) (λ number.
+            (process ≡ Some number) × (has_process self.now.state.tasks number ≡ true)) }
+    {
+        let number = process?;
+        if self.tasks.has_process(number) {
+            return Some(number);
+        }
+        None
     }
 
     /// A task ends, and what it referred to is given up. It waits in no broadcast any more; its

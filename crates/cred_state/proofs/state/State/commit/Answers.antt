@@ -1,19 +1,8 @@
-use Rattle.std.proofs.Common.{◌≡◌, ℕ, length, is_some, refl, sym, ap, ◌∙◌, subst}
-use Rattle.cred_event.specs.declared.event.Change.{Change}
-use Rattle.cred_model.specs.State.{Changed}
-use Rattle.cred_model.specs.Moves.{with_current}
+use Rattle.std.proofs.Common.{refl, ap, ◌∙◌}
 use Rattle.cred_model.specs.Step.{is_access}
-use Rattle.cred_slots.specs.Table.{Table}
-use Rattle.cred_procs.specs.Tasks.{task_in}
-use Rattle.cred_tables.specs.Kept.{SealsKept, casts_left, parts_of, state_of}
-use Rattle.cred_state.proofs.Commits.{commit_none, commit_no_task, commit_busy, commit_overridden, commit_stale, goes_on, owner-held, base-held_still, slot-kept_still, commit_kept, commit_done}
-use Rattle.cred_tables.proofs.Ending.{EndsWith, ends_so, ended-held}
-use Rattle.cred_tables.proofs.Labels.{same_label}
-use Rattle.cred_tables.proofs.Owners.{has_process_of, owner_of, owner_process, own_owner, over_owner}
-use Rattle.cred_tables.proofs.Sealing.{drops}
-use Rattle.cred_tables.proofs.Puts.{put_less}
-use Rattle.cred_state.proofs.Keeping.{committed_words}
-use Rattle.cred_state.proofs.Reserved.{kept_spare}
+use Rattle.cred_tables.specs.Kept.{parts_of, state_of}
+use Rattle.cred_tables.proofs.Owners.{owner_of, own_owner, over_owner}
+use Rattle.cred_state.proofs.Commits.{commit_none, commit_no_task, commit_busy, commit_overridden, commit_stale}
 use Rattle.cred_state.proofs.state.State.commit.Goals as goal
 
 pub returns-in_default-clause-ok : goal.returns-in_default-clause-ok
@@ -59,126 +48,14 @@ returns-then-now-base-clause-ok c =
     commit_stale s c.args.label _ ready.last ready.found refl (ap is_access ready.by ∙ ready.for_task) c.abort.new.self.state c.abort.result c.in-Some-current.now own.0 own.1 own.2 idle
     (own_owner s c.in-Some.field-0.task own.0 own.1 allowed) c.if-now-base.true aborts)
 
-pub unwrap-process-requires : goal.unwrap-process-requires
-unwrap-process-requires c = has_process_of c.self.inside.tasks c.in-Some.field-0.task c.in-Some-current.now c.in-Some-current.ensures c.process_of.ensures
+pub commit_ready-requires-clause-ready : goal.commit_ready-requires-clause-ready
+commit_ready-requires-clause-ready c = rw (← c.self.view_is, c.if-now-base.false) c.in-Some.ensures
 
-pub drop_all-requires : goal.drop_all-requires
-drop_all-requires c =
-    ended-held c.self.invariant.0 c.in-Some.field-0.change c.end_with.new.tasks c.in_ok-ended.ended.tasks c.in_ok-ended.ended.numbers c.items.result.now c.reserve.new.self.held
-    (task_in c.self.inside.tasks c.in-Some.field-0.task) c.in-Some-current.ensures c.in_ok-ended.ensures.ended c.items.ensures
-    (ap (λ (x : Table). x.held) c.in_ok-reserve.ensures.ok)
+pub commit_ready-requires-clause-current : goal.commit_ready-requires-clause-current
+commit_ready-requires-clause-current c = rw (← c.self.view_is) c.in-Some-current.ensures
 
-pub drop_later-requires : goal.drop_later-requires
-drop_later-requires c =
-    let t = c.self.inside in
-    let ready = c.in-Some.field-0 in
-    let now = c.in-Some-current.now in
-    let e = ends_so ready.change t.tasks c.end_with.new.tasks t.slots ready.task now c.in-Some-current.ensures c.in_ok-ended.ensures.ended
-    c.in_ok-reserve.ensures.ok c.items.ensures c.drop_all.ensures.held c.drop_all.ensures.table in
-    owner-held c.self.invariant.0 ready.change now ready.task e
+pub commit_ready-requires-clause-idle : goal.commit_ready-requires-clause-idle
+commit_ready-requires-clause-idle c = c.in_default-begun.ensures
 
-pub seal_kept-number-requires-clause-slot : goal.seal_kept-number-requires-clause-slot
-seal_kept-number-requires-clause-slot c =
-    let t = c.self.inside in
-    let ready = c.in-Some.field-0 in
-    let now = c.in-Some-current.now in
-    let e = ends_so ready.change t.tasks c.end_with.new.tasks t.slots ready.task now c.in-Some-current.ensures c.in_ok-ended.ensures.ended
-    c.in_ok-reserve.ensures.ok c.items.ensures c.drop_all.ensures.held c.drop_all.ensures.table in
-    let gives = c.finish-last.ensures in
-    let same = same_label t.prepared c.finish-last.new.self c.args.label ready.task ready.base c.finish-last.result.0.base c.finish-last.result.0.slot ready.change
-    c.finish-last.result.1 c.in-Some.ensures gives in
-    let own = subst (λ (n : ℕ). EndsWith ready.change t.tasks c.end_with.new.tasks t.slots c.drop_all.new.slots n now c.in_ok-ended.ended.tasks) (sym same.0) e in
-    let less = drops c.drop_later.ensures.held c.drop_later.ensures.table in
-    slot-kept_still c.self.invariant.0 gives.gives.place _ gives.gives.there ready.change now own less
-
-pub seal_kept-number-requires-clause-base : goal.seal_kept-number-requires-clause-base
-seal_kept-number-requires-clause-base c =
-    let t = c.self.inside in
-    let ready = c.in-Some.field-0 in
-    let now = c.in-Some-current.now in
-    let e = ends_so ready.change t.tasks c.end_with.new.tasks t.slots ready.task now c.in-Some-current.ensures c.in_ok-ended.ensures.ended
-    c.in_ok-reserve.ensures.ok c.items.ensures c.drop_all.ensures.held c.drop_all.ensures.table in
-    let gives = c.finish-last.ensures in
-    let same = same_label t.prepared c.finish-last.new.self c.args.label ready.task ready.base c.finish-last.result.0.base c.finish-last.result.0.slot ready.change
-    c.finish-last.result.1 c.in-Some.ensures gives in
-    let own = subst (λ (n : ℕ). EndsWith ready.change t.tasks c.end_with.new.tasks t.slots c.drop_all.new.slots n now c.in_ok-ended.ended.tasks) (sym same.0) e in
-    let less = drops c.drop_later.ensures.held c.drop_later.ensures.table in
-    base-held_still c.self.invariant.0 gives.gives.place _ gives.gives.there ready.change now own less (c.if-now-base.false ∙ sym same.1)
-
-pub set_current-requires : goal.set_current-requires
-set_current-requires c =
-    let t = c.self.inside in
-    let ready = c.in-Some.field-0 in
-    let now = c.in-Some-current.now in
-    let e = ends_so ready.change t.tasks c.end_with.new.tasks t.slots ready.task now c.in-Some-current.ensures c.in_ok-ended.ensures.ended
-    c.in_ok-reserve.ensures.ok c.items.ensures c.drop_all.ensures.held c.drop_all.ensures.table in
-    ap is_some (goes_on e)
-
-pub invariant_of-self-2 : goal.invariant_of-self-2
-invariant_of-self-2 c =
-    let t = c.self.inside in
-    let ready = c.in-Some.field-0 in
-    let now = c.in-Some-current.now in
-    let e = ends_so ready.change t.tasks c.end_with.new.tasks t.slots ready.task now c.in-Some-current.ensures c.in_ok-ended.ensures.ended
-    c.in_ok-reserve.ensures.ok c.items.ensures c.drop_all.ensures.held c.drop_all.ensures.table in
-    let gives = c.finish-last.ensures in
-    let same = same_label t.prepared c.finish-last.new.self c.args.label ready.task ready.base c.finish-last.result.0.base c.finish-last.result.0.slot ready.change
-    c.finish-last.result.1 c.in-Some.ensures gives in
-    let own = subst (λ (n : ℕ). EndsWith ready.change t.tasks c.end_with.new.tasks t.slots c.drop_all.new.slots n now c.in_ok-ended.ended.tasks) (sym same.0) e in
-    let less = drops c.drop_later.ensures.held c.drop_later.ensures.table in
-    let sound = rw (← c.self.view_is) at c.requires.sound in
-    let seals : SealsKept c.drop_later.new.self c.seal_kept-number.new.slots c.seal_kept-number.result c.finish-last.result.0.base c.finish-last.result.0.slot
-    = c.seal_kept-number.ensures in
-    let tasks : c.set_current.new.self ≡ with_current c.end_with.new.tasks gives.task c.seal_kept-number.result
-    = c.set_current.ensures.tasks ∙ ap (λ (n : ℕ). with_current c.end_with.new.tasks n c.seal_kept-number.result) (sym same.0) in
-    let out = rw (← c.self.view_is) at c.requires.out in
-    let home = rw (← c.self.view_is) at c.requires.home in
-    let words = committed_words t.master.entries c.self.invariant c.args.label gives.gives.place _ gives.gives.found gives.gives.there c.finish-last.result.1 refl sound out home in
-    let change : c.last.inside.change ≡ ready.change = ap (λ (x : Changed). x.change) c.last.view_is ∙ same.2 in
-    let process = owner_process t.tasks ready.task c.unwrap-process.result e.owner e.lives c.unwrap-process.ensures c.process_of.ensures in
-    let casts : c.drop_cast.new.casts ≡ casts_left ready.change e.owner.process t.casts
-    = c.drop_cast.ensures ∙ ap (λ (x : Change). casts_left x c.unwrap-process.result t.casts) change ∙ ap (λ (n : ℕ). casts_left ready.change n t.casts) process in
-    rw (tasks, casts, gives.gives.left) (
-      commit_kept c.self.invariant.0 gives.gives.place _ gives.gives.there ready.change now own less c.seal_kept-number.new.slots
-          c.finish-last.result.1 words seals sound.tasks sound.slots.own,
-      put_less t.prepared gives.gives.place t.master.entries t.master.slots c.self.invariant.1,
-    )
-
-pub returns-clause-ok : goal.returns-clause-ok
-returns-clause-ok c =
-    let t = c.self.inside in
-    let ready = c.in-Some.field-0 in
-    let now = c.in-Some-current.now in
-    let e = ends_so ready.change t.tasks c.end_with.new.tasks t.slots ready.task now c.in-Some-current.ensures c.in_ok-ended.ensures.ended
-    c.in_ok-reserve.ensures.ok c.items.ensures c.drop_all.ensures.held c.drop_all.ensures.table in
-    let gives = c.finish-last.ensures in
-    let same = same_label t.prepared c.finish-last.new.self c.args.label ready.task ready.base c.finish-last.result.0.base c.finish-last.result.0.slot ready.change
-    c.finish-last.result.1 c.in-Some.ensures gives in
-    let own = subst (λ (n : ℕ). EndsWith ready.change t.tasks c.end_with.new.tasks t.slots c.drop_all.new.slots n now c.in_ok-ended.ended.tasks) (sym same.0) e in
-    let less = drops c.drop_later.ensures.held c.drop_later.ensures.table in
-    let sound = rw (← c.self.view_is) at c.requires.sound in
-    let seals : SealsKept c.drop_later.new.self c.seal_kept-number.new.slots c.seal_kept-number.result c.finish-last.result.0.base c.finish-last.result.0.slot
-    = c.seal_kept-number.ensures in
-    let tasks : c.set_current.new.self ≡ with_current c.end_with.new.tasks gives.task c.seal_kept-number.result
-    = c.set_current.ensures.tasks ∙ ap (λ (n : ℕ). with_current c.end_with.new.tasks n c.seal_kept-number.result) (sym same.0) in
-    let out = rw (← c.self.view_is) at c.requires.out in
-    let home = rw (← c.self.view_is) at c.requires.home in
-    let words = committed_words t.master.entries c.self.invariant c.args.label gives.gives.place _ gives.gives.found gives.gives.there c.finish-last.result.1 refl sound out home in
-    let allowed = rw (← c.self.view_is) at c.in_default-overridden.ensures in
-    let idle = rw (← c.self.view_is) at c.in_default-begun.ensures in
-    let gains : c.last.inside.gains ≡ c.finish-last.result.1.gains = ap (λ (x : Changed). x.gains) c.last.view_is in
-    let change : c.last.inside.change ≡ ready.change = ap (λ (x : Changed). x.change) c.last.view_is ∙ same.2 in
-    let process = owner_process t.tasks ready.task c.unwrap-process.result e.owner e.lives c.unwrap-process.ensures c.process_of.ensures in
-    let casts : c.drop_cast.new.casts ≡ casts_left ready.change e.owner.process t.casts
-    = c.drop_cast.ensures ∙ ap (λ (x : Change). casts_left x c.unwrap-process.result t.casts) change ∙ ap (λ (n : ℕ). casts_left ready.change n t.casts) process in
-    rw (← c.self.view_is, tasks, casts, gives.gives.left, c.committed_by.ensures, gains, change)
-    (commit_done c.self.invariant.0 gives.gives.place _ gives.gives.there ready.change now own less c.seal_kept-number.new.slots
-    c.finish-last.result.1 words seals sound.tasks sound.slots.own c.args.label (length c.items-2.result.now) gives.gives.found refl
-    (ap is_access same.2 ∙ c.in-Some.ensures.for_task) (rw same.0 idle) (own_owner (state_of (parts_of t.tasks t.casts t.files t.holds t.prepared) t.master.slots t.slots) gives.task own.owner own.lives (rw same.0 allowed)) same.2 (c.if-now-base.false ∙ sym same.1)
-    (ap length c.items-2.ensures))
-
-pub invariant_of-self : goal.invariant_of-self
-invariant_of-self c = rw c.in_err-reserve.ensures.err c.self.invariant
-
-pub invariant_of-self-in_err-ended : goal.invariant_of-self-in_err-ended
-invariant_of-self-in_err-ended c = rw c.in_err-ended.ensures.err (kept_spare c.self.invariant.0 c.in_ok-reserve.ensures.ok, c.self.invariant.1)
+pub commit_ready-requires-clause-allowed : goal.commit_ready-requires-clause-allowed
+commit_ready-requires-clause-allowed c = c.in_default-overridden.ensures

@@ -1,5 +1,5 @@
 use Rattle.std.proofs.Common.{◌≡◌, List, ap, ◌∙◌, subst}
-use Rattle.cred_model.proofs.Likes.{does_like}
+use Rattle.cred_model.proofs.Likes.{does_like, does_same}
 use Rattle.cred_hold.specs.Tokens.{Entry}
 use Rattle.cred_tables.specs.Kept.{Standing, Words}
 use Rattle.cred_state.specs.Lending.{AreTaken, entries_of, with_lent}
@@ -64,3 +64,9 @@ returns-in-Ok-enter-clause-words c =
     let out = lent_back were new.out taken in
     let id = c.in-Ok-enter.ensures.back.id ∙ ap (λ (x : Standing). x.words.id) lent ∙ ap (λ (w : Words). w.id) (lent_words s token) in
     λ k. record { id = id k; out = out k }
+
+pub returns-in_default-clause-ok : goal.returns-in_default-clause-ok
+returns-in_default-clause-ok c =
+    let same = c.in_default.ensures.none ∙ c.deciding_ns-ns.ensures.same in
+    let gives = rw same at c.missing.ensures in
+    rw same (does_same _ _ _ (gives c.args.script.now c.args.line))

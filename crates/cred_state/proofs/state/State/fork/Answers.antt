@@ -1,18 +1,39 @@
-use Rattle.std.proofs.Common.{[], ◌∷◌, ◌++◌, Option, sym, ap, ◌∙◌}
+use Rattle.std.proofs.Common.{[], ◌∷◌, ◌++◌, Option, is_some, ap, ◌∙◌}
 use Rattle.std.specs.Option.{option_map_or}
 use Rattle.cred_model.specs.State.{Task}
 use Rattle.cred_model.specs.Moves.{first_task}
 use Rattle.cred_model.proofs.Numbers.{current_is}
 use Rattle.cred_tables.specs.Kept.{parts_of, state_of}
 use Rattle.cred_tables.proofs.Sealing.{current-held, referred_to}
+use Rattle.cred_state.proofs.Creating.{fork_done}
 use Rattle.cred_state.proofs.Inits.{kept_child}
 use Rattle.cred_state.proofs.Reserved.{kept_spare}
 use Rattle.cred_state.proofs.state.State.fork.Goals as goal
 
+pub fork-requires-clause-alive : goal.fork-requires-clause-alive
+fork-requires-clause-alive c =
+    let may = rw (← c.self.view_is) at c.in-Ok.ensures in
+    ap is_some may.0.lives
+
+pub fork-requires-clause-new : goal.fork-requires-clause-new
+fork-requires-clause-new c =
+    let may = rw (← c.self.view_is) at c.in-Ok.ensures in
+    may.0.new
+
+pub fork-requires-clause-room : goal.fork-requires-clause-room
+fork-requires-clause-room c =
+    let may = rw (← c.self.view_is) at c.in-Ok.ensures in
+    may.0.few
+
+pub fork-requires-clause-new_process : goal.fork-requires-clause-new_process
+fork-requires-clause-new_process c =
+    let may = rw (← c.self.view_is) at c.in-Ok.ensures in
+    may.1
+
 pub add-requires-clause-referred : goal.add-requires-clause-referred
 add-requires-clause-referred c =
-    let has = rw (← c.self.view_is) at c.in-Some.ensures in
-    referred_to c.self.inside.slots c.reserve.new.self _ _ c.in_ok-reserve.ensures.ok (current-held c.self.invariant.0 c.args.task _ (sym has))
+    let may = rw (← c.self.view_is) at c.in-Ok.ensures in
+    referred_to c.self.inside.slots c.reserve.new.self _ _ c.in_ok-reserve.ensures.ok (current-held c.self.invariant.0 c.args.task _ may.0.has)
 
 pub invariant_of-self : goal.invariant_of-self
 invariant_of-self c = rw c.in_err-reserve.ensures.err c.self.invariant
@@ -24,11 +45,18 @@ pub invariant_of-self-2 : goal.invariant_of-self-2
 invariant_of-self-2 c =
     let t = c.self.inside in
     let s = state_of (parts_of t.tasks t.casts t.files t.holds t.prepared) t.master.slots t.slots in
-    let has = rw (← c.self.view_is) at c.in-Some.ensures in
-    let u = current_is s c.args.task _ (sym has) in
+    let may = rw (← c.self.view_is) at c.in-Ok.ensures in
+    let u = current_is s c.args.task _ may.0.has in
     let grown = c.in_ok-fork.ensures.ok
     ∙ ap (λ (found : Option Task). option_map_or (λ o. t.tasks ++ first_task c.args.child c.args.process o.current ∷ []) found t.tasks) u.is in (
       kept_child c.self.invariant.0 c.fork.new.self c.args.child c.args.process u.owner grown u.number c.in_ok-reserve.ensures.ok c.add.ensures.held c.add.ensures.table
-          (current-held c.self.invariant.0 c.args.task _ (sym has)) t.casts,
+          (current-held c.self.invariant.0 c.args.task _ may.0.has) t.casts,
       c.self.invariant.1,
     )
+
+pub returns-clause-ok : goal.returns-clause-ok
+returns-clause-ok c =
+    let may = rw (← c.self.view_is) at c.in-Ok.ensures in
+    let t = c.self.inside in
+    rw (← c.self.view_is)
+    (fork_done (parts_of t.tasks t.casts t.files t.holds t.prepared) t.master.slots t.slots c.in_ok-reserve.ensures.ok c.add.ensures.table c.args.task c.args.child _ may.0 c.args.process may.1 c.in_ok-fork.ensures.ok)

@@ -1,0 +1,107 @@
+use Rattle.std.proofs.Common.{◌≡◌, Ok, Some, refl, sym}
+use Rattle.cred_rules.specs.SetId.{set_id}
+use Rattle.cred_cast.proofs.Conditions.{least_waits}
+use Rattle.cred_event.specs.declared.answer.AbortCause.TheVariants.{Full}
+use Rattle.cred_model.specs.State.{cast_of}
+use Rattle.cred_tables.specs.Kept.{cred_under, parts_of, state_of}
+use Rattle.cred_state.proofs.Acts.{next_is, next-lives, place_within, set_there, aborts_so, same_spare, act_full, act_kept, act_sealed}
+use Rattle.cred_tables.proofs.Bags.{bag-keeps}
+use Rattle.cred_model.proofs.Places.{if_some}
+use Rattle.cred_tables.proofs.Sealing.{current-held, drops, none_spare, seals_spare}
+use Rattle.cred_tables.proofs.Outs.{free_alone, free_apart}
+use Rattle.cred_tables.proofs.Puts.{put_free}
+use Rattle.cred_state.proofs.Reading.{some_spare}
+use Rattle.cred_state.proofs.Reserved.{kept_spare}
+use Rattle.cred_state.proofs.state.State.act_with.Goals as goal
+
+pub set-requires-clause-alone : goal.set-requires-clause-alone
+set-requires-clause-alone c =
+    free_alone c.self.invariant.0 c.in-Some.slot (some_spare c.self.inside.slots c.in_ok-reserve.ensures.ok (sym c.in-Some.ensures)) _
+    (rw (← c.self.view_is) at c.requires.out)
+
+pub seal_next-new-requires-clause-free : goal.seal_next-new-requires-clause-free
+seal_next-new-requires-clause-free c = sym c.in-Some.ensures
+
+pub set_current_at-requires : goal.set_current_at-requires
+set_current_at-requires c =
+    let t = c.self.inside in
+    let s = state_of (parts_of t.tasks t.casts t.files t.holds t.prepared) t.master.slots t.slots in
+    let sound = rw (← c.self.view_is) at c.requires.sound in
+    let found = rw (← c.self.view_is) at c.requires.next in
+    let next = next_is s c.args.number c.args.next.task sound found.least in
+    place_within next c.args.next.place found.there
+
+pub drop_later-requires : goal.drop_later-requires
+drop_later-requires c =
+    let found = rw (← c.self.view_is) at c.requires.next in
+    let seals = seals_spare {t = c.self.inside.slots} c.in_ok-reserve.ensures.ok c.seal_next-new.ensures in
+    bag-keeps c.args.next.now.number seals.held (current-held c.self.invariant.0 c.args.next.task _ found.has)
+
+pub acted-left-requires : goal.acted-left-requires
+acted-left-requires c =
+    let t = c.self.inside in
+    let s = state_of (parts_of t.tasks t.casts t.files t.holds t.prepared) t.master.slots t.slots in
+    let sound = rw (← c.self.view_is) at c.requires.sound in
+    let found = rw (← c.self.view_is) at c.requires.next in
+    let next = next_is s c.args.number c.args.next.task sound found.least in
+    rw next.found (least_waits next.cast c.args.next.task next.least)
+
+pub invariant_of-self-2 : goal.invariant_of-self-2
+invariant_of-self-2 c =
+    let t = c.self.inside in
+    let s = state_of (parts_of t.tasks t.casts t.files t.holds t.prepared) t.master.slots t.slots in
+    let sound = rw (← c.self.view_is) at c.requires.sound in
+    let found = rw (← c.self.view_is) at c.requires.next in
+    let next = next_is s c.args.number c.args.next.task sound found.least in
+    let rule = if_some (λ cast. set_id (cred_under s.creds c.args.next.now.number) cast.call ≡ Ok c.args.cred.now) (cast_of s c.args.number) next.cast next.found (rw (← c.self.view_is) at c.requires.made) in
+    rw (set_there next _ found.there _ c.set_current_at.ensures, c.set.ensures.made, c.acted-left.ensures.casts) (
+      act_kept c.self.invariant.0 c.args.number c.args.next.task next _ found.has c.args.cred.now rule c.set.ensures.long
+          (seals_spare c.in_ok-reserve.ensures.ok c.seal_next-new.ensures) sound.tasks (drops c.drop_later.ensures.held c.drop_later.ensures.table),
+      put_free t.prepared t.master.entries t.master.slots c.in-Some.slot (Some c.args.cred.now)
+          (free_apart c.self.invariant.0 c.in-Some.slot (some_spare t.slots c.in_ok-reserve.ensures.ok (sym c.in-Some.ensures))) c.self.invariant.1,
+    )
+
+pub returns-clause-ok : goal.returns-clause-ok
+returns-clause-ok c =
+    let t = c.self.inside in
+    let s = state_of (parts_of t.tasks t.casts t.files t.holds t.prepared) t.master.slots t.slots in
+    let sound = rw (← c.self.view_is) at c.requires.sound in
+    let found = rw (← c.self.view_is) at c.requires.next in
+    let next = next_is s c.args.number c.args.next.task sound found.least in
+    let rule = if_some (λ cast. set_id (cred_under s.creds c.args.next.now.number) cast.call ≡ Ok c.args.cred.now) (cast_of s c.args.number) next.cast next.found (rw (← c.self.view_is) at c.requires.made) in
+    let left = if_some _ (cast_of s c.args.number) next.cast next.found c.acted-left.ensures.left in
+    rw (← c.self.view_is, set_there next _ found.there _ c.set_current_at.ensures, c.set.ensures.made, c.acted-left.ensures.casts)
+    (act_sealed c.self.invariant.0 c.args.number c.args.next.task next _ found.has c.args.cred.now rule c.set.ensures.long
+    (seals_spare c.in_ok-reserve.ensures.ok c.seal_next-new.ensures) sound.tasks (drops c.drop_later.ensures.held c.drop_later.ensures.table) c.acted-left.result left)
+
+pub returns-in_default-clause-ok : goal.returns-in_default-clause-ok
+returns-in_default-clause-ok c =
+    let t = c.self.inside in
+    let parts = parts_of t.tasks t.casts t.files t.holds t.prepared in
+    let s = state_of parts t.master.slots t.slots in
+    let sound = rw (← c.self.view_is) at c.requires.sound in
+    let found = rw (← c.self.view_is) at c.requires.next in
+    let next = next_is s c.args.number c.args.next.task sound found.least in
+    let rule = if_some (λ cast. set_id (cred_under s.creds c.args.next.now.number) cast.call ≡ Ok c.args.cred.now) (cast_of s c.args.number) next.cast next.found (rw (← c.self.view_is) at c.requires.made) in
+    let none = sym c.in_default.ensures in
+    let ended = c.end_process_of in
+    rw (← c.self.view_is)
+    (aborts_so s (state_of parts t.master.slots c.reserve.new.self) c.args.number c.args.next.task Full ended.new.self.state next ended.result
+    (same_spare parts t.master.slots t.slots c.in_ok-reserve.ensures.ok) ended.ensures.answer ended.ensures.state
+    (act_full c.self.invariant.0 c.args.number c.args.next.task next _ found.has c.args.cred.now rule
+    (none_spare t.slots c.in_ok-reserve.ensures.ok none)))
+
+pub invariant_of-self : goal.invariant_of-self
+invariant_of-self c = rw c.in_err-reserve.ensures.err c.self.invariant
+
+pub invariant_of-self-in_default : goal.invariant_of-self-in_default
+invariant_of-self-in_default c = (kept_spare c.self.invariant.0 c.in_ok-reserve.ensures.ok, c.self.invariant.1)
+
+pub end_process_of-requires : goal.end_process_of-requires
+end_process_of-requires c =
+    let t = c.self.inside in
+    let parts = parts_of t.tasks t.casts t.files t.holds t.prepared in
+    let s = state_of parts t.master.slots t.slots in
+    let sound = rw (← c.self.view_is) at c.requires.sound in
+    let found = rw (← c.self.view_is) at c.requires.next in
+    next-lives (next_is s c.args.number c.args.next.task sound found.least)

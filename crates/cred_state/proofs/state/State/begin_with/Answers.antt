@@ -1,0 +1,84 @@
+use Rattle.std.proofs.Common.{◌≡◌, Some, is_some, sym, ap, ◌∙◌}
+use Rattle.cred_model.proofs.Places.{if_some}
+use Rattle.cred_procs.specs.Tasks.{task_in}
+use Rattle.cred_tables.specs.Kept.{parts_of, state_of}
+use Rattle.cred_tables.proofs.Bags.{bag-keeps}
+use Rattle.cred_tables.proofs.Free.{full_swept}
+use Rattle.cred_tables.proofs.Sealing.{current-held, drops, none_spare, roomy_spare, seals_spare}
+use Rattle.cred_state.proofs.Begins.{may_wait, begin_full, replaced_kept, begin_sealed}
+use Rattle.cred_tables.proofs.Outs.{free_alone, free_apart}
+use Rattle.cred_tables.proofs.Puts.{put_free}
+use Rattle.cred_state.proofs.Reading.{some_spare}
+use Rattle.cred_state.proofs.Reserved.{kept_spare, kept_swept}
+use Rattle.cred_state.proofs.state.State.begin_with.Goals as goal
+
+pub returns-in_default-clause-ok : goal.returns-in_default-clause-ok
+returns-in_default-clause-ok c =
+    let t = c.self.inside in
+    let may = rw (← c.self.view_is) at c.requires.may in
+    let rule = rw (← c.self.view_is) at c.requires.made in
+    let none = sym c.in_default.ensures in
+    rw (← c.self.view_is)
+    (begin_full c.self.invariant.0 c.sweep.new.self c.args.task _ c.args.cred.now may.has c.args.line c.args.call.now may rule
+    (none_spare t.slots c.in_ok-reserve.ensures.ok none)
+    (roomy_spare (parts_of t.tasks t.casts t.files t.holds t.prepared) t.master.slots t.slots _ _ _ c.in_ok-reserve.ensures.ok
+    (c.sweep.ensures ∙ sym (full_swept c.reserve.new.self none))))
+
+pub begin_in-requires : goal.begin_in-requires
+begin_in-requires c =
+    let t = c.self.inside in
+    let may = rw (← c.self.view_is) at c.requires.may in
+    let sound = rw (← c.self.view_is) at c.requires.sound in
+    may_wait (state_of (parts_of t.tasks t.casts t.files t.holds t.prepared) t.master.slots t.slots) c.args.line c.args.task _ may sound
+
+pub set-requires-clause-alone : goal.set-requires-clause-alone
+set-requires-clause-alone c =
+    free_alone c.self.invariant.0 c.in-Some.slot (some_spare c.self.inside.slots c.in_ok-reserve.ensures.ok (sym c.in-Some.ensures)) _
+    (rw (← c.self.view_is) at c.requires.out)
+
+pub seal_next-number-requires-clause-free : goal.seal_next-number-requires-clause-free
+seal_next-number-requires-clause-free c = sym c.in-Some.ensures
+
+pub set_current-requires : goal.set_current-requires
+set_current-requires c =
+    let may = rw (← c.self.view_is) at c.requires.may in
+    ap is_some may.lives
+
+pub drop_later-requires : goal.drop_later-requires
+drop_later-requires c =
+    let may = rw (← c.self.view_is) at c.requires.may in
+    let seals = seals_spare {t = c.self.inside.slots} c.in_ok-reserve.ensures.ok c.seal_next-number.ensures in
+    bag-keeps c.args.now.number seals.held (current-held c.self.invariant.0 c.args.task _ may.has)
+
+pub invariant_of-self-2 : goal.invariant_of-self-2
+invariant_of-self-2 c =
+    let may = rw (← c.self.view_is) at c.requires.may in
+    let sound = rw (← c.self.view_is) at c.requires.sound in
+    rw (c.set_current.ensures.tasks, c.set.ensures.made) (
+      replaced_kept c.self.invariant.0 c.drop_later.new.self c.args.task _ c.args.cred.now may.has c.set.ensures.long
+          (seals_spare c.in_ok-reserve.ensures.ok c.seal_next-number.ensures) sound.tasks (drops c.drop_later.ensures.held c.drop_later.ensures.table)
+          c.begin_in.new.casts,
+      put_free c.self.inside.prepared c.self.inside.master.entries c.self.inside.master.slots c.in-Some.slot (Some c.args.cred.now)
+          (free_apart c.self.invariant.0 c.in-Some.slot (some_spare c.self.inside.slots c.in_ok-reserve.ensures.ok (sym c.in-Some.ensures))) c.self.invariant.1,
+    )
+
+pub returns-clause-ok : goal.returns-clause-ok
+returns-clause-ok c =
+    let t = c.self.inside in
+    let may = rw (← c.self.view_is) at c.requires.may in
+    let sound = rw (← c.self.view_is) at c.requires.sound in
+    let rule = rw (← c.self.view_is) at c.requires.made in
+    let begun = if_some _ (task_in t.tasks c.args.task) may.owner may.lives c.in_ok-left.ensures.ok in
+    rw (← c.self.view_is, c.set_current.ensures.tasks, c.set.ensures.made, begun.casts)
+    (begin_sealed c.self.invariant.0 c.drop_later.new.self c.args.task _ c.args.cred.now may.has c.set.ensures.long
+    (seals_spare c.in_ok-reserve.ensures.ok c.seal_next-number.ensures) sound.tasks (drops c.drop_later.ensures.held c.drop_later.ensures.table)
+    c.args.line c.args.call.now may c.in_ok-left.left rule begun.waiting)
+
+pub invariant_of-self : goal.invariant_of-self
+invariant_of-self c = rw c.in_err-reserve.ensures.err c.self.invariant
+
+pub invariant_of-self-in_default : goal.invariant_of-self-in_default
+invariant_of-self-in_default c = (kept_swept (kept_spare c.self.invariant.0 c.in_ok-reserve.ensures.ok) c.sweep.ensures, c.self.invariant.1)
+
+pub invariant_of-self-in_err-left : goal.invariant_of-self-in_err-left
+invariant_of-self-in_err-left c = rw c.in_err-left.ensures.err (kept_spare c.self.invariant.0 c.in_ok-reserve.ensures.ok, c.self.invariant.1)
