@@ -35,7 +35,6 @@ const NAPS: u32 = 100;
 /// A book and a roll behind one lock, and the book's cells beside it, which the threads of all
 /// lanes share. The cells are the name's, and whenever the lock is free, the book is of the name's
 /// script and cells and the roll is the name's. Contracts see the identity of the cells.
-#[derive(Drop)]
 pub struct Kernel<K: Name> {
     cells: Cells,
     lock: Mutex<Locked<K>>,
@@ -50,6 +49,15 @@ impl<K: Name> Model for Kernel<K> {
     ghost view = { λ k. k.cells };
 
     ghost invariant = { λ k. k.cells ≡ K.cells };
+}
+
+/// Written out, so that it is proved here alone.
+impl<K: Name> Drop for Kernel<K> {
+    fn drop(self) {
+        let Kernel { cells, lock } = self;
+        drop(cells);
+        drop(lock);
+    }
 }
 
 impl<K: Name> Kernel<K> {

@@ -44,11 +44,11 @@ impl Parts {
     pub fn new(alloc: Global, script: Script) -> Result<Parts, NoMemory>
         ensures script { IfOk result (λ parts. parts.script ≡ script) }
     {
-        let Ok(roll) = Roll::make(alloc, script.lanes()) else {
-            drop(script);
+        let (book, cells) = set_up(alloc, script)?;
+        let Ok(roll) = Roll::make(alloc, book.script().lanes()) else {
+            drop(book);
             return Err(NoMemory);
         };
-        let (book, cells) = set_up(alloc, script)?;
         Ok(Parts { book, cells, roll })
     }
 }

@@ -1,4 +1,4 @@
-use Rattle.std.proofs.Common.{ℕ, replicate, sym, ap, ◌∙◌}
+use Rattle.std.proofs.Common.{ℕ, replicate, ap, ◌∙◌}
 use Rattle.cred_model.specs.Script.{Script}
 use Rattle.cred_script.specs.Lanes.{lanes}
 use Rattle.cred_turn.specs.Rows.{fresh, home_row}
@@ -10,7 +10,7 @@ invariant_of-result c = (
     ready = c.in_ok-book.ensures.ready;
     rows = c.in-Ok.ensures.rows
         ∙ ap (λ (n : ℕ). replicate n (home_row fresh))
-        (c.lanes.ensures.greatest ∙ ap (λ (s : Script). lanes s.lines) (sym c.in_ok-book.ensures.script));
+        (c.lanes.ensures.greatest ∙ ap (λ (s : Script). lanes s.lines) c.script.ensures);
   },
   c.in_ok-book.ensures.own,
 )
