@@ -73,8 +73,16 @@ fn work<K: Name, G: Gate, R: Wait>(
         step = go_on(rt, kernel, &mut turn, step)?;
         match &mut step {
             Step::More => (),
-            Step::Work(work) => decide(alloc, kernel, gate, turn.lane(), work)?,
-            Step::Ended => return Ok(turn),
+            Step::Work(work) => {
+                let Ok(()) = decide(alloc, kernel, gate, turn.lane(), work) else {
+                    drop(step);
+                    return Err(NoMemory);
+                };
+            }
+            Step::Ended => {
+                drop(step);
+                return Ok(turn);
+            }
         }
     }
     unreachable!()
@@ -120,7 +128,10 @@ fn enter<K: Name>(
     ensures { IfOk result (λ _. (turn.new.lane ≡ turn.old.lane) × (turn.new.numbers.out ≡ None)) }
 {
     match kernel.finish(turn, work) {
-        Ok(_) => Ok(()),
+        Ok(step) => {
+            drop(step);
+            Ok(())
+        }
         Err(unfinished) => {
             drop(unfinished);
             Err(NoMemory)
@@ -144,9 +155,9 @@ fn advance_some<K: Name>(
 {
     let most = 1 + turn.entered() / PART;
     for _ in 0..most {
-        let step = kernel.advance(turn);
-        if !matches!(step, Ok(Step::More)) {
-            return step;
+        match kernel.advance(turn)? {
+            Step::More => (),
+            step => return Ok(step),
         }
     }
     Ok(Step::More)
