@@ -23,3 +23,4 @@ pub mod Returns
 pub mod Entering
 pub mod Deciding
 pub mod Lends
+pub mod Asking

@@ -113,6 +113,8 @@ impl State {
     ///
     /// `NoMemory` if an allocation of a credential, of a list or of room for what is entered fails:
     /// the state is as it was.
+    // Called for each event of a run, from one place of it.
+    #[inline(always)]
     pub fn step(
         &mut self,
         cells: &Cells,
@@ -132,8 +134,8 @@ impl State {
         ensures words { self.new.words ≡ self.old.words }
     {
         match event {
-            Event::Ask { .. }
-            | Event::Signal { .. }
+            Event::Ask { label, query } => self.ask(cells, script, *label, *query),
+            Event::Signal { .. }
             | Event::Alter { .. }
             | Event::OpenFile { .. } => self.decide(cells, script, line, event),
             Event::Init { .. }

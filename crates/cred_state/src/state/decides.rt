@@ -14,11 +14,11 @@ ghost use Rattle.cred_tables.specs.Out.{AreHome, AreOut, waits_in};
 ghost use Rattle.cred_state.specs.Lending.{is_decided};
 
 use crate::state::State;
-use cred_declared::{chain_of, event_file};
-use cred_event::{Answer, Event};
+use cred_declared::{asked_file, chain_of, event_file};
+use cred_event::{Answer, Event, Query};
 use cred_hold::Cells;
 use cred_ids::NoMemory;
-use cred_lent::{Lent, decide_event};
+use cred_lent::{Lent, decide, decide_event};
 use cred_script::Script;
 
 impl State {
@@ -65,6 +65,43 @@ impl State {
                 Err(NoMemory)
             }
         }
+    }
+
+    /// Answers a question on the hold that is lent for it in this call. Questions are many, so
+    /// nothing is made for one that only other decisions need.
+    ///
+    /// # Errors
+    ///
+    /// `NoMemory` if an allocation of what is told, or of what it is told by, fails.
+    pub(crate) fn ask(
+        &mut self,
+        cells: &Cells,
+        script: &Script,
+        label: u32,
+        query: Query,
+    ) -> Result<Answer, NoMemory>
+        requires own { self.old.words.id ≡ cells.now }
+        requires out { AreOut self.old.state self.old.words.out }
+        requires home { AreHome (Event.Ask label query) self.old.words.out }
+        requires sound { IsSound self.old.state }
+        ensures ok { IfOk result (λ answer.
+            Gives self.old.state (by_ask script.now self.old.state label query) answer
+            self.new.state) }
+        ensures same { self.new ≡ self.old }
+    {
+        let Some(found) = self.held(label) else {
+            return Ok(Answer::NoHold(label));
+        };
+        let mut hold = self.lend_found(cells, label, found);
+        let told = decide(
+            self.alloc,
+            cells,
+            &mut hold,
+            query,
+            asked_file(script, query),
+        );
+        self.give_back(cells, hold);
+        told
     }
 
     /// What an event is answered for which a label isn't there, or a task.

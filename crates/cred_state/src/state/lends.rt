@@ -118,7 +118,7 @@ impl State {
     }
 
     /// Lends, under this label, the credential that was found. Something refers to it.
-    fn lend_found(&mut self, cells: &Cells, label: u32, found: Numbered) -> Hold
+    pub(super) fn lend_found(&mut self, cells: &Cells, label: u32, found: Numbered) -> Hold
         requires own { self.old.words.id ≡ cells.now }
         requires found { numbered self.old.state.creds found.number
             ≡ Some (seen_in self.old.state.creds found) }
