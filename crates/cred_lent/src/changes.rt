@@ -59,6 +59,8 @@ impl From<NoMemory> for BuildRefusal {
 ///
 /// `Perm`, `Invalid` and `Access` where `cred_decide::change` answers `Eperm`, `Einval` and
 /// `Eacces`; `Memory` if an allocation fails.
+// No call, since what it takes or gives is large, and would be moved.
+#[inline(always)]
 pub fn build(
     alloc: Global,
     cells: &Cells,

@@ -24,6 +24,8 @@ use std::alloc::Global;
 /// # Errors
 ///
 /// `NoMemory` if an allocation fails. The tokens stay as they were.
+// No call, since what it takes or gives is large, and would be moved.
+#[inline(always)]
 pub fn decide_event(
     alloc: Global,
     cells: &Cells,
@@ -71,6 +73,8 @@ fn query_of(event: &Event) -> Option<Query>
 }
 
 /// Builds what the change makes of the base. A refusal is told as the event is answered.
+// No call, since what it takes or gives is large, and would be moved.
+#[inline(always)]
 fn alter(
     alloc: Global,
     cells: &Cells,

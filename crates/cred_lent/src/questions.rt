@@ -64,12 +64,28 @@ pub fn decide(
             return Ok(flag(amb, n));
         }
         Query::Check { want, .. } => return checked(alloc, cells, hold, file, want),
-        Query::Groups | Query::Bits => {
-            let cred = read(alloc, cells, hold)?;
-            return reply(alloc, file, &cred, query);
-        }
+        Query::Groups | Query::Bits => return on_whole(alloc, cells, hold, query, file),
     };
     Ok(Answer::Told(told))
+}
+
+/// The answer to a question for which the whole credential is read.
+// A call, since each question else pays for room for a credential.
+#[inline(never)]
+fn on_whole(
+    alloc: Global,
+    cells: &Cells,
+    hold: &mut Hold,
+    query: Query,
+    file: Option<&FileInfo>,
+) -> Result<Answer, NoMemory>
+    requires own { hold.old.id ≡ cells.now }
+    ensures told { IfOk result (λ answer. answer
+        ≡ reply (option_map (λ file. file.now) file.entry) hold.old.cred query) }
+    ensures same { hold.new ≡ hold.old }
+{
+    let cred = read(alloc, cells, hold)?;
+    reply(alloc, file, &cred, query)
 }
 
 /// The answer to the check of a file, by the parts of the credential that the check asks of.

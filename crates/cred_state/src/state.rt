@@ -249,6 +249,7 @@ impl State {
     }
 
     /// The label takes hold of the credential of this number, which stands in this slot.
+    #[inline(always)]
     fn take_hold(&mut self, label: u32, number: u64, slot: u32) -> Result<Answer, NoMemory>
         requires { IsInUse self.old.state number }
         ensures ok { IfOk result (λ answer.
