@@ -1,4 +1,4 @@
-use Rattle.std.proofs.Common.{Err, refl, sym, rules, tests}
+use Rattle.std.proofs.Common.{Err, refl, rules, tests}
 use Rattle.cred_rules.specs.SetId.{set_id}
 use Rattle.cred_event.specs.declared.answer.AbortCause.TheVariants.{Perm}
 use Rattle.cred_model.specs.State.{Broadcast, cast_of}

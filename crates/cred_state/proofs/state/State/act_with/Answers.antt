@@ -1,4 +1,4 @@
-use Rattle.std.proofs.Common.{◌≡◌, Ok, Some, refl, sym}
+use Rattle.std.proofs.Common.{◌≡◌, Ok, Some, sym}
 use Rattle.cred_rules.specs.SetId.{set_id}
 use Rattle.cred_cast.proofs.Conditions.{least_waits}
 use Rattle.cred_event.specs.declared.answer.AbortCause.TheVariants.{Full}

@@ -1,4 +1,4 @@
-use Rattle.std.proofs.Common.{◌≡◌, Some, is_some, sym, ap, ◌∙◌}
+use Rattle.std.proofs.Common.{Some, is_some, sym, ap, ◌∙◌}
 use Rattle.cred_model.proofs.Places.{if_some}
 use Rattle.cred_procs.specs.Tasks.{task_in}
 use Rattle.cred_tables.specs.Kept.{parts_of, state_of}

@@ -1,4 +1,3 @@
-use Rattle.std.proofs.Common.{sym}
 use Rattle.cred_rules.specs.SetId.{set_id}
 use Rattle.cred_tables.specs.Kept.{cred_under}
 use Rattle.cred_state.proofs.Made.{rule_made}

@@ -1,4 +1,4 @@
-use Rattle.std.proofs.Common.{◌≡◌, slice_set, Some, sym, ap, ◌∙◌}
+use Rattle.std.proofs.Common.{slice_set, Some, sym, ap, ◌∙◌}
 use Rattle.cred_record.specs.Credential.{Credential}
 use Rattle.cred_hold.specs.Tokens.{Mastered}
 use Rattle.cred_tables.specs.Kept.{parts_of}
