@@ -1,6 +1,6 @@
 -- What a commit leads to, by the parts of the state after it, or how it is refused.
-use Rattle.std.proofs.Common.{◌≡◌, ◌≢◌, ℕ, ◌<◌, ◌==◌, List, [], ◌∷◌, ◌++◌, count_by, get_or, length, position, remove, slice_get, Some, Result, Ok, Err, refl, sym, ap, ◌∙◌, subst}
-use Rattle.std.specs.Option.{option_and_then}
+use Rattle.std.proofs.Common.{◌≡◌, ◌≢◌, ℕ, ◌<◌, ◌==◌, is_some, true, List, [], ◌∷◌, ◌++◌, count_by, get_or, length, position, remove, slice_get, Option, Some, None, Result, Ok, Err, refl, sym, ap, ◌∙◌, subst}
+use Rattle.std.specs.Option.{option_and_then, option_map}
 use Rattle.std.specs.Result.{IfOk}
 use Rattle.std.proofs.lemmas.Result.{IfOk-weaker}
 use Rattle.std.proofs.lemmas.Option.{slice_get-get_or, slice_get_within}
@@ -23,6 +23,11 @@ use Rattle.cred_machine.proofs.Seen.{placed}
 
 some_same : {X : Type 0} (x y : X) → Some x ≡ Some y → x ≡ y
 some_same x y is = cc
+
+-- what was found there is one
+pub some_by : {X Y : Type 0} (f : X → Y) (found : Option X) (there : Option Y) (y : Y) → option_map f found ≡ there → there ≡ Some y → is_some found ≡ true
+some_by f None there y at is = let never : None ≡ Some y = at ∙ is in cc
+some_by f (Some x) there y at is = refl
 
 -- ---- the label at a place
 

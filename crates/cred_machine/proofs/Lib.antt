@@ -1,4 +1,6 @@
 pub mod Unchanged
+pub mod Closing
+pub mod Taken
 pub mod Seen
 pub mod Lending
 pub mod Begins

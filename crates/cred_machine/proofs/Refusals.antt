@@ -1,8 +1,10 @@
 -- What the events answer where one of their tests refuses.
-use Rattle.std.proofs.Common.{◌≡◌, ℕ, ◌==◌, ◌||◌, Bool, find, is_some, true, false, Option, Some, None, Ok, Err, refl, sym, ◌∙◌}
+use Rattle.std.proofs.Common.{◌≡◌, ℕ, ◌==◌, ◌||◌, nat_lt, not, Bool, find, is_some, length, true, false, Option, Some, None, Ok, Err, refl, sym, ◌∙◌}
+use Rattle.cred_ids.specs.Limits.{TASKS}
 use Rattle.cred_event.specs.declared.answer.Answer.{Answer}
-use Rattle.cred_event.specs.declared.answer.Answer.TheVariants.{Done, Eperm, Exists, NoHold}
+use Rattle.cred_event.specs.declared.answer.Answer.TheVariants.{Done, Eperm, Exists, NoHold, NoTask, TooMany}
 use Rattle.cred_rules.specs.Access.{may_signal}
+use Rattle.cred_event.specs.declared.answer.Counted.TheVariants as counted
 use Rattle.cred_event.specs.declared.answer.Named.TheVariants as named
 use Rattle.cred_model.specs.State.{State, Task, Numbered, begun_by, held_by, numbered, task_of}
 use Rattle.cred_model.specs.Casts.{not_busy}
@@ -14,6 +16,26 @@ pub exit_busy : (s : State) (task : ℕ) (owner : Task) (answer : Answer) → ta
     → outcome s (by_exit s task) ≡ (answer, s)
 exit_busy s task owner answer lives busy = rw (lives, busy) refl
 
+-- there is no such task
+module _ (s : State) (task child process : ℕ) where
+  pub spawn_none : task_of s task ≡ None → outcome s (by_spawn s task child) ≡ (NoTask task, s)
+  spawn_none none = rw none refl
+
+  pub fork_none : task_of s task ≡ None → outcome s (by_fork s task child process) ≡ (NoTask task, s)
+  fork_none none = rw none refl
+
+  module _ (owner : Task) (lives : task_of s task ≡ Some owner) (none : numbered s.creds owner.current ≡ None) where
+    pub spawn_unsealed : outcome s (by_spawn s task child) ≡ (NoTask task, s)
+    spawn_unsealed = rw (lives, none) refl
+
+    pub fork_unsealed : outcome s (by_fork s task child process) ≡ (NoTask task, s)
+    fork_unsealed = rw (lives, none) refl
+
+-- there are as many as there may be
+pub is_full : (few full : Bool) → full ≡ not few → full ≡ true → few ≡ false
+is_full true full is no_more = sym no_more ∙ is
+is_full false full is no_more = refl
+
 -- a task that would create another
 module _ (s : State) (task child process : ℕ) (owner : Task) (parent : Numbered) (lives : task_of s task ≡ Some owner) (has : numbered s.creds owner.current ≡ Some parent) where
   pub spawn_busy : (answer : Answer) → not_busy (begun_by s task) ≡ Err answer → outcome s (by_spawn s task child) ≡ (answer, s)
@@ -22,7 +44,24 @@ module _ (s : State) (task child process : ℕ) (owner : Task) (parent : Numbere
   pub fork_busy : (answer : Answer) → not_busy (begun_by s task) ≡ Err answer → outcome s (by_fork s task child process) ≡ (answer, s)
   fork_busy answer busy = rw (lives, has, busy) refl
 
+  module _ (idle : not_busy (begun_by s task) ≡ Ok tt) where
+    pub spawn_exists : is_some (task_of s child) ≡ true → outcome s (by_spawn s task child) ≡ (Exists named.Task child, s)
+    spawn_exists there = rw (lives, has, idle, there) refl
+
+    pub fork_exists : is_some (task_of s child) ≡ true → outcome s (by_fork s task child process) ≡ (Exists named.Task child, s)
+    fork_exists there = rw (lives, has, idle, there) refl
+
   module _ (idle : not_busy (begun_by s task) ≡ Ok tt) (new : task_of s child ≡ None) where
+    pub spawn_overridden : (answer : Answer) → not_overridden owner ≡ Err answer → outcome s (by_spawn s task child) ≡ (answer, s)
+    spawn_overridden answer own = rw (lives, has, idle, new, own) refl
+
+    pub spawn_full : not_overridden owner ≡ Ok tt → nat_lt (length s.tasks) TASKS ≡ false → outcome s (by_spawn s task child) ≡ (TooMany counted.Tasks, s)
+    spawn_full own many = rw (lives, has, idle, new, own, many) refl
+
+    pub fork_full : find (is_thread_of process) s.tasks ≡ None → not_overridden owner ≡ Ok tt → nat_lt (length s.tasks) TASKS ≡ false
+        → outcome s (by_fork s task child process) ≡ (TooMany counted.Tasks, s)
+    fork_full unused own many = rw (lives, has, idle, new, unused, own, many) refl
+
     pub fork_used : is_some (find (is_thread_of process) s.tasks) ≡ true
         → outcome s (by_fork s task child process) ≡ (Exists named.Process process, s)
     fork_used used = rw (lives, has, idle, new, used) refl

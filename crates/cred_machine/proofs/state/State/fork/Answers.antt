@@ -3,7 +3,8 @@ use Rattle.cred_event.specs.declared.answer.Answer.TheVariants.{Busy, Overridden
 use Rattle.cred_model.specs.State.{Task}
 use Rattle.cred_plain.specs.Creds.{seen_numbered}
 use Rattle.cred_model.proofs.Places.{none_by_test}
-use Rattle.cred_machine.proofs.Refusals.{fork_busy, fork_used, fork_overridden}
+use Rattle.cred_plain.proofs.Places.{none_is}
+use Rattle.cred_machine.proofs.Refusals.{fork_busy, fork_exists, fork_full, fork_none, fork_overridden, fork_unsealed, fork_used, is_full}
 use Rattle.cred_machine.proofs.Leads.{busy_at, can_create, fork_leads}
 use Rattle.cred_machine.proofs.Seen.{seen_state, seen_task}
 use Rattle.cred_machine.proofs.state.State.fork.Goals as goal
@@ -41,3 +42,34 @@ returns-clause-ok c =
     (fork_leads s c.args.task c.args.child c.args.process o parent _ can
     (none_by_test _ c.has_process.result c.has_process.ensures c.if-has_process.false)
     (c.in_ok-push.ensures.ok ∙ ap (λ (n : Task). s.tasks ++ n ∷ []) c.first.ensures))
+
+pub returns-in_default-clause-ok : goal.returns-in_default-clause-ok
+returns-in_default-clause-ok c =
+    let s = seen_state c.self.inside in
+    rw (← c.self.view_is)
+    (fork_none s c.args.task c.args.child c.args.process (none_is (λ t. t.now) c.get.result _ c.get.ensures c.in_default.is))
+
+pub returns-in_default-get-clause-ok : goal.returns-in_default-get-clause-ok
+returns-in_default-get-clause-ok c =
+    let s = seen_state c.self.inside in
+    let o = seen_task c.owner.inside in
+    rw (← c.self.view_is)
+    (fork_unsealed s c.args.task c.args.child c.args.process o (rw (← c.owner.view_is) at (sym c.in-Some.ensures))
+    (none_is seen_numbered c.get-2.result _ c.get-2.ensures c.in_default-get.is))
+
+pub returns-then-alive-clause-ok : goal.returns-then-alive-clause-ok
+returns-then-alive-clause-ok c =
+    let s = seen_state c.self.inside in
+    let o = seen_task c.owner.inside in
+    rw (← c.self.view_is)
+    (fork_exists s c.args.task c.args.child c.args.process o (seen_numbered c.in-Some-get.field-0) (rw (← c.owner.view_is) at (sym c.in-Some.ensures)) (sym c.in-Some-get.ensures)
+    (busy_at s _ c.args.task _ c.deref.ensures.value c.in_default-begun_by.ensures) (sym c.alive.ensures ∙ c.if-alive.true))
+
+pub returns-then-full-clause-ok : goal.returns-then-full-clause-ok
+returns-then-full-clause-ok c =
+    let s = seen_state c.self.inside in
+    let o = seen_task c.owner.inside in
+    rw (← c.self.view_is)
+    (fork_full s c.args.task c.args.child c.args.process o (seen_numbered c.in-Some-get.field-0) (rw (← c.owner.view_is) at (sym c.in-Some.ensures)) (sym c.in-Some-get.ensures)
+    (busy_at s _ c.args.task _ c.deref.ensures.value c.in_default-begun_by.ensures) (none_by_test _ c.alive.result c.alive.ensures c.if-alive.false) (none_by_test _ c.has_process.result c.has_process.ensures c.if-has_process.false) (rw (← c.owner.view_is) at c.in_default-overridden.ensures)
+    (is_full _ c.full.result c.full.ensures c.if-full.true))

@@ -1,7 +1,9 @@
-use Rattle.std.proofs.Common.{ℕ, ◌==◌, sym, ap, ◌∙◌, List}
+use Rattle.std.proofs.Common.{ℕ, ◌==◌, arith, sym, ap, ◌∙◌, List}
+use Rattle.std.proofs.lemmas.Option.{slice_get_within}
 use Rattle.cred_model.specs.State.{Changed, Prepared, SealedCred}
 use Rattle.cred_plain.proofs.Places.{found_is}
 use Rattle.cred_machine.proofs.Refusals.{some_of}
+use Rattle.cred_machine.proofs.Committing.{some_by}
 use Rattle.cred_machine.proofs.Lending.{access_deep, access_lends, is_deep, lend_other, not_deep, said_of}
 use Rattle.cred_machine.proofs.Seen.{placed, seen_state}
 use Rattle.cred_machine.proofs.Unchanged.{on_err}
@@ -59,3 +61,21 @@ returns-in_err-cred-clause-err c =
     (on_err _
     (ap (λ (l : List ℕ). record s { deferred = l; creds = c.reserve.new.self.list }) c.in_ok-reserve-2.ensures.items
     ∙ ap (λ (l : List SealedCred). record s { creds = l }) c.in_ok-reserve.ensures.list))
+
+pub remove-requires : goal.remove-requires
+remove-requires c =
+    let s = seen_state c.self.inside in
+    let p = c.index-own.result.now in
+    let at = placed (λ (q : Prepared). q.label == c.args.label) s.prepared _ c.in-Some.place p c.deref.ensures.value c.in-Some.ensures c.index-own.ensures in
+    let within = slice_get_within s.prepared c.in-Some.place p at.1 in
+    omega (arith, within, c.self.inside.prepared.ok)
+
+pub unwrap-requires : goal.unwrap-requires
+unwrap-requires c =
+    let s = seen_state c.self.inside in
+    let owner = some_of _ (rw (← c.self.view_is) at c.requires.alive) in
+    some_by (λ t. t.now) c.get.result _ owner.0 c.get.ensures owner.1
+
+pub seal-requires : goal.seal-requires
+seal-requires c =
+    c.in_ok-reserve.ensures.room

@@ -1,8 +1,8 @@
-use Rattle.std.proofs.Common.{◌≡◌, ℕ, List, [], ◌∷◌, ◌++◌, Some, refl, ap, ◌∙◌}
-use Rattle.cred_model.specs.State.{Changed, SealedCred}
+use Rattle.std.proofs.Common.{◌≡◌, ℕ, List, [], ◌∷◌, ◌++◌, Option, Some, is_some, arith, refl, ap, ◌∙◌}
+use Rattle.cred_model.specs.State.{Changed, Prepared, SealedCred, task_of}
 use Rattle.cred_machine.specs.Labels.{CanCommit, IsChanged}
 use Rattle.cred_plain.proofs.Places.{found_is}
-use Rattle.cred_machine.proofs.Committing.{commits, read_is}
+use Rattle.cred_machine.proofs.Committing.{commits, is_within, own_is, read_is, some_by}
 use Rattle.cred_machine.proofs.Seen.{seen_prepared, seen_state, seen_task}
 use Rattle.cred_machine.proofs.Unchanged.{on_err}
 use Rattle.cred_machine.proofs.state.State.settle.Goals as goal
@@ -43,3 +43,33 @@ returns-in_err-make_room-clause-err c =
     (on_err _
     (ap (λ (l : List ℕ). record s { deferred = l; creds = c.make_room.new.creds.list }) c.in_err-make_room.ensures.err
     ∙ ap (λ (l : List SealedCred). record s { creds = l }) c.in_err-make_room.ensures.list))
+
+pub index-own-requires : goal.index-own-requires
+index-own-requires c =
+    let s = seen_state c.self.inside in
+    let can : CanCommit s c.args.place = rw (← c.self.view_is) at c.requires.can in
+    let within = is_within s c.args.place can in omega (arith, within, c.self.inside.prepared.ok)
+
+pub unwrap-last-requires : goal.unwrap-last-requires
+unwrap-last-requires c =
+    let s = seen_state c.self.inside in
+    let can : CanCommit s c.args.place = rw (← c.self.view_is) at c.requires.can in
+    let is = own_is s c.args.place can c.index-own.result.now c.index-own.ensures in
+    c.as_ref.ensures.variant ∙ ap (λ (o : Option Changed). is_some o) (ap (λ (p : Prepared). p.changed) c.own.view_is ∙ is.changed)
+
+pub unwrap-owner-requires : goal.unwrap-owner-requires
+unwrap-owner-requires c =
+    let s = seen_state c.self.inside in
+    let can : CanCommit s c.args.place = rw (← c.self.view_is) at c.requires.can in
+    let is = own_is s c.args.place can c.index-own.result.now c.index-own.ensures in
+    some_by (λ t. t.now) c.get.result _ can.owner c.get.ensures (ap (λ (p : Prepared). task_of s p.task) c.own.view_is ∙ is.lives)
+
+pub seal-number-requires : goal.seal-number-requires
+seal-number-requires c =
+    c.in_ok-make_room.ensures.room
+
+pub remove-requires : goal.remove-requires
+remove-requires c =
+    let s = seen_state c.self.inside in
+    let can : CanCommit s c.args.place = rw (← c.self.view_is) at c.requires.can in
+    let within = is_within s c.args.place can in omega (arith, within, c.self.inside.prepared.ok)
