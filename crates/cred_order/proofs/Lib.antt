@@ -1,3 +1,4 @@
 pub mod Order
 pub mod Goes
 pub mod Ends
+pub mod Pushed

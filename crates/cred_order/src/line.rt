@@ -39,13 +39,14 @@ pub fn run_line(
     let mut course = Course::start(number, content);
     'events: while let Some(event) = course.event(content)? {
         entries.reserve(1)?;
-        let answer = state.step(cells, script, number, &event)?;
-        course.took(content, &answer);
+        // The answer goes to its place at once, and is read there.
+        let place = entries.len();
         entries.push_reserved(Entry {
             line: number,
+            answer: state.step(cells, script, number, &event)?,
             event,
-            answer,
         });
+        course.took(content, &entries[place].answer);
     }
     Ok(())
 }

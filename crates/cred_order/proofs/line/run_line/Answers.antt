@@ -10,6 +10,8 @@ use Rattle.cred_hold.specs.Tokens as lent
 use Rattle.cred_tables.specs.Kept.{Words}
 use Rattle.cred_tables.specs.Out.{AreHome, AreOut}
 use Rattle.cred_tables.proofs.Outs.{IsToken}
+use Rattle.cred_model.specs.Course.{after}
+use Rattle.cred_order.proofs.Pushed.{pushed_there}
 use Rattle.cred_order.proofs.Goes.{goes_first, goes_sound, goes_by, goes_out}
 use Rattle.cred_order.proofs.line.run_line.Goals as goal
 
@@ -49,25 +51,27 @@ step-requires-clause-home c =
 
 pub events-smaller : goal.events-smaller
 events-smaller c =
+    let there = pushed_there _ _ (record { line = c.args.past + 1; event = c.in-Some-2.event; answer = c.in_ok-step.field-0 }) c.index.result.now _ c.push_reserved.ensures.items (c.len-place.ensures ∙ c.reserve.new.self.ok.0) c.index.ensures in
     (goes_by c.args.script.now c.args.past c.args.state.now.state c.events.state.state c.step.new.self.state c.args.entries.now.items c.events.entries.items
-    c.push_reserved.new.self.items c.in-Some.content.now c.events.course c.took.new.self c.in-Some-2.event (c.args.past + 1) c.in_ok-answer.answer
+    c.push_reserved.new.self.items c.in-Some.content.now c.events.course c.took.new.self c.in-Some-2.event (c.args.past + 1) c.in_ok-step.field-0
     c.requires.run c.events.invariant.0
     (sym c.in_ok-event.ensures.ended ∙ ap is_some c.in-Some-2.is) (sym c.in_ok-event.ensures.event ∙ c.in-Some-2.is) refl
-    c.in_ok-answer.ensures.ok c.took.ensures.after
+    c.in_ok-step.ensures.ok (c.took.ensures.after ∙ ap (λ (e : Entry). after c.in-Some.content.now c.events.course e.answer) there)
     (c.push_reserved.ensures.items
-    ∙ ap (λ (js : List Entry). js ++ record { line = c.args.past + 1; event = c.in-Some-2.event; answer = c.in_ok-answer.answer } ∷ []) c.in_ok-reserve.ensures.items)).falls
+    ∙ ap (λ (js : List Entry). js ++ record { line = c.args.past + 1; event = c.in-Some-2.event; answer = c.in_ok-step.field-0 } ∷ []) c.in_ok-reserve.ensures.items)).falls
 
 pub events-preserved : goal.events-preserved
-events-preserved c = (
-  (goes_by c.args.script.now c.args.past c.args.state.now.state c.events.state.state c.step.new.self.state c.args.entries.now.items c.events.entries.items
-      c.push_reserved.new.self.items c.in-Some.content.now c.events.course c.took.new.self c.in-Some-2.event (c.args.past + 1) c.in_ok-answer.answer
-      c.requires.run c.events.invariant.0
-      (sym c.in_ok-event.ensures.ended ∙ ap is_some c.in-Some-2.is) (sym c.in_ok-event.ensures.event ∙ c.in-Some-2.is) refl
-      c.in_ok-answer.ensures.ok c.took.ensures.after
-      (c.push_reserved.ensures.items
-      ∙ ap (λ (js : List Entry). js ++ record { line = c.args.past + 1; event = c.in-Some-2.event; answer = c.in_ok-answer.answer } ∷ []) c.in_ok-reserve.ensures.items)).goes,
-  c.step.ensures.words ∙ c.events.invariant.1,
-)
+events-preserved c =
+    let there = pushed_there _ _ (record { line = c.args.past + 1; event = c.in-Some-2.event; answer = c.in_ok-step.field-0 }) c.index.result.now _ c.push_reserved.ensures.items (c.len-place.ensures ∙ c.reserve.new.self.ok.0) c.index.ensures in (
+      (goes_by c.args.script.now c.args.past c.args.state.now.state c.events.state.state c.step.new.self.state c.args.entries.now.items c.events.entries.items
+          c.push_reserved.new.self.items c.in-Some.content.now c.events.course c.took.new.self c.in-Some-2.event (c.args.past + 1) c.in_ok-step.field-0
+          c.requires.run c.events.invariant.0
+          (sym c.in_ok-event.ensures.ended ∙ ap is_some c.in-Some-2.is) (sym c.in_ok-event.ensures.event ∙ c.in-Some-2.is) refl
+          c.in_ok-step.ensures.ok (c.took.ensures.after ∙ ap (λ (e : Entry). after c.in-Some.content.now c.events.course e.answer) there)
+          (c.push_reserved.ensures.items
+          ∙ ap (λ (js : List Entry). js ++ record { line = c.args.past + 1; event = c.in-Some-2.event; answer = c.in_ok-step.field-0 } ∷ []) c.in_ok-reserve.ensures.items)).goes,
+      c.step.ensures.words ∙ c.events.invariant.1,
+    )
 
 pub returns-clause-runs : goal.returns-clause-runs
 returns-clause-runs c =
