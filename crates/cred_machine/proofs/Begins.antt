@@ -1,5 +1,5 @@
 -- An id call that a task makes, and what refuses it.
-use Rattle.std.proofs.Common.{◌≡◌, ◌⊎◌, ℕ, ◌==◌, Bool, false, List, find, is_some, Option, Some, Result, Ok, Err, refl, sym, ap, ◌∙◌, inl, inr}
+use Rattle.std.proofs.Common.{◌≡◌, ◌⊎◌, ℕ, ◌==◌, not, Bool, true, false, List, find, is_some, length, Option, Some, Result, Ok, Err, refl, sym, ap, ◌∙◌, inl, inr}
 use Rattle.std.specs.Option.{option_map}
 use Rattle.std.specs.Result.{IfOk}
 use Rattle.cred_record.specs.Answer.{AnswersBy}
@@ -11,18 +11,20 @@ use Rattle.cred_record.specs.declared.refusal.Refusal.{Refusal}
 use Rattle.cred_record.specs.declared.refusal.Refusal.TheVariants as refusal
 use Rattle.cred_rules.specs.SetId.{set_id}
 use Rattle.cred_event.specs.declared.answer.Answer.{Answer}
-use Rattle.cred_event.specs.declared.answer.Answer.TheVariants.{Eperm, Einval}
+use Rattle.cred_event.specs.declared.answer.Answer.TheVariants.{Began, Eperm, Einval}
 use Rattle.cred_model.specs.State.{State, Task, Broadcast, Numbered, numbered, task_of, cast_in}
-use Rattle.cred_model.specs.Casts.{not_busy, others_of}
-use Rattle.cred_model.specs.Moves.{in_slot, not_overridden, table_full}
+use Rattle.cred_model.specs.Casts.{not_busy, others_of, with_cast}
+use Rattle.cred_model.specs.Moves.{in_slot, not_overridden, replaced, table_full}
+use Rattle.cred_model.specs.Slots.{free, least_free}
 use Rattle.cred_model.specs.Step.{by_begin, outcome}
 use Rattle.cred_model.proofs.Numbers.{owner_number}
 use Rattle.cred_model.proofs.Places.{none_by_test}
-use Rattle.cred_machine.specs.Room.{begun}
+use Rattle.cred_machine.specs.Room.{begun, swept_if}
 use Rattle.cred_plain.specs.Tasks.{others_in}
 use Rattle.cred_plain.proofs.Places.{none_is}
 use Rattle.cred_machine.proofs.Events.{CanBegin, begin_tests}
 use Rattle.cred_machine.proofs.Leads.{idle_in}
+use Rattle.cred_machine.proofs.Rooms.{in_free}
 
 -- ---- what the rule says, by the call's answer
 
@@ -99,3 +101,20 @@ pub same_answer : {E : Type 0} (given made : Answer × State) (answered : Result
     → IfOk answered (λ answer. made ≡ (answer, after)) → IfOk answered (λ answer. given ≡ (answer, after))
 same_answer given made (Ok answer) after is gives = is ∙ gives
 same_answer given made (Err e) after is gives = tt
+
+-- The broadcast is open, and then its caller's credential is replaced.
+pub opens : (s : State) (cast : Broadcast) (old : ℕ) (made : Credential) (slot : ℕ) (sweep : Bool) (number left : ℕ) (casts : List Broadcast) (after : State)
+    → free s ≡ Some slot → sweep ≡ not (is_some (least_free s)) → number ≡ length s.creds → left ≡ length cast.waiting → casts ≡ with_cast s.casts cast
+    → after ≡ replaced (swept_if sweep (record s { casts = casts })) cast.caller old made slot
+    → in_slot s table_full (λ r at. begun r cast old made at) ≡ (Began number slot left, after)
+opens s cast old made slot sweep number left casts after found is numbers many cs leads =
+    in_free s table_full (λ r at. begun r cast old made at) sweep slot found is
+    ∙ rw (leads, cs, many, numbers) (same sweep)
+  where
+    same : (b : Bool)
+        → ◌≡◌ {A = Answer × State} (begun (swept_if b s) cast old made slot) (
+          Began (length s.creds) slot (length cast.waiting),
+          replaced (swept_if b (record s { casts = with_cast s.casts cast })) cast.caller old made slot,
+        )
+    same true = refl
+    same false = refl

@@ -1,0 +1,28 @@
+use Rattle.std.proofs.Common.{List, arith, ap, sym, ◌∙◌}
+use Rattle.cred_model.specs.Moves.{table_full}
+use Rattle.cred_model.specs.State.{Broadcast}
+use Rattle.cred_machine.specs.Room.{begun}
+use Rattle.cred_machine.proofs.Begins.{opens}
+use Rattle.cred_machine.proofs.Rooms.{in_none}
+use Rattle.cred_machine.proofs.Seen.{seen_cast, seen_state}
+use Rattle.cred_machine.proofs.Unchanged.{on_err}
+use Rattle.cred_machine.proofs.state.State.open.Goals as goal
+
+pub returns-in_default-clause-ok : goal.returns-in_default-clause-ok
+returns-in_default-clause-ok c =
+    rw (c.table_full.ensures.answer, c.table_full.ensures.state, ← c.self.view_is)
+    (in_none (seen_state c.self.inside) table_full (λ r at. begun r c.args.cast c.args.old c.args.cred at)
+    (rw (← c.self.view_is) at (sym c.in_ok-slot.ensures.slot ∙ c.in_default.is)))
+
+pub returns-in_err-open_cast-clause-err : goal.returns-in_err-open_cast-clause-err
+returns-in_err-open_cast-clause-err c =
+    let s = seen_state c.self.inside in
+    rw (← c.self.view_is) (on_err _ (ap (λ (l : List Broadcast). record s { casts = l }) c.in_err-open_cast.ensures.err))
+
+pub returns-clause-ok : goal.returns-clause-ok
+returns-clause-ok c =
+    rw (← c.self.view_is, ← c.cast.view_is)
+    (opens (seen_state c.self.inside) (seen_cast c.cast.inside) c.args.old _ c.in-Some.slot c.in_ok-slot.field-0.swept c.in-Ok.number c.len.result _ c.replace.new.self
+    (rw (← c.self.view_is) at (sym c.in_ok-slot.ensures.slot ∙ c.in-Some.is)) (rw (← c.self.view_is) at c.in_ok-slot.ensures.swept)
+    c.in-Ok.ensures.number (omega (arith, c.len.ensures, c.cast.inside.waiting.ok)) (rw (← c.cast.view_is) at c.in_ok-open_cast.ensures.ok)
+    c.in-Ok.ensures.ok)
