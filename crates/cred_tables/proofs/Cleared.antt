@@ -1,5 +1,5 @@
 -- What is referred to can be read where nothing is left in the words of a slot to which nothing that is referred to belongs.
-use Rattle.std.proofs.Common.{◌≡◌, ◌≢◌, ℕ, ◌+◌, ◌<◌, ◌==◌, not, ◌||◌, Bool, true, false, cond, List, [], ◌∷◌, ◌++◌, find, map, length, Option, None, Some, slice_get, slice_set, get_or, get_or-set_other, ◌⊎◌, inl, inr, refl, sym, ap, ◌∙◌, subst, arith}
+use Rattle.std.proofs.Common.{◌≡◌, ◌≢◌, ℕ, ◌+◌, ◌<◌, ◌==◌, not, ◌||◌, Bool, true, false, cond, List, [], ◌∷◌, Option, None, Some, slice_get, slice_set, get_or, get_or-set_other, ◌⊎◌, inl, inr, refl, sym, ap, ◌∙◌, subst, arith}
 use Rattle.std.specs.List.{All, count_by, list_any, range_with_len}
 use Rattle.std.specs.Option.{IsSome, option_map_or}
 use Rattle.std.proofs.lemmas.Bool.{cases_eq, eq-eqb, eqb-true, false≢true}
@@ -9,7 +9,7 @@ use Rattle.cred_ids.specs.Limits.{SLOTS}
 use Rattle.cred_record.specs.Credential.{Credential}
 use Rattle.cred_model.proofs.Lists.{found}
 use Rattle.cred_slots.specs.Table.{Table, free, is_kept, is_live, references, references_to, slots, stands_in, swept_if_full}
-use Rattle.cred_slots.proofs.Counting.{count-cons, count-append}
+use Rattle.cred_slots.proofs.Counting.{count-cons}
 use Rattle.cred_tables.specs.Kept.{AreFilled}
 use Rattle.cred_tables.proofs.Filled.{NoMore}
 

@@ -1,22 +1,22 @@
 -- What is lent under a label: the credential that the label holds, or the slot that it keeps and the base of what it prepares.
-use Rattle.std.proofs.Common.{◌≡◌, ◌≢◌, ℕ, zero, suc, ◌<◌, ◌==◌, not, ◌&&◌, ◌||◌, Bool, true, false, cond, List, [], ◌∷◌, ◌++◌, find, map, length, Option, None, Some, is_some, slice_get, slice_set, get_or, ◌⊎◌, inl, inr, refl, sym, ap, ◌∙◌, subst, arith}
-use Rattle.std.specs.List.{count_by, list_any, All, AllPairs}
+use Rattle.std.proofs.Common.{◌≡◌, ◌≢◌, ℕ, zero, suc, ◌<◌, ◌==◌, ◌&&◌, Bool, true, false, cond, List, [], ◌∷◌, ◌++◌, find, map, Option, None, Some, is_some, slice_get, slice_set, get_or, ◌⊎◌, inl, inr, refl, sym, ap, ◌∙◌, subst, arith}
+use Rattle.std.specs.List.{All}
 use Rattle.std.specs.Option.{option_map, option_map_or, option_and_then}
-use Rattle.std.proofs.lemmas.Bool.{false≢true, cases_eq, eq-eqb, eqb-true, ne_eqb}
+use Rattle.std.proofs.lemmas.Bool.{false≢true, eqb-true, ne_eqb}
 use Rattle.std.proofs.lemmas.List.Elements.{All-append, All-nil, All-head, All-tail, All-cons}
-use Rattle.std.proofs.lemmas.Option.{slice_get_within, slice_get-get_or, slice_get-map, same_Some}
+use Rattle.std.proofs.lemmas.Option.{slice_get-get_or, slice_get-map, same_Some}
 use Rattle.cred_record.specs.Credential.{Credential}
 use Rattle.cred_event.specs.declared.event.Event.{Event}
 use Rattle.cred_event.specs.declared.event.Event.TheVariants.{Ask, Signal, Alter, OpenFile}
 use Rattle.cred_model.specs.State.{State, Hold, Prepared, Numbered, SealedCred, numbered, hold_of, prepared_of, held_by}
 use Rattle.cred_model.specs.Slots.{in_use, refs, swept}
 use Rattle.cred_model.specs.Like.{IsLike}
-use Rattle.cred_model.proofs.Lists.{found, slice_get-left, All-at, All-unmap, AllPairs-unmap, alone, map_same}
+use Rattle.cred_model.proofs.Lists.{found, All-at, All-unmap, AllPairs-unmap, alone, map_same}
 use Rattle.cred_model.proofs.LikeReads.{same_numbered, same_held}
-use Rattle.cred_model.proofs.Numbers.{numbered_is, sealed_cred_of}
+use Rattle.cred_model.proofs.Numbers.{numbered_is}
 use Rattle.cred_model.proofs.Places.{place-of_found}
 use Rattle.cred_model.proofs.Referred.{EachRef, each_ref}
-use Rattle.cred_sound.specs.Ledger.{IsOrderly, IsClear, ledger, referred}
+use Rattle.cred_sound.specs.Ledger.{IsClear}
 use Rattle.cred_sound.specs.Sound.{IsSound}
 use Rattle.cred_words.specs.Lists.{Has}
 use Rattle.cred_hold.specs.Tokens.{Entry, entry, IsAlone}
