@@ -135,9 +135,9 @@ impl State {
     {
         match event {
             Event::Ask { label, query } => self.ask(cells, script, *label, *query),
-            Event::Signal { .. }
-            | Event::Alter { .. }
-            | Event::OpenFile { .. } => self.decide(cells, script, line, event),
+            Event::Signal { .. } | Event::Alter { .. } | Event::OpenFile { .. } => self.decide(
+                cells, script, line, event,
+            ),
             Event::Init { .. }
             | Event::Begin { .. }
             | Event::Act { .. }
@@ -236,7 +236,7 @@ impl State {
         self.holds.get(label).is_some() || self.prepared.get(label).is_some()
     }
 
-    pub(crate) fn take(&mut self, label: u32, task: u32, side: Side) -> Result<Answer, NoMemory>
+    fn take(&mut self, label: u32, task: u32, side: Side) -> Result<Answer, NoMemory>
         ensures ok { IfOk result (λ answer.
             Gives self.old.state (by_take self.old.state label task side) answer self.new.state) }
         ensures err { OnErr result (self.new ≡ self.old) }
@@ -273,7 +273,7 @@ impl State {
         Ok(Answer::Sealed { cred: number, slot })
     }
 
-    pub(crate) fn release(&mut self, label: u32) -> Answer
+    fn release(&mut self, label: u32) -> Answer
         ensures made { Gives self.old.state (by_release self.old.state label) result
             self.new.state }
         ensures words { self.new.words ≡ self.old.words }
