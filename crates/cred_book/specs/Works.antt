@@ -1,6 +1,6 @@
 -- The works of a book's lanes: which are out, what is lent for them, and what is true of one.
-use Rattle.std.specs.Prelude.{◌≡◌, ◌≢◌, ℕ, Bool, true, false, List, [], ◌++◌, length, set, Some, None, IfSome}
-use Rattle.std.specs.Prelude.{◌≤◌, All, is_some, if◌then◌else◌}
+use Rattle.std.specs.Prelude.{◌≡◌, ◌≢◌, ℕ, true, List, [], ◌++◌, length, set, Some, None, IfSome}
+use Rattle.std.specs.Prelude.{◌≤◌, All, Bool, false, is_some, if◌then◌else◌}
 use Rattle.std.specs.List.{AllPairs, flat_map, range_with_len}
 use Rattle.std.specs.Option.{option_map_or}
 use Rattle.atomic_table.specs.Seated.{TableId}
@@ -100,9 +100,9 @@ may_wait event = false
 
 -- The lane's event, which is of this line, goes out as this work. It waits for a decision, and the
 -- work has what that needs. Nothing else is lent.
-pub record GoesOut (before after : Recorded) (lane number : ℕ) (asked : Event) (work : Work) : Type 0
+pub record GoesOut (before after : Recorded) (lane n : ℕ) (asked : Event) (work : Work) : Type 0
   where
-    pub line : work.line ≡ number
+    pub line : work.line ≡ n
     pub event : work.event ≡ asked
     pub undecided : work.decided ≡ None
     pub waits : waits_in (replay before.script before.journal) work.event ≡ true
