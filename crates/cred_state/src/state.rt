@@ -41,7 +41,6 @@ use std::marker::Model;
 /// The state of a run. Its credentials stand in the shared words alone. Contracts see under each
 /// sealed number what stands in the words of its slot: where nothing refers to the number any more,
 /// that may be a later credential. They see which cells the words are in, and what is lent of them.
-#[derive(Drop)]
 pub struct State {
     tasks: Procs,
     casts: Casts,
@@ -68,6 +67,30 @@ impl Model for State {
     ghost invariant = { λ s.
         IsKept (parts_of s.tasks s.casts s.files s.holds s.prepared) s.master.slots s.slots
         × ArePut s.prepared s.master.entries s.master.slots };
+}
+
+/// Written out, so that it is proved here alone: of a derived one, each crate above that lets go of
+/// a state proves all parts anew.
+impl Drop for State {
+    fn drop(self) {
+        let State {
+            tasks,
+            casts,
+            files,
+            holds,
+            prepared,
+            master,
+            slots,
+            alloc: _,
+        } = self;
+        drop(tasks);
+        drop(casts);
+        drop(files);
+        drop(holds);
+        drop(prepared);
+        drop(master);
+        drop(slots);
+    }
 }
 
 impl State {

@@ -23,7 +23,6 @@ pub(crate) struct Parts {
 /// names, if it names one, and of the root ids of the base's user namespace and of that one's
 /// ancestors, the nearest first. It stands in memory of its own, in which there is room for the
 /// decision. Contracts see the record `Asked` of `specs/Work.antt`.
-#[derive(Drop)]
 pub struct Asked {
     parts: Box<Parts>,
 }
@@ -39,6 +38,15 @@ impl Model for Asked {
       file = a.parts.value.file;
       chain = a.parts.value.chain;
     } };
+}
+
+/// Written out, so that it is proved here alone: of a derived one, each crate above that lets go of
+/// it proves all parts anew.
+impl Drop for Asked {
+    fn drop(self) {
+        let Asked { parts } = self;
+        drop(parts);
+    }
 }
 
 impl Asked {
@@ -95,6 +103,15 @@ impl Asked {
         let Parts { event, .. } = Box::into_inner(parts);
         event
     }
+
+    /// Its memory.
+    fn into_parts(self) -> Box<Parts>
+        ensures { (result.value.line ≡ self.line) × (result.value.event ≡ self.event)
+            × (result.value.file ≡ self.file) × (result.value.chain ≡ self.chain) }
+    {
+        let Asked { parts } = self;
+        parts
+    }
 }
 
 /// An event that waits for its decision, with its line, the tokens that are lent for it, copies of
@@ -102,7 +119,6 @@ impl Asked {
 /// that one's ancestors, the nearest first, and the decision once it is made. Contracts see the
 /// record `Work` of `specs/Work.antt`. To move one is cheap: all but its tokens stands in
 /// memory of its own.
-#[derive(Drop)]
 pub struct Work {
     pub(crate) parts: Box<Parts>,
     pub(crate) lent: Lent,
@@ -123,13 +139,22 @@ impl Model for Work {
     } };
 }
 
+/// Written out, as that of `Asked`.
+impl Drop for Work {
+    fn drop(self) {
+        let Work { parts, lent } = self;
+        drop(parts);
+        drop(lent);
+    }
+}
+
 impl Work {
     /// The work of an event for which these tokens are lent, decided so, or not yet. No memory is
     /// taken.
     pub fn of(asked: Asked, lent: Lent, decided: Option<Decided>) -> Work
         ensures { result ≡ work_of asked lent decided }
     {
-        let Asked { mut parts } = asked;
+        let mut parts = asked.into_parts();
         parts.as_mut().decided = decided;
         Work { parts, lent }
     }

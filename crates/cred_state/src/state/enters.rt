@@ -47,6 +47,8 @@ impl State {
     ///
     /// Want of memory, of the opening of a file alone: with its hold, which is still lent, and its
     /// decision. The state is as it was.
+    // No call, since what it takes or gives is large, and would be moved.
+    #[inline(always)]
     pub fn enter(
         &mut self,
         cells: &Cells,
@@ -119,6 +121,8 @@ impl State {
 
     /// What a label prepares is changed as it was decided, or stays as it was where the change is
     /// refused. Both tokens come back.
+    // No call, since what it takes or gives is large, and would be moved.
+    #[inline(always)]
     fn altered(
         &mut self,
         cells: &Cells,
@@ -149,6 +153,8 @@ impl State {
     }
 
     /// The same, while the base is still lent.
+    // No call, since what it takes or gives is large, and would be moved.
+    #[inline(always)]
     fn changed(
         &mut self,
         cells: &Cells,
