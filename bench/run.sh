@@ -3,8 +3,8 @@
 # lines, and one of 2,000 calls that 64 threads make. It prints for each: entries, the processor time of
 # one run, in the program and in the kernel (the mean of 20), and the greatest resident memory of both;
 # and, where valgrind is there, the instructions of both and their ratio, which is the same at each run.
-# The marks are millions of instructions, three in a hundred above what the scripts took when a slot of
-# the shared words got room for 1,024 groups: so what is lost later is seen. On changes there is one of
+# The marks are millions of instructions, three in a hundred above what the scripts took last, with a
+# slot of the shared words that has room for 1,024 groups: so what is lost later is seen. On changes there is one of
 # 4 MB of memory too: run keeps no journal, so its memory doesn't grow with the report.
 # Then a script of calls that 64 threads make, 1.28 million entries, is held against a program that only
 # writes as many bytes and digits (writes.rs); there the mark is 2, and 10 MB. Its report is audited,
@@ -72,11 +72,11 @@ row script entries 'proved s, KiB' 'plain s, KiB' 'mark, KiB' \
 for name in calls changes holds checks broadcast; do
   "$proved" run < "$dir/$name" > "$dir/report"
   case $name in
-    calls) mark=80 ;;
-    changes) mark=123 ;;
-    holds) mark=23.5 ;;
-    checks) mark=63.5 ;;
-    broadcast) mark=527 ;;
+    calls) mark=73 ;;
+    changes) mark=114 ;;
+    holds) mark=23.1 ;;
+    checks) mark=53.3 ;;
+    broadcast) mark=527.5 ;;
   esac
   ours=$(seconds "$proved" "$name")
   theirs=- a=0 b=0
