@@ -1,0 +1,16 @@
+"""From a report to one page that shows it: rows of tasks and of slots, entries from left to right.
+
+    report       the entries of a report, each held to the form that docs/FORMATS.md gives it
+    spans        what lasts from one entry to another: a current credential, a hold, an open file
+    story        the entries one after another: which spans begin and end by each
+    told         what a report tells of credentials, and which changes of sets can be seen from that
+    slots        the lives of slots: which credential stood where, who referred to it, when it ended
+    window       the part of all that the page shows, as lists that its script reads
+    names        the names of capabilities and securebits, from share/credtrace-names
+    page         the page: its skeleton, style, script and data in one file
+    command      the command credtrace-draw
+    browser      a browser that runs without a window, for check
+    check        holds the pages to their reports; where a browser is, looked at in it
+
+No rule of credentials is known here: what the page shows is what entries say.
+"""
