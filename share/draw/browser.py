@@ -106,10 +106,10 @@ class Browser:
         text, _, self.rest = self.rest.partition(b"\0")
         return json.loads(text)
 
-    def screen(self, width: int, height: int, dark: bool) -> None:
+    def screen(self, width: int, height: int, dark: bool, scale: float = 1) -> None:
         """The size of the page's window, and whether dark pages are wanted."""
         self.ask("Emulation.setDeviceMetricsOverride", width=width, height=height,
-                 deviceScaleFactor=1, mobile=False)
+                 deviceScaleFactor=scale, mobile=False)
         scheme = {"name": "prefers-color-scheme", "value": "dark" if dark else "light"}
         self.ask("Emulation.setEmulatedMedia", features=[scheme])
 

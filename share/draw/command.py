@@ -17,8 +17,8 @@ from .window import Window
 
 DRAWN, NOT_DRAWN = 0, 2
 
-# How many entries a page has at most, and how long a text may be in it.
-MOST, LONGEST_TEXT = 200_000, 2_000
+# How many entries a page has at most, and how long an event and an answer may be in it.
+MOST, LONGEST_TEXT = 200_000, 1_000
 
 
 class Fault(Exception):
@@ -33,10 +33,15 @@ def number(word: str) -> int:
 
 
 def cut(text: str) -> str:
-    """A text that isn't too long for a page: a task may have 1,024 groups."""
+    """An entry whose event and answer aren't too long for a page: a task may have 1,024 groups."""
     if len(text) <= LONGEST_TEXT:
         return text
-    return f"{text[:LONGEST_TEXT]} ... ({len(text) - LONGEST_TEXT} characters more)"
+    parts = text.rpartition(" -> ")
+    return "".join(
+        part if len(part) <= LONGEST_TEXT
+        else f"{part[:LONGEST_TEXT]}... ({len(part) - LONGEST_TEXT} characters more)"
+        for part in parts
+    )
 
 
 def read(source: BinaryIO, first: int, last: int | None) -> tuple[Story, list[str]]:
@@ -49,7 +54,7 @@ def read(source: BinaryIO, first: int, last: int | None) -> tuple[Story, list[st
         if story.count >= first and (last is None or story.count <= last) and len(texts) < MOST:
             texts.append(cut(entry.text))
     if not texts:
-        raise Fault(f"the report has {story.count} entries, and none from {first} on")
+        raise Fault(f"the report ends with entry {story.count}, before {first}")
     return story, texts
 
 

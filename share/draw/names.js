@@ -62,6 +62,6 @@ function named(text) {
     words[told] = flagsOf(words[told]);
     words[told + 1] = "no_new_privs=" + words[told + 1];
   }
-  if (told && event === "commit" && words[told + 3] === "ended") setsFrom(words, told + 5, 3);
+  if (told && event === "commit" && words[told + 4] === "gain") setsFrom(words, told + 5, 3);
   return words.join(" ");
 }

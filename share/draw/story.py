@@ -16,7 +16,7 @@ from .told import Credential, Seal
 PLAIN, REFUSED, NEW = "o", "x", "n"
 
 
-@dataclass
+@dataclass(slots=True)
 class Label:
     """A prepared credential: its span, its task's row, and the changes that were made to it."""
 
@@ -25,7 +25,7 @@ class Label:
     changes: list[list[str]] = field(default_factory=list)
 
 
-@dataclass
+@dataclass(slots=True)
 class Link:
     """A line from an entry to a later one, or to the row of another task."""
 

@@ -21,7 +21,7 @@ FULL = (1 << 41) - 1
 SINGLE = {"capdrop": (BOUNDING, "-"), "ambraise": (AMBIENT, "+"), "amblower": (AMBIENT, "-")}
 
 
-@dataclass
+@dataclass(slots=True)
 class Credential:
     """A credential, the spans that refer to it, and what questions told of it, by their names."""
 
@@ -37,7 +37,7 @@ class Credential:
         return [int(word, 16) for word in caps] if caps else None
 
 
-@dataclass
+@dataclass(slots=True)
 class Seal:
     """A task's credential is replaced: by which changes, and what an execve is said to gain."""
 
@@ -48,7 +48,7 @@ class Seal:
     gain: list[str]
 
 
-@dataclass
+@dataclass(slots=True)
 class Change:
     """What is seen to come and go where a task's credential is replaced.
 
