@@ -24,8 +24,8 @@ class NoAnswer(Exception):
 
 
 def program() -> str | None:
-    """The browser of this machine, if there is one. BROWSER names another one."""
-    named = os.environ.get("BROWSER")
+    """The browser of this machine, if there is one. CHROMIUM names another one."""
+    named = os.environ.get("CHROMIUM")
     return shutil.which(named) if named else next(filter(None, map(shutil.which, NAMES)), None)
 
 
@@ -39,7 +39,9 @@ class Browser:
         )
         hers_in, self.to = os.pipe()
         self.back, hers_out = os.pipe()
-        words = [path, "--headless=new", "--no-sandbox", "--disable-gpu", "--hide-scrollbars",
+        # Chromium has no sandbox for root, and doesn't start without this word then.
+        rooted = ["--no-sandbox"] if os.geteuid() == 0 else []
+        words = [path, *rooted, "--headless=new", "--disable-gpu", "--hide-scrollbars",
                  "--no-first-run", "--disable-extensions", "--disable-background-networking",
                  "--force-device-scale-factor=1", f"--user-data-dir={self.folder.name}",
                  "--remote-debugging-pipe", "about:blank"]

@@ -7,7 +7,7 @@ import errno
 import gc
 import os
 import sys
-from typing import BinaryIO
+from typing import BinaryIO, NoReturn
 
 from .names import NoNames, tables
 from .page import page
@@ -15,7 +15,10 @@ from .report import BadReport, entries
 from .story import Story
 from .window import Window
 
-DRAWN, NOT_DRAWN = 0, 2
+DRAWN, NOT_DRAWN, NOT_WRITTEN = 0, 2, 4
+
+# As a shell tells the ends by SIGPIPE and by SIGINT.
+BROKEN, INTERRUPTED = 141, 130
 
 # How many entries a page has at most, and how long an event and an answer may be in it.
 MOST, LONGEST_TEXT = 200_000, 1_000
@@ -97,4 +100,20 @@ def main(words: list[str]) -> int:
     if sys.stdout is None:
         raise OSError(errno.EBADF, os.strerror(errno.EBADF))
     sys.stdout.write(text)
+    sys.stdout.flush()
     return DRAWN
+
+
+def run() -> NoReturn:
+    """Runs the command. An interrupt, and a pipe that nobody reads on, end it without a word."""
+    try:
+        status = main(sys.argv[1:])
+    except KeyboardInterrupt:
+        status = INTERRUPTED
+    except OSError as fault:
+        status = BROKEN if isinstance(fault, BrokenPipeError) else NOT_WRITTEN
+        if status == NOT_WRITTEN:
+            print(f"credtrace-draw: standard output: {fault.strerror}", file=sys.stderr)
+        # What wasn't written isn't tried again when Python ends.
+        os.dup2(os.open(os.devnull, os.O_WRONLY), 1)
+    sys.exit(status)

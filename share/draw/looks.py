@@ -199,12 +199,15 @@ def pictures(browser: Browser, pages: dict[str, Path], folder: Path) -> None:
 
 
 def write_picture(browser: Browser, shown: Path, wrong: Wrong) -> None:
-    """The picture of README: as large as what is drawn."""
-    browser.screen(960, 900, dark=False, scale=1.5)
-    browser.open(shown)
-    high = browser.value("document.getElementById('scroller').getBoundingClientRect().bottom")
-    browser.screen(960, round(high) + 10, dark=False, scale=1.5)
-    browser.open(shown)
+    """The picture of README, as large as what is drawn; the eighth entry is chosen in it."""
+    high = 1200
+    for _ in range(2):
+        browser.screen(960, high, dark=False, scale=1.5)
+        browser.open(shown)
+        press(browser, "Home", *["ArrowRight"] * 7)
+        browser.value("document.activeElement.blur()")
+        legend = "document.getElementById('legend').getBoundingClientRect().bottom"
+        high = round(browser.value(legend)) + 12
     picture = browser.picture()
     if len(picture) > MOST_BYTES:
         wrong(f"the picture has {len(picture)} bytes")

@@ -98,6 +98,14 @@ function onPick(view, event) {
   refresh(view, false);
 }
 
+// Where all rows are on the screen, a turn of the wheel goes along the entries.
+function turn(view, event) {
+  const { scroller } = view;
+  if (event.shiftKey || event.deltaX !== 0 || view.height > view.tall) return;
+  scroller.scrollLeft += event.deltaY;
+  event.preventDefault();
+}
+
 function connectPointer(view) {
   const { canvas, scroller, overview } = view;
   canvas.addEventListener("pointermove", (event) => onPoint(view, event));
@@ -112,7 +120,7 @@ function connectPointer(view) {
     refresh(view, false);
   });
   scroller.addEventListener("wheel", (event) => {
-    if (!event.ctrlKey) return;
+    if (!event.ctrlKey) return turn(view, event);
     event.preventDefault();
     const left = event.clientX - scroller.getBoundingClientRect().left;
     zoom(view, event.deltaY < 0 ? 1.25 : 0.8, left);

@@ -5,6 +5,9 @@ const LEAST = 0.004;
 const WIDEST = 240;
 const LONGEST = 8000000;
 
+// An entry that is so wide has room for a word.
+const LEGIBLE = 64;
+
 // Where there are more rows than these, only those in view are shown at first.
 const MANY = 24;
 
@@ -75,7 +78,7 @@ function longestName(view) {
 // All entries, where each has room for some words; else so that some words fit.
 function startWidth(view) {
   const all = (view.width - view.left) / view.model.count;
-  return Math.min(Math.max(all, 46), 116, LONGEST / view.model.count);
+  return Math.min(Math.max(all, LEGIBLE), 116, LONGEST / view.model.count);
 }
 
 // Draws again, once however often it is asked for before the screen is.
@@ -104,7 +107,7 @@ function zoom(view, times, at) {
   const middle = at === undefined ? (view.width - view.left) / 2 : Math.max(at - view.left, 0);
   const entry = (view.scrollX + middle) / view.w;
   const all = (view.width - view.left) / model.count;
-  const least = Math.max(Math.min(all, 46), LEAST);
+  const least = Math.max(Math.min(all, LEGIBLE), LEAST);
   view.w = Math.min(Math.max(view.w * times, least), WIDEST, LONGEST / model.count);
   measure(view);
   view.scroller.scrollLeft = entry * view.w - middle;
