@@ -8,12 +8,12 @@ const LEVEL = 14;
 const GAP = 9;
 const HEAD = 26;
 
-// More levels than these aren't drawn; a line says how many there are.
+// Of more levels than these the last ones aren't drawn; a line in their place says how many.
 const MOST_LEVELS = 12;
-const MOST_HOLDERS = 4;
+const MOST_HOLDERS = 6;
 
-function levelsHeight(count, most) {
-  return Math.min(count, most) * LEVEL + (count > most ? LEVEL : 0);
+function drawnLevels(count, most) {
+  return count <= most ? count : most - 1;
 }
 
 // How many levels are drawn: all, or those up to the last that has a span between two entries.
@@ -55,7 +55,7 @@ function taskRow(view, row, y, count) {
   row.band = y + LABEL_LINE;
   row.under = row.band + BAND_HEIGHT + 2;
   row.below = row.under + (row.changes.length > 0 ? CHANGE_LINE : 0);
-  row.height = row.below - y + levelsHeight(count, MOST_LEVELS) + GAP;
+  row.height = row.below - y + Math.min(count, MOST_LEVELS) * LEVEL + GAP;
   view.items.push({ kind: "task", row, y, height: row.height });
   return y + row.height;
 }
@@ -64,7 +64,7 @@ function slotRow(view, slot, y, count) {
   slot.y = y;
   slot.band = y + 2;
   slot.below = slot.band + BAND_HEIGHT - 2;
-  slot.height = slot.below - y + levelsHeight(count, MOST_HOLDERS) + GAP - 3;
+  slot.height = slot.below - y + Math.min(count, MOST_HOLDERS) * LEVEL + GAP - 3;
   view.items.push({ kind: "slot", slot, y, height: slot.height });
   return y + slot.height;
 }

@@ -89,29 +89,30 @@ function paintBands(view, row) {
     const text = x(view, band.start) >= view.left - 1 ? left + mark + 9 : left + 5;
     ctx.fillStyle = view.theme.ink;
     ctx.font = BOLD;
-    // The number stands where no mark is: right of the first one, or where the room begins.
-    paintNumber(view, row, band, text, right);
+    const whole = bandText(view, band.cred);
+    if (!paintNumber(view, row, band, text, right, whole) && view.cap >= 0 && band.cred) {
+      paintNumber(view, row, band, text, right, band.cred.name);
+    }
   }
 }
 
-// A band's number, again and again in a long band, between the marks.
-function paintNumber(view, row, band, left, right) {
-  const text = bandText(view, band.cred);
+// A band's number stands where no mark is: right of the first one, or where there is room first.
+function paintNumber(view, row, band, left, right, text) {
   const width = text.length * view.charWidth;
   const middle = row.band + BAND_HEIGHT / 2 + 0.5;
   let at = lastUpTo(row.entries, Math.max(band.start, view.firstShown()), itself);
   let room = left;
-  for (at = Math.max(at, 0); ; at++) {
+  for (; ; at++) {
     const next = row.entries[at + 1];
     const end = next === undefined ? right : Math.min(markX(view, next) - 7, right);
     if (end - room >= width + 2) {
       view.ctx.fillText(text, room, middle);
-      return;
+      return true;
     }
     if (end >= right) break;
     room = Math.max(room, markX(view, next) + 9);
   }
-  if (view.w <= NARROW) fitted(view, text, left, middle, right - left);
+  return view.w <= NARROW && fitted(view, text, left, middle, right - left) > 0;
 }
 
 function paintCross(view, middleX, middleY) {
@@ -262,7 +263,8 @@ function paintSpan(view, span, top, text) {
 }
 
 function paintLevels(view, levels, most, below, textOf) {
-  for (let level = 0; level < Math.min(levels.length, most); level++) {
+  const shown = drawnLevels(levels.length, most);
+  for (let level = 0; level < shown; level++) {
     let drawn = -1;
     for (const span of meeting(levels[level], view.firstShown(), view.lastShown())) {
       const right = Math.floor(x(view, (span.end || view.model.last) + 1));
@@ -271,11 +273,11 @@ function paintLevels(view, levels, most, below, textOf) {
       paintSpan(view, span, below + level * LEVEL, textOf(span));
     }
   }
-  if (levels.length <= most) return;
+  if (shown === levels.length) return;
   view.ctx.font = FONT;
   view.ctx.fillStyle = view.theme.faint;
-  const text = "and " + (levels.length - most) + " more, one below the other";
-  fitted(view, text, view.left + 6, below + most * LEVEL + 7, view.width - view.left);
+  const text = "up to " + (levels.length - shown) + " more at a time";
+  fitted(view, text, view.left + 6, below + shown * LEVEL + 7, view.width - view.left);
 }
 
 function paintTask(view, item) {
