@@ -4,13 +4,15 @@
     spans        what lasts from one entry to another: a current credential, a hold, an open file
     story        the entries one after another: which spans begin and end by each
     told         what a report tells of credentials, and which changes of sets can be seen from that
-    slots        the lives of slots: which credential stood where, who referred to it, when it ended
+    slots        the lives of slots: which credential stood where, when it was given up and swept
     window       the part of all that the page shows, as lists that its script reads
     names        the names of capabilities and securebits, from share/credtrace-names
     page         the page: its skeleton, style, script and data in one file
     command      the command credtrace-draw
     browser      a browser that runs without a window, for check
-    check        holds the pages to their reports; where a browser is, looked at in it
+    expected     what a page must have, for check
+    looks        the page's script and pages in a browser, looked at for check
+    check        holds the pages to their reports; where a browser is, they are looked at in it
 
 No rule of credentials is known here: what the page shows is what entries say.
 """
