@@ -55,6 +55,14 @@ class Browser:
         os.close(hers_out)
         self.number, self.rest, self.session = 0, b"", None
         self.told: list[dict[str, Any]] = []
+        try:
+            self.connect()
+        except NoAnswer:
+            self.close()
+            raise
+
+    def connect(self) -> None:
+        """One page, whose events are told."""
         target = self.ask("Target.createTarget", url="about:blank")["targetId"]
         attached = self.ask("Target.attachToTarget", targetId=target, flatten=True)
         self.session = attached["sessionId"]

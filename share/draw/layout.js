@@ -4,7 +4,7 @@ const AXIS = 32;
 const LABEL_LINE = 15;
 const BAND_HEIGHT = 20;
 const CHANGE_LINE = 14;
-const LEVEL = 14;
+const LEVEL = 15;
 const GAP = 9;
 const HEAD = 26;
 

@@ -12,7 +12,7 @@ from collections.abc import Callable
 from pathlib import Path
 
 from . import command, names, page
-from .browser import Browser
+from .browser import Browser, NoAnswer
 from .window import Window
 
 TOP = Path(__file__).resolve().parents[2]
@@ -114,6 +114,19 @@ def fill(browser: Browser, control: str, value: str) -> None:
         f"it.value = {json.dumps(value)}; it.dispatchEvent(new Event('{event}')); }})()"
     )
     browser.settle()
+
+
+def check_screens(browser: Browser, shown: Path, wrong: Wrong) -> None:
+    """The page is drawn wide and narrow, light and dark, each in its own way."""
+    seen = []
+    for width in WIDTHS:
+        for dark in (False, True):
+            browser.screen(width, 800, dark)
+            browser.open(shown)
+            check_errors(browser, f"at {width} pixels", wrong)
+            seen.append(browser.picture())
+    if len(set(seen)) < len(seen):
+        wrong("light and dark, or wide and narrow, look the same")
 
 
 def check_use(browser: Browser, shown: Path, wrong: Wrong) -> None:
@@ -227,17 +240,13 @@ def look(
     shown = write_page(SHOWN, folder / "two-services.html")
     hostile = folder / "hostile.html"
     hostile.write_text(hostile_page, encoding="ascii")
-    browser = Browser(path)
     try:
-        seen = []
-        for width in WIDTHS:
-            for dark in (False, True):
-                browser.screen(width, 800, dark)
-                browser.open(shown)
-                check_errors(browser, f"at {width} pixels", wrong)
-                seen.append(browser.picture())
-        if len(set(seen)) < len(seen):
-            wrong("light and dark, or wide and narrow, look the same")
+        browser = Browser(path)
+    except NoAnswer as fault:
+        print(f"{path} doesn't start ({fault}): the pages weren't looked at")
+        return
+    try:
+        check_screens(browser, shown, wrong)
         browser.screen(1280, 800, dark=False)
         check_use(browser, shown, wrong)
         check_errors(browser, "in use", wrong)

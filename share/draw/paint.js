@@ -277,7 +277,7 @@ function paintLevels(view, levels, most, below, textOf) {
   view.ctx.font = FONT;
   view.ctx.fillStyle = view.theme.faint;
   const text = "up to " + (levels.length - shown) + " more at a time";
-  fitted(view, text, view.left + 6, below + shown * LEVEL + 7, view.width - view.left);
+  fitted(view, text, view.left + 6, below + shown * LEVEL + LEVEL / 2, view.width - view.left);
 }
 
 function paintTask(view, item) {
