@@ -23,8 +23,8 @@ WORDS = {
     "ARG": f"(?:-1|{NUM})",
     "SET": "(?:0|[1-9a-f][0-9a-f]{0,15})",
     "WANT": "(?:r|w|x|rw|rx|wx|rwx)",
-    # What a name may have is the script's concern: here it is a word, of any letters.
-    "NAME": r"[^\s\x00-\x1f\x7f]{1,255}",
+    # What a name may have is the script's concern: here it is a word of printable ASCII.
+    "NAME": "[!-~]{1,255}",
 }
 
 ID_CALLS = (

@@ -284,7 +284,7 @@ class Story:
         self.linked("signals", self.count, row, self.task(other))
 
     def on_sweep(self, row: Row, **_entry) -> None:
-        """What was given up is let go of."""
+        """What was given up is dropped."""
         self.sweeps.append(self.count)
 
     def rows(self) -> list[Row]:
