@@ -90,12 +90,12 @@ class Story:
             if named[:1] == "t" and named[1:].isdigit():
                 return self.task(named)
             return begun[1] if begun else self.others
-        if words[0] in ("take", "takereal"):
+        if words[0] in ("take", "takereal", "prepare"):
             return self.task(words[2])
-        if len(words) == 1 or words[0] in ("takefile", "close"):
-            return self.others if words[0] == "sweep" else self.files
-        if words[0] == "prepare":
-            return self.task(words[2])
+        if words[0] in ("takefile", "close"):
+            return self.files
+        if words[0] == "sweep":
+            return self.others
         return self.task(words[1]) if words[1][0] == "t" else self.home.get(words[1], self.others)
 
     def task(self, name: str) -> Row:
