@@ -14,5 +14,9 @@
     looks        the page's script and pages in a browser, looked at for check
     check        holds the pages to their reports; where a browser is, they are looked at in it
 
+The page's own files are page.html, page.css and the parts of its script, in this order: names,
+model (the data as rows and spans), layout (where rows stand), text (what is said of an entry),
+paint, slots and frame (the picture), view (place, width, pointing), main (the controls).
+
 No rule of credentials is known here: what the page shows is what entries say.
 """
