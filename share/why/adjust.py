@@ -91,7 +91,7 @@ def ambraise(words, told, caps, bits):
     number = cap_number(words[1])
     name = cap_name(number)
     lacks = [
-        f"{name} is not {what}, {named(caps[place])}"
+        f"{name} is not in the {what} set, {named(caps[place])}"
         for place, what in ((PERMITTED, "permitted"), (INHERITABLE, "inheritable"))
         if not caps[place] >> number & 1
     ]

@@ -132,13 +132,13 @@ class Explainer:
             return self.change_refused(words[2:], told, before)
         if event == "ask":
             return self.question_refused(words[2:], told, before)
-        if event == "open":
+        if event == "open" and told == "eacces":
             file = self.files[words[2]]
             sets = values.ids(before), values.caps(before), values.groups(before)
             return access.refusal(file, words[3], *sets, sources.OPEN)
-        if event == "signal":
+        if event == "signal" and told == "eperm":
             return self.signal_refused(decision)
-        raise Fault(f"no sentence for {' '.join(words)}")
+        raise Fault(f"no sentence for {' '.join(words)}, answered {told}")
 
     def change_refused(self, words: list[str], told: str, before: int) -> Reason:
         """Why a change is refused."""

@@ -292,7 +292,7 @@ class Journal:
             self.refuse(words, told, task.name, task.current).change = cast.words
             self.dropped(process, f"{task.name} could not follow in line {self.line}")
             for name in list(self.processes[process]):
-                self.ends(name, f"{told[1]} could not follow the call of line {cast.line}")
+                self.ends(name, f"its process ended, since {told[1]} could not follow a call,")
             return
         number = self.seal(told, 2, task)
         self.decide(words, told, task.name, task.current, number).change = cast.words

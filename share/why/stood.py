@@ -43,9 +43,10 @@ def no_task(journal, words, told) -> Reason:
     gone = journal.gone_tasks.get(name)
     why = "no line before has made it"
     if gone:
-        how = gone[1] if gone[1] != "it ended" else "it ended"
-        why = f"{how} in {at(journal, gone[0])}"
-    return Reason(f"no task {name}: {why}", source_of(words))
+        why = f"{gone[1]} in {at(journal, gone[0])}"
+    signals = journal.script.line(journal.line).split(" ")[1:2] == ["signal"]
+    source = sources.errors("kill") if signals else sources.TASKS
+    return Reason(f"no task {name}: {why}", source)
 
 
 def exists(journal, words, told) -> Reason:
@@ -217,14 +218,14 @@ def references(journal) -> list[tuple[str, int, int]]:
     slots = journal.slots
     found = []
     for task in journal.tasks.values():
-        found.append(("current credential", slots[task.current], task.since))
-        found += [("override", slots[number], line) for number, line in task.overrides]
-    found += [("open file", slots[number], line) for number, line in journal.files.values()]
+        found.append(("current credentials", slots[task.current], task.since))
+        found += [("overrides", slots[number], line) for number, line in task.overrides]
+    found += [("open files", slots[number], line) for number, line in journal.files.values()]
     for label in journal.labels.values():
-        kind = "hold" if label.slot is None else "base of a prepared label"
+        kind = "holds" if label.slot is None else "bases of prepared labels"
         found.append((kind, slots[label.credential], label.line))
         if label.slot is not None:
-            found.append(("slot kept by a prepared label", label.slot, label.line))
+            found.append(("what prepared labels will seal", label.slot, label.line))
     return found
 
 
@@ -237,7 +238,7 @@ def table_full(journal, words, told) -> Reason:
     lines: dict[str, list[int]] = {}
     for kind, line in kinds.values():
         lines.setdefault(kind, []).append(line)
-    parts = [f"{len(them)} by a {kind} each (lines {spans(them)})" for kind, them in lines.items()]
+    parts = [f"{len(them)} for {kind} (lines {spans(them)})" for kind, them in lines.items()]
     text = f"all {SLOTS} slots are live, also after the sweep: {listed(parts)}"
     if told[0] == "aborted":
         text += f"; so {told[1]} gets no new credential, and its process ends with all its threads"

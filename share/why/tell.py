@@ -13,6 +13,8 @@ from .reason import BITS, CAPS, GROUPS, IDS, Bad, Fault, Reason
 from .script import DECLARATIONS, Script
 
 WIDTH = 100
+# A longer line is not told whole.
+LONG = 160
 def wrapped(text: str, indent: int = 2) -> list[str]:
     """A text below its line."""
     first, rest = " " * indent, " " * (indent + 2)
@@ -78,7 +80,8 @@ class Teller:
 
     def heading(self, line: int) -> str:
         """The number and the text of a line."""
-        return f"line {line}: {self.script.line(line)[:200]}"
+        text = self.script.line(line)
+        return f"line {line}: {text if len(text) <= LONG else text[:LONG] + ' ...'}"
 
     def whole_line(self, line: int) -> list[str]:
         """All that is told of one line."""
@@ -120,9 +123,11 @@ class Teller:
 
     def entry(self, decision: Decision) -> list[str]:
         """What was called and answered, and what changed."""
-        who = f" of {decision.task}" if decision.task else ""
+        name = self.called(decision)
+        if decision.task:
+            name += f"{',' if ',' in name else ''} by {decision.task}"
         answer = answer_of(decision.told) if decision.refused else self.granted(decision)
-        found = wrapped(f"{self.called(decision)}{who}: {answer}")
+        found = wrapped(f"{name}: {answer}")
         if decision.after is not None and decision.before is not None:
             found += [text for it in self.differences(decision) for text in wrapped(it, 4)]
         return found
@@ -131,12 +136,12 @@ class Teller:
         """The call, by the manual's name."""
         words, line = decision.words, self.script.line(decision.line).split(" ")
         if words[0] == "act" and decision.change:
-            return f"{manual_name(decision.change)}, as its step,"
+            return f"{manual_name(decision.change)}, as its step"
         if self.of_task(decision.line):
             name = manual_name(line[1:])
-            return f"{name}, at its commit," if words[0] == "commit" and decision.refused else name
+            return f"{name}, at its commit" if words[0] == "commit" and decision.refused else name
         if words[0] == "commit" and decision.change:
-            return f"{manual_name(decision.change)}, {CALLS['commit']},"
+            return f"{manual_name(decision.change)}, {CALLS['commit']}"
         return manual_name(words)
 
     def granted(self, decision: Decision) -> str:
