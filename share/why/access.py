@@ -30,7 +30,8 @@ def deciding(file: File, ids, groups) -> tuple[str, int, str]:
         return "owner's", file.mode >> 6 & 7, f"the filesystem user id {user} is the owner's"
     other = f"the filesystem user id {user} is not the owner {file.owner}"
     if group == file.group:
-        return "group's", file.mode >> 3 & 7, f"{other}, and the filesystem group id {group} is its group"
+        text = f"{other}, and the filesystem group id {group} is its group"
+        return "group's", file.mode >> 3 & 7, text
     if file.group in groups:
         text = f"{other}, and the supplementary group {file.group} is its group"
         return "group's", file.mode >> 3 & 7, text
@@ -66,7 +67,7 @@ def capabilities(file: File, want: str, caps) -> str:
     second = "CAP_DAC_READ_SEARCH is not effective"
     if read:
         passes = "reading and searching" if file.kind == "dir" else "reading"
-        second = f"CAP_DAC_READ_SEARCH passes {passes} alone, and a capability passes all or nothing"
+        second = f"CAP_DAC_READ_SEARCH passes {passes} alone, and one capability must pass all"
     return f"{first}; {second}"
 
 

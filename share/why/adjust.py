@@ -19,7 +19,7 @@ NEEDS = {
 
 
 def refusal(words: list[str], told: str, caps, bits) -> Reason:
-    """Why such a call is refused. `caps` and `bits` are what the credential was asked for, or None."""
+    """Why such a call is refused. What the rule doesn't ask for, `caps` or `bits`, is None."""
     found = REFUSALS[words[0]](words, told, caps, bits)
     if found is None:
         raise Fault(f"{' '.join(words)} was answered {told}, and no condition for it holds")
@@ -38,15 +38,15 @@ def capset(words, told, caps, bits):
         return None
     if more and not has:
         return Reason(
-            f"EPERM: {named(more)} would be inheritable, and is neither in the old inheritable set, "
-            f"{named(old_inheritable)}, nor permitted, {named(old_permitted)}; CAP_SETPCAP is not "
-            "effective", sources.CAPSETS[0],
+            f"EPERM: {named(more)} would be inheritable, and is neither in the old inheritable "
+            f"set, {named(old_inheritable)}, nor permitted, {named(old_permitted)}; CAP_SETPCAP is "
+            "not effective", sources.CAPSETS[0],
         )  # fmt: skip
     more = inheritable & ~(old_inheritable | bounding)
     if more:
         return Reason(
-            f"EPERM: {named(more)} would be inheritable, and is neither in the old inheritable set, "
-            f"{named(old_inheritable)}, nor in the bounding set, {named(bounding)}",
+            f"EPERM: {named(more)} would be inheritable, and is neither in the old inheritable "
+            f"set, {named(old_inheritable)}, nor in the bounding set, {named(bounding)}",
             sources.CAPSETS[1],
         )  # fmt: skip
     more = permitted & ~old_permitted

@@ -1,10 +1,10 @@
 """The values of credentials, asked of the program.
 
 A sealed credential is never changed, so what is asked of it holds wherever it is asked. What the
-script's own questions were told is taken as it is. The rest is asked in copies of the script: behind
-the line that sealed a credential the copy asks the task that has it. A copy leaves out what changes
-nothing: comments, questions, access(2), signals. A line is written as its events where lanes took
-turns in it, or where it has to be asked before it ends.
+script's own questions were told is taken as it is. The rest is asked in copies of the script:
+behind the line that sealed a credential the copy asks the task that has it. A copy leaves out what
+changes nothing: comments, questions, access(2), signals. A line is written as its events where
+lanes took turns in it, or where it has to be asked before it ends.
 """
 
 from __future__ import annotations

@@ -1,4 +1,4 @@
-"""What the books of a journal have: tasks, labels, calls of all threads, and what is told of them."""
+"""What the books of a journal have: tasks, labels, calls of all threads, and what is told."""
 
 from __future__ import annotations
 
@@ -48,9 +48,11 @@ class Home:
 
 
 class Decision:
-    """An entry that is told: a refusal, or an event that may change a task's credential. `change` has
-    the words of what is committed or followed; of a signal, whether it stays in one process; `target`
-    is the credential of who is signalled, or the creator of a task."""
+    """An entry that is told: a refusal, or an event that may change a task's credential.
+
+    `change` has the words of what is committed or followed; of a signal, whether it stays in one
+    process. `target` is the credential of who is signalled, or the creator of a task.
+    """
 
     __slots__ = ("after", "before", "change", "index", "line", "reason", "target", "task", "told",
                  "words")  # fmt: skip

@@ -7,7 +7,7 @@ import sys
 
 from .asking import BYTES
 from .life import Life
-from .names import LAST, NUMBERS
+from .names import LAST, NUMBERS, cap_number
 from .program import audited, report_of
 from .reason import Bad, NotFound
 from .script import Script
@@ -15,6 +15,8 @@ from .tell import Teller
 
 TOLD, FAULT, BAD, NOT_FOUND = 0, 1, 2, 3
 REPORT_BYTES = 402653184
+# The questions on one capability of a task.
+ONE = ("capable", "ambis", "bset")
 
 
 def shown(path: str) -> str:
@@ -75,6 +77,19 @@ def tasks_of(teller: Teller, given: str | None) -> list[str]:
     return [given] if given else list(dict.fromkeys(it.task for it in teller.journal.births))
 
 
+def lacked(lines: Script, teller: Teller, line: int) -> list[str]:
+    """Of a question whether a task has a capability, where the answer is no: how that came."""
+    words = lines.line(line).split(" ")
+    asked = [it for it in teller.journal.decisions if it.line == line and it.words[0] == "ask"]
+    if len(words) != 3 or words[1] not in ONE or not asked or asked[0].told != ["ok", "0"]:
+        return []
+    number = cap_number(words[2])
+    life = Teller(lines, "\n".join(teller.journal.entries), None, 1 << number)
+    found = Life(life, words[0], number, line).told()
+    teller.faults += life.faults
+    return found
+
+
 def told(given: argparse.Namespace) -> tuple[list[str], int]:
     """What is told, and how many sentences were faults."""
     script = bytes_of(given.script, BYTES)
@@ -92,7 +107,7 @@ def told(given: argparse.Namespace) -> tuple[list[str], int]:
         for task in tasks_of(teller, given.task):
             found += Life(teller, task, given.cap, given.line).told()
     elif given.line is not None:
-        found = teller.whole_line(given.line)
+        found = teller.whole_line(given.line) + lacked(lines, teller, given.line)
     else:
         decisions = [it for it in teller.journal.decisions if given.task in (None, it.task)]
         found = teller.told(decisions) or ["no call was refused, and no set has changed"]

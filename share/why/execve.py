@@ -95,10 +95,11 @@ def file_sets(taken: Program, ids, bits, root: int) -> tuple[int, int, bool, Rea
             f"({root}) and the real one, {real}, is not"
         )
         return permitted, inheritable, effective, Reason(text, sources.ROOT_FILE_CAPS), False
-    who = "real" if real == root else "new effective"
-    text = f"F(permitted) and F(inheritable) count as all: the {who} user id is root's ({root})"
+    who = "real" if taken.uid != root else "new effective"
+    sets = "F(permitted) and F(inheritable) count as all"
     if taken.uid == root:
-        text += ", and F(effective) as set: the new effective one is"
+        sets += " and F(effective) as set"
+    text = f"{sets}: the {who} user id is root's ({root})"
     return ALL, ALL, effective or taken.uid == root, Reason(text, sources.BY_ROOT), True
 
 
@@ -108,8 +109,10 @@ def plain(taken: Program, real: int, bits, root: int) -> Reason:
     if root in (real, taken.uid):
         return Reason(f"F's sets are those of {name} alone: SECBIT_NOROOT is set",
                       sources.SECUREBITS)  # fmt: skip
+    two = f"the real user id {real} nor the new effective one {taken.uid}"
+    other = f"neither {two} is root's ({root})"
     if taken.attribute:
-        text = f"F's sets are those of the attribute of {name}"
+        text = f"F's sets are those of the attribute of {name}: {other}"
         return Reason(text, sources.EXECVE_SETS)
     if taken.file.attribute and taken.ignored:
         text = f"F's sets are empty: the attribute of {name} is ignored, as {taken.ignored}"
@@ -120,7 +123,8 @@ def plain(taken: Program, real: int, bits, root: int) -> Reason:
     if taken.ignored and taken.file.mode & (SET_UID | SET_GID):
         text = f"F's sets are empty: {name} has no attribute, and its set-id bits are ignored, as "
         return Reason(text + taken.ignored, sources.EXECVE_IGNORED)
-    return Reason(f"F's sets are empty: {name} has no attribute", sources.EXECVE_SETS)
+    text = f"F's sets are empty: {name} has no attribute, and {other}"
+    return Reason(text, sources.BY_ROOT)
 
 
 def changes(
@@ -154,7 +158,7 @@ def changes(
     if bits[1] and (inherits | gives) & ~before[PERMITTED]:
         text = f"permitted is cut to the old permitted set, {named(before[PERMITTED])}"
         found.append(Reason(f"{text}: no_new_privs is set", sources.NO_NEW_PRIVS))
-    return found if sets != list(before) else []
+    return found
 
 
 def hold_gains(told: list[str], gained: int, gives: int, by_root: bool) -> None:

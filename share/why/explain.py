@@ -131,7 +131,8 @@ class Explainer:
         if event == "change":
             return self.change_refused(words[2:], told, before)
         if event == "ask":
-            return self.question_refused(words[2:], told, before)
+            found = self.question_refused(words[2:], told, before)
+            return by_access(found) if self.is_access(decision.line) else found
         if event == "open" and told == "eacces":
             file = self.files[words[2]]
             sets = values.ids(before), values.caps(before), values.groups(before)
@@ -139,6 +140,10 @@ class Explainer:
         if event == "signal" and told == "eperm":
             return self.signal_refused(decision)
         raise Fault(f"no sentence for {' '.join(words)}, answered {told}")
+
+    def is_access(self, line: int) -> bool:
+        """Whether a line is a call of access(2)."""
+        return self.journal.script.line(line).split(" ")[1:2] == ["access"]
 
     def change_refused(self, words: list[str], told: str, before: int) -> Reason:
         """Why a change is refused."""
@@ -205,3 +210,10 @@ class Explainer:
             except Fault as fault:
                 found.append(fault)
         return found
+
+
+def by_access(reason: Reason) -> Reason:
+    """A check that access(2) makes."""
+    takes = "access(2) takes the real ids as filesystem ids"
+    text = reason.text.replace("EACCES: ", f"EACCES: {takes}; ", 1)
+    return Reason(text, f"{sources.ACCESS}; {reason.source}")

@@ -266,7 +266,8 @@ class Journal:
     def lends(self, words, told, task: Task, number: int) -> None:
         """A task acts with another credential from now on."""
         if self.script.line(self.line).split(" ")[1] != "access":
-            self.lendings.append(Decision(self.index, self.line, words, told, task.name, None, number))
+            lent = Decision(self.index, self.line, words, told, task.name, None, number)
+            self.lendings.append(lent)
 
     def on_begin(self, words, told):
         """A call that sets ids, by the thread that begins it."""
@@ -361,7 +362,7 @@ class Journal:
         decision = keep(words, told, words[1], labels[0])
         decision.target = labels[1]
         sender, other = self.tasks.get(words[1]), self.tasks.get(words[3])
-        decision.change = sender is not None and other is not None and sender.process == other.process
+        decision.change = bool(sender and other and sender.process == other.process)
 
     def on_sweep(self, words, told):
         """What was given up is let go of."""

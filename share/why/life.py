@@ -64,6 +64,8 @@ class Life:
                 for place in set(now) - set(sets):
                     gone[place] = it.line
                 found += self.step(it, self.difference(now, sets), self.about(reasons, now, sets))
+            elif it.change and it.change[0] == "exec" and PERMITTED not in sets:
+                found += self.step(it, f"still in {self.names(sets)}", reasons)
             now = sets
         return found + wrapped(self.end(now, gone), 0)
 

@@ -2,26 +2,18 @@
 
 from __future__ import annotations
 
-import os
 import re
 import subprocess
 from functools import lru_cache
-from pathlib import Path
+
+from strace.running import TOP, program
 
 from .reason import Bad, NotFound
 
-TOP = Path(__file__).resolve().parents[2]
+__all__ = ["TOP", "audited", "decoded", "report_of", "runs"]
 
 # The statuses of docs/FORMATS.md that an input can lead to.
 DONE, BAD, LARGE, OTHER = 0, 2, 6, 7
-
-
-def program() -> str:
-    """The program: CREDTRACE names another one than that beside these tools."""
-    beside = TOP / "bin" / "credtrace"
-    unproved = beside.with_name("credtrace-unproved")
-    chosen = unproved if not beside.exists() and unproved.exists() else beside
-    return os.environ.get("CREDTRACE") or str(chosen)
 
 
 def runs(words: list[str], given: bytes) -> tuple[int, str]:
@@ -67,8 +59,8 @@ def audited(script: bytes, report: bytes) -> str:
 
 @lru_cache(None)
 def decoded(attribute: str) -> tuple[int, int, int, bool, int] | str:
-    """What the bytes of a file's attribute say: its version, its permitted and inheritable sets, its
-    effective flag, its root id; or why they say nothing."""
+    """What the bytes of a file's attribute say: its version, its permitted and inheritable sets,
+    its effective flag, its root id; or why they say nothing."""
     status, text = runs(["decode", attribute], b"")
     found = re.fullmatch(
         r"version (\d+) perm (\w+) inh (\w+) effective ([01]) root (\d+)\n", text

@@ -21,9 +21,9 @@ class Fault(Exception):
     """A sentence doesn't lead to what the program answered: the tool is wrong, or its reading."""
 
 
-class Bad(Exception):
+class Bad(ValueError):
     """What is wrong with an input, in one line."""
 
 
-class NotFound(Exception):
+class NotFound(ValueError):
     """What couldn't be found out, in one line: no program, or no room for a question."""

@@ -25,7 +25,7 @@ def wrapped(text: str, indent: int = 2) -> list[str]:
 
 
 def readable(text: str) -> str:
-    """Sets may be longer than a line: they are broken behind a comma."""
+    """Sets may be longer than a line: then they are broken behind a comma."""
     return ", ".join(part.replace(",CAP_", ", CAP_") for part in text.split(", "))
 
 
@@ -47,7 +47,9 @@ def answer_of(told: list[str]) -> str:
 class Teller:
     """Tells of lines, over what is known of them."""
 
-    def __init__(self, script: Script, report: str, line: int | None = None, mask: int | None = None):
+    def __init__(
+        self, script: Script, report: str, line: int | None = None, mask: int | None = None
+    ) -> None:
         self.script = script
         self.journal = Journal(script, report, line)
         self.values = Values(self.journal)
@@ -99,7 +101,8 @@ class Teller:
 
     def is_means(self, decision: Decision) -> bool:
         """Whether the commit of the line tells of this change."""
-        return decision.words[0] == "change" and not decision.refused and self.of_task(decision.line)
+        changes = decision.words[0] == "change" and not decision.refused
+        return changes and self.of_task(decision.line)
 
     def of_task(self, line: int) -> bool:
         """Whether a line is the call of a task."""

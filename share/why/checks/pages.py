@@ -8,7 +8,7 @@ import subprocess
 from ..program import TOP
 
 PAGES = ("README.md", *(f"docs/{it}.md" for it in ("READING-A-REPORT", "WHY-CAPABILITIES-VANISH")))
-SHOWN = re.compile(r"^    \$ share/(credtrace-why .*)\n((?:    .*\n|\n(?=    ))*)", re.M)
+SHOWN = re.compile(r"^    \$ share/(credtrace-why .*)\n((?:    (?!\$ ).*\n)*)", re.M)
 
 
 def faults() -> list[str]:

@@ -1,5 +1,5 @@
-"""Each source is a place that exists: a section of a manual page, a heading of docs/RULES.md, or what
-docs/FORMATS.md cites of the kernel's own documentation."""
+"""Each source is a place that exists: a section of a manual page, a heading of docs/RULES.md, or
+what docs/FORMATS.md cites of the kernel's own documentation."""
 
 from __future__ import annotations
 

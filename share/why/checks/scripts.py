@@ -91,7 +91,7 @@ def explained(file: File, samples: bool) -> Sum:
 
 
 def count(name: str, teller: Teller, found: Sum, samples: bool) -> None:
-    """Counts the sentences of a script; one that lacks, or doesn't lead to the answer, is a fault."""
+    """Counts the sentences of a script; one that lacks or doesn't lead to the answer is a fault."""
     decisions = teller.journal.decisions
     for decision, reasons in zip(decisions, teller.explainer.explained(decisions), strict=True):
         if isinstance(reasons, Fault):
