@@ -37,6 +37,7 @@ class Values:
         self.journal = journal
         self.known = journal.known
         self.wanted: dict[int, set[str]] = {}
+        self.no_room: dict[int, NoRoom] = {}
 
     def want(self, credential: int | None, *kinds: str) -> None:
         """Has a credential asked for what isn't known of it."""
@@ -49,6 +50,8 @@ class Values:
     def words(self, credential: int, kind: str) -> tuple[str, ...]:
         """The answer to a question."""
         found = self.known.get((credential, kind))
+        if found is None and credential in self.no_room:
+            raise self.no_room[credential]
         if found is None:
             raise Fault(f"c{credential} was not asked for its {kind}")
         return tuple(found)
@@ -72,9 +75,19 @@ class Values:
     def ask(self) -> None:
         """Asks for all that is wanted."""
         while self.wanted:
-            asked = Copy(self.journal, self.wanted).run(self.known)
+            try:
+                asked = Copy(self.journal, self.wanted).run(self.known)
+            except NoRoom as fault:
+                # Behind that place there is none either.
+                self.no_room = dict.fromkeys(self.wanted, fault)
+                self.wanted.clear()
+                return
             for credential in asked:
                 del self.wanted[credential]
+
+
+class NoRoom(NotFound):
+    """A script is as long as one may be, and a question would make it longer."""
 
 
 class Copy:
@@ -100,6 +113,7 @@ class Copy:
         places = sorted((homes[number].index, number) for number in self.wanted)
         runs = self.journal.runs
         split = self.taken_in_turns()
+        idle = self.refused()
         late: list[int] = []
         place = 0
         for line, first, behind in runs:
@@ -122,7 +136,7 @@ class Copy:
             inside = [it for it in here if (homes[it].until or behind) < behind]
             if line in split or inside:
                 self.expand(line, first, behind, here)
-            elif not self.changes_nothing(text):
+            elif line not in idle and not self.changes_nothing(text):
                 self.keep(line, text)
                 for number in here:
                     self.question(number)
@@ -136,6 +150,14 @@ class Copy:
             return set()
         seen: set[int] = set()
         return {line for line, _, _ in runs if line in seen or seen.add(line)}
+
+    def refused(self) -> set[int]:
+        """The lines that a refusal leaves without any effect."""
+        return {
+            it.line
+            for it in self.journal.decisions
+            if it.refused and it.told[0] not in ("stale", "table", "aborted")
+        }
 
     @staticmethod
     def changes_nothing(text: str) -> bool:
@@ -221,7 +243,7 @@ class Copy:
         if not self.asked:
             where = min(self.journal.homes[number].index for number in self.wanted)
             line = self.journal.entries[where].split(" ", 1)[0]
-            raise NotFound(f"there is no room for a question behind line {line}")
+            raise NoRoom(f"there is no room in the script for a question behind line {line}")
         text = "\n".join(self.lines[: max(self.marks)]) + "\n"
         for entry in report_of(text.encode("latin-1")).split("\n"):
             words = entry.split(" ")

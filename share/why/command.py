@@ -91,7 +91,7 @@ def lacked(lines: Script, teller: Teller, line: int) -> list[str]:
 
 
 def told(given: argparse.Namespace) -> tuple[list[str], int]:
-    """What is told, and how many sentences were faults."""
+    """What is told, and the status."""
     script = bytes_of(given.script, BYTES)
     report = audited(script, bytes_of(given.report, REPORT_BYTES)) if given.report else (
         report_of(script))  # fmt: skip
@@ -111,14 +111,16 @@ def told(given: argparse.Namespace) -> tuple[list[str], int]:
     else:
         decisions = [it for it in teller.journal.decisions if given.task in (None, it.task)]
         found = teller.told(decisions) or ["no call was refused, and no set has changed"]
-    return found, teller.faults
+    if teller.faults:
+        return found, FAULT
+    return found, NOT_FOUND if teller.not_found else TOLD
 
 
 def main(words: list[str]) -> int:
     """Tells why."""
     given = parsed(words)
     try:
-        lines, faults = told(given)
+        lines, status = told(given)
     except Bad as bad:
         print(f"credtrace-why: {shown(given.script)}: {bad}", file=sys.stderr)
         return BAD
@@ -126,4 +128,4 @@ def main(words: list[str]) -> int:
         print(f"credtrace-why: {shown(given.script)}: {fault}", file=sys.stderr)
         return NOT_FOUND
     print("\n".join(lines))
-    return FAULT if faults else TOLD
+    return status

@@ -7,7 +7,7 @@ from .asking import KINDS, Values
 from .books import Decision
 from .journal import Journal
 from .names import ALL, LAST, cap_number
-from .reason import BITS, CAPS, GROUPS, IDS, Fault, Reason
+from .reason import BITS, CAPS, GROUPS, IDS, Fault, NotFound, Reason
 
 # What a change is decided on; and behind it, where it leads to other ids.
 BEFORE = {"exec": (IDS, CAPS, BITS), "setfsuid": (IDS, CAPS, BITS), "setfsgid": (IDS, CAPS)}
@@ -198,16 +198,17 @@ class Explainer:
             return ids.filesystem(*words, *asked, bits, self.roots(before)[0])
         return adjust.changes(words, *sets)
 
-    def explained(self, decisions: list[Decision]) -> list[list[Reason] | Fault]:
-        """The sentences of many decisions: all is asked at once."""
+    def explained(self, decisions: list[Decision]) -> list[list[Reason] | Fault | NotFound]:
+        """The sentences of many decisions, all of which are asked for at once; or why one has none:
+        that is a fault, or there was no room for a question."""
         for decision in decisions:
             self.wants(decision)
         self.values.ask()
-        found: list[list[Reason] | Fault] = []
+        found: list[list[Reason] | Fault | NotFound] = []
         for decision in decisions:
             try:
                 found.append(self.reasons(decision))
-            except Fault as fault:
+            except (Fault, NotFound) as fault:
                 found.append(fault)
         return found
 

@@ -4,7 +4,7 @@ from __future__ import annotations
 
 from .books import Decision
 from .names import EFFECTIVE, PERMITTED, SETS, cap_name, listed
-from .reason import CAPS, Bad, Fault, Reason
+from .reason import CAPS, Bad, Fault, NotFound, Reason
 from .tell import Teller, wrapped
 
 
@@ -82,12 +82,14 @@ class Life:
 
     def about(self, reasons, old: list[int], new: list[int]):
         """The sentences on sets that it came into or left."""
-        if isinstance(reasons, Fault):
+        if not isinstance(reasons, list):
             return reasons
         other = set(old) ^ set(new)
         return [it for it in reasons if not it.sets or other & set(it.sets)]
 
-    def step(self, decision: Decision, what: str, reasons: list[Reason] | Fault) -> list[str]:
+    def step(
+        self, decision: Decision, what: str, reasons: list[Reason] | Fault | NotFound
+    ) -> list[str]:
         """A line of its life."""
         found = [self.teller.heading(decision.line)]
         who = "" if decision.task == self.task else f"{decision.task}, from which {self.task} is: "

@@ -9,7 +9,7 @@ from .books import Decision
 from .explain import Explainer
 from .journal import Journal
 from .names import CALLS, ERRORS, KINDS, SETS, cap_name, cap_number, flags, named
-from .reason import BITS, CAPS, GROUPS, IDS, Bad, Fault, Reason
+from .reason import BITS, CAPS, GROUPS, IDS, Bad, Fault, NotFound, Reason
 from .script import DECLARATIONS, Script
 
 WIDTH = 100
@@ -57,6 +57,7 @@ class Teller:
         if mask is not None:
             self.explainer.mask = mask
         self.faults = 0
+        self.not_found: NotFound | None = None
 
     def changed(self, decision: Decision) -> bool:
         """Whether a set is another one behind it."""
@@ -70,8 +71,8 @@ class Teller:
         full = self.explainer.full
         explained = self.explainer.explained(decisions)
         for decision, reasons in zip(decisions, explained, strict=True):
-            fault = isinstance(reasons, Fault)
-            if not (full or fault or decision.refused or self.changed(decision)):
+            known = isinstance(reasons, list)
+            if known and not (full or decision.refused or self.changed(decision)):
                 continue
             if decision.line != line:
                 line = decision.line
@@ -117,8 +118,11 @@ class Teller:
         name = manual_name(words[1:] if self.of_task(line) else words)
         return wrapped(f"{name}: {told[0 if len(told) == 1 else 1].partition(' -> ')[2]}")
 
-    def of(self, reasons: list[Reason] | Fault) -> list[str]:
-        """The sentences, or the fault."""
+    def of(self, reasons: list[Reason] | Fault | NotFound) -> list[str]:
+        """The sentences, or why there are none."""
+        if isinstance(reasons, NotFound):
+            self.not_found = reasons
+            return wrapped(f"not told: {reasons}", 4)
         if isinstance(reasons, Fault):
             self.faults += 1
             return wrapped(f"no reason: this is a fault of credtrace-why: {reasons}", 4)
@@ -132,7 +136,10 @@ class Teller:
         answer = answer_of(decision.told) if decision.refused else self.granted(decision)
         found = wrapped(f"{name}: {answer}")
         if decision.after is not None and decision.before is not None:
-            found += [text for it in self.differences(decision) for text in wrapped(it, 4)]
+            try:
+                found += [text for it in self.differences(decision) for text in wrapped(it, 4)]
+            except NotFound:
+                pass  # It is said below, in place of the reason.
         return found
 
     def called(self, decision: Decision) -> str:

@@ -1,17 +1,23 @@
-"""Inputs that are bad: a line on standard error, a status, and nothing else."""
+"""Inputs that are bad: a line on standard error, a status, and nothing else. And a program that
+answers wrongly: that is told as a fault, and not explained."""
 
 from __future__ import annotations
 
+import os
 import subprocess
 import tempfile
 from collections.abc import Iterator
 from pathlib import Path
 
-from ..program import TOP
+from ..program import TOP, program
 
 TOOL = TOP / "share" / "credtrace-why"
 EXAMPLE = TOP / "examples" / "two-services.trace"
-BAD, NOT_FOUND = 2, 3
+FAULT, BAD, NOT_FOUND = 1, 2, 3
+# A program that takes one error for another.
+WRONG = """#!/bin/sh
+'{program}' "$@" | sed 's/-> eperm$/-> einval/'
+"""
 
 
 def inputs(folder: Path) -> Iterator[tuple[str, list[str], int]]:
@@ -55,10 +61,20 @@ def faults() -> list[str]:
             told = done.stderr.decode("latin-1")
             if done.returncode != status or done.stdout or told.count("\n") != 1:
                 found.append(f"{what}: status {done.returncode}: {told[-300:]}")
-        done = subprocess.run(
-            [str(TOOL), str(EXAMPLE)], capture_output=True, check=False,
-            env={"CREDTRACE": f"{folder}/none", "PATH": "/usr/bin:/bin"},
-        )  # fmt: skip
+        done = with_program(f"{folder}/none", str(EXAMPLE))
         if done.returncode != NOT_FOUND or done.stderr.count(b"\n") != 1:
             found.append(f"no program: status {done.returncode}")
+        wrong = Path(folder, "wrong")
+        wrong.write_text(WRONG.format(program=program()), encoding="utf-8")
+        wrong.chmod(0o755)
+        done = with_program(str(wrong), str(EXAMPLE.with_name("refused.trace")))
+        if done.returncode != FAULT or b"this is a fault of credtrace-why" not in done.stdout:
+            found.append(f"a program that is wrong: status {done.returncode}")
     return found
+
+
+def with_program(path: str, script: str) -> subprocess.CompletedProcess:
+    """Runs the tool with this program."""
+    return subprocess.run(
+        [str(TOOL), script], capture_output=True, check=False, env={**os.environ, "CREDTRACE": path}
+    )

@@ -94,7 +94,7 @@ def count(name: str, teller: Teller, found: Sum, samples: bool) -> None:
     """Counts the sentences of a script; one that lacks or doesn't lead to the answer is a fault."""
     decisions = teller.journal.decisions
     for decision, reasons in zip(decisions, teller.explainer.explained(decisions), strict=True):
-        if isinstance(reasons, Fault):
+        if not isinstance(reasons, list):
             found.faults.append(f"{name}: line {decision.line}: {reasons}")
             continue
         changed = not decision.refused and teller.changed(decision)
