@@ -14,5 +14,6 @@
     tell         what is told of a line
     life         the life of a capability in a task
     command      the command
+    logs         the refusals of a log of strace, for credtrace-compare
     check        holds the sentences to every script of cases/ and examples/
 """

@@ -21,7 +21,7 @@ LINES, BYTES = 20000, 1 << 20
 KINDS = (IDS, CAPS, GROUPS, BITS)
 # What leaves everything as it is: a line that begins so, or the word behind its task.
 NOTHING = QUERIES | {"fcap", "access", "signal"}
-CALL_LABEL = re.compile(r"\bh1\d{5}\b")
+CALL_LABEL = re.compile(r"\bh\d{6}\b")
 
 
 @lru_cache(4096)

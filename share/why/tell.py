@@ -15,6 +15,8 @@ from .script import DECLARATIONS, Script
 WIDTH = 100
 # A longer line is not told whole.
 LONG = 160
+
+
 def wrapped(text: str, indent: int = 2) -> list[str]:
     """A text below its line."""
     first, rest = " " * indent, " " * (indent + 2)
