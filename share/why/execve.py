@@ -74,8 +74,9 @@ def refusal(file: File, told: str, ids, caps, groups, bits, chain: list[int]) ->
         raise Fault(f"{file.name} gives all that its attribute says, but it was answered EPERM")
     text = (
         f"EPERM: the attribute of {file.name} has the effective flag, and {named(lacks)} of its "
-        f"permitted set is neither in the bounding set, {named(caps[BOUNDING])}, nor inheritable "
-        f"both of the task, {named(caps[INHERITABLE])}, and of the file, {named(inheritable)}"
+        f"permitted set is neither in the bounding set, {named(caps[BOUNDING])}, nor in both the "
+        f"task's inheritable set and the file's, which have {named(caps[INHERITABLE] & lacks)} "
+        f"and {named(inheritable & lacks)} of it"
     )
     return Reason(text, sources.DUMB)
 

@@ -75,6 +75,8 @@ class Explainer:
             return [self.refusal(decision)]
         if decision.words[0] == "commit":
             return self.committed(decision)
+        if decision.words[0] in ("override", "revert"):
+            return []
         if decision.before is None and decision.after is not None:
             return [self.born(decision)]
         found = self.allowed(decision) if self.full else []

@@ -196,12 +196,12 @@ def too_many(journal, words, told) -> Reason:
         "prepared": [label.line for label in journal.labels.values() if label.slot is not None],
     }[told[2]]
     held(len(lines) == limit, f"there are {len(lines)} {things}")
-    text = f"there are {limit} {things}, as many as there may be, of lines {spans(lines)}"
+    text = f"there are {limit} {things}, as many as there may be, of {at_lines(lines)}"
     return Reason(text, sources.HOLDING if told[2] in ("holds", "prepared") else sources.TASKS
                   if told[2] == "tasks" else sources.FILES)  # fmt: skip
 
 
-def spans(lines: list[int]) -> str:
+def at_lines(lines: list[int]) -> str:
     """Lines as spans, the first of them."""
     found: list[list[int]] = []
     for line in sorted(set(lines)):
@@ -210,7 +210,8 @@ def spans(lines: list[int]) -> str:
         else:
             found.append([line, line])
     texts = [str(a) if a == b else f"{a} to {b}" for a, b in found[:4]]
-    return ", ".join(texts) + (f" and others up to {found[-1][1]}" if found[4:] else "")
+    rest = f" and others up to {found[-1][1]}" if found[4:] else ""
+    return f"{'line' if len(set(lines)) == 1 else 'lines'} {', '.join(texts)}{rest}"
 
 
 def references(journal) -> list[tuple[str, int, int]]:
@@ -238,7 +239,7 @@ def table_full(journal, words, told) -> Reason:
     lines: dict[str, list[int]] = {}
     for kind, line in kinds.values():
         lines.setdefault(kind, []).append(line)
-    parts = [f"{len(them)} for {kind} (lines {spans(them)})" for kind, them in lines.items()]
+    parts = [f"{len(them)} for {kind} ({at_lines(them)})" for kind, them in lines.items()]
     text = f"all {SLOTS} slots are live, also after the sweep: {listed(parts)}"
     if told[0] == "aborted":
         text += f"; so {told[1]} gets no new credential, and its process ends with all its threads"

@@ -132,9 +132,10 @@ class Teller:
 
     def entry(self, decision: Decision) -> list[str]:
         """What was called and answered, and what changed."""
-        name = self.called(decision)
+        name, how = self.called(decision)
         if decision.task:
             name += f"{',' if ',' in name else ''} by {decision.task}"
+        name += how
         answer = answer_of(decision.told) if decision.refused else self.granted(decision)
         found = wrapped(f"{name}: {answer}")
         if decision.after is not None and decision.before is not None:
@@ -144,17 +145,17 @@ class Teller:
                 pass  # It is said below, in place of the reason.
         return found
 
-    def called(self, decision: Decision) -> str:
-        """The call, by the manual's name."""
+    def called(self, decision: Decision) -> tuple[str, str]:
+        """The call, by the manual's name; and where in it this is."""
         words, line = decision.words, self.script.line(decision.line).split(" ")
         if words[0] == "act" and decision.change:
-            return f"{manual_name(decision.change)}, as its step"
+            return manual_name(decision.change), ", as it follows"
         if self.of_task(decision.line):
-            name = manual_name(line[1:])
-            return f"{name}, at its commit" if words[0] == "commit" and decision.refused else name
+            refused = words[0] == "commit" and decision.refused
+            return manual_name(line[1:]), ", at its commit" if refused else ""
         if words[0] == "commit" and decision.change:
-            return f"{manual_name(decision.change)}, {CALLS['commit']}"
-        return manual_name(words)
+            return f"{manual_name(decision.change)}, {CALLS['commit']}", ""
+        return manual_name(words), ""
 
     def granted(self, decision: Decision) -> str:
         """The answer of what was not refused."""
