@@ -179,8 +179,9 @@ class Copy:
             begun = self.begun.get(text[4:])
             if begun is None:
                 return
-            text = f"act {begun}"
-        self.begun[str(line)] = self.add(text)
+            self.add(f"act {begun}")
+        else:
+            self.begun[str(line)] = self.add(text)
 
     def expand(self, line: int, first: int, behind: int, here: list[int]) -> None:
         """The events of a line, each as a line, with the questions between."""
@@ -192,8 +193,10 @@ class Copy:
             word = event.split(" ", 1)[0]
             if word in ("open", "close", "spawn", "fork", "exit"):
                 self.add(text)
+            elif word in ("begin", "act"):
+                self.keep(line, event)
             elif word not in ("signal", "ask"):
-                self.keep(line, CALL_LABEL.sub(self.label, event))
+                self.add(CALL_LABEL.sub(self.label, event))
             if index in after:
                 self.question(after[index])
 
@@ -254,8 +257,7 @@ class Copy:
                     if words[arrow + 1] != "ok":
                         raise Fault(f"the question for c{place[0]} was answered {words[arrow + 1]}")
                     known[place] = words[arrow + 2 :]
-        lost = [number for number, _ in self.marks.values() if (number, CAPS) not in known]
-        lost = [number for number in lost if CAPS in self.wanted[number]]
+        lost = [number for number, kind in self.marks.values() if (number, kind) not in known]
         if lost:
             raise Fault(f"the question for c{lost[0]} was not answered")
         return self.asked

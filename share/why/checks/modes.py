@@ -1,5 +1,5 @@
-"""Each line is told of by itself, and so is the life of some capabilities in each task: no sentence of
-these is a fault either."""
+"""Each line is told of by itself, and so is the life of some capabilities in each task: no sentence
+of these is a fault either."""
 
 from __future__ import annotations
 
