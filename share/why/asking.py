@@ -10,6 +10,7 @@ lanes took turns in it, or where it has to be asked before it ends.
 from __future__ import annotations
 
 import re
+from bisect import bisect_left
 from functools import lru_cache
 
 from .journal import Journal
@@ -37,7 +38,8 @@ class Values:
         self.journal = journal
         self.known = journal.known
         self.wanted: dict[int, set[str]] = {}
-        self.no_room: dict[int, NoRoom] = {}
+        # Why a credential could not be asked for.
+        self.lost: dict[int, NoRoom | Fault] = {}
 
     def want(self, credential: int | None, *kinds: str) -> None:
         """Has a credential asked for what isn't known of it."""
@@ -50,8 +52,8 @@ class Values:
     def words(self, credential: int, kind: str) -> tuple[str, ...]:
         """The answer to a question."""
         found = self.known.get((credential, kind))
-        if found is None and credential in self.no_room:
-            raise self.no_room[credential]
+        if found is None and credential in self.lost:
+            raise self.lost[credential]
         if found is None:
             raise Fault(f"c{credential} was not asked for its {kind}")
         return tuple(found)
@@ -77,9 +79,9 @@ class Values:
         while self.wanted:
             try:
                 asked = Copy(self.journal, self.wanted).run(self.known)
-            except NoRoom as fault:
-                # Behind that place there is none either.
-                self.no_room = dict.fromkeys(self.wanted, fault)
+            except (NoRoom, Fault) as fault:
+                # Behind that place there is no room either, and the course is another one.
+                self.lost = dict.fromkeys(self.wanted, fault)
                 self.wanted.clear()
                 return
             for credential in asked:
@@ -99,6 +101,10 @@ class Copy:
         self.lines = list(journal.script.declarations)
         self.size = sum(map(len, self.lines)) + len(self.lines)
         self.marks: dict[int, tuple[int, str]] = {}
+        # Which number each credential that is asked for has here: a line that is left out seals none.
+        self.seals = [home.index for home in journal.homes.values()]
+        self.left_out = 0
+        self.number: dict[int, int] = {}
         self.begun: dict[str, int] = {}
         self.free = journal.script.free_labels()
         self.own = next(self.free)
@@ -136,7 +142,9 @@ class Copy:
             inside = [it for it in here if (homes[it].until or behind) < behind]
             if line in split or inside:
                 self.expand(line, first, behind, here)
-            elif line not in idle and not self.changes_nothing(text):
+            elif line in idle or self.changes_nothing(text):
+                self.left_out += bisect_left(self.seals, behind) - bisect_left(self.seals, first)
+            else:
                 self.keep(line, text)
                 for number in here:
                     self.question(number)
@@ -226,6 +234,7 @@ class Copy:
             self.size = size
             return
         self.marks |= {place: (number, kind) for place, kind in places.items()}
+        self.number[number] = number - self.left_out
         self.asked.append(number)
         # What was dropped to have room for a question is lacking behind it.
         self.closed = home.full
@@ -248,16 +257,22 @@ class Copy:
             line = self.journal.entries[where].split(" ", 1)[0]
             raise NoRoom(f"there is no room in the script for a question behind line {line}")
         text = "\n".join(self.lines[: max(self.marks)]) + "\n"
+        holds: dict[str, str] = {}
         for entry in report_of(text.encode("latin-1")).split("\n"):
             words = entry.split(" ")
-            if len(words) > 2 and words[1] == "ask":
-                place = self.marks.get(int(words[0]))
-                if place is not None:
-                    arrow = words.index("->")
-                    if words[arrow + 1] != "ok":
-                        raise Fault(f"the question for c{place[0]} was answered {words[arrow + 1]}")
-                    known[place] = words[arrow + 2 :]
+            if words[1:2] == ["ask"] and int(words[0]) in self.marks:
+                self.answered(words, holds, known)
+            elif words[1:2] in (["take"], ["takereal"]) and words[5:]:
+                holds[words[2]] = words[6]
         lost = [number for number, kind in self.marks.values() if (number, kind) not in known]
         if lost:
             raise Fault(f"the question for c{lost[0]} was not answered")
         return self.asked
+
+    def answered(self, words: list[str], holds: dict[str, str], known) -> None:
+        """Keeps the answer to a question, where it is one on the credential that was meant."""
+        number, kind = self.marks[int(words[0])]
+        arrow = words.index("->")
+        if holds.get(words[2]) != f"c{self.number[number]}" or words[arrow + 1] != "ok":
+            raise Fault(f"the copy of the script takes another course before c{number}")
+        known[number, kind] = words[arrow + 2 :]

@@ -9,7 +9,7 @@ from .asking import BYTES
 from .life import Life
 from .names import LAST, NUMBERS, cap_number
 from .program import audited, report_of
-from .reason import Bad, NotFound
+from .reason import A_FAULT, Bad, Fault, NotFound
 from .script import Script
 from .tell import Teller
 
@@ -127,5 +127,8 @@ def main(words: list[str]) -> int:
     except NotFound as fault:
         print(f"credtrace-why: {shown(given.script)}: {fault}", file=sys.stderr)
         return NOT_FOUND
+    except Fault as fault:
+        print(f"credtrace-why: {shown(given.script)}: {A_FAULT}: {fault}", file=sys.stderr)
+        return FAULT
     print("\n".join(lines))
     return status

@@ -8,6 +8,10 @@ from typing import NamedTuple
 IDS, CAPS, GROUPS, BITS = "ids", "caps", "groups", "bits"
 
 
+# How it is told that a sentence doesn't lead to the answer.
+A_FAULT = "this is a fault of credtrace-why"
+
+
 class Reason(NamedTuple):
     """A sentence with the values in it, and the place in the manual that says so; and which sets it
     is on, by their places, where it is on some alone."""

@@ -9,7 +9,7 @@ from .books import Decision
 from .explain import Explainer
 from .journal import Journal
 from .names import CALLS, ERRORS, KINDS, SETS, cap_name, cap_number, flags, named
-from .reason import BITS, CAPS, GROUPS, IDS, Bad, Fault, NotFound, Reason
+from .reason import A_FAULT, BITS, CAPS, GROUPS, IDS, Bad, Fault, NotFound, Reason
 from .script import DECLARATIONS, Script
 
 WIDTH = 100
@@ -127,7 +127,7 @@ class Teller:
             return wrapped(f"not told: {reasons}", 4)
         if isinstance(reasons, Fault):
             self.faults += 1
-            return wrapped(f"no reason: this is a fault of credtrace-why: {reasons}", 4)
+            return wrapped(f"no reason: {A_FAULT}: {reasons}", 4)
         return [text for reason in reasons for text in wrapped(sentence(reason), 4)]
 
     def entry(self, decision: Decision) -> list[str]:
