@@ -141,7 +141,7 @@ class Teller:
         if decision.after is not None and decision.before is not None:
             try:
                 found += [text for it in self.differences(decision) for text in wrapped(it, 4)]
-            except NotFound:
+            except (Fault, NotFound):
                 pass  # It is said below, in place of the reason.
         return found
 
