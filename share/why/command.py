@@ -107,7 +107,7 @@ def told(given: argparse.Namespace) -> tuple[list[str], int]:
         for task in tasks_of(teller, given.task):
             found += Life(teller, task, given.cap, given.line).told()
     elif given.line is not None:
-        found = teller.whole_line(given.line) + lacked(lines, teller, given.line)
+        found = teller.whole_line(given.line, given.task) + lacked(lines, teller, given.line)
     else:
         decisions = [it for it in teller.journal.decisions if given.task in (None, it.task)]
         found = teller.told(decisions) or ["no call was refused, and no set has changed"]

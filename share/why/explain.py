@@ -139,7 +139,8 @@ class Explainer:
             file = self.files[words[2]]
             sets = values.ids(before), values.caps(before), values.groups(before)
             return access.refusal(file, words[3], *sets, sources.OPEN)
-        if event == "signal" and told == "eperm":
+        # Within one process a signal is always allowed.
+        if event == "signal" and told == "eperm" and not decision.change:
             return self.signal_refused(decision)
         raise Fault(f"no sentence for {' '.join(words)}, answered {told}")
 

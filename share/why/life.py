@@ -15,7 +15,6 @@ class Life:
         self.teller, self.task, self.capability = teller, task, capability
         self.journal, self.values = teller.journal, teller.values
         self.steps = self.lineage(line)
-        self.last = 0
 
     def lineage(self, line: int | None) -> list[Decision]:
         """The births and the decisions that lead to what the task has, in their order."""

@@ -19,7 +19,6 @@ IDS = 'credentials(7), "User and group identifiers"'
 PERMISSIONS = 'path_resolution(7), "Permissions"'
 BYPASSING = 'path_resolution(7), "Bypassing permission checks: superuser and capabilities"'
 THREADS = 'nptl(7), "NPTL and process credential changes"'
-ROOTS = 'user_namespaces(7), "Capabilities"'
 
 BOUND_DROP = "prctl(2), PR_CAPBSET_DROP"
 BOUND_READ = "prctl(2), PR_CAPBSET_READ"
@@ -38,9 +37,7 @@ OPEN = "open(2), ERRORS"
 CLOSE = "close(2), ERRORS"
 KILL = "kill(2), DESCRIPTION"
 ACCESS = "access(2), DESCRIPTION"
-FORK = "fork(2), DESCRIPTION"
 CLONE = "clone(2), CLONE_THREAD"
-EXIT = "_exit(2), DESCRIPTION"
 
 RST = "Documentation/security/credentials.rst"
 ALTERING = f'{RST}, "Altering Credentials"'

@@ -26,26 +26,23 @@ def at(journal, line: int) -> str:
 
 
 def source_of(words) -> str:
-    """What the manual has of an event on labels, tasks or files."""
+    """What the kernel's documentation has of an event on a label."""
     return {
-        "take": sources.ACCESSING, "takereal": sources.ACCESSING, "takefile": sources.OPEN_FILES,
-        "drop": sources.MANAGING, "ask": sources.ACCESSING, "open": sources.OPEN,
-        "close": sources.CLOSE, "override": sources.OVERRIDING, "revert": sources.OVERRIDING,
-        "fork": sources.FORK, "spawn": sources.CLONE, "exit": sources.EXIT, "init": sources.TASKS,
-        "begin": sources.THREADS, "act": sources.THREADS, "signal": sources.errors("kill"),
+        "ask": sources.ACCESSING, "open": sources.OPEN_FILES, "signal": sources.ACCESSING,
+        "drop": sources.MANAGING, "override": sources.OVERRIDING, "revert": sources.OVERRIDING,
     }.get(words[0], sources.ALTERING)  # fmt: skip
 
 
 def no_task(journal, words, told) -> Reason:
     """A task that isn't there."""
     name = told[2]
-    held(name not in journal.tasks, f"{name} lives since line {journal.tasks.get(name)}")
+    held(name not in journal.tasks, f"{name} lives")
     gone = journal.gone_tasks.get(name)
     why = "no line before has made it"
     if gone:
         why = f"{gone[1]} in {at(journal, gone[0])}"
-    signals = journal.script.line(journal.line).split(" ")[1:2] == ["signal"]
-    source = sources.errors("kill") if signals else sources.TASKS
+    signalled = journal.script.line(journal.line).split(" ")[1:] == ["signal", name]
+    source = sources.errors("kill") if signalled and words[0] != "take" else sources.TASKS
     return Reason(f"no task {name}: {why}", source)
 
 
@@ -55,7 +52,7 @@ def exists(journal, words, told) -> Reason:
     if name[0] == "t":
         held(name in journal.tasks, f"no task {name} lives")
         since = journal.tasks[name].made
-        return Reason(f"task {name} lives since {at(journal, since)}", source_of(words))
+        return Reason(f"task {name} lives since {at(journal, since)}", sources.TASKS)
     if name[0] == "p":
         members = list(journal.processes.get(name, ()))
         held(bool(members), f"no thread of {name} lives")

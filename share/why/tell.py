@@ -88,8 +88,8 @@ class Teller:
         text = self.script.line(line)
         return f"line {line}: {text if len(text) <= LONG else text[:LONG] + ' ...'}"
 
-    def whole_line(self, line: int) -> list[str]:
-        """All that is told of one line."""
+    def whole_line(self, line: int, task: str | None = None) -> list[str]:
+        """All that is told of one line, or of a task in it."""
         journal, text = self.journal, self.script.line(line)
         words = text.split(" ")
         if not text or text.startswith("#"):
@@ -98,8 +98,11 @@ class Teller:
             return [self.heading(line), f"  {words[0]} makes no event"]
         found = [it for it in journal.decisions + journal.births if it.line == line]
         found = [it for it in found if not self.is_means(it)]
+        shown = [it for it in found if task in (None, it.task)]
+        if found and not shown:
+            return [self.heading(line), f"  {task} is not asked for anything there"]
         if found:
-            return self.told(sorted(found, key=lambda it: it.index))
+            return self.told(sorted(shown, key=lambda it: it.index))
         return [self.heading(line), *self.plain(line)]
 
     def is_means(self, decision: Decision) -> bool:
