@@ -74,9 +74,9 @@ def refusal(file: File, told: str, ids, caps, groups, bits, chain: list[int]) ->
         raise Fault(f"{file.name} gives all that its attribute says, but it was answered EPERM")
     text = (
         f"EPERM: the attribute of {file.name} has the effective flag, and {named(lacks)} of its "
-        f"permitted set is neither in the bounding set, {named(caps[BOUNDING])}, nor in both the "
-        f"task's inheritable set and the file's, which have {named(caps[INHERITABLE] & lacks)} "
-        f"and {named(inheritable & lacks)} of it"
+        f"permitted set is neither in the bounding set, {named(caps[BOUNDING])}, nor in both "
+        f"inheritable sets: of it the task's has {named(caps[INHERITABLE] & lacks)}, the file's "
+        f"{named(inheritable & lacks)}"
     )
     return Reason(text, sources.DUMB)
 

@@ -140,7 +140,7 @@ def leaves_root(sets: list[int], old, new, bits: int, root: int) -> list[Reason]
     )
     told = []
     if lost:
-        keep = "SECBIT_KEEP_CAPS keeps the permitted set alone" if keeps else "KEEP_CAPS unset"
+        keep = "KEEP_CAPS, which is set, keeps no ambient set" if keeps else "KEEP_CAPS unset"
         text = f"{listed(lost)} emptied: {among}; {keep}"
         told.append(Reason(text, sources.FROM_ROOT, tuple(emptied)))
     if keeps and sets[PERMITTED]:
