@@ -12,5 +12,7 @@
     rows         which row of docs/LINUX.md explains a difference
     forms        the forms of lines, and the tests of a bad one, from docs/FORMATS.md
     command      the options and inputs that the commands have in common
+    running      the program that they run
+    ending       how they end
     from_strace, compare, check    the commands
 """

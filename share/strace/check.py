@@ -10,8 +10,8 @@ import textwrap
 from difflib import get_close_matches
 
 from .command import Fault, shown
-from .compare import program
 from .forms import form_of, keywords, spelling, tests
+from .running import program
 
 GOOD, BAD, NOT_CHECKED = 0, 2, 3
 
