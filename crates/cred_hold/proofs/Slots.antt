@@ -1,5 +1,5 @@
 -- The slots and entries of a master, as contracts see them.
-use Rattle.std.proofs.Common.{length-append, ◌≡◌, ◌≢◌, zero, suc, ◌+◌, ◌<◌, ℕ, List, ◌∷◌, [], map, replicate, take, drop, length, set, Some, None, Bool, true, false, true≢false, refl, sym, ap, ◌∙◌, subst, ⊎_elim, arith}
+use Rattle.std.proofs.Common.{length-append, ◌≡◌, ◌≢◌, zero, suc, ◌+◌, ◌<◌, ℕ, List, ◌∷◌, [], map, replicate, take, drop, length, set, Some, None, Bool, true, false, refl, sym, ap, ◌∙◌, subst, ⊎_elim, arith}
 use Rattle.std.specs.Prelude.{slice_get, slice_index, not, ◌&&◌, if◌then◌else◌}
 use Rattle.std.specs.List.{AllByRecursion}
 use Rattle.std.proofs.lemmas.List.{get_or-drop, get_or-take, map-append}
@@ -11,30 +11,40 @@ use Rattle.cred_words.specs.Lists.{IsTaken}
 use Rattle.cred_words.specs.declared.view.Slot.{Slot}
 use Rattle.cred_words.specs.declared.view.Token.{Token}
 use Rattle.cred_words.specs.declared.view.Ledger.{Ledger}
-use Rattle.cred_words.specs.Words.{slot_of, words_at, entry_of, FitsAs, EntryFits}
+use Rattle.cred_words.specs.Words.{slot_of, slots_back, words_at, entry_of, FitsAs, EntryFits}
 use Rattle.cred_words.specs.Seen as words
 use Rattle.cred_words.proofs.Lists.{words_at-get, get_set}
+use Rattle.cred_words.proofs.Opens.{width_is}
 use Rattle.cred_words.proofs.Seats.{slot_there}
 use Rattle.cred_hold.specs.Tokens.{entry, seen_if, entry_seen, slot_seen, AreSlots, IsAlone}
+use Rattle.cred_hold.proofs.Whole.{length-known}
 
 pub sealed_words : (d : Ledger) (slot : ℕ) → AreSlots d.slots → words.IsSealed d slot → (length (words_at d.slots slot) ≡ width) × (are_words (words_at d.slots slot) ≡ true)
 sealed_words d slot all h =
-    let P : List ℕ → Type 0 = λ ws. (length ws ≡ width) × (are_words ws ≡ true) in
-    let a = all slot h.0 h.1 in
-    subst P (sym (words_at-get d.slots slot h.0 h.1)) (a.0, a.1 h.2)
+    let are = ap are_words (words_at-get d.slots slot h.0 h.1) ∙ all slot h.0 h.1 in
+    (length-known _ are ∙ sym width_is, are)
 
-pub after_writer : (slots : List Slot) (slot : ℕ) → slot < length slots → AreSlots slots → AreSlots (set slots slot (slot_of (words_at slots slot) false)) × (length (words_at slots slot) ≡ width)
+-- slots of which one has other words of a credential
+pub slots_set : (slots : List Slot) (slot : ℕ) (y : Slot) → AreSlots slots → are_words y.words ≡ true → AreSlots (set slots slot y)
+slots_set slots slot y all are s x g =
+    ⊎_elim
+    (λ (r : (s ≡ slot) × (y ≡ x)). subst (λ (z : Slot). are_words z.words ≡ true) r.1 are)
+    (λ (r : (s ≢ slot) × (slice_get slots s ≡ Some x)). all s x r.1)
+    (get_set slots slot s y x g)
+
+-- slots of which one has a writer's words back
+pub slots_after_back : (slots : List Slot) (t : Token) (put : Bool) → AreSlots slots → are_words t.words ≡ true → AreSlots (slots_back slots t put t.writes)
+slots_after_back slots t put all are = by t.writes
+  where
+    by : (b : Bool) → AreSlots (slots_back slots t put b)
+    by true = slots_set slots t.slot (slot_of t.words (put && are_words t.words)) all are
+    by false = all
+
+pub after_writer : (slots : List Slot) (slot : ℕ) → slot < length slots → AreSlots slots → AreSlots (set slots slot (slot_of (words_at slots slot) false)) × (are_words (words_at slots slot) ≡ true)
 after_writer slots slot small all =
     let there = slot_there slots slot small in
-    let wide : length (words_at slots slot) ≡ width = ap length (words_at-get slots slot there.0 there.1) ∙ (all slot there.0 there.1).0 in
-    let y : Slot = slot_of (words_at slots slot) false in (
-      (λ s x g.
-          ⊎_elim
-          (λ (r : (s ≡ slot) × (y ≡ x)). subst (λ (z : Slot). (length z.words ≡ width) × (z.sealed ≡ true → are_words z.words ≡ true)) r.1 (wide, λ b. absurd (true≢false (sym b))))
-          (λ (r : (s ≢ slot) × (slice_get slots s ≡ Some x)). all s x r.1)
-          (get_set slots slot s y x g)),
-      wide,
-    )
+    let are : are_words (words_at slots slot) ≡ true = ap are_words (words_at-get slots slot there.0 there.1) ∙ all slot there.0 there.1 in
+    (slots_set slots slot (slot_of (words_at slots slot) false) all are, are)
 
 -- ---- as they are seen
 
@@ -82,9 +92,9 @@ hold-slot slots t is h =
     f ∙ ap (λ (b : Bool). Some (slot_of (if b then [] else t.words) true)) is
 
 -- a writer's slot, which is sealed where a credential was put
-pub put-seen : (put : Bool) (ws : List ℕ) → (put ≡ true → are_words ws ≡ true) → seen_if (put && are_words ws) ws ≡ seen_if put ws
-put-seen true ws h = ap (λ b. seen_if b ws) (h refl)
-put-seen false ws h = refl
+pub put-seen : (put : Bool) (ws : List ℕ) → are_words ws ≡ true → seen_if (put && are_words ws) ws ≡ seen_if put ws
+put-seen true ws is = ap (λ b. seen_if b ws) is
+put-seen false ws is = refl
 
 pub slot-there : (slots : List Slot) (t : Token) → t.writes ≡ true → EntryFits slots (entry_of t) → (x : Slot) × (slice_get slots t.slot ≡ Some x)
 slot-there slots t is h =

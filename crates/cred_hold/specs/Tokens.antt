@@ -1,5 +1,5 @@
 -- What contracts see of the tokens: labels, slots, credentials, and the identity of the cells.
-use Rattle.std.specs.Prelude.{◌≡◌, ◌≢◌, ℕ, List, length, replicate, Option, Some, None, Bool, true}
+use Rattle.std.specs.Prelude.{◌≡◌, ◌≢◌, ℕ, List, replicate, Option, Some, None, Bool, true}
 use Rattle.std.specs.Prelude.{false, not, slice_get, slice_index, ◌≤◌, ◌<◌}
 use Rattle.std.specs.List.{AllByRecursion}
 use Rattle.cred_ids.specs.Limits.{SLOTS}
@@ -66,15 +66,10 @@ entry_seen t = entry t.label t.slot (seen_if (not t.writes) t.words)
 abbrev pub slot_seen : Slot → Option Credential
 slot_seen x = seen_if x.sealed x.words
 
--- each slot has all its words, and they are a credential's where it is sealed
+-- the words of each slot are a credential's, sealed or not: at first they are those of a credential
+-- whose numbers are all 0, and no more than whole credentials is ever put
 abbrev pub AreSlots : List Slot → Type 0
-AreSlots slots =
-    (s : ℕ) (x : Slot) → slice_get slots s ≡ Some x →
-    (length x.words ≡ width) × (x.sealed ≡ true → are_words x.words ≡ true)
-
--- the words of a slot from the first on, and before the end, are 0
-abbrev pub AreZerosTo : ℕ → ℕ → List ℕ → Type 0
-AreZerosTo first end ws = (i : ℕ) → first ≤ i → i < end → slice_index ws i ≡ 0
+AreSlots slots = (s : ℕ) (x : Slot) → slice_get slots s ≡ Some x → are_words x.words ≡ true
 
 -- the words of a slot from the first on are 0
 abbrev pub AreZeros : ℕ → List ℕ → Type 0

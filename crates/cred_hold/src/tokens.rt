@@ -52,12 +52,11 @@ pub struct Writer {
 }
 
 impl Model for Writer {
-    ghost use Rattle.std.specs.Prelude.{◌≡◌, true, length};
+    ghost use Rattle.std.specs.Prelude.{◌≡◌, true};
     ghost use Rattle.cred_hold.specs.Tokens.{Written, seen_if};
 
     ghost Value = { Written };
 
-    ghost use Rattle.cred_words.specs.Size.{width};
     ghost use Rattle.cred_record.specs.Words.{are_words};
 
     ghost view = { λ w. record {
@@ -69,8 +68,7 @@ impl Model for Writer {
 
     ghost invariant = { λ w. (w.slot ≡ w.inner.token.slot)
         × (w.inner.token.writes ≡ true)
-        × (length w.inner.token.words ≡ width)
-        × (w.put ≡ true → are_words w.inner.token.words ≡ true) };
+        × (are_words w.inner.token.words ≡ true) };
 }
 
 /// The credential that is held, whatever other tokens read and put meanwhile. It waits for nobody.

@@ -1,17 +1,17 @@
 //! The words of a slot, read or put one step after another.
-ghost use Rattle.std.specs.Prelude.{◌≡◌, ◌↔◌, ◌+◌, ◌<◌, ◌≤◌, None, true, IfOk, IsTrue, length};
+ghost use Rattle.std.specs.Prelude.{◌≡◌, ◌+◌, ◌≤◌, ℕ, None, true, IfOk, length};
 ghost use Rattle.std.specs.Prelude.{take, drop, slice_index};
 ghost use Rattle.cred_record.specs.Words.{are_words, credential_of, group_count, words_of};
 ghost use Rattle.cred_record.specs.declared.layout.TheConstants.{FLAGS};
 ghost use Rattle.cred_words.specs.Seen.{IsSealed};
 ghost use Rattle.cred_words.specs.Size.{width};
 ghost use Rattle.cred_words.specs.Words.{put_words, words_at};
-ghost use Rattle.cred_hold.specs.Tokens.{IsAgain, AreZeros, AreZerosTo};
+ghost use Rattle.cred_hold.specs.Tokens.{IsAgain, AreZeros};
 
 use cred_ids::{Groups, NoMemory};
 use cred_packed::{group_count, group_in, head, known_head, word_of_groups, words_of_groups};
+use cred_record::Cred;
 use cred_record::layout::{FLAGS, GROUPS};
-use cred_record::{Cred, WORDS};
 use cred_words::cells::{Cells, Hold, Master, Writer, read_word, see_word, settle_word};
 use std::alloc::Global;
 
@@ -34,44 +34,6 @@ pub(crate) fn gather<const N: usize>(
         words[i] = read_word(cells, hold, slot, first + i);
     }
     words
-}
-
-/// How many words are looked at in a row, so that the loop's own steps are few. Rows are taken from
-/// the last word on: then a row's place doesn't hang on where the words begin that are looked at.
-const ROW: usize = 32;
-
-/// The bits of so many words of the slot that is held, from `first` on, together. Each is loaded.
-#[inline(always)]
-fn read_bits(cells: &Cells, hold: &mut Hold, slot: u32, first: usize, count: usize) -> u64
-    requires own { hold.old.id ≡ cells.now }
-    requires slot { slot ≡ hold.old.token.slot }
-    requires within { first + count ≤ width }
-    ensures value { (result ≡ 0) ↔ AreZerosTo first (first + count) hold.old.token.words }
-    ensures same { hold.new ≡ hold.old }
-{
-    let mut bits = 0;
-    for i in 0..count {
-        bits |= read_word(cells, hold, slot, first + i);
-    }
-    bits
-}
-
-/// Whether the words of the slot that is held are 0 from `first` on. Each is loaded.
-#[inline(never)]
-fn read_zeros(cells: &Cells, hold: &mut Hold, slot: u32, first: usize) -> bool
-    requires own { hold.old.id ≡ cells.now }
-    requires slot { slot ≡ hold.old.token.slot }
-    requires within { first ≤ width }
-    ensures value { IsTrue result ↔ AreZeros first hold.old.token.words }
-    ensures same { hold.new ≡ hold.old }
-{
-    let mut bits = 0;
-    for row in 0..(WORDS - first) / ROW {
-        bits |= read_bits(cells, hold, slot, WORDS - (row + 1) * ROW, ROW);
-    }
-    let rest = (WORDS - first) % ROW;
-    bits |= read_bits(cells, hold, slot, first, rest);
-    bits == 0
 }
 
 /// The groups of the slot that is held, whose words are a credential's. There are `count`.
@@ -101,8 +63,8 @@ pub(crate) fn groups_of(
     Ok(Groups::from_sorted(ids))
 }
 
-/// The credential of the slot that is held, whose words are a credential's. All of them are read,
-/// and those past its groups are 0.
+/// The credential of the slot that is held, whose words are a credential's. Those past its groups
+/// are known to be 0, and are not read.
 pub(crate) fn read_whole(
     alloc: Global,
     cells: &Cells,
@@ -118,11 +80,7 @@ pub(crate) fn read_whole(
     let first = gather::<GROUPS>(cells, hold, slot, 0);
     let count = group_count(first[FLAGS]);
     let groups = groups_of(alloc, cells, hold, slot, count)?;
-    if read_zeros(cells, hold, slot, GROUPS + count.div_ceil(2)) {
-        Ok(known_head(&first, groups))
-    } else {
-        unreachable!()
-    }
+    Ok(known_head(&first, groups))
 }
 
 /// So many words of a sealed slot, from `first` on, by a hold that is lent and comes back. What
@@ -172,69 +130,36 @@ pub(crate) fn peek_whole(
     cred
 }
 
-/// The bits of so many words of the slot that is written, likewise.
-#[inline(always)]
-fn see_bits(cells: &Cells, writer: &mut Writer, slot: u32, first: usize, count: usize) -> u64
-    requires own { writer.old.id ≡ cells.now }
-    requires slot { slot ≡ writer.old.token.slot }
-    requires within { first + count ≤ width }
-    ensures value { (result ≡ 0) ↔ AreZerosTo first (first + count) writer.old.token.words }
-    ensures same { writer.new ≡ writer.old }
-{
-    let mut bits = 0;
-    for i in 0..count {
-        bits |= see_word(cells, writer, slot, first + i);
-    }
-    bits
-}
-
-/// Whether the words of the slot that is written are 0 from `first` on. Each is loaded.
-#[inline(never)]
-fn see_zeros(cells: &Cells, writer: &mut Writer, slot: u32, first: usize) -> bool
-    requires own { writer.old.id ≡ cells.now }
-    requires slot { slot ≡ writer.old.token.slot }
-    requires within { first ≤ width }
-    ensures value { IsTrue result ↔ AreZeros first writer.old.token.words }
-    ensures same { writer.new ≡ writer.old }
-{
-    let mut bits = 0;
-    for row in 0..(WORDS - first) / ROW {
-        bits |= see_bits(cells, writer, slot, WORDS - (row + 1) * ROW, ROW);
-    }
-    let rest = (WORDS - first) % ROW;
-    bits |= see_bits(cells, writer, slot, first, rest);
-    bits == 0
-}
-
-/// Puts 0 in each word of the slot that is written, from `first` on. Mostly they are 0 already: few
-/// tasks have many groups.
-fn clear(cells: &Cells, writer: &mut Writer, slot: u32, first: usize)
+/// Puts 0 in the words of the slot that is written from `first` on up to `last`. From the later of
+/// the two on they are 0 already.
+fn clear(cells: &Cells, writer: &mut Writer, slot: u32, first: usize, last: usize)
     requires own { writer.old.id ≡ cells.now }
     requires slot { slot ≡ writer.old.token.slot }
     requires wide { length writer.old.token.words ≡ width }
-    requires within { first ≤ width }
+    requires within { last ≤ width }
+    requires rest { (i : ℕ) → first ≤ i → last ≤ i → slice_index writer.old.token.words i ≡ 0 }
     ensures same { (writer.new.id ≡ writer.old.id)
         × (writer.new.token ≡ put_words writer.old.token writer.new.token.words) }
     ensures words { (length writer.new.token.words ≡ width)
         × (take first writer.new.token.words ≡ take first writer.old.token.words)
         × AreZeros first writer.new.token.words }
 {
-    if see_zeros(cells, writer, slot, first) {
-        return;
-    }
-    for i in first..WORDS {
+    for i in first..last {
         settle_word(cells, writer, slot, i, 0);
     }
 }
 
-/// Puts all words of a credential in the slot that is written.
+/// Puts all words of a credential in the slot that is written, whose words are a credential's: only
+/// the words of groups that it has and the new one lacks are cleared.
 pub(crate) fn scatter(cells: &Cells, writer: &mut Writer, slot: u32, cred: &Cred)
     requires own { writer.old.id ≡ cells.now }
     requires slot { slot ≡ writer.old.token.slot }
-    requires wide { length writer.old.token.words ≡ width }
+    requires known { are_words writer.old.token.words ≡ true }
     ensures { (writer.new.id ≡ writer.old.id)
         × (writer.new.token ≡ put_words writer.old.token (words_of cred.now)) }
 {
+    let flags = see_word(cells, writer, slot, FLAGS);
+    let count = group_count(flags);
     let first = head(cred);
     for place in 0..GROUPS {
         settle_word(cells, writer, slot, place, first[place]);
@@ -243,5 +168,11 @@ pub(crate) fn scatter(cells: &Cells, writer: &mut Writer, slot: u32, cred: &Cred
     for i in 0..end {
         settle_word(cells, writer, slot, GROUPS + i, word_of_groups(cred, i));
     }
-    clear(cells, writer, slot, GROUPS + end);
+    clear(
+        cells,
+        writer,
+        slot,
+        GROUPS + end,
+        GROUPS + count.div_ceil(2),
+    );
 }

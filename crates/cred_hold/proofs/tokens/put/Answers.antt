@@ -1,7 +1,6 @@
-use Rattle.std.proofs.Common.{Some, length, sym, ap, ◌∙◌}
+use Rattle.std.proofs.Common.{Some, sym, ap, ◌∙◌}
 use Rattle.cred_record.specs.Words.{are_words, credential_of}
-use Rattle.cred_record.proofs.WordLemmas.{length-words_of, words-again, words-test}
-use Rattle.cred_words.proofs.Opens.{width_is}
+use Rattle.cred_record.proofs.WordLemmas.{words-again, words-test}
 use Rattle.cred_hold.proofs.tokens.put.Goals as goal
 
 pub invariant_of-writer : goal.invariant_of-writer
@@ -9,7 +8,7 @@ invariant_of-writer c =
     let i = c.writer.invariant in
     let t = c.scatter.ensures.1 in
     let test = ap (λ t. are_words t.words) t ∙ words-test _ c.is_credential.ensures in
-    (i.0 ∙ sym (ap (λ t. t.slot) t), ap (λ t. t.writes) t ∙ i.1, ap (λ t. length t.words) t ∙ length-words_of c.args.cred.now ∙ sym width_is, λ _. test)
+    (i.0 ∙ sym (ap (λ t. t.slot) t), ap (λ t. t.writes) t ∙ i.1, test)
 
 pub returns : goal.returns
 returns c =

@@ -3,4 +3,4 @@ use Rattle.cred_hold.proofs.Whole.{Cleared}
 use Rattle.cred_hold.proofs.words.clear.Given as goal
 
 abbrev pub invariant-loop-i : goal.invariant-loop-i
-invariant-loop-i l = (l.writer.id ≡ l.fn.writer.id) × Cleared l.fn.writer.token l.writer.token l.first l.i
+invariant-loop-i l = (l.writer.id ≡ l.initial.writer.id) × Cleared l.initial.writer.token l.writer.token l.first l.last l.i

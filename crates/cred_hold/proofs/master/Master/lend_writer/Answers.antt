@@ -1,5 +1,6 @@
-use Rattle.std.proofs.Common.{None, map, set, sym, ap, ◌∙◌, subst, arith, true≢false, length, length-set}
+use Rattle.std.proofs.Common.{None, map, set, sym, ap, ◌∙◌, subst, arith, length, length-set}
 use Rattle.std.proofs.lemmas.List.{length-map}
+use Rattle.cred_record.specs.Words.{are_words}
 use Rattle.cred_words.specs.declared.view.Ledger.{Ledger}
 use Rattle.cred_words.proofs.Opens.{count_is}
 use Rattle.cred_hold.specs.Tokens.{AreSlots, IsAlone, slot_seen}
@@ -30,7 +31,7 @@ invariant_of-result c =
     let small = c.requires.within in
     let many = i.2 in
     let words = ap (λ t. t.words) e.1 in
-    (sym (ap (λ t. t.slot) e.1), ap (λ t. t.writes) e.1, ap length words ∙ (after_writer c.self.inside.inner.ledger.slots c.args.slot (omega arith) i.1).1, λ b. absurd (true≢false (sym b)))
+    (sym (ap (λ t. t.slot) e.1), ap (λ t. t.writes) e.1, ap are_words words ∙ (after_writer c.self.inside.inner.ledger.slots c.args.slot (omega arith) i.1).1)
 
 pub returns-clause-slots : goal.returns-clause-slots
 returns-clause-slots c =
