@@ -49,6 +49,7 @@ pub fn may(cred: &Cred, file: &FileInfo, want: Want) -> bool
 
 /// Whether a task with these ids, these groups and this effective set may do to the file all that
 /// it asks for: all that `may` asks of the credential.
+#[inline(always)]
 pub fn may_by(
     uid: &Ids4,
     gid: &Ids4,

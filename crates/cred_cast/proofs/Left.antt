@@ -1,7 +1,7 @@
 -- A task waits in one broadcast alone: where it leaves that one, it has left all.
-use Rattle.std.proofs.Common.{◌≡◌, ◌==◌, not, ℕ, zero, suc, ◌+◌, ◌<◌, nat_lt, cond, List, [], ◌∷◌, map, get_or, set, slice_get, length, Option, None, Some, true, false, Bool, refl, sym, ap, ◌∙◌, subst, arith}
+use Rattle.std.proofs.Common.{◌≡◌, ◌==◌, not, ℕ, zero, suc, ◌+◌, ◌<◌, nat_lt, cond, List, [], ◌∷◌, map, get_or, set, slice_get, length, None, Some, true, false, Bool, refl, sym, ap, ◌∙◌, subst, arith}
 use Rattle.std.specs.List.{All, AllPairs, filter, find, position, position_or_len, remove}
-use Rattle.std.specs.Option.{IfSome, IsSome, IsSomeAnd}
+use Rattle.std.specs.Option.{IfSome, IsSomeAnd}
 use Rattle.std.proofs.lemmas.Bool.Decides.{nat_tests}
 use Rattle.std.proofs.lemmas.List.Elements.{All-head, All-tail}
 use Rattle.std.proofs.lemmas.List.Folds.{find_at}
@@ -11,7 +11,7 @@ use Rattle.cred_model.specs.State.{Broadcast}
 use Rattle.cred_model.specs.Casts.{waits_in, is_open, without, waits_no_more}
 use Rattle.cred_model.proofs.Lists.{none_found}
 use Rattle.cred_model.proofs.Rising.{AllPairs-head, AllPairs-tail, Below}
-use Rattle.cred_cast.specs.Casts.{cast_under, WaitsNowhere, SharesNone, AreCasts}
+use Rattle.cred_cast.specs.Casts.{WaitsNowhere, SharesNone, AreCasts}
 use Rattle.cred_cast.proofs.Joined.{none_placed}
 use Rattle.cred_cast.proofs.Kept.{IsOpen}
 use Rattle.cred_cast.proofs.Falling.{one_fewer, stays}
@@ -75,31 +75,35 @@ module _ (task : ℕ) where
       ap (λ bs. c ∷ bs) (left_at cs i d (AllPairs-tail SharesNone c cs apart) inside waits)
       ∙ ap (λ b. b ∷ map (without task) cs) (sym (same_without c (not_there c (get_or cs i d) (others i d inside) waits)))
 
--- the broadcast of a number stands at the first place of that number
-pub is_placed : {X : Type 0} (p : X → Bool) (P : X → Type 0) (xs : List X) (place : Option ℕ) → place ≡ position p xs
-    → IsSomeAnd (find p xs) P → IsSome place
-is_placed p P xs (Some n) is some = refl
-is_placed p P xs None is some = absurd (subst (λ o. IsSomeAnd o P) (none_found p xs (none_placed p xs (sym is))) some)
+-- what is found of a place is there
+some_within : {X : Type 0} (P : X → Type 0) (xs : List X) (place : ℕ) → IsSomeAnd (slice_get xs place) P → place < length xs
+some_within P [] place some = absurd some
+some_within P (x ∷ xs) zero some = omega arith
+some_within P (x ∷ xs) (suc i) some = let inside = some_within P xs i some in omega arith
 
-find_placed : {X : Type 0} (p : X → Bool) (xs : List X) (place : ℕ) (d : X) → position p xs ≡ Some place
-    → find p xs ≡ Some (get_or xs place d)
-find_placed p xs place d is =
-    find_at p xs
-    ∙ ap (slice_get xs) (by (nat_lt (position_or_len p xs) (length xs)) (position_or_len p xs) place is)
-    ∙ slice_get-get_or xs place d (position-Some p xs place d is).0
+-- the first place of a number is that of the broadcast that is found
+pub placed_there : {X : Type 0} (p : X → Bool) (xs : List X) (place : ℕ) → position p xs ≡ Some place → slice_get xs place ≡ find p xs
+placed_there p xs place is = sym (find_at p xs ∙ ap (slice_get xs) (by (nat_lt (position_or_len p xs) (length xs)) (position_or_len p xs) place is))
   where
     by : (b : Bool) (n m : ℕ) → cond b (Some n) None ≡ Some m → n ≡ m
     by true n m is = cc
     by false n m is = cc
 
-module _ (casts : List Broadcast) (number task place : ℕ) (cast : Broadcast) (are : AreCasts casts)
-    (waits : IsSomeAnd (cast_under casts number) (λ b. waits_in task b ≡ true))
-    (placed : position (λ b. b.number == number) casts ≡ Some place) (read : cast ≡ get_or casts place cast) where
-  within : place < length casts
-  within = (position-Some (λ b. b.number == number) casts place cast placed).0
+pub placed_within : {X : Type 0} (p : X → Bool) (xs : List X) (place : ℕ) → position p xs ≡ Some place → place < length xs
+placed_within p [] place is = absurd (cc)
+placed_within p (x ∷ xs) place is = (position-Some p (x ∷ xs) place x is).0
 
-  is_cast : cast_under casts number ≡ Some cast
-  is_cast = find_placed (λ b. b.number == number) casts place cast placed ∙ ap (λ (c : Broadcast). Some c) (sym read)
+pub none_there : {X : Type 0} (p : X → Bool) (xs : List X) → position p xs ≡ None → find p xs ≡ None
+none_there p xs is = none_found p xs (none_placed p xs is)
+
+-- the broadcast at this place
+module _ (casts : List Broadcast) (task place : ℕ) (cast : Broadcast) (are : AreCasts casts)
+    (waits : IsSomeAnd (slice_get casts place) (λ b. waits_in task b ≡ true)) (read : cast ≡ get_or casts place cast) where
+  pub within : place < length casts
+  within = some_within (λ b. waits_in task b ≡ true) casts place waits
+
+  is_cast : slice_get casts place ≡ Some cast
+  is_cast = slice_get-get_or casts place cast within ∙ ap (λ (c : Broadcast). Some c) (sym read)
 
   here : waits_in task cast ≡ true
   here = subst (λ o. IsSomeAnd o (λ b. waits_in task b ≡ true)) is_cast waits
@@ -108,7 +112,7 @@ module _ (casts : List Broadcast) (number task place : ℕ) (cast : Broadcast) (
   up = subst (λ (c : Broadcast). AllPairs Below c.waiting) (sym read) (are.rising place cast within)
 
   module _ (left : ℕ) (many : left + 1 ≡ length cast.waiting) where
-    pub left_beside : IfSome (cast_under casts number) (λ b. left + 1 ≡ length b.waiting)
+    pub left_beside : IfSome (slice_get casts place) (λ b. left + 1 ≡ length b.waiting)
     left_beside = subst (λ o. IfSome o (λ b. left + 1 ≡ length b.waiting)) (sym is_cast) many
 
     module _ (now : Broadcast) (leaves : now ≡ without task cast) where

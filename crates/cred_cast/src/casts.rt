@@ -2,7 +2,7 @@
 ghost use Rattle.std.specs.Prelude.{◌≡◌, ◌≢◌, ◌==◌, ℕ, ◌+◌, ◌<◌, [], All, length};
 ghost use Rattle.std.specs.Prelude.{slice_get, vec_len, true, None, IfOk, IfSome, OnOk, OnErr};
 ghost use Rattle.std.specs.List.{AllPairs, position, remove};
-ghost use Rattle.std.specs.Option.{IsSomeAnd, option_and_then, option_map};
+ghost use Rattle.std.specs.Option.{IsSomeAnd, option_map};
 ghost use Rattle.cred_ids.specs.Ordered.{in_order};
 ghost use Rattle.cred_model.specs.Casts.{waits_in, with_cast, waits_no_more, joined, dropped};
 ghost use Rattle.cred_cast.specs.Casts.{cast_under, cast_within, cast_by, WaitsNowhere, AreCasts};
@@ -88,29 +88,39 @@ impl Casts {
         Ok(())
     }
 
-    /// The least task that waits in a broadcast, and the call that it makes there. `None` just
-    /// where none of that number is open.
-    pub fn next(&self, number: u32) -> Option<(u32, &IdCall)>
-        ensures next { option_map (λ n. n.0) result
-            ≡ option_and_then (λ b. slice_get b.waiting 0) (cast_under self.now number) }
-        ensures call { option_map (λ n. n.1.now) result
-            ≡ option_map (λ b. b.call) (cast_under self.now number) }
-        ensures casts { AreCasts self.now }
+    /// Where the broadcast of a number stands among the open ones. `None` just where none of that
+    /// number is open.
+    pub fn place(&self, number: u32) -> Option<usize>
+        ensures { result ≡ position (λ b. b.number == number) self.now }
     {
-        let cast = self.cast(number)?;
-        Some((cast.least()?, &cast.call))
+        self.casts.iter().position(|cast| cast.number == number)
     }
 
-    /// A task has made its step: it waits no more. Returns how many still wait in the broadcast;
-    /// at 0 it is completed and closed.
+    /// The least task that waits in the broadcast at a place: it makes its step next.
+    pub fn least_at(&self, place: usize) -> u32
+        requires { place < length self.now }
+        ensures { IfSome (slice_get self.now place) (λ b. slice_get b.waiting 0 ≡ Some result) }
+    {
+        // It is there: somebody waits in each.
+        self.casts[place].least().unwrap()
+    }
+
+    /// The call that is made in the broadcast at a place.
+    pub fn call_at(&self, place: usize) -> &IdCall
+        requires { place < length self.now }
+        ensures { IfSome (slice_get self.now place) (λ b. result.now ≡ b.call) }
+    {
+        &self.casts[place].call
+    }
+
+    /// A task has made its step in the broadcast at a place: it waits no more. Returns how many
+    /// still wait there; at 0 it is completed and closed.
     #[inline(always)]
-    pub fn acted(&mut self, number: u32, task: u32) -> u32
-        requires { IsSomeAnd (cast_under self.old number) (λ b. waits_in task b ≡ true) }
-        ensures left { IfSome (cast_under self.old number) (λ b. result + 1 ≡ length b.waiting) }
+    pub fn acted_at(&mut self, place: usize, task: u32) -> u32
+        requires { IsSomeAnd (slice_get self.old place) (λ b. waits_in task b ≡ true) }
+        ensures left { IfSome (slice_get self.old place) (λ b. result + 1 ≡ length b.waiting) }
         ensures casts { self.new ≡ waits_no_more task self.old }
     {
-        // It is there: the task waits in it.
-        let place = self.place(number).unwrap();
         let cast = &mut self.casts[place];
         let left = cast.others();
         cast.acted(task);
@@ -182,14 +192,6 @@ impl Casts {
         ensures casts { AreCasts self.now }
     {
         self.casts.iter().find(|cast| cast.number == number)
-    }
-
-    /// Where the broadcast of a number stands. `None` where none of that number is open.
-    fn place(&self, number: u32) -> Option<usize>
-        ensures place { result ≡ position (λ b. b.number == number) self.now }
-        ensures casts { AreCasts self.now }
-    {
-        self.casts.iter().position(|cast| cast.number == number)
     }
 }
 

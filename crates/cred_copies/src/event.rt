@@ -10,6 +10,7 @@ use cred_ids::NoMemory;
 /// # Errors
 ///
 /// `NoMemory` where the list of a `setgroups` could not be copied; no other event takes memory.
+#[inline(always)]
 pub fn copy_event(e: &Event) -> Result<Event, NoMemory>
     ensures equal { IfOk result (λ copied. copied ≡ e.now) }
     ensures refusal { OnErr result (BeginsSetGroups e.now) }
@@ -24,6 +25,7 @@ pub fn copy_event(e: &Event) -> Result<Event, NoMemory>
 }
 
 /// An equal event, of one that is no id call.
+#[inline(always)]
 fn copy_plain(e: &Event) -> Event
     requires { BeginsCall e.now → ⊥ }
     ensures { result ≡ e.now }

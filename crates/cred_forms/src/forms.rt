@@ -148,6 +148,7 @@ pub fn event_of(
 
 /// `take H T` and `takereal H T`
 #[tactic(auto, unfolding(crate::specs::Forms::take_of))]
+#[inline(always)]
 fn take_of(side: Side, words: &[&[u8]]) -> Result<Event, LineRefusal>
     ensures { GivesLine (λ event. event) result (spec.take_of side (nows words.now)) }
 {

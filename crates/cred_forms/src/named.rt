@@ -11,6 +11,7 @@ use cred_spelling::{Reason, name_of};
 /// # Errors
 ///
 /// `Reason::Word` where the word is no name.
+#[inline(always)]
 pub fn file_at(files: &Files, word: &[u8]) -> Result<u32, Reason>
     ensures { Says (λ place. place) result (spec.file_at files.now word.now) }
 {

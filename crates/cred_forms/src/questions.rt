@@ -10,6 +10,7 @@ use cred_spelling::{Cap, QueryName, Reason, bare, one, query_name, word};
 
 /// `NAME WANT`: a file, by its place, and what is wanted of it.
 #[tactic(auto, unfolding(crate::specs::Questions::file_and_want))]
+#[inline(always)]
 pub(crate) fn file_and_want(files: &Files, words: &[&[u8]]) -> Result<(u32, Want), Reason>
     ensures { Says (λ asked. asked) result (spec.file_and_want files.now (nows words.now)) }
 {

@@ -1,6 +1,7 @@
 //! Credentials in shared words, lent as holds, which read, and as writers, which put.
 #![tactic(auto)]
 
+mod like;
 pub mod master;
 mod parts;
 pub mod tokens;

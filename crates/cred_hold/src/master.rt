@@ -1,18 +1,20 @@
 //! The master of the shared words: what it lends, and what it takes back.
-ghost use Rattle.std.specs.Prelude.{◌≡◌, ◌<◌, [], ◌∷◌, Some, None, IfOk, length, slice_get};
+ghost use Rattle.std.specs.Prelude.{◌≡◌, ◌≢◌, ◌<◌, [], ◌∷◌, Some, None, IfOk, length, slice_get};
 ghost use Rattle.std.specs.Prelude.{slice_set};
 ghost use Rattle.cred_ids.specs.Limits.{SLOTS};
 ghost use Rattle.cred_words.specs.Lists.{IsTaken};
-ghost use Rattle.cred_record.specs.Credential.{Credential};
+ghost use Rattle.cred_record.specs.Credential.{Credential, AreValidSets};
+ghost use Rattle.cred_setid.specs.Parts.{parts_of, changed};
 ghost use Rattle.cred_hold.specs.Tokens.{entry, none_sealed, IsSealed, IsAlone};
 
-use crate::parts::{known_caps, known_ids, known_ns};
+use crate::like::{peek_parts, put_like};
+use crate::parts::known_ns;
 use crate::tokens::{Hold, Writer, put};
 use crate::words::{peek, peek_whole};
-use cred_caps::CapSet;
-use cred_ids::{Ids4, NoMemory};
+use cred_ids::{Groups, NoMemory};
 use cred_record::Cred;
-use cred_record::layout::{NAMESPACE, PERMITTED, USER};
+use cred_record::layout::NAMESPACE;
+use cred_setid::Parts;
 use cred_words::{Cells, cells};
 use std::alloc::Global;
 use std::marker::Model;
@@ -140,28 +142,17 @@ impl Master {
         peek_whole(alloc, &mut self.inner, cells, slot)
     }
 
-    /// The user ids and the group ids of the credential of a sealed slot. It takes no memory. What
-    /// is lent stays.
-    pub fn look_ids(&mut self, cells: &Cells, slot: u32) -> (Ids4, Ids4)
+    /// What an id call looks at of the credential of a sealed slot. It takes no memory. What is lent
+    /// stays.
+    #[inline(always)]
+    pub fn look_parts(&mut self, cells: &Cells, slot: u32) -> Parts
         requires own { self.old.id ≡ cells.now }
         requires sealed { IsSealed self.old.slots slot }
-        ensures ids { (c : Credential) → slice_get self.old.slots slot ≡ Some (Some c) →
-            (result.0 ≡ c.uid) × (result.1 ≡ c.gid) }
+        ensures parts { (c : Credential) → slice_get self.old.slots slot ≡ Some (Some c) →
+            (result ≡ parts_of c) × AreValidSets c.perm c.inh c.eff c.amb }
         ensures same { self.new ≡ self.old }
     {
-        known_ids(peek::<4>(&mut self.inner, cells, slot, USER))
-    }
-
-    /// The permitted, inheritable, effective, bounding and ambient set of the credential of a
-    /// sealed slot, in this order. It takes no memory. What is lent stays.
-    pub fn look_caps(&mut self, cells: &Cells, slot: u32) -> [CapSet; 5]
-        requires own { self.old.id ≡ cells.now }
-        requires sealed { IsSealed self.old.slots slot }
-        ensures caps { (c : Credential) → slice_get self.old.slots slot ≡ Some (Some c) →
-            result ≡ c.perm ∷ c.inh ∷ c.eff ∷ c.bound ∷ c.amb ∷ [] }
-        ensures same { self.new ≡ self.old }
-    {
-        known_caps(peek::<5>(&mut self.inner, cells, slot, PERMITTED))
+        peek_parts(&mut self.inner, cells, slot)
     }
 
     /// The user namespace of the credential of a sealed slot. It takes no memory. What is lent
@@ -190,6 +181,57 @@ impl Master {
         let mut writer = self.lend_writer(cells, 0, slot);
         put(cells, &mut writer, cred);
         self.take_back(cells, writer);
+    }
+
+    /// Puts on a slot on which nothing is lent the credential of another slot, which is sealed, with
+    /// these parts, and with these groups where some are given. The words of all else are copied
+    /// from slot to slot. It takes no memory. What is lent stays.
+    #[inline(always)]
+    pub fn set_like(
+        &mut self,
+        cells: &Cells,
+        from: u32,
+        slot: u32,
+        parts: &Parts,
+        groups: &Option<Groups>,
+    )
+        requires own { self.old.id ≡ cells.now }
+        requires sealed { IsSealed self.old.slots from }
+        requires within { slot < SLOTS }
+        requires alone { IsAlone self.old.entries slot }
+        requires apart { from ≢ slot }
+        requires valid { (c : Credential) → slice_get self.old.slots from ≡ Some (Some c) →
+            AreValidSets parts.now.perm c.inh parts.now.eff parts.now.amb }
+        ensures made { (c : Credential) → slice_get self.old.slots from ≡ Some (Some c) →
+            self.new ≡ record self.old {
+              slots = slice_set self.old.slots slot (Some (changed c parts.now groups.now));
+            } }
+        ensures long { length self.old.slots ≡ SLOTS }
+    {
+        let mut writer = self.lend_writer(cells, 0, slot);
+        self.put_like(cells, from, &mut writer, parts, groups);
+        self.take_back(cells, writer);
+    }
+
+    /// Puts on the slot of a writer the credential of a sealed slot, likewise.
+    #[inline(always)]
+    fn put_like(
+        &mut self,
+        cells: &Cells,
+        from: u32,
+        writer: &mut Writer,
+        parts: &Parts,
+        groups: &Option<Groups>,
+    )
+        requires own { (self.old.id ≡ cells.now) × (writer.old.id ≡ cells.now) }
+        requires sealed { IsSealed self.old.slots from }
+        requires valid { (c : Credential) → slice_get self.old.slots from ≡ Some (Some c) →
+            AreValidSets parts.now.perm c.inh parts.now.eff parts.now.amb }
+        ensures put { (c : Credential) → slice_get self.old.slots from ≡ Some (Some c) →
+            writer.new ≡ record writer.old { put = Some (changed c parts.now groups.now) } }
+        ensures same { self.new ≡ self.old }
+    {
+        put_like(&mut self.inner, cells, from, writer, parts, groups);
     }
 
     /// Leaves nothing in the words of a slot on which nothing is lent: it is not sealed from then

@@ -1,11 +1,12 @@
 //! Parts of a credential, in words that are known to be one's.
 ghost use Rattle.std.specs.Prelude.{◌≡◌, ℕ, List, ◌∷◌, [], take, drop, true};
+ghost use Rattle.cred_ids.specs.Id.{IsId};
 ghost use Rattle.cred_caps.specs.Caps.{IsCaps};
 ghost use Rattle.cred_record.specs.Words.{are_words, credential_of};
 ghost use Rattle.cred_record.specs.declared.layout.TheConstants.{USER, PERMITTED, NAMESPACE};
 
 use cred_caps::CapSet;
-use cred_ids::Ids4;
+use cred_ids::{Id, Ids4};
 use cred_packed::ids_in;
 
 /// The user ids and the group ids in the four words from `USER` on.
@@ -47,7 +48,7 @@ pub(crate) fn known_ns(words: [u64; 1]) -> u32
 }
 
 /// The set of bits that are known to be one.
-fn set(bits: u64) -> CapSet
+pub(crate) fn set(bits: u64) -> CapSet
     requires { IsCaps bits }
     ensures { result ≡ bits }
 {
@@ -55,4 +56,15 @@ fn set(bits: u64) -> CapSet
         unreachable!()
     };
     set
+}
+
+/// The id of a number that is known to be one.
+pub(crate) fn known_id(word: u64) -> Id
+    requires { IsId word }
+    ensures { result ≡ word }
+{
+    let Some(id) = Id::new(word as u32) else {
+        unreachable!()
+    };
+    id
 }

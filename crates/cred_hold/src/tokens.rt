@@ -86,6 +86,7 @@ pub fn read(alloc: Global, cells: &Cells, hold: &mut Hold) -> Result<Cred, NoMem
 
 /// The user ids and the group ids of the credential that is held. It takes no memory and waits for
 /// nobody.
+#[inline(always)]
 pub fn read_ids(cells: &Cells, hold: &mut Hold) -> (Ids4, Ids4)
     requires { hold.old.id ≡ cells.now }
     ensures value { (result.0 ≡ hold.old.cred.uid) × (result.1 ≡ hold.old.cred.gid) }
@@ -96,6 +97,7 @@ pub fn read_ids(cells: &Cells, hold: &mut Hold) -> (Ids4, Ids4)
 
 /// The permitted, inheritable, effective, bounding and ambient set of the credential that is held,
 /// in this order. It takes no memory and waits for nobody.
+#[inline(always)]
 pub fn read_caps(cells: &Cells, hold: &mut Hold) -> [CapSet; 5]
     requires { hold.old.id ≡ cells.now }
     ensures value { result ≡ hold.old.cred.perm ∷ hold.old.cred.inh ∷ hold.old.cred.eff
@@ -110,6 +112,7 @@ pub fn read_caps(cells: &Cells, hold: &mut Hold) -> [CapSet; 5]
 /// # Errors
 ///
 /// `NoMemory` if the allocation of the groups fails. The hold stays as it was, as on success.
+#[inline(always)]
 pub fn read_groups(alloc: Global, cells: &Cells, hold: &mut Hold) -> Result<Groups, NoMemory>
     requires { hold.old.id ≡ cells.now }
     ensures value { IfOk result (λ groups. groups ≡ hold.old.cred.groups) }

@@ -16,6 +16,7 @@ use cred_words::cells::{Cells, Hold, Master, Writer, read_word, see_word, settle
 use std::alloc::Global;
 
 /// So many words of the slot that is held, from `first` on. Each is loaded at a moment of its own.
+#[inline(always)]
 pub(crate) fn gather<const N: usize>(
     cells: &Cells,
     hold: &mut Hold,
@@ -132,7 +133,7 @@ pub(crate) fn peek_whole(
 
 /// Puts 0 in the words of the slot that is written from `first` on up to `last`. From the later of
 /// the two on they are 0 already.
-fn clear(cells: &Cells, writer: &mut Writer, slot: u32, first: usize, last: usize)
+pub(crate) fn clear(cells: &Cells, writer: &mut Writer, slot: u32, first: usize, last: usize)
     requires own { writer.old.id ≡ cells.now }
     requires slot { slot ≡ writer.old.token.slot }
     requires wide { length writer.old.token.words ≡ width }

@@ -23,6 +23,7 @@ use std::alloc::Global;
 /// `NoMemory` where the groups or the whole credential are read, as `is_on_whole` of
 /// `specs/Questions.antt` says, and an allocation fails. A question about ids or about capability
 /// sets takes no memory.
+#[inline(always)]
 pub fn decide(
     alloc: Global,
     cells: &Cells,
@@ -89,6 +90,7 @@ fn on_whole(
 }
 
 /// The answer to the check of a file, by the parts of the credential that the check asks of.
+#[inline(always)]
 fn checked(
     alloc: Global,
     cells: &Cells,

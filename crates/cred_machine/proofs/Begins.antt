@@ -2,7 +2,7 @@
 use Rattle.std.proofs.Common.{◌≡◌, ◌⊎◌, ℕ, ◌==◌, not, Bool, true, false, List, find, is_some, length, Option, Some, Result, Ok, Err, refl, sym, ap, ◌∙◌, inl, inr}
 use Rattle.std.specs.Option.{option_map}
 use Rattle.std.specs.Result.{IfOk}
-use Rattle.cred_record.specs.Answer.{AnswersBy}
+use Rattle.cred_setid.specs.Becomes.{IsMade}
 use Rattle.cred_record.specs.Credential.{Credential}
 use Rattle.cred_record.specs.declared.id_call.IdCall.{IdCall}
 use Rattle.cred_record.specs.declared.refusal.Denial.{Denial}
@@ -28,30 +28,13 @@ use Rattle.cred_machine.proofs.Rooms.{in_free}
 
 -- ---- what the rule says, by the call's answer
 
-pub rule_made : (given : Result Credential Denial) (made : Credential) → AnswersBy (Ok made) given → given ≡ Ok made
-rule_made (Ok x) made (inl is) = cc
-rule_made (Ok x) made (inr is) = cc
-rule_made (Err why) made is = cc
-
-pub rule_perm : (given : Result Credential Denial) → AnswersBy (Err refusal.Perm) given → given ≡ Err denial.Perm
-rule_perm (Ok x) (inl is) = cc
-rule_perm (Ok x) (inr is) = cc
-rule_perm (Err denial.Perm) is = refl
-rule_perm (Err denial.Invalid) is = cc
-
-pub rule_invalid : (given : Result Credential Denial) → AnswersBy (Err refusal.Invalid) given → given ≡ Err denial.Invalid
-rule_invalid (Ok x) (inl is) = cc
-rule_invalid (Ok x) (inr is) = cc
-rule_invalid (Err denial.Perm) is = cc
-rule_invalid (Err denial.Invalid) is = refl
-
 -- a call that is refused, whatever its refusal
-pub rule_denied : (given : Result Credential Denial) (why : Refusal) → AnswersBy (Err why) given → (why ≡ refusal.Perm) ⊎ (why ≡ refusal.Invalid)
+pub rule_denied : (given : Result Credential Denial) (why : Refusal) → IsMade given (Err why) → (why ≡ refusal.Perm) ⊎ (why ≡ refusal.Invalid)
     → (d : Denial) × (given ≡ Err d)
-rule_denied (Ok x) why (inl is) either = cc
-rule_denied (Ok x) why (inr is) (inl either) = cc
-rule_denied (Ok x) why (inr is) (inr either) = cc
-rule_denied (Err d) why is either = (d, refl)
+rule_denied given refusal.Perm is either = (denial.Perm, is)
+rule_denied given refusal.Invalid is either = (denial.Invalid, is)
+rule_denied given refusal.Memory is (inl either) = cc
+rule_denied given refusal.Memory is (inr either) = cc
 
 -- ---- what refuses the call
 

@@ -2,6 +2,8 @@
 ghost use Rattle.std.specs.Prelude.{◌≡◌, ◌≤◌, is_some, length, not, IfOk, OnOk, OnErr};
 ghost use Rattle.cred_ids.specs.Limits.{TASKS};
 ghost use Rattle.cred_event.specs.declared.answer.Answer.TheVariants.{Aborted};
+ghost use Rattle.cred_rules.specs.SetId.{set_id};
+ghost use Rattle.cred_setid.specs.Becomes.{IsMade};
 ghost use Rattle.cred_model.specs.State.{Broadcast};
 ghost use Rattle.cred_model.specs.Like.{Gives};
 ghost use Rattle.cred_model.specs.Slots.{free, least_free};
@@ -16,8 +18,22 @@ use cred_event::{AbortCause, Answer, Named};
 use cred_ids::NoMemory;
 use cred_plain::casts::{cast_of, drop_cast, leave, open_cast, open_in};
 use cred_plain::{Cast, Ending};
-use cred_record::{Cred, IdCall, Refusal};
-use cred_setid::apply;
+use cred_record::{Cred, IdCall, Refusal, copy};
+use cred_setid::apply_to;
+use std::alloc::Global;
+
+/// What an id call makes of a copy of the credential.
+///
+/// # Errors
+///
+/// What refuses the call. `Memory` also where the copy fails.
+fn called(alloc: Global, cred: &Cred, call: &IdCall) -> Result<Cred, Refusal>
+    ensures { IsMade (set_id cred.now call.now) result }
+{
+    let mut new = copy(cred)?;
+    apply_to(alloc, &mut new, call)?;
+    Ok(new)
+}
 
 impl State {
     /// A task makes an id call. The other threads of its process then wait for their step; where it
@@ -47,7 +63,7 @@ impl State {
         if let Some(depth) = overridden(owner) {
             return Ok(Answer::Overridden(depth));
         }
-        let cred = match apply(self.alloc, old.cred, call) {
+        let cred = match called(self.alloc, old.cred, call) {
             Ok(cred) => cred,
             Err(Refusal::Perm) => return Ok(Answer::Eperm),
             Err(Refusal::Invalid) => return Ok(Answer::Einval),
@@ -118,7 +134,7 @@ impl State {
             return Ok(Answer::NoBroadcast(line));
         };
         let (process, left, number) = (cast.process, cast.others(), current.number);
-        let cred = match apply(self.alloc, current.cred, &cast.call) {
+        let cred = match called(self.alloc, current.cred, &cast.call) {
             Ok(cred) => cred,
             // Whether a call is valid is the call's alone, and its caller has made it: what the
             // thread lacks is the right.

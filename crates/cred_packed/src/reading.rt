@@ -147,6 +147,16 @@ fn bits_in(word: u64) -> Option<SecureBits>
     SecureBits::new((word & 0xff) as u32)
 }
 
+/// The securebits in the word of flags.
+pub fn secure_bits(flags: u64) -> SecureBits
+    ensures { result ≡ flags % 2 ^ 8 }
+{
+    let Some(bits) = bits_in(flags) else {
+        unreachable!()
+    };
+    bits
+}
+
 /// The number of the namespace.
 fn namespace_in(word: u64) -> Option<u32>
     ensures { SomeIff result (word < 2 ^ 32) word }

@@ -1,9 +1,10 @@
 //! A credential laid out in words.
 ghost use Rattle.std.specs.Prelude.{◌≡◌, ◌<◌, ◌≤◌, ◌+◌, ◌-◌, ◌*◌, length, replicate, take};
-ghost use Rattle.std.specs.Prelude.{slice_index};
+ghost use Rattle.std.specs.Prelude.{slice_index, ◌%◌, ◌^◌};
+ghost use Rattle.cred_ids.specs.Limits.{GROUP_LIMIT};
 ghost use Rattle.cred_record.specs.Words.{pair, flags_word, words_of};
 
-use cred_ids::{Groups, Id};
+use cred_ids::{Groups, Id, Ids4};
 use cred_record::layout::GROUPS;
 use cred_record::{Cred, WORDS};
 
@@ -19,6 +20,15 @@ fn ids(low: Id, high: Id) -> u64
     ensures { result ≡ pair low high }
 {
     pair(low.number(), high.number())
+}
+
+/// The two words with the four ids of a kind, as `USER` and `SAVED_USER` or `GROUP` and
+/// `SAVED_GROUP` hold them.
+pub fn id_words(four: &Ids4) -> (u64, u64)
+    ensures { (result.0 ≡ pair four.now.real four.now.effective)
+        × (result.1 ≡ pair four.now.saved four.now.fs) }
+{
+    (ids(four.real, four.effective), ids(four.saved, four.fs))
 }
 
 /// The group at a place, and 0 where there is none.
@@ -37,6 +47,14 @@ fn flags(cred: &Cred) -> u64
 {
     let bits = u64::from(cred.nnp) << 8 | u64::from(cred.bits.number());
     (cred.groups.len() as u64) << 16 | bits
+}
+
+/// The word of flags with another number of groups.
+pub fn flags_with(flags: u64, count: usize) -> u64
+    requires { count ≤ GROUP_LIMIT }
+    ensures { result ≡ count * 2 ^ 16 + flags % 2 ^ 16 }
+{
+    (count as u64) << 16 | (flags & 0xffff)
 }
 
 /// The words before those of groups, in the order of `layout`'s places.
@@ -60,8 +78,8 @@ pub fn head(cred: &Cred) -> [u64; GROUPS]
     ]
 }
 
-/// The word `i` of those of groups, with two groups, or one and 0.
-fn group_word(groups: &Groups, i: usize) -> u64
+/// The word `i` of those of these groups, with two groups, or one and 0.
+pub fn group_word(groups: &Groups, i: usize) -> u64
     requires { i < WORDS - GROUPS }
     ensures { result ≡ pair (slice_index groups.now (2 * i)) (slice_index groups.now (2 * i + 1)) }
 {

@@ -67,6 +67,7 @@ impl Files {
     }
 
     /// The place of the file of this name, from 0 to 255; none for a name that isn't declared.
+    #[inline(always)]
     pub fn place_of(&self, name: &str) -> Option<u32>
         ensures place { result ≡ spec.place_of self.now name.now }
         ensures few { IfSome result (λ place. place < FILES) }

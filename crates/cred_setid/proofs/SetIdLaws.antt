@@ -11,16 +11,15 @@ use Rattle.cred_caps.specs.declared.secure.Flag.TheVariants.{NoSetuidFixup}
 use Rattle.cred_ids.specs.Ordered.{in_order}
 use Rattle.cred_ids.specs.Limits.{GROUP_LIMIT}
 use Rattle.cred_caps.specs.Caps.{Caps, empty, IsWithin}
-use Rattle.cred_caps.specs.Numbers.{SETGID, SETUID}
+use Rattle.cred_caps.specs.Numbers.{SETGID}
 use Rattle.cred_caps.specs.Secure.{is_set}
 use Rattle.cred_caps.proofs.SetLaws.{within_itself}
-use Rattle.cred_record.specs.declared.id_call.IdCall.{IdCall}
 use Rattle.cred_record.specs.declared.id_call.IdCall.TheVariants.{SetUid, SetEuid, SetReuid, SetResuid, SetGid, SetEgid, SetRegid, SetResgid, SetGroups}
 use Rattle.cred_record.specs.declared.refusal.Denial.{Denial}
 use Rattle.cred_record.specs.declared.refusal.Denial.TheVariants.{Perm, Invalid}
 use Rattle.cred_record.specs.Credential.{Credential, capable}
 use Rattle.cred_rules.specs.Fix.{clears_permitted, fixed, with_user_ids}
-use Rattle.cred_rules.specs.SetId.{id_or, is_one_of, is_given, is_other, three, permitted, after_setuid, after_setreuid, after_setresuid, after_seteuid, after_setgroups, for_users, for_groups, set_id}
+use Rattle.cred_rules.specs.SetId.{id_or, is_one_of, is_given, is_other, three, permitted, after_setuid, after_setreuid, after_setresuid, after_seteuid, after_setgroups, for_users, for_groups}
 use Rattle.cred_setid.specs.Laws.{AreOwn, UserIdsStayOwn, GroupIdsStayOwn, PermittedNeverGrows}
 
 -- ---- the ids of a caller

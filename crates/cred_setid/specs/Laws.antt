@@ -1,5 +1,5 @@
 -- What a task can reach by the calls that set ids (credentials(7), capabilities(7)).
-use Rattle.std.specs.Prelude.{◌≡◌, ℕ, false, Contains, Ok}
+use Rattle.std.specs.Prelude.{◌≡◌, false, Contains, Ok}
 use Rattle.cred_ids.specs.declared.id.Ids4.{Ids4}
 use Rattle.cred_caps.specs.Caps.{IsWithin}
 use Rattle.cred_caps.specs.Numbers.{SETGID, SETUID}

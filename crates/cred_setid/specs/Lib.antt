@@ -1,1 +1,3 @@
+pub mod Becomes
 pub mod Laws
+pub mod Parts

@@ -1,4 +1,4 @@
-//! Laws of the calls that set ids, over the definitions that `apply` is proved to follow. There is
+//! Laws of the calls that set ids, over the definitions that `apply_to` is proved to follow. There is
 //! nothing to run.
 ghost use Rattle.cred_setid.specs.Laws.{UserIdsStayOwn, GroupIdsStayOwn, PermittedNeverGrows};
 

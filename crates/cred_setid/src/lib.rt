@@ -7,6 +7,8 @@ mod fix;
 mod fs;
 mod ids;
 pub mod laws;
+pub mod parts;
 
-pub use calls::apply;
+pub use calls::{apply_parts, apply_to};
 pub use fs::setfs;
+pub use parts::Parts;

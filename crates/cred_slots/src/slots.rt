@@ -168,6 +168,7 @@ impl Slots {
     }
 
     /// The number has one reference more.
+    #[inline(always)]
     pub fn add(&mut self, number: u64)
         requires referred { 0 < references_to self.old number }
         requires spare { 0 < self.old.spare }

@@ -1,6 +1,6 @@
 -- A thread that waits makes its step in a broadcast, or its process ends.
-use Rattle.std.proofs.Common.{◌≡◌, ℕ, ◌+◌, ◌-◌, ◌<◌, ◌==◌, List, ◌++◌, ◌⊎◌, length, slice_get, slice_set, Option, None, Some, is_some, Result, Ok, Err, IfOk, OnOk, inl, inr, refl, sym, ap, ◌∙◌, subst, arith}
-use Rattle.std.specs.Option.{IfSome, IsSome, option_and_then, option_map}
+use Rattle.std.proofs.Common.{◌≡◌, ℕ, ◌+◌, ◌-◌, ◌<◌, ◌==◌, List, ◌++◌, ◌⊎◌, length, slice_get, slice_set, Option, None, Some, is_some, true, Result, Ok, Err, IfOk, OnOk, inl, inr, refl, sym, ap, ◌∙◌, subst, arith}
+use Rattle.std.specs.Option.{IfSome, IsSome, IsSomeAnd, option_and_then, option_map}
 use Rattle.std.proofs.lemmas.Option.{slice_get_within}
 use Rattle.cred_ids.specs.Limits.{SLOTS}
 use Rattle.cred_record.specs.Credential.{Credential}
@@ -15,13 +15,13 @@ use Rattle.cred_event.specs.declared.answer.AbortCause.TheVariants.{Perm, Full}
 use Rattle.cred_event.specs.declared.answer.Answer.{Answer}
 use Rattle.cred_event.specs.declared.answer.Answer.TheVariants.{Acted, Aborted, NoBroadcast}
 use Rattle.cred_model.specs.State.{State, Task, Broadcast, Numbered, numbered, cast_of, current_of, task_of}
-use Rattle.cred_model.specs.Casts.{dropped, waits_no_more}
+use Rattle.cred_model.specs.Casts.{dropped, waits_in, waits_no_more}
 use Rattle.cred_model.specs.Ends.{is_thread_of, survivors, left_by}
 use Rattle.cred_model.specs.Like.{IsOutcomeLike}
 use Rattle.cred_model.specs.Moves.{in_slot, with_current, replaced}
 use Rattle.cred_model.specs.Step.{aborted, by_act, outcome}
 use Rattle.cred_model.proofs.Likes.{does_same}
-use Rattle.cred_model.proofs.Lists.{found}
+use Rattle.cred_model.proofs.Lists.{found, slice_get_at}
 use Rattle.cred_model.proofs.Numbers.{owner_number}
 use Rattle.cred_sound.specs.Casts.{IsThread, IsUnderWay}
 use Rattle.cred_sound.specs.Sound.{IsSound}
@@ -38,7 +38,8 @@ use Rattle.cred_tables.proofs.Filled.{filled_same, no_more_swept}
 use Rattle.cred_tables.proofs.InUse.{Differ}
 use Rattle.cred_model.proofs.Places.{if_some}
 use Rattle.cred_tables.proofs.Sealing.{Drops, roomy, in_free_or, in_none_or}
-use Rattle.cred_state.specs.Lending.{IsMade}
+use Rattle.cred_setid.specs.Parts.{PartsBecome}
+use Rattle.cred_setid.specs.declared.parts.Parts.{Parts as IdParts}
 
 -- ---- what was found
 
@@ -50,6 +51,11 @@ pub mapped_is : {X Y Z : Type 0} (f : X → Z) (g : Y → Z) (x : Option X) (y :
     → f a ≡ g b
 mapped_is f g x y a b is here there =
     let both : Some (f a) ≡ Some (g b) = sym (ap (option_map f) here) ∙ is ∙ ap (option_map g) there in cc
+
+-- what holds of the call that was found holds of that of the broadcast
+pub called_so : (P : IdCall → Type 0) (found : Option Broadcast) (call : IdCall) → IfSome found (λ b. call ≡ b.call) → P call → IfSome found (λ b. P b.call)
+called_so P None call is p = tt
+called_so P (Some b) call is p = subst P is p
 
 -- The least task that waits in the broadcast of this number is this one, which is alive and of the
 -- broadcast's process.
@@ -79,6 +85,26 @@ next_is s number task sound is = by (cast_of s number) refl is
 -- the call that the thread makes is that of its broadcast
 pub call_is : {s : State} {number task : ℕ} (next : IsNext s number task) (call : IdCall) → Some call ≡ option_map (λ b. b.call) (cast_of s number) → call ≡ next.cast.call
 call_is next call is = let both : Some call ≡ Some next.cast.call = is ∙ ap (option_map (λ (b : Broadcast). b.call)) next.found in cc
+
+-- the broadcast's place among the open ones
+module _ {s : State} {number task : ℕ} (next : IsNext s number task) (place : ℕ) (under : slice_get s.casts place ≡ cast_of s number) where
+  pub cast_there : slice_get s.casts place ≡ Some next.cast
+  cast_there = under ∙ next.found
+
+  pub cast_within : place < length s.casts
+  cast_within = slice_get_within s.casts place next.cast cast_there
+
+  pub waits_there : IsSomeAnd (slice_get s.casts place) (λ b. waits_in task b ≡ true)
+  waits_there = rw cast_there (least_waits next.cast task next.least)
+
+-- the least task that waits where the broadcast of a number was found
+pub least_is : (s : State) (number place task : ℕ) → slice_get s.casts place ≡ cast_of s number → place < length s.casts
+    → IfSome (slice_get s.casts place) (λ b. slice_get b.waiting 0 ≡ Some task)
+    → Some task ≡ option_and_then (λ b. slice_get b.waiting 0) (cast_of s number)
+least_is s number place task under within least =
+    let at = slice_get_at s.casts place within in
+    sym (if_some (λ (b : Broadcast). slice_get b.waiting 0 ≡ Some task) (slice_get s.casts place) at.0 at.1 least)
+    ∙ ap (option_and_then (λ (b : Broadcast). slice_get b.waiting 0)) (sym at.1 ∙ under)
 
 -- the thread's place in the table of tasks
 module _ {s : State} {number task : ℕ} (next : IsNext s number task) (place : ℕ) (there : slice_get s.tasks place ≡ task_of s task) where
@@ -148,12 +174,12 @@ abort_held Perm t = refl
 abort_held Full t = refl
 
 -- where an allocation wasn't what failed, and no credential was made, the call's rule denies it
-pub denied : (given : Result Credential Denial) (why : Refusal) → IsMade given (Err why) → (why ≡ refusal.Perm) ⊎ (why ≡ refusal.Invalid)
+pub denied : (c : Credential) (old new : IdParts) (why : Refusal) (given : Result Credential Denial) → PartsBecome c old new (Err why) given → (why ≡ refusal.Perm) ⊎ (why ≡ refusal.Invalid)
     → (denial : Denial) × (given ≡ Err denial)
-denied given refusal.Perm is other = (denial.Perm, is)
-denied given refusal.Invalid is other = (denial.Invalid, is)
-denied given refusal.Memory is (inl other) = cc
-denied given refusal.Memory is (inr other) = cc
+denied c old new refusal.Perm given is other = (denial.Perm, is.0)
+denied c old new refusal.Invalid given is other = (denial.Invalid, is.0)
+denied c old new refusal.Memory given is (inl other) = cc
+denied c old new refusal.Memory given is (inr other) = cc
 
 -- what an equation says, where there is an answer
 pub gives_ok : {E : Type 0} (before after : State) (event : Result (Answer × State) Answer) (made : Result Answer E) → IfOk made (λ answer. outcome before event ≡ (answer, after))

@@ -5,7 +5,6 @@ pub mod Inits
 pub mod Creating
 pub mod Begins
 pub mod Acts
-pub mod Made
 pub mod Reserved
 pub mod Reading
 pub mod Standing

@@ -1,15 +1,18 @@
 -- A credential that is found, and that something refers to, stands in the words of its slot.
-use Rattle.std.proofs.Common.{◌≡◌, ℕ, ◌<◌, ◌==◌, Bool, zero, suc, List, [], ◌∷◌, Option, None, Some, slice_get, get_or, refl, sym, ap, ◌∙◌, subst, arith}
+use Rattle.std.proofs.Common.{◌≡◌, ◌≢◌, ℕ, ◌+◌, ◌<◌, ◌==◌, Bool, true, false, zero, suc, List, [], ◌∷◌, ◌++◌, length, Option, None, Some, slice_get, get_or, refl, sym, ap, ◌∙◌, subst, arith}
+use Rattle.std.specs.List.{count_by}
 use Rattle.std.specs.Option.{IsSome, option_map, option_map_or, option_and_then}
-use Rattle.std.proofs.lemmas.Option.{get_or_from_slice_get, same_Some}
+use Rattle.std.proofs.lemmas.Bool.Decides.{nat_tests}
+use Rattle.std.proofs.lemmas.Option.{get_or_from_slice_get, same_Some, slice_get_within}
 use Rattle.cred_record.specs.Credential.{Credential}
 use Rattle.cred_model.specs.State.{State, Numbered, SealedCred, numbered}
 use Rattle.cred_model.specs.Slots.{in_use}
+use Rattle.cred_model.proofs.Lists.{slice_get-left}
 use Rattle.cred_model.proofs.Numbers.{numbered_is}
 use Rattle.cred_hold.specs.Tokens.{IsSealed}
-use Rattle.cred_slots.specs.Table.{Table, free, references_to}
+use Rattle.cred_slots.specs.Table.{Table, free, references_to, stands_in}
 use Rattle.cred_slots.proofs.Counting.{count-append}
-use Rattle.cred_tables.specs.Kept.{Parts, placed, creds_in, cred_under, seen_in, no_credential, state_of, AreInPlace, IsInUse, IsKept}
+use Rattle.cred_tables.specs.Kept.{Parts, placed, creds_in, cred_under, seen_in, no_credential, state_of, AreInPlace, IsInUse, IsKept, Seals}
 use Rattle.cred_tables.specs.declared.table.Numbered as table
 use Rattle.cred_tables.proofs.Sealing.{used_is_referred}
 
@@ -63,6 +66,9 @@ module _ {parts : Parts} {places : List (Option Credential)} {t : Table} (is : I
     pub found-place : slice_get places found.slot ≡ Some (Some (cred_under s.creds found.number))
     found-place = in_place found.number _ (used_is_referred is found.number used) (numbered_is s.creds found.number _ there).1
 
+    pub found-slot : slice_get t.sealed found.number ≡ Some found.slot
+    found-slot = at_slot places t.sealed found.number _ (numbered_is s.creds found.number _ there).1
+
     pub found-sealed : IsSealed places found.slot
     found-sealed = (cred_under s.creds found.number, found-place)
 
@@ -84,3 +90,20 @@ found-there places sealed found is c there =
     let own = at_place places sealed found.number _ x in
     sym (own ∙ ap (λ (o : Option Credential). option_map_or (λ (d : Credential). d) o no_credential)
     (get_or_from_slice_get places found.slot (Some c) None there))
+
+itself : (n : ℕ) → (n == n) ≡ true
+itself n = grind (arith, nat_tests)
+
+-- The slot that the next number was sealed in is none in which a number stands that is referred to.
+pub stands_apart : {before after : Table} {number slot : ℕ} → Seals before after number slot → (n own : ℕ) → slice_get before.sealed n ≡ Some own → 0 < count_by (λ m. m == n) after.held
+    → own ≢ slot
+stands_apart {before = before} {after = after} {number = number} {slot = slot} seals n own is many same =
+    let small = slice_get_within before.sealed n own is in
+    let there : slice_get after.sealed n ≡ Some slot
+    = ap (λ (ns : List ℕ). slice_get ns n) seals.sealed ∙ slice_get-left before.sealed (slot ∷ []) n small ∙ is ∙ ap (λ (s : ℕ). Some s) same in
+    let stands : stands_in after.sealed slot n ≡ true
+    = ap (λ (o : Option ℕ). option_map_or (λ place. place == slot) o false) there ∙ itself slot in
+    let all = count-append (λ m. m == n) after.held after.deferred in
+    let one = seals.alone.only n stands (omega (arith, all, many)) in
+    let next = seals.counted in
+    omega (arith, small, one, next)

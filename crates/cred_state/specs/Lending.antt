@@ -144,8 +144,6 @@ is_decided event = false
 -- a task is created by the event, ends by it, or makes an id call or a step of one
 abbrev pub is_of_task : Event → Bool
 is_of_task (Init task process user group ns) = true
-is_of_task (Begin task call) = true
-is_of_task (Act cast) = true
 is_of_task (Spawn task child) = true
 is_of_task (Fork task child process) = true
 is_of_task (Exit task) = true
@@ -154,11 +152,7 @@ is_of_task event = false
 -- the event is on a label, on what a task acts with or on a descriptor, or is a sweep, and is
 -- decided on nothing that is lent
 abbrev pub is_of_label : Event → Bool
-is_of_label (Take label task side) = true
 is_of_label (TakeFile label fd) = true
-is_of_label (Release label) = true
-is_of_label (Prepare label task hold) = true
-is_of_label (Commit label) = true
 is_of_label (Abort label) = true
 is_of_label (Override task label) = true
 is_of_label (Revert task) = true
@@ -175,11 +169,3 @@ pub record MayOpen (s : State) (label fd opener : ℕ) (told : Answer) : Type 0 
   pub new : open_of s fd ≡ None
   pub room : length s.files < OPEN_FILES
   pub done : told ≡ Done
-
--- The call was made as its rule says, or refused as the rule denies it. Where memory has run out
--- nothing is said.
-abbrev pub IsMade : Result Credential Denial → Result Credential Refusal → Type 0
-IsMade given (Ok cred) = given ≡ Ok cred
-IsMade given (Err refusal.Perm) = given ≡ Err denial.Perm
-IsMade given (Err refusal.Invalid) = given ≡ Err denial.Invalid
-IsMade given (Err refusal.Memory) = ⊤

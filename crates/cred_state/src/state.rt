@@ -161,17 +161,17 @@ impl State {
             Event::Signal { .. } | Event::Alter { .. } | Event::OpenFile { .. } => self.decide(
                 cells, script, line, event,
             ),
+            Event::Take { label, task, side } => self.take(*label, *task, *side),
+            Event::Release { label } => Ok(self.release(*label)),
+            Event::Prepare { label, task, hold } => self.prepare(cells, *label, *task, *hold),
+            Event::Commit { label } => self.commit(*label),
+            Event::Begin { task, call } => self.begin(cells, line, *task, call),
+            Event::Act { cast } => self.act(cells, *cast),
             Event::Init { .. }
-            | Event::Begin { .. }
-            | Event::Act { .. }
             | Event::Spawn { .. }
             | Event::Fork { .. }
             | Event::Exit { .. } => self.step_task(cells, script, line, event),
-            Event::Take { .. }
-            | Event::TakeFile { .. }
-            | Event::Release { .. }
-            | Event::Prepare { .. }
-            | Event::Commit { .. }
+            Event::TakeFile { .. }
             | Event::Abort { .. }
             | Event::Override { .. }
             | Event::Revert { .. }
@@ -243,6 +243,7 @@ impl State {
     }
 
     /// The credential that a label holds.
+    #[inline(always)]
     fn held(&self, label: u32) -> Option<Numbered>
         ensures { option_map (seen_in self.now.state.creds) result ≡ held_by self.now.state label }
     {
@@ -251,6 +252,7 @@ impl State {
     }
 
     /// Whether a hold or a prepared label has this label.
+    #[inline(always)]
     fn has_label(&self, label: u32) -> bool
         ensures { result
             ≡ (is_some (hold_of self.now.state label)
@@ -258,7 +260,7 @@ impl State {
     {
         self.holds.get(label).is_some() || self.prepared.get(label).is_some()
     }
-
+    #[inline(never)]
     fn take(&mut self, label: u32, task: u32, side: Side) -> Result<Answer, NoMemory>
         ensures ok { IfOk result (λ answer.
             Gives self.old.state (by_take self.old.state label task side) answer self.new.state) }
@@ -295,7 +297,7 @@ impl State {
         self.slots.add(number);
         Ok(Answer::Sealed { cred: number, slot })
     }
-
+    #[inline(never)]
     fn release(&mut self, label: u32) -> Answer
         ensures made { Gives self.old.state (by_release self.old.state label) result
             self.new.state }

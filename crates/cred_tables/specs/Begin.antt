@@ -27,9 +27,10 @@ pub record MayBegin (s : State) (line task : ℕ) (now : Numbered) : Type 0 wher
   pub new : cast_of s line ≡ None
   pub own : not_overridden owner ≡ Ok tt
 
--- The least thread that waits in the broadcast of this number is this one. It stands in this place
--- among the tasks, and this is its current credential.
-pub record ActsNext (s : State) (number task place : ℕ) (now : Numbered) : Type 0 where
+-- The broadcast of this number stands in this place, `cast`. The least thread that waits in it is
+-- this one. It stands in this place among the tasks, and this is its current credential.
+pub record ActsNext (s : State) (number cast task place : ℕ) (now : Numbered) : Type 0 where
+  pub under : slice_get s.casts cast ≡ cast_of s number
   pub least : Some task ≡ option_and_then (λ b. slice_get b.waiting 0) (cast_of s number)
   pub there : slice_get s.tasks place ≡ task_of s task
   pub has : current_of s task ≡ Some now

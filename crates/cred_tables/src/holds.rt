@@ -43,6 +43,7 @@ impl Holds {
     }
 
     /// The number that a label holds.
+    #[inline(always)]
     pub fn get(&self, label: u32) -> Option<u64>
         ensures { result ≡ option_map (λ h. h.number) (find (λ h. h.label == label) self.now) }
     {
@@ -54,6 +55,7 @@ impl Holds {
     /// # Errors
     ///
     /// `NoMemory` if an allocation fails: the holds are as they were.
+    #[inline(always)]
     pub fn take(&mut self, label: u32, number: u64) -> Result<(), NoMemory>
         requires { find (λ h. h.label == label) self.old ≡ None }
         ensures ok { OnOk result
@@ -64,6 +66,7 @@ impl Holds {
     }
 
     /// A label lets go of the number that it held.
+    #[inline(always)]
     pub fn release(&mut self, label: u32) -> Option<u64>
         ensures { MatchOption result
             ((place_of self.old label ≡ None) × (self.new ≡ self.old))

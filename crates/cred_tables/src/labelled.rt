@@ -41,6 +41,7 @@ impl<T: Drop> Labelled<T> {
     }
 
     /// How many labels there are.
+    #[inline(always)]
     pub fn len(&self) -> usize
         ensures { result ≡ length self.now }
     {
@@ -51,6 +52,7 @@ impl<T: Drop> Labelled<T> {
     }
 
     /// The value under a label. `None` where the label isn't there.
+    #[inline(always)]
     pub fn get(&self, label: u32) -> Option<&T>
         ensures { option_copied result ≡ lookup (nat_eq label) self.now }
     {
@@ -62,6 +64,7 @@ impl<T: Drop> Labelled<T> {
     }
 
     /// A label that wasn't there comes with its value. If an allocation fails, nothing changes.
+    #[inline(always)]
     pub fn push(&mut self, label: u32, value: T) -> Result<(), NoMemory>
         requires { lookup (nat_eq label) self.old ≡ None }
         ensures ok { OnOk result (self.new ≡ self.old ++ (label, value) ∷ []) }
@@ -78,6 +81,7 @@ impl<T: Drop> Labelled<T> {
     }
 
     /// A label gets this value in place of its own. Where the label isn't there, nothing changes.
+    #[inline(always)]
     pub fn set(&mut self, label: u32, value: T)
         ensures value { self.new ≡ set_value (nat_eq label) self.old value }
         ensures once { IsDistinct nat_eq (keys_of self.old) }
@@ -93,6 +97,7 @@ impl<T: Drop> Labelled<T> {
     }
 
     /// A label goes, with its value. `None` where the label isn't there; then nothing changes.
+    #[inline(always)]
     pub fn remove(&mut self, label: u32) -> Option<T>
         ensures value { result ≡ lookup (nat_eq label) self.old }
         ensures left { self.new ≡ remove_entry (nat_eq label) self.old }

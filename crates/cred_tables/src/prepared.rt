@@ -90,6 +90,7 @@ impl Preparing {
     }
 
     /// What is prepared under a label. `None` where it isn't prepared.
+    #[inline(always)]
     pub fn get(&self, label: u32) -> Option<&Preparation>
         ensures { option_map (λ p. prepared_as label p.now) result
             ≡ find (λ p. p.label == label) self.now }
@@ -99,6 +100,7 @@ impl Preparing {
 
     /// A label that may be committed. `None` where the label isn't prepared, was never changed, or
     /// was changed last for access(2).
+    #[inline(always)]
     pub fn ready(&self, label: u32) -> Option<Ready>
         ensures { MatchOption result
             (option_and_then model.for_task (changed_of self.now label) ≡ None)
@@ -135,6 +137,7 @@ impl Preparing {
     /// # Errors
     ///
     /// `NoMemory` if an allocation fails: the labels are as they were.
+    #[inline(always)]
     pub fn prepare(&mut self, label: u32, preparation: Preparation) -> Result<(), NoMemory>
         requires { find (λ p. p.label == label) self.old ≡ None }
         ensures ok { OnOk result (self.new ≡ self.old ++ prepared_as label preparation ∷ []) }
@@ -145,6 +148,7 @@ impl Preparing {
 
     /// The base of a label was changed to this: what an earlier change made of it is dropped. Where
     /// the label isn't prepared, nothing changes.
+    #[inline(always)]
     pub fn change(&mut self, label: u32, to: Changed)
         ensures { self.new ≡ with_change self.old label to }
     {
@@ -161,6 +165,7 @@ impl Preparing {
     }
 
     /// A label gives up what it prepared. `None` where it isn't prepared; then nothing changes.
+    #[inline(always)]
     pub fn give_up(&mut self, label: u32) -> Option<Ended>
         ensures { MatchOption result
             ((place_of self.old label ≡ None) × (self.new ≡ self.old))
@@ -171,6 +176,7 @@ impl Preparing {
     }
 
     /// A label that was changed is done: it gives up its base and its slot, and what it prepared.
+    #[inline(always)]
     pub fn finish(&mut self, label: u32) -> (Ended, Changed)
         requires { IsSome (changed_of self.old label) }
         ensures { Finishes self.old self.new label result.0.base result.0.slot result.1 }

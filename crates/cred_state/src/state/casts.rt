@@ -1,11 +1,12 @@
 //! The id calls, which every thread of a process makes, one after another, and the open broadcasts,
 //! which refuse other events while threads still wait in them (nptl(7)).
-ghost use Rattle.std.specs.Prelude.{◌≡◌, Ok, Err, Some, IfOk, IfSome, MatchOption, MatchResult};
+ghost use Rattle.std.specs.Prelude.{◌≡◌, ◌<◌, length, slice_get, Ok, Err, Some, IfOk, IfSome, MatchOption, MatchResult};
 ghost use Rattle.std.specs.Prelude.{OnOk, OnErr};
 ghost use Rattle.std.specs.Option.{IsSome};
 ghost use Rattle.cred_event.specs.declared.answer.Answer.TheVariants.{Aborted, Busy};
 ghost use Rattle.cred_event.specs.declared.answer.Answer.TheVariants.{NoBroadcast};
 ghost use Rattle.cred_record.specs.declared.id_call.IdCall.{IdCall as Call};
+ghost use Rattle.cred_record.specs.Credential.{AreValidSets, Credential};
 ghost use Rattle.cred_rules.specs.SetId.{set_id};
 ghost use Rattle.cred_model.specs.State.{Broadcast, begun_by, cast_in, cast_of, numbered, task_of};
 ghost use Rattle.cred_model.specs.Casts.{not_busy};
@@ -15,20 +16,21 @@ ghost use Rattle.cred_sound.specs.Sound.{IsSound};
 ghost use Rattle.cred_tables.specs.Begin.{ActsNext, MayBegin, at_abort};
 ghost use Rattle.cred_tables.specs.Kept.{cred_under, seen_in, IsInUse};
 ghost use Rattle.cred_tables.specs.Out.{AreOut};
-ghost use Rattle.cred_state.specs.Lending.{IsMade};
+ghost use Rattle.cred_setid.specs.Parts.{PartsBecome, changed, parts_of};
 
 use crate::state::State;
 use cred_event::{AbortCause, Answer, Named};
 use cred_hold::Cells;
-use cred_ids::NoMemory;
-use cred_record::{Cred, IdCall, Refusal};
-use cred_setid::apply;
+use cred_ids::{Groups, NoMemory};
+use cred_record::{IdCall, Refusal};
+use cred_setid::{Parts, apply_parts};
 use cred_tables::{Numbered, begin_in, drop_all, seal_next, sweep_at};
 
-/// The least thread that waits in a broadcast, its place among the tasks, and its current
-/// credential.
+/// A broadcast by its place among the open ones, the least thread that waits in it, that thread's
+/// place among the tasks, and its current credential.
 #[derive(Clone, Copy)]
 struct Next {
+    cast: usize,
     task: u32,
     place: usize,
     now: Numbered,
@@ -41,8 +43,9 @@ impl State {
     ///
     /// # Errors
     ///
-    /// `NoMemory` if an allocation of the credential, of room for its reference, of a list or of
-    /// the call's copy fails: the state is as it was.
+    /// `NoMemory` if an allocation of the groups that are set, of room for a reference, of a list or
+    /// of the call's copy fails: the state is as it was.
+    #[inline(never)]
     pub fn begin(
         &mut self,
         cells: &Cells,
@@ -63,38 +66,31 @@ impl State {
             Ok(now) => now,
             Err(answer) => return Ok(answer),
         };
-        let cred = match self.called(cells, now, call) {
-            Ok(cred) => cred,
-            Err(Refusal::Perm) => return Ok(Answer::Eperm),
-            Err(Refusal::Invalid) => return Ok(Answer::Einval),
-            Err(Refusal::Memory) => return Err(NoMemory),
-        };
-        let answer = self.begin_with(cells, line, task, call, now, &cred);
-        drop(cred);
-        answer
+        let mut parts = self.look_parts(cells, now);
+        match apply_parts(self.alloc, &mut parts, call) {
+            Ok(groups) => self.begin_with(cells, line, task, call, now, &parts, &groups),
+            Err(Refusal::Perm) => Ok(Answer::Eperm),
+            Err(Refusal::Invalid) => Ok(Answer::Einval),
+            Err(Refusal::Memory) => Err(NoMemory),
+        }
     }
 
-    /// What an id call makes of the credential that was found. Something refers to it.
-    ///
-    /// # Errors
-    ///
-    /// What refuses the call. `Memory` also where the credential isn't read for want of memory.
-    fn called(&mut self, cells: &Cells, found: Numbered, call: &IdCall) -> Result<Cred, Refusal>
+    /// What an id call looks at of the credential that was found. Something refers to it.
+    #[inline(always)]
+    fn look_parts(&mut self, cells: &Cells, found: Numbered) -> Parts
         requires own { self.old.words.id ≡ cells.now }
         requires found { numbered self.old.state.creds found.number
             ≡ Some (seen_in self.old.state.creds found) }
         requires used { IsInUse self.old.state found.number }
-        ensures made { IsMade (set_id (cred_under self.old.state.creds found.number) call.now)
-            result }
+        ensures parts { let c = cred_under self.old.state.creds found.number in
+            (result ≡ parts_of c) × AreValidSets c.perm c.inh c.eff c.amb }
         ensures same { self.new ≡ self.old }
     {
-        let own = self.read(cells, found)?;
-        let made = apply(self.alloc, &own, call);
-        drop(own);
-        made
+        self.master.look_parts(cells, found.slot)
     }
 
-    /// The call of a task that may make it, which makes this credential of the task's current one.
+    /// The call of a task that may make it, which gives the task's current credential these parts,
+    /// and these groups where it sets them.
     fn begin_with(
         &mut self,
         cells: &Cells,
@@ -102,13 +98,17 @@ impl State {
         task: u32,
         call: &IdCall,
         now: Numbered,
-        cred: &Cred,
+        parts: &Parts,
+        groups: &Option<Groups>,
     ) -> Result<Answer, NoMemory>
         requires own { self.old.words.id ≡ cells.now }
         requires out { AreOut self.old.state self.old.words.out }
         requires sound { IsSound self.old.state }
         requires may { MayBegin self.old.state line task (seen_in self.old.state.creds now) }
-        requires made { set_id (cred_under self.old.state.creds now.number) call.now ≡ Ok cred.now }
+        requires made { let c = cred_under self.old.state.creds now.number in
+            set_id c call.now ≡ Ok (changed c parts.now groups.now) }
+        requires valid { let c = cred_under self.old.state.creds now.number in
+            AreValidSets parts.now.perm c.inh parts.now.eff parts.now.amb }
         ensures ok { IfOk result (λ answer.
             GivesLike self.old.state (by_begin self.old.state line task call.now) answer
             self.new.state) }
@@ -123,7 +123,7 @@ impl State {
         // The others wait before the credential is sealed, since that may want memory.
         let left = begin_in(&self.tasks, &mut self.casts, line, task, call)?;
         let number = seal_next(&mut self.slots, slot);
-        self.master.set(cells, slot, cred);
+        self.master.set_like(cells, now.slot, slot, parts, groups);
         self.tasks.set_current(task, number);
         self.slots.drop_later(now.number);
         Ok(Answer::Began {
@@ -139,8 +139,9 @@ impl State {
     ///
     /// # Errors
     ///
-    /// `NoMemory` if an allocation of the credential, of room for its reference or of a list fails:
-    /// the state is as it was.
+    /// `NoMemory` if an allocation of the groups that are set, of room for a reference or of a list
+    /// fails: the state is as it was.
+    #[inline(never)]
     pub fn act(&mut self, cells: &Cells, number: u32) -> Result<Answer, NoMemory>
         requires own { self.old.words.id ≡ cells.now }
         requires out { AreOut self.old.state self.old.words.out }
@@ -153,58 +154,57 @@ impl State {
         let Some(next) = self.next_in(number) else {
             return Ok(Answer::NoBroadcast(number));
         };
-        let cred = match self.followed(cells, number, next) {
-            Ok(cred) => cred,
+        let mut parts = self.look_parts(cells, next.now);
+        match self.follow(next.cast, &mut parts) {
+            Ok(groups) => self.act_with(cells, number, next, &parts, &groups),
             // Whether a call is valid is the call's alone, and its caller has made it: what the
             // thread lacks is the right.
             Err(Refusal::Perm | Refusal::Invalid) => {
-                return self.end_process_of(next.task, AbortCause::Perm);
+                self.end_process_of(next.task, AbortCause::Perm)
             }
-            Err(Refusal::Memory) => return Err(NoMemory),
-        };
-        let answer = self.act_with(cells, number, next, &cred);
-        drop(cred);
-        answer
+            Err(Refusal::Memory) => Err(NoMemory),
+        }
     }
 
-    /// What the call of the broadcast makes of the current credential of the thread that is next.
+    /// Makes the call of the open broadcast at a place on the parts of a credential. Returns the
+    /// groups, where the call sets them.
     ///
     /// # Errors
     ///
-    /// What refuses the call. `Memory` also where the credential isn't read for want of memory.
-    fn followed(&mut self, cells: &Cells, number: u32, next: Next) -> Result<Cred, Refusal>
-        requires own { self.old.words.id ≡ cells.now }
-        requires sound { IsSound self.old.state }
-        requires next { ActsNext self.old.state number next.task next.place
-            (seen_in self.old.state.creds next.now) }
-        ensures made { IfSome (cast_of self.old.state number) (λ cast.
-            IsMade (set_id (cred_under self.old.state.creds next.now.number) cast.call) result) }
-        ensures same { self.new ≡ self.old }
+    /// What refuses the call. The parts then stay.
+    #[inline(always)]
+    fn follow(&self, cast: usize, parts: &mut Parts) -> Result<Option<Groups>, Refusal>
+        requires { cast < length self.now.state.casts }
+        ensures made { IfSome (slice_get self.now.state.casts cast) (λ b. (c : Credential)
+            → parts_of c ≡ parts.old
+            → PartsBecome c parts.old parts.new result (set_id c b.call)) }
+        ensures valid { (c : Credential) → parts_of c ≡ parts.old →
+            AreValidSets c.perm c.inh c.eff c.amb →
+            AreValidSets parts.new.perm c.inh parts.new.eff parts.new.amb }
     {
-        let own = self.read(cells, next.now)?;
-        // It is there: a thread waits in the broadcast.
-        let (_, call) = self.casts.next(number).unwrap();
-        let made = apply(self.alloc, &own, call);
-        drop(own);
-        made
+        apply_parts(self.alloc, parts, self.casts.call_at(cast))
     }
 
-    /// The step of the thread that is next, where the call makes this credential of its current
-    /// one.
+    /// The step of the thread that is next, where the call gives its current credential these
+    /// parts, and these groups where it sets them.
     fn act_with(
         &mut self,
         cells: &Cells,
         number: u32,
         next: Next,
-        cred: &Cred,
+        parts: &Parts,
+        groups: &Option<Groups>,
     ) -> Result<Answer, NoMemory>
         requires own { self.old.words.id ≡ cells.now }
         requires out { AreOut self.old.state self.old.words.out }
         requires sound { IsSound self.old.state }
-        requires next { ActsNext self.old.state number next.task next.place
+        requires next { ActsNext self.old.state number next.cast next.task next.place
             (seen_in self.old.state.creds next.now) }
-        requires made { IfSome (cast_of self.old.state number) (λ cast.
-            set_id (cred_under self.old.state.creds next.now.number) cast.call ≡ Ok cred.now) }
+        requires made { let c = cred_under self.old.state.creds next.now.number in
+            IfSome (slice_get self.old.state.casts next.cast) (λ cast.
+            set_id c cast.call ≡ Ok (changed c parts.now groups.now)) }
+        requires valid { let c = cred_under self.old.state.creds next.now.number in
+            AreValidSets parts.now.perm c.inh parts.now.eff parts.now.amb }
         ensures ok { IfOk result (λ answer.
             GivesLike self.old.state (by_act self.old.state number) answer self.new.state) }
         ensures err { OnErr result (self.new ≡ self.old) }
@@ -215,10 +215,10 @@ impl State {
             return self.end_process_of(next.task, AbortCause::Full);
         };
         let new = seal_next(&mut self.slots, slot);
-        self.master.set(cells, slot, cred);
+        self.master.set_like(cells, next.now.slot, slot, parts, groups);
         self.tasks.set_current_at(next.place, new);
         self.slots.drop_later(next.now.number);
-        let left = self.casts.acted(number, next.task);
+        let left = self.casts.acted_at(next.cast, next.task);
         Ok(Answer::Acted {
             task: next.task,
             cred: new,
@@ -234,18 +234,24 @@ impl State {
         ensures { MatchOption result
             (GivesLike self.now.state (by_act self.now.state number) (NoBroadcast number)
             self.now.state)
-            (λ next. ActsNext self.now.state number next.task next.place
+            (λ next. ActsNext self.now.state number next.cast next.task next.place
             (seen_in self.now.state.creds next.now)) }
     {
-        let Some((task, _)) = self.casts.next(number) else {
+        let Some(cast) = self.casts.place(number) else {
             return None;
         };
+        let task = self.casts.least_at(cast);
         // It is there: who waits in a broadcast is alive.
         let place = self.tasks.place(task).unwrap();
         let Some(now) = self.sealed_at(self.tasks.current_at(place)) else {
             return None;
         };
-        Some(Next { task, place, now })
+        Some(Next {
+            cast,
+            task,
+            place,
+            now,
+        })
     }
 
     /// A task that waits in a broadcast can't follow: all threads of its process end, and the

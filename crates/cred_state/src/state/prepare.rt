@@ -30,6 +30,7 @@ impl State {
     ///
     /// `NoMemory` if an allocation of room for the label or for its reference fails: the state is
     /// as it was.
+    #[inline(never)]
     pub fn prepare(
         &mut self,
         cells: &Cells,
@@ -111,6 +112,7 @@ impl State {
     ///
     /// `NoMemory` if an allocation of room for the reference or of a list fails: the state is as it
     /// was.
+    #[inline(never)]
     pub fn commit(&mut self, label: u32) -> Result<Answer, NoMemory>
         requires out { AreOut self.old.state self.old.words.out }
         requires home { AreHome (Commit label) self.old.words.out }

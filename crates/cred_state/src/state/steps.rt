@@ -56,8 +56,6 @@ impl State {
                 *ns,
                 root_of(script, *ns),
             ),
-            Event::Begin { task, call } => self.begin(cells, line, *task, call),
-            Event::Act { cast } => self.act(cells, *cast),
             Event::Spawn { task, child } => self.spawn(*task, *child),
             Event::Fork {
                 task,
@@ -87,11 +85,7 @@ impl State {
         ensures words { self.new.words ≡ self.old.words }
     {
         match event {
-            Event::Take { label, task, side } => self.take(*label, *task, *side),
             Event::TakeFile { label, fd } => self.take_file(*label, *fd),
-            Event::Release { label } => Ok(self.release(*label)),
-            Event::Prepare { label, task, hold } => self.prepare(cells, *label, *task, *hold),
-            Event::Commit { label } => self.commit(*label),
             Event::Abort { label } => Ok(self.abort(*label)),
             Event::Override { task, label } => self.override_with(*task, *label),
             Event::Revert { task } => Ok(self.revert(*task)),

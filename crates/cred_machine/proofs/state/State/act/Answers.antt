@@ -3,7 +3,7 @@ use Rattle.cred_event.specs.declared.answer.AbortCause.TheVariants.{Perm, Full}
 use Rattle.cred_model.specs.State.{Broadcast}
 use Rattle.cred_plain.specs.Creds.{seen_numbered}
 use Rattle.cred_machine.proofs.Acts.{act_full, act_refused, next_is}
-use Rattle.cred_machine.proofs.Begins.{rule_denied, rule_made}
+use Rattle.cred_machine.proofs.Begins.{rule_denied}
 use Rattle.cred_machine.proofs.Follows.{aborts, act_unsealed, steps}
 use Rattle.cred_plain.proofs.Places.{none_is}
 use Rattle.cred_machine.proofs.Threads.{waits_rising}
@@ -52,7 +52,7 @@ returns-in_default-slot-clause-ok c =
     let ended = c.end_process-in_default-slot in
     rw (← c.self.view_is)
     (aborts s ended.new.self c.args.line c.in-Some-least.task Full b ended.result
-    (act_full s c.args.line c.in-Some-least.task b o old next c.in-Ok.cred (rule_made _ c.in-Ok.cred c.in-Ok.ensures)
+    (act_full s c.args.line c.in-Some-least.task b o old next c.in-Ok.cred c.in-Ok.ensures
     (rw (← c.self.view_is) at (sym c.requires.slot ∙ c.in_default-slot.is)))
     ended.ensures.answer (rw (← c.self.view_is) at ended.ensures.state))
 
@@ -66,7 +66,7 @@ returns-clause-ok c =
     c.in-Some-least.ensures c.in-Some-get.ensures c.owner.view_is c.in-Some-get-2.ensures in
     rw (← c.self.view_is)
     (steps s c.args.line c.in-Some-least.task b o old next
-    c.in-Ok.cred (rule_made _ c.in-Ok.cred c.in-Ok.ensures) (seen_state c.self-2.inside) c.leave.new.casts.items c.args.room.swept c.in-Some-slot.slot
+    c.in-Ok.cred c.in-Ok.ensures (seen_state c.self-2.inside) c.leave.new.casts.items c.args.room.swept c.in-Some-slot.slot
     c.others-left.result c.in_ok-cred.cred
     (rw (← c.self.view_is) at (sym c.requires.slot ∙ c.in-Some-slot.is)) (rw (← c.self.view_is) at c.requires.swept)
     (rw (← c.cast.view_is) at c.others-left.ensures) (rw (← c.self.view_is) at c.in_ok-cred.ensures.number)

@@ -1,7 +1,7 @@
 use Rattle.std.proofs.Common.{sym}
 use Rattle.cred_event.specs.declared.answer.Answer.TheVariants.{Busy}
 use Rattle.cred_plain.specs.Creds.{seen_numbered}
-use Rattle.cred_machine.proofs.Begins.{begin_busy, begin_einval, begin_eperm, begins, can_begin, rule_invalid, rule_made, rule_perm, same_answer}
+use Rattle.cred_machine.proofs.Begins.{begin_busy, begin_einval, begin_eperm, begins, can_begin, same_answer}
 use Rattle.cred_machine.proofs.Leads.{idle_in}
 use Rattle.cred_machine.proofs.Seen.{seen_state, seen_task}
 use Rattle.cred_machine.proofs.state.State.begin.Goals as goal
@@ -24,7 +24,7 @@ returns-in-Err-Perm-clause-ok c =
     c.in-Some-get.ensures c.deref.ensures.value c.in_default-open_in.ensures c.deref-2.ensures.value c.cast_of.ensures c.is_some.ensures
     c.if-is_some.false c.in_default-overridden.ensures in
     let rule = rw c.in-Err-Perm.field-0-is at c.in-Err-Perm.ensures in
-    rw (← c.self.view_is) (begin_eperm s c.args.line c.args.task c.args.call.now o old can (rule_perm _ rule))
+    rw (← c.self.view_is) (begin_eperm s c.args.line c.args.task c.args.call.now o old can rule)
 
 pub returns-in-Err-Invalid-clause-ok : goal.returns-in-Err-Invalid-clause-ok
 returns-in-Err-Invalid-clause-ok c =
@@ -35,7 +35,7 @@ returns-in-Err-Invalid-clause-ok c =
     c.in-Some-get.ensures c.deref.ensures.value c.in_default-open_in.ensures c.deref-2.ensures.value c.cast_of.ensures c.is_some.ensures
     c.if-is_some.false c.in_default-overridden.ensures in
     let rule = rw c.in-Err-Invalid.field-0-is at c.in-Err-Invalid.ensures in
-    rw (← c.self.view_is) (begin_einval s c.args.line c.args.task c.args.call.now o old can (rule_invalid _ rule))
+    rw (← c.self.view_is) (begin_einval s c.args.line c.args.task c.args.call.now o old can rule)
 
 pub returns-clause-ok : goal.returns-clause-ok
 returns-clause-ok c =
@@ -48,5 +48,5 @@ returns-clause-ok c =
     rw (← c.self.view_is)
     (same_answer _ _ c.open.result c.open.new.self
     (begins s c.args.line c.args.task c.args.call.now o old can c.in-Ok.cred c.in_ok-copy.field-0 c.in_ok-waiting.waiting.items
-    (rule_made _ c.in-Ok.cred c.in-Ok.ensures) c.in_ok-copy.ensures.equal c.in_ok-waiting.ensures.others)
+    c.in-Ok.ensures c.in_ok-copy.ensures.equal c.in_ok-waiting.ensures.others)
     (rw (← c.self.view_is) at c.open.ensures.ok))

@@ -1,21 +1,47 @@
-use Rattle.std.proofs.Common.{◌≡◌, Ok, Some, sym}
+use Rattle.std.proofs.Common.{◌≡◌, Ok, Some, slice_get, refl, sym}
 use Rattle.cred_rules.specs.SetId.{set_id}
-use Rattle.cred_cast.proofs.Conditions.{least_waits}
 use Rattle.cred_event.specs.declared.answer.AbortCause.TheVariants.{Full}
-use Rattle.cred_model.specs.State.{cast_of}
+use Rattle.cred_model.specs.State.{Task, cast_of, task_of}
+use Rattle.cred_setid.specs.Parts.{changed}
 use Rattle.cred_tables.specs.Kept.{cred_under, parts_of, state_of}
-use Rattle.cred_state.proofs.Acts.{next_is, next-lives, place_within, set_there, aborts_so, same_spare, act_full, act_kept, act_sealed}
+use Rattle.cred_state.proofs.Acts.{next_is, next-lives, cast_there, waits_there, place_within, set_there, aborts_so, same_spare, act_full, act_kept, act_sealed}
 use Rattle.cred_tables.proofs.Bags.{bag-keeps}
 use Rattle.cred_model.proofs.Places.{if_some}
 use Rattle.cred_tables.proofs.Sealing.{current-held, drops, none_spare, seals_spare}
 use Rattle.cred_tables.proofs.Outs.{free_alone, free_apart}
 use Rattle.cred_tables.proofs.Puts.{put_free}
-use Rattle.cred_state.proofs.Reading.{some_spare}
+use Rattle.cred_state.proofs.Reading.{found-place, found-sealed, found-slot, found-there, is_found, some_spare, stands_apart}
+use Rattle.cred_state.proofs.Standing.{current-in_use}
 use Rattle.cred_state.proofs.Reserved.{kept_spare}
 use Rattle.cred_state.proofs.state.State.act_with.Goals as goal
 
-pub set-requires-clause-alone : goal.set-requires-clause-alone
-set-requires-clause-alone c =
+pub set_like-requires-clause-sealed : goal.set_like-requires-clause-sealed
+set_like-requires-clause-sealed c =
+    let t = c.self.inside in
+    let s = state_of (parts_of t.tasks t.casts t.files t.holds t.prepared) t.master.slots t.slots in
+    let found = rw (← c.self.view_is) at c.requires.next in
+    found-sealed c.self.invariant.0 c.args.next.now (is_found s.creds (λ (t : Task). t.current) (task_of s c.args.next.task) _ found.has) (current-in_use s c.args.next.task _ found.has)
+
+pub set_like-requires-clause-apart : goal.set_like-requires-clause-apart
+set_like-requires-clause-apart c =
+    let t = c.self.inside in
+    let s = state_of (parts_of t.tasks t.casts t.files t.holds t.prepared) t.master.slots t.slots in
+    let found = rw (← c.self.view_is) at c.requires.next in
+    let seals = seals_spare {t = t.slots} c.in_ok-reserve.ensures.ok c.seal_next-new.ensures in
+    stands_apart seals c.args.next.now.number c.args.next.now.slot
+    (found-slot c.self.invariant.0 c.args.next.now (is_found s.creds (λ (t : Task). t.current) (task_of s c.args.next.task) _ found.has) (current-in_use s c.args.next.task _ found.has))
+    (bag-keeps c.args.next.now.number seals.held (current-held c.self.invariant.0 c.args.next.task _ found.has))
+
+pub set_like-requires-clause-valid : goal.set_like-requires-clause-valid
+set_like-requires-clause-valid c =
+    let t = c.self.inside in
+    let s = state_of (parts_of t.tasks t.casts t.files t.holds t.prepared) t.master.slots t.slots in
+    let found = rw (← c.self.view_is) at c.requires.next in
+    let there = is_found s.creds (λ (t : Task). t.current) (task_of s c.args.next.task) _ found.has in
+    λ x at. rw (found-there t.master.slots t.slots.sealed c.args.next.now there x at) (rw (← c.self.view_is) at c.requires.valid)
+
+pub set_like-requires-clause-alone : goal.set_like-requires-clause-alone
+set_like-requires-clause-alone c =
     free_alone c.self.invariant.0 c.in-Some.slot (some_spare c.self.inside.slots c.in_ok-reserve.ensures.ok (sym c.in-Some.ensures)) _
     (rw (← c.self.view_is) at c.requires.out)
 
@@ -37,14 +63,14 @@ drop_later-requires c =
     let seals = seals_spare {t = c.self.inside.slots} c.in_ok-reserve.ensures.ok c.seal_next-new.ensures in
     bag-keeps c.args.next.now.number seals.held (current-held c.self.invariant.0 c.args.next.task _ found.has)
 
-pub acted-left-requires : goal.acted-left-requires
-acted-left-requires c =
+pub acted_at-left-requires : goal.acted_at-left-requires
+acted_at-left-requires c =
     let t = c.self.inside in
     let s = state_of (parts_of t.tasks t.casts t.files t.holds t.prepared) t.master.slots t.slots in
     let sound = rw (← c.self.view_is) at c.requires.sound in
     let found = rw (← c.self.view_is) at c.requires.next in
     let next = next_is s c.args.number c.args.next.task sound found.least in
-    rw next.found (least_waits next.cast c.args.next.task next.least)
+    waits_there next c.args.next.cast found.under
 
 pub invariant_of-self-2 : goal.invariant_of-self-2
 invariant_of-self-2 c =
@@ -53,11 +79,13 @@ invariant_of-self-2 c =
     let sound = rw (← c.self.view_is) at c.requires.sound in
     let found = rw (← c.self.view_is) at c.requires.next in
     let next = next_is s c.args.number c.args.next.task sound found.least in
-    let rule = if_some (λ cast. set_id (cred_under s.creds c.args.next.now.number) cast.call ≡ Ok c.args.cred.now) (cast_of s c.args.number) next.cast next.found (rw (← c.self.view_is) at c.requires.made) in
-    rw (set_there next _ found.there _ c.set_current_at.ensures, c.set.ensures.made, c.acted-left.ensures.casts) (
-      act_kept c.self.invariant.0 c.args.number c.args.next.task next _ found.has c.args.cred.now rule c.set.ensures.long
+    let new = changed (cred_under s.creds c.args.next.now.number) c.args.parts.now c.args.groups.now in
+    let rule = if_some (λ cast. set_id (cred_under s.creds c.args.next.now.number) cast.call ≡ Ok new) (slice_get s.casts c.args.next.cast) next.cast (cast_there next c.args.next.cast found.under) (rw (← c.self.view_is) at c.requires.made) in
+    let made = c.set_like.ensures.made _ (found-place c.self.invariant.0 c.args.next.now (is_found s.creds (λ (t : Task). t.current) (task_of s c.args.next.task) _ found.has) (current-in_use s c.args.next.task _ found.has)) in
+    rw (set_there next _ found.there _ c.set_current_at.ensures, made, c.acted_at-left.ensures.casts) (
+      act_kept c.self.invariant.0 c.args.number c.args.next.task next _ found.has new rule c.set_like.ensures.long
           (seals_spare c.in_ok-reserve.ensures.ok c.seal_next-new.ensures) sound.tasks (drops c.drop_later.ensures.held c.drop_later.ensures.table),
-      put_free t.prepared t.master.entries t.master.slots c.in-Some.slot (Some c.args.cred.now)
+      put_free t.prepared t.master.entries t.master.slots c.in-Some.slot (Some new)
           (free_apart c.self.invariant.0 c.in-Some.slot (some_spare t.slots c.in_ok-reserve.ensures.ok (sym c.in-Some.ensures))) c.self.invariant.1,
     )
 
@@ -68,11 +96,13 @@ returns-clause-ok c =
     let sound = rw (← c.self.view_is) at c.requires.sound in
     let found = rw (← c.self.view_is) at c.requires.next in
     let next = next_is s c.args.number c.args.next.task sound found.least in
-    let rule = if_some (λ cast. set_id (cred_under s.creds c.args.next.now.number) cast.call ≡ Ok c.args.cred.now) (cast_of s c.args.number) next.cast next.found (rw (← c.self.view_is) at c.requires.made) in
-    let left = if_some _ (cast_of s c.args.number) next.cast next.found c.acted-left.ensures.left in
-    rw (← c.self.view_is, set_there next _ found.there _ c.set_current_at.ensures, c.set.ensures.made, c.acted-left.ensures.casts)
-    (act_sealed c.self.invariant.0 c.args.number c.args.next.task next _ found.has c.args.cred.now rule c.set.ensures.long
-    (seals_spare c.in_ok-reserve.ensures.ok c.seal_next-new.ensures) sound.tasks (drops c.drop_later.ensures.held c.drop_later.ensures.table) c.acted-left.result left)
+    let new = changed (cred_under s.creds c.args.next.now.number) c.args.parts.now c.args.groups.now in
+    let rule = if_some (λ cast. set_id (cred_under s.creds c.args.next.now.number) cast.call ≡ Ok new) (slice_get s.casts c.args.next.cast) next.cast (cast_there next c.args.next.cast found.under) (rw (← c.self.view_is) at c.requires.made) in
+    let made = c.set_like.ensures.made _ (found-place c.self.invariant.0 c.args.next.now (is_found s.creds (λ (t : Task). t.current) (task_of s c.args.next.task) _ found.has) (current-in_use s c.args.next.task _ found.has)) in
+    let left = if_some _ (slice_get s.casts c.args.next.cast) next.cast (cast_there next c.args.next.cast found.under) c.acted_at-left.ensures.left in
+    rw (← c.self.view_is, set_there next _ found.there _ c.set_current_at.ensures, made, c.acted_at-left.ensures.casts)
+    (act_sealed c.self.invariant.0 c.args.number c.args.next.task next _ found.has new rule c.set_like.ensures.long
+    (seals_spare c.in_ok-reserve.ensures.ok c.seal_next-new.ensures) sound.tasks (drops c.drop_later.ensures.held c.drop_later.ensures.table) c.acted_at-left.result left)
 
 pub returns-in_default-clause-ok : goal.returns-in_default-clause-ok
 returns-in_default-clause-ok c =
@@ -82,14 +112,23 @@ returns-in_default-clause-ok c =
     let sound = rw (← c.self.view_is) at c.requires.sound in
     let found = rw (← c.self.view_is) at c.requires.next in
     let next = next_is s c.args.number c.args.next.task sound found.least in
-    let rule = if_some (λ cast. set_id (cred_under s.creds c.args.next.now.number) cast.call ≡ Ok c.args.cred.now) (cast_of s c.args.number) next.cast next.found (rw (← c.self.view_is) at c.requires.made) in
+    let new = changed (cred_under s.creds c.args.next.now.number) c.args.parts.now c.args.groups.now in
+    let rule = if_some (λ cast. set_id (cred_under s.creds c.args.next.now.number) cast.call ≡ Ok new) (slice_get s.casts c.args.next.cast) next.cast (cast_there next c.args.next.cast found.under) (rw (← c.self.view_is) at c.requires.made) in
     let none = sym c.in_default.ensures in
     let ended = c.end_process_of in
     rw (← c.self.view_is)
     (aborts_so s (state_of parts t.master.slots c.reserve.new.self) c.args.number c.args.next.task Full ended.new.self.state next ended.result
     (same_spare parts t.master.slots t.slots c.in_ok-reserve.ensures.ok) ended.ensures.answer ended.ensures.state
-    (act_full c.self.invariant.0 c.args.number c.args.next.task next _ found.has c.args.cred.now rule
+    (act_full c.self.invariant.0 c.args.number c.args.next.task next _ found.has new rule
     (none_spare t.slots c.in_ok-reserve.ensures.ok none)))
+
+pub returns-clause-words : goal.returns-clause-words
+returns-clause-words c =
+    let t = c.self.inside in
+    let s = state_of (parts_of t.tasks t.casts t.files t.holds t.prepared) t.master.slots t.slots in
+    let found = rw (← c.self.view_is) at c.requires.next in
+    let made = c.set_like.ensures.made _ (found-place c.self.invariant.0 c.args.next.now (is_found s.creds (λ (t : Task). t.current) (task_of s c.args.next.task) _ found.has) (current-in_use s c.args.next.task _ found.has)) in
+    rw (← c.self.view_is, made) refl
 
 pub invariant_of-self : goal.invariant_of-self
 invariant_of-self c = rw c.in_err-reserve.ensures.err c.self.invariant

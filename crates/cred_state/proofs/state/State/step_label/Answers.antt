@@ -1,22 +1,13 @@
 use Rattle.cred_model.proofs.Likes.{does_same}
-use Rattle.cred_model.specs.Step.{by_take, by_take_file}
+use Rattle.cred_model.specs.Step.{by_take_file}
 use Rattle.cred_state.proofs.Acts.{gives_ok}
 use Rattle.cred_state.proofs.state.State.step_label.Goals as goal
-
-pub commit-requires-clause-home : goal.commit-requires-clause-home
-commit-requires-clause-home c = rw c.in-Commit.is at c.requires.home
 
 pub override_with-requires-clause-home : goal.override_with-requires-clause-home
 override_with-requires-clause-home c = rw c.in-Override.is at c.requires.home
 
-pub returns-in-Take-clause-ok : goal.returns-in-Take-clause-ok
-returns-in-Take-clause-ok c = λ script line. rw c.in-Take.is (gives_ok c.args.self.now.state c.take.new.self.state (by_take c.args.self.now.state c.in-Take.label c.in-Take.task c.in-Take.side) c.take.result c.take.ensures.ok)
-
 pub returns-in-TakeFile-clause-ok : goal.returns-in-TakeFile-clause-ok
 returns-in-TakeFile-clause-ok c = λ script line. rw c.in-TakeFile.is (gives_ok c.args.self.now.state c.take_file.new.self.state (by_take_file c.args.self.now.state c.in-TakeFile.label c.in-TakeFile.fd) c.take_file.result c.take_file.ensures.ok)
-
-pub returns-in-Release-clause-ok : goal.returns-in-Release-clause-ok
-returns-in-Release-clause-ok c = λ script line. rw c.in-Release.is (does_same _ _ _ c.release.ensures.made)
 
 pub returns-in-Abort-clause-ok : goal.returns-in-Abort-clause-ok
 returns-in-Abort-clause-ok c = λ script line. rw c.in-Abort.is (does_same _ _ _ c.abort.ensures.made)
@@ -26,12 +17,6 @@ returns-in-Revert-clause-ok c = λ script line. rw c.in-Revert.is (does_same _ _
 
 pub returns-in-CloseFile-clause-ok : goal.returns-in-CloseFile-clause-ok
 returns-in-CloseFile-clause-ok c = λ script line. rw c.in-CloseFile.is (does_same _ _ _ c.close_file.ensures.made)
-
-pub returns-in-Prepare-clause-ok : goal.returns-in-Prepare-clause-ok
-returns-in-Prepare-clause-ok c = λ script line. rw c.in-Prepare.is c.prepare.ensures.ok
-
-pub returns-in-Commit-clause-ok : goal.returns-in-Commit-clause-ok
-returns-in-Commit-clause-ok c = λ script line. rw c.in-Commit.is c.commit.ensures.ok
 
 pub returns-in-Override-clause-ok : goal.returns-in-Override-clause-ok
 returns-in-Override-clause-ok c = λ script line. rw c.in-Override.is c.override_with.ensures.ok

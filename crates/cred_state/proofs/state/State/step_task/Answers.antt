@@ -2,12 +2,6 @@ use Rattle.cred_model.specs.Step.{by_exit, by_fork, by_spawn}
 use Rattle.cred_state.proofs.Acts.{gives_ok}
 use Rattle.cred_state.proofs.state.State.step_task.Goals as goal
 
-pub returns-in-Begin-clause-ok : goal.returns-in-Begin-clause-ok
-returns-in-Begin-clause-ok c = rw c.in-Begin.is c.begin.ensures.ok
-
-pub returns-in-Act-clause-ok : goal.returns-in-Act-clause-ok
-returns-in-Act-clause-ok c = rw c.in-Act.is c.act.ensures.ok
-
 pub returns-in-Spawn-clause-ok : goal.returns-in-Spawn-clause-ok
 returns-in-Spawn-clause-ok c = rw c.in-Spawn.is (gives_ok c.args.self.now.state c.spawn.new.self.state (by_spawn c.args.self.now.state c.in-Spawn.task c.in-Spawn.child) c.spawn.result c.spawn.ensures.ok)
 
