@@ -6,11 +6,13 @@ ghost use Rattle.std.specs.Option.{option_map, IsSome};
 ghost use Rattle.cred_ids.specs.Limits.{TASKS, DEPTH};
 ghost use Rattle.cred_model.specs.Ends.{is_task, is_thread_of, is_beside, survivors, left_by};
 ghost use Rattle.cred_model.specs.State.{Task};
-ghost use Rattle.cred_model.specs.Moves.{first_task, with_current};
+ghost use Rattle.cred_model.specs.Moves.{first_task};
 ghost use Rattle.cred_procs.specs.Kept.{task_as};
 ghost use Rattle.cred_procs.specs.Tasks.{AreTasks, Ends, task_in, acting, those, threads_of};
 ghost use Rattle.cred_procs.specs.Tasks.{has_process, spawned, forked, overrides_of};
 ghost use Rattle.cred_procs.specs.Tasks.{with_overrides};
+
+mod places;
 
 use crate::lists::{CredNumbers, TaskList};
 use crate::processes::{Processes, without};
@@ -20,7 +22,6 @@ use cred_slots::Stack;
 use indexmap::IndexMap;
 use std::alloc::Global;
 use std::marker::Model;
-use std::mem;
 
 /// The live tasks: at most 64, no two of one number. Contracts see the list of the tasks, in the
 /// order in which they were created. After `NoMemory` a table is as it was.
@@ -28,6 +29,9 @@ use std::mem;
 pub struct Procs {
     tasks: IndexMap<u32, Thread>,
     processes: Processes,
+    /// Where the task stood that was given a credential last. Another may stand there by now, or
+    /// none: a task is taken from there only where its number is the one that is looked for.
+    recent: usize,
     alloc: Global,
 }
 
@@ -60,6 +64,7 @@ impl Procs {
         Procs {
             tasks: IndexMap::new(alloc),
             processes: Processes::new(alloc),
+            recent: 0,
             alloc,
         }
     }
@@ -193,47 +198,6 @@ impl Procs {
         Ok(TaskList::from_vec(tasks))
     }
 
-    /// Where a task stands in the table, until a task ends. `None` where it isn't alive.
-    #[inline(always)]
-    pub fn place(&self, task: u32) -> Option<usize>
-        ensures place { IfSome result (λ place.
-            slice_get self.now place ≡ task_in self.now task) }
-        ensures alive { is_some result ≡ is_some (task_in self.now task) }
-    {
-        self.tasks.get_index_of(&task)
-    }
-
-    /// The number of the current credential of the task at a place.
-    #[inline(always)]
-    pub fn current_at(&self, place: usize) -> u64
-        requires { place < length self.now }
-        ensures { Some result ≡ option_map (λ t. t.current) (slice_get self.now place) }
-    {
-        self.tasks[place].current
-    }
-
-    /// Gives the task at a place another current credential.
-    #[inline(always)]
-    pub fn set_current_at(&mut self, place: usize, number: u64)
-        requires { place < length self.old }
-        ensures { IfSome (slice_get self.old place) (λ t.
-            self.new ≡ with_current self.old t.number number) }
-    {
-        self.tasks[place].current = number;
-    }
-
-    /// Gives a task another current credential, and returns the number of the one before.
-    #[inline(always)]
-    pub fn set_current(&mut self, task: u32, number: u64) -> u64
-        requires { IsSome (task_in self.old task) }
-        ensures previous { Some result ≡ option_map (λ t. t.current) (task_in self.old task) }
-        ensures tasks { self.new ≡ with_current self.old task number }
-    {
-        // It is there: the task is alive.
-        let thread = self.tasks.get_mut(&task).unwrap();
-        mem::replace(&mut thread.current, number)
-    }
-
     /// A task acts with another credential from now on (Linux's `override_creds`). `false`
     /// where it has 8 overrides, and then nothing changes.
     pub fn push_override(&mut self, task: u32, number: u64) -> bool
@@ -316,7 +280,8 @@ impl Procs {
     fn thread(&self, task: u32) -> Option<&Thread>
         ensures { option_map (λ t. task_as task t.now) result ≡ task_in self.now task }
     {
-        self.tasks.get(&task)
+        let place = self.place_of(task)?;
+        Some(&self.tasks[place])
     }
 
     /// The other threads of a task's process, which is this one, in the order in which they were

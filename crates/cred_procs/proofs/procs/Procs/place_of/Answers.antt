@@ -4,7 +4,7 @@ use Rattle.cred_model.specs.State.{Task}
 use Rattle.cred_procs.specs.Kept.{task_as}
 use Rattle.cred_procs.proofs.Entries.{task_in-tasks_of}
 use Rattle.cred_procs.proofs.Places.{place_is, is_some-option_map}
-use Rattle.cred_procs.proofs.procs.Procs.place.Goals as goal
+use Rattle.cred_procs.proofs.procs.Procs.place_of.Goals as goal
 
 pub returns-clause-place : goal.returns-clause-place
 returns-clause-place c =
