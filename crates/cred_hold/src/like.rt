@@ -1,5 +1,6 @@
 //! The parts of a slot that id calls look at, and a slot that is put from another one and parts.
-ghost use Rattle.std.specs.Prelude.{◌≡◌, ◌+◌, ◌-◌, ◌<◌, IfSome, None, Some, take, slice_index, true};
+ghost use Rattle.std.specs.Prelude.{◌≡◌, ◌+◌, ◌-◌, ◌<◌, IfSome, None, Some, take, slice_index};
+ghost use Rattle.std.specs.Prelude.{true};
 ghost use Rattle.cred_ids.specs.Groups.{IsGroupList};
 ghost use Rattle.cred_record.specs.Credential.{Credential, AreValidSets};
 ghost use Rattle.cred_record.specs.Words.{are_ids, are_words, credential_of, flags_word};
@@ -243,8 +244,8 @@ fn scatter_from(
     master.load_after_return(cells, false);
 }
 
-/// Puts on the writer's slot the credential of a sealed slot with these parts, and with these groups
-/// where some are given, by a hold that is lent and comes back.
+/// Puts on the writer's slot the credential of a sealed slot with these parts, and with these
+/// groups where some are given, by a hold that is lent and comes back.
 #[inline(always)]
 pub(crate) fn put_like(
     master: &mut Master,

@@ -142,8 +142,8 @@ impl Master {
         peek_whole(alloc, &mut self.inner, cells, slot)
     }
 
-    /// What an id call looks at of the credential of a sealed slot. It takes no memory. What is lent
-    /// stays.
+    /// What an id call looks at of the credential of a sealed slot. It takes no memory. What is
+    /// lent stays.
     #[inline(always)]
     pub fn look_parts(&mut self, cells: &Cells, slot: u32) -> Parts
         requires own { self.old.id ≡ cells.now }
@@ -183,9 +183,9 @@ impl Master {
         self.take_back(cells, writer);
     }
 
-    /// Puts on a slot on which nothing is lent the credential of another slot, which is sealed, with
-    /// these parts, and with these groups where some are given. The words of all else are copied
-    /// from slot to slot. It takes no memory. What is lent stays.
+    /// Puts on a slot on which nothing is lent the credential of another slot, which is sealed,
+    /// with these parts, and with these groups where some are given. The words of all else are
+    /// copied from slot to slot. It takes no memory. What is lent stays.
     #[inline(always)]
     pub fn set_like(
         &mut self,

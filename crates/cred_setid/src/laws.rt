@@ -1,5 +1,5 @@
-//! Laws of the calls that set ids, over the definitions that `apply_to` is proved to follow. There is
-//! nothing to run.
+//! Laws of the calls that set ids, over the definitions that `apply_to` is proved to follow. There
+//! is nothing to run.
 ghost use Rattle.cred_setid.specs.Laws.{UserIdsStayOwn, GroupIdsStayOwn, PermittedNeverGrows};
 
 /// Without CAP_SETUID no call gives a task a real, effective or saved user id that was none of the

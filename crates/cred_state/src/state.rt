@@ -167,10 +167,8 @@ impl State {
             Event::Commit { label } => self.commit(*label),
             Event::Begin { task, call } => self.begin(cells, line, *task, call),
             Event::Act { cast } => self.act(cells, *cast),
-            Event::Init { .. }
-            | Event::Spawn { .. }
-            | Event::Fork { .. }
-            | Event::Exit { .. } => self.step_task(cells, script, line, event),
+            Event::Init { .. } | Event::Spawn { .. } | Event::Fork { .. } | Event::Exit { .. } =>
+                self.step_task(cells, script, line, event),
             Event::TakeFile { .. }
             | Event::Abort { .. }
             | Event::Override { .. }
@@ -260,6 +258,8 @@ impl State {
     {
         self.holds.get(label).is_some() || self.prepared.get(label).is_some()
     }
+
+    /// A label holds the credential that a task acts with, or is acted on by.
     #[inline(never)]
     fn take(&mut self, label: u32, task: u32, side: Side) -> Result<Answer, NoMemory>
         ensures ok { IfOk result (λ answer.
@@ -297,6 +297,8 @@ impl State {
         self.slots.add(number);
         Ok(Answer::Sealed { cred: number, slot })
     }
+
+    /// A label holds its credential no longer.
     #[inline(never)]
     fn release(&mut self, label: u32) -> Answer
         ensures made { Gives self.old.state (by_release self.old.state label) result

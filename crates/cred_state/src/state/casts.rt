@@ -1,6 +1,7 @@
 //! The id calls, which every thread of a process makes, one after another, and the open broadcasts,
 //! which refuse other events while threads still wait in them (nptl(7)).
-ghost use Rattle.std.specs.Prelude.{◌≡◌, ◌<◌, length, slice_get, Ok, Err, Some, IfOk, IfSome, MatchOption, MatchResult};
+ghost use Rattle.std.specs.Prelude.{◌≡◌, ◌<◌, length, slice_get, Ok, Err, Some, IfOk, IfSome};
+ghost use Rattle.std.specs.Prelude.{MatchOption, MatchResult};
 ghost use Rattle.std.specs.Prelude.{OnOk, OnErr};
 ghost use Rattle.std.specs.Option.{IsSome};
 ghost use Rattle.cred_event.specs.declared.answer.Answer.TheVariants.{Aborted, Busy};
@@ -43,8 +44,8 @@ impl State {
     ///
     /// # Errors
     ///
-    /// `NoMemory` if an allocation of the groups that are set, of room for a reference, of a list or
-    /// of the call's copy fails: the state is as it was.
+    /// `NoMemory` if an allocation of the groups that are set, of room for a reference, of a list
+    /// or of the call's copy fails: the state is as it was.
     #[inline(never)]
     pub fn begin(
         &mut self,
@@ -215,7 +216,8 @@ impl State {
             return self.end_process_of(next.task, AbortCause::Full);
         };
         let new = seal_next(&mut self.slots, slot);
-        self.master.set_like(cells, next.now.slot, slot, parts, groups);
+        self.master
+            .set_like(cells, next.now.slot, slot, parts, groups);
         self.tasks.set_current_at(next.place, new);
         self.slots.drop_later(next.now.number);
         let left = self.casts.acted_at(next.cast, next.task);

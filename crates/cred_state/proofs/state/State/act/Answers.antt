@@ -18,4 +18,3 @@ look_parts-parts-requires-clause-found c =
 
 pub look_parts-parts-requires-clause-used : goal.look_parts-parts-requires-clause-used
 look_parts-parts-requires-clause-used c = current-in_use c.args.self.now.state c.in-Some.next.task _ c.in-Some.ensures.has
-
