@@ -6,7 +6,7 @@ from collections.abc import Iterator
 
 from .lines import OPENS
 from .script import Script, ids
-from .setup import Place, in_image, spaces_used
+from .setup import Place, executed, in_image, spaces_used
 
 # The events that a program has no call for.
 OWN_CODE = {
@@ -18,6 +18,7 @@ OWN_CODE = {
 KERNEL_MADE = "{}: the kernel's own code makes them, no call does"
 OPENER = "no call tells what an open file's opener was able to do"
 NO_EXECUTE = "open(2) asks for no execute permission, and opens no directory for writing"
+BUSY = "a program that runs isn't opened for writing (ETXTBSY)"
 DESCRIPTORS = "a descriptor is one of its process, not of the whole system"
 SPACES_OF_PROCESS = "the threads of a process are in one user namespace"
 NO_SPACES = "user namespaces can't be created here"
@@ -31,7 +32,7 @@ def processes(script: Script) -> dict[str, str]:
     """The process of each task, as lines say it."""
     found: dict[str, str] = {}
     for line in script.lines:
-        words = line.words
+        words = (*line.words, "")
         if words[0] == "init":
             found.setdefault(words[1], words[2])
         elif words[1] == "spawn":
@@ -45,8 +46,9 @@ def forms(script: Script) -> Iterator[str]:
     """Reasons that the forms of its lines give."""
     process: dict[str, str] = {}
     owner: dict[str, str] = {}
+    runs = executed(script)
     for line in script.lines:
-        words = line.words
+        words = (*line.words, "")
         if words[0] in OWN_CODE:
             yield KERNEL_MADE.format(OWN_CODE[words[0]])
         elif words[1] == "fcap":
@@ -54,11 +56,14 @@ def forms(script: Script) -> Iterator[str]:
         elif words[1] == "open":
             if words[3] not in OPENS or "w" in words[3] and script.files[words[2]].is_dir:
                 yield NO_EXECUTE
+            if "w" in words[3] and words[2] in runs:
+                yield BUSY
         if words[1] not in ("open", "close"):
             continue
         process = process or processes(script)
         name = words[4] if words[1] == "open" else words[2]
-        if owner.setdefault(name, process.get(words[0], "")) != process.get(words[0], ""):
+        of_task = process.get(words[0])
+        if of_task is None or owner.setdefault(name, of_task) != of_task:
             yield DESCRIPTORS
 
 

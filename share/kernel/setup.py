@@ -82,12 +82,13 @@ def in_image(script: Script) -> set[str]:
 
 def executed(script: Script) -> set[str]:
     """The files that lines execute."""
-    return {line.words[2] for line in script.lines if line.words[1] == "exec"}
+    return {it.words[2] for it in script.lines if it.words[1:2] == ("exec",)}
 
 
 def file_line(file: File, is_executed: bool) -> str:
     """The line that makes a file."""
-    attribute = file.attribute.hex() if file.attribute is not None else "-"
+    has_attribute = file.attribute is not None and not file.is_dir
+    attribute = file.attribute.hex() if has_attribute else "-"
     kind = "d" if file.is_dir else "r"
     ids = f"{file.owner} {file.group} {file.mode}"
     return f"F {path(file, False)} {kind} {ids} {int(is_executed)} {attribute}"

@@ -227,8 +227,9 @@ static void plain(struct slot *slot, enum op op) {
     say_number((u64)found);
   } else {
     say_error(found);
-    say(found < 0 || op != ASK ? "" : " ");
-    say(found < 0 || op != ASK ? "" : world->text);
+    int has_text = found >= 0 && op == ASK && *world->text;
+    say(has_text ? " " : "");
+    say(has_text ? world->text : "");
   }
 }
 

@@ -54,8 +54,9 @@ static inline long call6(long n, long a, long b, long c, long d, long e, long f)
 #define call5(n, a, b, c, d, e) \
   call6(n, (long)(a), (long)(b), (long)(c), (long)(d), (long)(e), 0)
 
-/* A new thread that runs this on this stack; its flags are those of clone(2). */
-long thread(long flags, void *stack, void (*run)(void *), void *with);
+/* A new thread or process that runs this on this stack; its flags are those of clone(2). `gone` is
+ * the word that CLONE_CHILD_CLEARTID clears. */
+long thread(long flags, void *stack, void (*run)(void *), void *with, int *gone);
 
 /* A new process that goes on here, as fork(2): 0 in the child. */
 static inline long copy(long flags) {

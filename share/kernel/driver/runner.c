@@ -137,6 +137,8 @@ void forget(struct slot *slot) {
   slot->live = 0;
   if (alone)
     call4(__NR_wait4, slot->pid, 0, 0, 0);
+  else if (slot->gone)
+    await(&slot->gone, 0, SECONDS);
 }
 
 void end_process(int process) {

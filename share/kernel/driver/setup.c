@@ -52,10 +52,10 @@ static long mount_image(long image) {
     long device = call4(__NR_openat, AT_FDCWD, path, 02 | CLOEXEC, 0);
     memset(&config, 0, sizeof config);
     config.fd = (u32)image;
-    config.info.lo_flags = LO_FLAGS_AUTOCLEAR | LO_FLAGS_READ_ONLY;
+    config.info.lo_flags = LO_FLAGS_AUTOCLEAR;
     found = device < 0 ? device : call3(__NR_ioctl, device, LOOP_CONFIGURE, &config);
     if (found == 0) {
-      found = mount(path, "b", "ext4", MS_RDONLY, "");
+      found = mount(path, "b", "ext4", 0, "");
       call1(__NR_close, device);
       return found;
     }
@@ -89,7 +89,7 @@ int mount_all(struct text *text) {
     if (found == 0)
       found = mount("b", "c", "", MS_BIND, 0);
     if (found == 0)
-      found = mount("", "c", "", MS_BIND | MS_REMOUNT | MS_RDONLY | MS_NOSUID, 0);
+      found = mount("", "c", "", MS_BIND | MS_REMOUNT | MS_NOSUID, 0);
     if (found < 0)
       return fails("image", found);
   }

@@ -9,10 +9,11 @@
 #include <linux/time_types.h>
 
 /* From asm/fcntl.h and others, which can't be included beside linux/fcntl.h everywhere. */
-enum { READ_ONLY = 0, NONBLOCK = 04000, CLOSE_ON_EXEC = 02000000 };
-enum { CHILD_SIGNAL = 17, STACK = 32768 };
-enum { PAGES_READ_WRITE = 3, PAGES_SHARED = 1, PAGES_PRIVATE_ANONYMOUS = 0x22 };
+enum { TEXT_BUSY = 26, READ_ONLY = 0, NONBLOCK = 04000, CLOSE_ON_EXEC = 02000000 };
+enum { CHILD_SIGNAL = 17, STACK = 16384 };
+enum { PAGES_READ_WRITE = 3, PAGES_SHARED = 1 };
 #define NO_ID ((u32)-1)
+#define THREAD (CLONE_FS | CLONE_FILES | CLONE_SIGHAND | CLONE_THREAD | CLONE_SYSVSEM)
 
 struct world *world;
 
@@ -93,7 +94,8 @@ static long open_file(const struct slot *slot) {
   return 0;
 }
 
-/* faccessat2(2). Where open(2) asks the same (by `flags`), both must agree. */
+/* faccessat2(2). Where open(2) asks the same, both must agree; that a program which runs isn't opened
+ * for writing comes after the check. */
 static long may(const struct slot *slot) {
   long mode = slot->args[0], flags = slot->args[1], open_flags = slot->args[2];
   long found = call4(__NR_faccessat2, AT_FDCWD, world->path, mode, flags);
@@ -102,7 +104,7 @@ static long may(const struct slot *slot) {
   long fd = call4(__NR_openat, AT_FDCWD, world->path, open_flags | NONBLOCK, 0);
   if (fd >= 0)
     call1(__NR_close, fd);
-  if ((fd < 0 ? fd : 0) == found)
+  if ((fd < 0 && fd != -TEXT_BUSY ? fd : 0) == found)
     return found;
   char *to = put(world->text, "disagree faccessat2 ");
   to = put(put_number(to, (u64)-found), " open ");
@@ -119,29 +121,30 @@ static long execute(struct slot *slot) {
   return call3(__NR_execve, world->path, words, none);
 }
 
-static long spawn(const struct slot *slot) {
+/* Each slot has a stack. An executed program has them anew. */
+static char stacks[SLOTS][STACK] __attribute__((aligned(16)));
+
+/* A thread of this process, or a process beside it: it begins at its own slot. A child has the
+ * memory of who makes it, which is quicker than a copy, and is no matter of credentials; its parent
+ * is the one that all tasks are children of. */
+static long start(struct slot *slot, long flags) {
   struct slot *born = &world->slots[slot->args[0]];
-  char *stack = (char *)call6(__NR_mmap, 0, STACK, PAGES_READ_WRITE, PAGES_PRIVATE_ANONYMOUS, -1, 0);
-  if ((u64)stack > (u64)-4096)
-    return (long)stack;
-  long flags = CLONE_VM | CLONE_FS | CLONE_FILES | CLONE_SIGHAND | CLONE_THREAD | CLONE_SYSVSEM;
-  long tid = thread(flags, stack + STACK, live_at, born);
+  born->gone = 1;
+  long tid = thread(flags | CLONE_VM | CLONE_CHILD_CLEARTID, stacks[slot->args[0]] + STACK, live_at,
+                    born, &born->gone);
   born->tid = (int)tid;
-  born->pid = slot->pid;
+  born->pid = flags & CLONE_THREAD ? slot->pid : (int)tid;
   return tid < 0 ? tid : 0;
 }
 
-/* A child of the process that all tasks are children of, also where one of them makes it; it goes
- * on at its own slot. */
-static long fork_at(struct slot *slot, long flags) {
+/* The keeper of a user namespace, whose descriptors are shared until its maps are written. */
+static long start_keeper(struct slot *slot) {
   struct slot *born = &world->slots[slot->args[0]];
   long beside = slot->number ? CLONE_PARENT : 0;
-  long pid = copy(flags | beside | CHILD_SIGNAL);
+  long pid = copy(CLONE_NEWUSER | CLONE_FILES | beside | CHILD_SIGNAL);
   if (pid == 0) {
-    if (flags & CLONE_NEWUSER) {
-      world->directory = (int)call4(__NR_openat, AT_FDCWD, "/proc/self", O_PATH, 0);
-      give(&born->turn, DONE);
-    }
+    world->directory = (int)call4(__NR_openat, AT_FDCWD, "/proc/self", O_PATH, 0);
+    give(&born->turn, DONE);
     live_at(born);
   }
   born->pid = born->tid = (int)pid;
@@ -162,7 +165,7 @@ static long write_map(const char *name, const char *text) {
 long make_namespace(struct slot *keeper) {
   struct slot *born = &world->slots[keeper->args[0]];
   born->turn = GO;
-  long found = fork_at(keeper, CLONE_NEWUSER | CLONE_FILES);
+  long found = start_keeper(keeper);
   if (found < 0)
     return found;
   if (!await(&born->turn, DONE, 20))
@@ -199,8 +202,8 @@ static long make(struct slot *slot) {
   case CLOSE: return call1(__NR_close, FILE_FD + args[0]);
   case ACCESS: return may(slot);
   case SIGNAL: return call3(__NR_tgkill, args[0], args[1], 0);
-  case SPAWN: return spawn(slot);
-  case FORK: return fork_at(slot, 0);
+  case SPAWN: return start(slot, THREAD);
+  case FORK: return start(slot, CLONE_PARENT | CHILD_SIGNAL);
   case ASK: return answer(slot, (enum query)args[0], (u32)args[1]);
   case BECOME: return become(slot);
   case NAMESPACE: return make_namespace(slot);

@@ -37,6 +37,7 @@ struct slot {
   int live;
   int number;   /* the T of a script */
   int process;  /* its P */
+  int gone;     /* a futex, 0 when the thread is no more */
   int pid, tid; /* as the kernel has them */
   u32 root;     /* of its user namespace: what the script calls root there */
   int waits;    /* the line of the call that it still has to follow, or 0 */
@@ -51,6 +52,7 @@ struct world {
   int threads;   /* what an executed program sees of its process */
   u32 count;
   u32 groups[GROUPS];
+  u64 agreed[256]; /* sets that prctl(2) told as the status did */
   char path[300];
   char map[20000];
   char text[TEXT];   /* an answer of more than a number */
