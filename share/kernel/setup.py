@@ -5,6 +5,7 @@ from __future__ import annotations
 from dataclasses import dataclass
 
 from .lines import IMAGE_FD, Writer, path
+from .rules import chain
 from .script import File, Script
 
 # What setxattr(2) takes of an attribute: two revisions with their lengths, and no flag but one.
@@ -44,7 +45,7 @@ def pieces(place: Place, cuts: list[int]) -> list[tuple[int, int]]:
     found = []
     for first, count in place.extents:
         end = first + count
-        for cut in sorted(it for it in cuts if first <= it < end):
+        for cut in sorted({it for it in cuts if first <= it < end}):
             if cut > first:
                 found.append((first, cut - first))
             found.append((cut, 1))
@@ -54,11 +55,13 @@ def pieces(place: Place, cuts: list[int]) -> list[tuple[int, int]]:
     return found
 
 
-def id_map(place: Place, root: int, above: int) -> list[tuple[int, int, int]]:
-    """The map of a namespace with this root id, in one with that root id."""
-    cuts = sorted({0, root, above})
+def id_map(place: Place, roots: list[int]) -> list[tuple[int, int, int]]:
+    """The map of a namespace with this root id, and those of its ancestors behind it. A run of ids
+    has to be in one run of the parent's map, so that each is cut where an ancestor's is.
+    """
+    root, above = (*roots, 0)[:2]
     found = []
-    for first, count in pieces(place, cuts):
+    for first, count in pieces(place, [0, *roots]):
         outside = swapped(root, first)
         if place.has(outside):
             found.append((first, swapped(above, outside), count))
@@ -97,8 +100,7 @@ def file_line(file: File, is_executed: bool) -> str:
 def space_line(script: Script, number: int, place: Place) -> str:
     """The line that makes a user namespace."""
     space = script.spaces[number]
-    above = script.spaces[space.parent].root if space.parent >= 0 else 0
-    triples = [" ".join(map(str, it)) for it in id_map(place, space.root, above)]
+    triples = [" ".join(map(str, it)) for it in id_map(place, chain(script, number))]
     words = (number, space.parent, space.root, int(place.own), int(place.denied))
     return f"N {' '.join(map(str, words))} {' '.join(triples)}"
 

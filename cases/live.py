@@ -1,0 +1,176 @@
+"""A running kernel that is held to the cases: `cases/check --kernel`."""
+import re
+import sys
+from collections import Counter
+from dataclasses import dataclass, field
+from multiprocessing import get_context
+from threading import Semaphore
+
+import suite
+from program import lacks
+
+sys.path.insert(0, str(suite.TOP.parent / "share"))
+from kernel import hold, process, report  # noqa: E402
+from kernel.able import why_not  # noqa: E402
+from kernel.machine import Machine  # noqa: E402
+from kernel.process import Built, Fault  # noqa: E402
+from kernel.rows import row  # noqa: E402
+from kernel.script import parse  # noqa: E402
+
+# Answers that come of the sizes of this program's tables.
+LIMITS = re.compile(rb"-> (?:table full|too many|too deep)")
+NO_SCRIPT = "bad scripts, and texts without a call"
+OF_LIMITS = "limits of this program"
+# Subjects that have no case for a kernel.
+OTHERS = ("audit", "decode", "words", "limits")
+SAME, NOTHING = 1, 2
+
+
+@dataclass
+class Outcome:
+    """What came of all cases."""
+
+    calls: int = 0
+    agree: int = 0
+    by_rows: int = 0
+    rows: Counter = field(default_factory=Counter)
+    not_asked: Counter = field(default_factory=Counter)
+    differ: list = field(default_factory=list)
+
+    def add(self, name, verdict):
+        """Counts a verdict."""
+        self.calls += verdict.calls
+        if verdict.kind == hold.AGREES:
+            self.agree += 1
+        elif verdict.kind == hold.ROWS:
+            self.by_rows += 1
+            self.rows.update(verdict.rows)
+        elif verdict.kind == hold.NOT_ASKED:
+            self.not_asked[verdict.told] += 1
+        else:
+            self.differ.append((name, verdict.told))
+
+    def tell(self, what):
+        """Says what came of all, and ends with the status."""
+        for name, told in self.differ:
+            print(f"{what}: {name}: {told}")
+        for begin, count in sorted(self.rows.items()):
+            print(f"{what}: {count:,} show the row of docs/LINUX.md: {row(begin)}")
+        for reason, count in self.not_asked.most_common():
+            print(f"{what}: {count:,} not asked: {reason}")
+        asked = self.agree + self.by_rows + len(self.differ)
+        print(
+            f"{what}: {asked:,} asked, {self.calls:,} calls: {self.agree:,} agree, "
+            f"{self.by_rows:,} differ by known rows, {len(self.differ):,} differ"
+        )
+        return NOTHING if not asked else SAME if self.differ else 0
+
+
+def not_for_a_kernel(case):
+    """Why a case is none that a kernel can be asked, or nothing."""
+    if case.words != ("run",) or case.ends() or not case.given.strip():
+        return NO_SCRIPT
+    if LIMITS.search(case.written or b""):
+        return OF_LIMITS
+    return None
+
+
+HOLDER = None
+
+
+def begin(built, place, seconds, strict, wrong):
+    """In a worker: it has a driver of its own, and ends where its parent does."""
+    global HOLDER
+    process.die_with_parent()
+    sys.stdin.close()
+    machine = wrong(place) if wrong else Machine(built, seconds, place)
+    HOLDER = hold.Holder(machine, strict)
+
+
+def judge(task):
+    """In a worker: holds its kernel to a script."""
+    name, text, wanted, entries = task
+    script = parse(text)
+    verdict = HOLDER.held(script, wanted)
+    if entries and verdict.kind == hold.AGREES:
+        written = report.report_of(script, HOLDER.machine.answers(script)).encode()
+        missing = lacks(entries, written)
+        if missing is not None:
+            verdict = hold.Verdict(hold.DIFFERS, told=f"the report lacks {missing.decode()}")
+    return name, verdict
+
+
+def tasks(cases, outcome, place):
+    """What workers are given: a script, and its report or some entries of it."""
+    for case in cases:
+        reason = not_for_a_kernel(case)
+        text = case.given.decode("ascii") if not reason else ""
+        reason = reason or why_not(parse(text), place)
+        if reason:
+            outcome.not_asked[reason] += 1
+        else:
+            wanted = None if case.written is None else case.written.decode()
+            yield case.name, text, wanted, case.entries
+
+
+def bounded(given, room):
+    """What is given, as far as there is room for it."""
+    for it in given:
+        room.acquire()
+        yield it
+
+
+def all_cases(only):
+    """The cases whose names begin so, of the subjects that have some for a kernel."""
+    for subject in suite.subjects():
+        name = f"{subject.name}/"
+        if subject.name in OTHERS or not (name.startswith(only) or only.startswith(name)):
+            continue
+        for case in suite.cases_of(subject):
+            if case.name.startswith(only):
+                yield case
+
+
+def spread(cases, count):
+    """So many cases, some of each file: the first of each, then the second of each."""
+    of_file = {}
+    for case in cases:
+        of_file.setdefault(case.name.partition(":")[0], []).append(case)
+    found = [(place, case) for its in of_file.values() for place, case in enumerate(its)]
+    return [case for _, case in sorted(found, key=lambda it: it[0])][:count]
+
+
+def run(given, outcome, start, workers):
+    """Has workers judge what is given."""
+    room = Semaphore(4 * workers)
+    pool = get_context("fork").Pool(workers, begin, start)
+    with pool:
+        for name, verdict in pool.imap_unordered(judge, bounded(given, room)):
+            room.release()
+            outcome.add(name, verdict)
+    return outcome
+
+
+def check(words, workers):
+    """Holds the running kernel to the cases, and says what came of it."""
+    built = Built(words.via)
+    try:
+        machine = Machine(built, words.seconds)
+        machine.close()
+        place = machine.place
+        print(f"cases: {machine.kernel}")
+        outcome = Outcome()
+        start = built, place, words.seconds, words.strict, None
+        given = tasks(all_cases(words.only), outcome, place)
+        return run(given, outcome, start, workers).tell("cases")
+    finally:
+        built.close()
+
+
+def main(words, workers):
+    """As check, with a line where nothing can be asked."""
+    try:
+        return check(words, workers)
+    except Fault as fault:
+        print(f"cases: {fault}", file=sys.stderr)
+        return NOTHING
