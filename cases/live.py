@@ -1,8 +1,10 @@
 """A running kernel that is held to the cases: `cases/check --kernel`."""
+import os
 import re
 import sys
 from collections import Counter
 from dataclasses import dataclass, field
+from itertools import count, islice
 from multiprocessing import get_context
 from threading import Semaphore
 
@@ -10,12 +12,13 @@ import suite
 from program import lacks
 
 sys.path.insert(0, str(suite.TOP.parent / "share"))
-from kernel import hold, process, report  # noqa: E402
+from kernel import chance, hold, process, report, wrong  # noqa: E402
 from kernel.able import why_not  # noqa: E402
 from kernel.machine import Machine  # noqa: E402
 from kernel.process import Built, Fault  # noqa: E402
 from kernel.rows import row  # noqa: E402
 from kernel.script import parse  # noqa: E402
+from kernel.setup import Place  # noqa: E402
 
 # Answers that come of the sizes of this program's tables.
 LIMITS = re.compile(rb"-> (?:table full|too many|too deep)")
@@ -78,13 +81,25 @@ def not_for_a_kernel(case):
 HOLDER = None
 
 
-def begin(built, place, seconds, strict, wrong):
+def begin(built, place, words, workers):
     """In a worker: it has a driver of its own, and ends where its parent does."""
     global HOLDER
     process.die_with_parent()
     sys.stdin.close()
-    machine = wrong(place) if wrong else Machine(built, seconds, place)
-    HOLDER = hold.Holder(machine, strict)
+    stay_on_one_processor(workers)
+    HOLDER = hold.Holder(Machine(built, words.seconds, place), words.strict)
+
+
+def stay_on_one_processor(workers):
+    """One task of a driver runs at a time: it is woken sooner where the one before it ran."""
+    with workers.get_lock():
+        workers.value += 1
+        mine = workers.value
+    try:
+        allowed = sorted(os.sched_getaffinity(0))
+        os.sched_setaffinity(0, {allowed[mine % len(allowed)]})
+    except OSError:
+        pass
 
 
 def judge(task):
@@ -142,35 +157,71 @@ def spread(cases, count):
 
 def run(given, outcome, start, workers):
     """Has workers judge what is given."""
+    context = get_context("fork")
     room = Semaphore(4 * workers)
-    pool = get_context("fork").Pool(workers, begin, start)
-    with pool:
+    with context.Pool(workers, begin, (*start, context.Value("i", 0))) as pool:
         for name, verdict in pool.imap_unordered(judge, bounded(given, room)):
             room.release()
             outcome.add(name, verdict)
     return outcome
 
 
+def random_tasks(words):
+    """Random scripts, by the numbers from the seed on."""
+    for number in islice(count(words.seed), words.random):
+        yield f"random script {number}", chance.made(number), None, ()
+
+
 def check(words, workers):
     """Holds the running kernel to the cases, and says what came of it."""
     built = Built(words.via)
     try:
-        machine = Machine(built, words.seconds)
+        machine = Machine(built, words.seconds, ids=words.ids)
         machine.close()
-        place = machine.place
-        print(f"cases: {machine.kernel}")
-        outcome = Outcome()
-        start = built, place, words.seconds, words.strict, None
-        given = tasks(all_cases(words.only), outcome, place)
-        return run(given, outcome, start, workers).tell("cases")
+        place, outcome = machine.place, Outcome()
+        print(f"cases: {machine.kernel}", flush=True)
+        if words.random:
+            given = random_tasks(words)
+        else:
+            found = all_cases(words.only)
+            found = spread(found, words.count) if words.count else found
+            given = tasks(found, outcome, place)
+        return run(given, outcome, (built, place, words), workers).tell("cases")
     finally:
         built.close()
+
+
+SCRIPTS = []
+
+
+def finds(what):
+    """In a worker: the first case that finds a wrong kernel, or nothing."""
+    machine = wrong.WrongKernel(what, Place())
+    holder = hold.Holder(machine)
+    for name, text, wanted, _ in SCRIPTS:
+        verdict = holder.held(parse(text), wanted)
+        if verdict.kind == hold.DIFFERS:
+            return what, name, verdict.told
+    return what, None, ""
+
+
+def check_wrong(words, workers):
+    """Holds each wrong kernel to the cases, the smallest ones first: one has to find it."""
+    SCRIPTS.extend(tasks(all_cases(words.only), Outcome(), Place()))
+    SCRIPTS.sort(key=lambda it: len(it[1]))
+    missed = 0
+    with get_context("fork").Pool(workers) as pool:
+        for what, name, told in pool.imap(finds, wrong.WRONG):
+            missed += name is None
+            print(f"cases: {what}: {f'{name}: {told}' if name else 'not found'}", flush=True)
+    print(f"cases: {len(wrong.WRONG)} wrong kernels, {missed} not found")
+    return SAME if missed else 0
 
 
 def main(words, workers):
     """As check, with a line where nothing can be asked."""
     try:
-        return check(words, workers)
+        return check_wrong(words, workers) if words.wrong else check(words, workers)
     except Fault as fault:
         print(f"cases: {fault}", file=sys.stderr)
         return NOTHING

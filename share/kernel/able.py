@@ -5,7 +5,7 @@ from __future__ import annotations
 from collections.abc import Iterator
 
 from .lines import OPENS
-from .script import Script, ids
+from .script import FILE_IDS, FIRST_IDS, Script, called, numbers
 from .setup import Place, executed, in_image, spaces_used
 
 # The events that a program has no call for.
@@ -22,6 +22,7 @@ BUSY = "a program that runs isn't opened for writing (ETXTBSY)"
 DESCRIPTORS = "a descriptor is one of its process, not of the whole system"
 SPACES_OF_PROCESS = "the threads of a process are in one user namespace"
 NO_SPACES = "user namespaces can't be created here"
+EVERY_ID = ((0, 0xFFFFFFFF),)
 NOT_MAPPED = "ids that aren't mapped here"
 DENIED = "setgroups(2) is denied here"
 NO_ATTRIBUTES = "attributes can't be set here"
@@ -76,13 +77,21 @@ def spaces_of_processes(script: Script) -> Iterator[str]:
             yield SPACES_OF_PROCESS
 
 
+def all_mapped(script: Script, place: Place) -> bool:
+    """Whether the ids of a script are there. Of those that calls name this is no matter where the
+    map is narrower than it could be: there the call itself says so.
+    """
+    narrow = place.extents != place.known
+    first = numbers(FIRST_IDS, script) | (set() if narrow else called(script))
+    return all(map(place.has, first)) and all(map(place.knows, numbers(FILE_IDS, script)))
+
+
 def here(script: Script, place: Place) -> Iterator[str]:
     """Reasons that this machine gives."""
     if not place.spaces and len(spaces_used(script)) > 1:
         yield NO_SPACES
-    if len(place.extents) != 1 or place.extents[0][1] < 0xFFFFFFFF:
-        if any(not place.has(it) for it in ids(script)):
-            yield NOT_MAPPED
+    if place.extents != EVERY_ID and not all_mapped(script, place):
+        yield NOT_MAPPED
     if place.denied and any("setgroups" in it.words or "groups" in it.words for it in script.lines):
         yield DENIED
     if not place.attributes and any(it.attribute is not None for it in script.files.values()):

@@ -2,6 +2,7 @@
 
 from __future__ import annotations
 
+import re
 from dataclasses import replace
 from functools import lru_cache
 
@@ -49,15 +50,34 @@ def common(one: tuple[tuple[int, int], ...], other: tuple[tuple[int, int], ...])
     return tuple(sorted(found))
 
 
+def narrowed(place: Place, ids: str) -> Place:
+    """The place with these ids mapped alone: `0-999,100000`."""
+    if not re.fullmatch(r"\d+(-\d+)?(,\d+(-\d+)?)*", ids):
+        raise Fault(f"{ids} are no ids: FIRST-LAST,..")
+    asked = []
+    for part in ids.split(","):
+        first, _, last = part.partition("-")
+        asked.append((int(first), int(last or first) - int(first) + 1))
+    found = common(place.extents, tuple(asked))
+    if not any(first == 0 for first, _ in found) or not place.own:
+        raise Fault("id 0 has to be mapped, in a user namespace of the driver's")
+    return replace(place, extents=found)
+
+
 class Machine:
     """A driver, and what it can do here."""
 
-    def __init__(self, built: Built, seconds: int = SECONDS, place: Place | None = None) -> None:
+    def __init__(
+        self, built: Built, seconds: int = SECONDS, place: Place | None = None,
+        ids: str | None = None,
+    ) -> None:
         self.built = built
         self.seconds = seconds
         self.driver = Driver(built)
         self.kernel = " ".join(self.driver.first[1].split()[:3])
         self.place = place or self.find()
+        if ids:
+            self.place = narrowed(self.place, ids)
 
     @lru_cache(maxsize=64)
     def image(self, files: tuple) -> bytes:
@@ -98,10 +118,10 @@ class Machine:
         first = self.driver.first
         mapped = common(extents(first, "/proc/self/uid_map"), extents(first, "/proc/self/gid_map"))
         denied = first[-1] == ". ready 1"
-        place = Place(mapped, True, denied)
+        place = Place(mapped, mapped, True, denied)
         found = self.try_script(FIRST, place)
         if not found:
-            place = Place(mapped, False, denied, spaces=False)
+            place = Place(mapped, mapped, False, denied, spaces=False)
             found = self.try_script(FIRST, place)
         self.judge(found)
         has = {

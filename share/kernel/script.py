@@ -100,14 +100,20 @@ def parse(text: str) -> Script:
     return script
 
 
-IDS_OF = re.compile(r"^(?:file \S+ \S+ (\d+) (\d+)|ns \d+ (\d+)|init \S+ \S+ (\d+) (\d+))", re.M)
+FILE_IDS = re.compile(r"^ *file +\S+ +\S+ +(\d+) +(\d+)", re.M)
+FIRST_IDS = re.compile(r"^ *(?:ns +\d+ +(\d+)|init +\S+ +\S+ +(\d+) +(\d+))", re.M)
 
 
-def ids(script: Script) -> set[int]:
-    """The ids that a script names."""
-    found = {int(word) for words in IDS_OF.findall(script.text) for word in words if word}
+def numbers(form: re.Pattern[str], script: Script) -> set[int]:
+    """The numbers of lines of a form."""
+    return {int(word) for words in form.findall(script.text) for word in words if word}
+
+
+def called(script: Script) -> set[int]:
+    """The ids that calls name."""
+    found = set()
     for line in script.lines:
-        words = line.words[1:]
-        if words[0] in ID_CALLS or words[0] in ("setfsuid", "setfsgid"):
+        words = line.words[2:] if line.words[0] == "begin" else line.words[1:]
+        if words[:1] and (words[0] in ID_CALLS or words[0] in ("setfsuid", "setfsgid")):
             found.update(int(word) for word in words[1:] if word != "-1")
     return found

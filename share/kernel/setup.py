@@ -13,17 +13,24 @@ REVISIONS = {2: 20, 3: 24}
 NO_ROOT = b"\xff" * 4
 
 
+def within(extents: tuple[tuple[int, int], ...], number: int) -> bool:
+    """Whether an id is in one of these."""
+    return any(first <= number < first + count for first, count in extents)
+
+
 @dataclass(frozen=True)
 class Place:
     """Where a script runs: the ids that are mapped, and what the machine allows.
 
-    `extents` are pairs of a first id and how many there are; `own` says that namespace 0 is a user
+    `extents` are those of namespace 0, pairs of a first id and how many there are, and `known` those
+    of who runs the driver, which may be more; `own` says that namespace 0 is a user
     namespace of the driver's making; `denied` that setgroups(2) is. `spaces`, `attributes` and
     `images` say that others can be made, that setxattr(2) puts attributes, and that a file system
     can be mounted whose attributes it would refuse.
     """
 
     extents: tuple[tuple[int, int], ...] = ((0, 0xFFFFFFFF),)
+    known: tuple[tuple[int, int], ...] = ((0, 0xFFFFFFFF),)
     own: bool = True
     denied: bool = False
     spaces: bool = True
@@ -32,7 +39,11 @@ class Place:
 
     def has(self, number: int) -> bool:
         """Whether this id is mapped."""
-        return any(first <= number < first + count for first, count in self.extents)
+        return within(self.extents, number)
+
+    def knows(self, number: int) -> bool:
+        """Whether a file can have this owner."""
+        return within(self.known, number)
 
 
 def swapped(root: int, number: int) -> int:
