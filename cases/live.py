@@ -1,6 +1,7 @@
 """A running kernel that is held to the cases: `cases/check --kernel`."""
 import os
 import re
+import signal
 import sys
 from collections import Counter
 from dataclasses import dataclass, field
@@ -12,10 +13,11 @@ import suite
 from program import lacks
 
 sys.path.insert(0, str(suite.TOP.parent / "share"))
-from kernel import chance, hold, process, report, wrong  # noqa: E402
+from kernel import chance, hold, report, wrong  # noqa: E402
 from kernel.able import why_not  # noqa: E402
+from kernel.apart import Fault, die_with_parent  # noqa: E402
 from kernel.machine import Machine  # noqa: E402
-from kernel.process import Built, Fault  # noqa: E402
+from kernel.process import Built  # noqa: E402
 from kernel.rows import row  # noqa: E402
 from kernel.script import parse  # noqa: E402
 from kernel.setup import Place  # noqa: E402
@@ -27,6 +29,7 @@ OF_LIMITS = "limits of this program"
 # Subjects that have no case for a kernel.
 OTHERS = ("audit", "decode", "words", "limits")
 SAME, NOTHING = 1, 2
+ENDING = signal.SIGTERM, signal.SIGHUP, signal.SIGINT
 
 
 @dataclass
@@ -84,7 +87,9 @@ HOLDER = None
 def begin(built, place, words, workers):
     """In a worker: it has a driver of its own, and ends where its parent does."""
     global HOLDER
-    process.die_with_parent()
+    die_with_parent()
+    for number in ENDING:
+        signal.signal(number, signal.SIG_DFL)
     sys.stdin.close()
     stay_on_one_processor(workers)
     HOLDER = hold.Holder(Machine(built, words.seconds, place), words.strict)
@@ -163,6 +168,9 @@ def run(given, outcome, start, workers):
         for name, verdict in pool.imap_unordered(judge, bounded(given, room)):
             room.release()
             outcome.add(name, verdict)
+        # Those that have begun late begin all the same, before the driver's folder goes.
+        pool.close()
+        pool.join()
     return outcome
 
 
@@ -218,8 +226,15 @@ def check_wrong(words, workers):
     return SAME if missed else 0
 
 
+def ended(number, _frame):
+    """A signal that ends the check: the folder of a driver under another program is removed."""
+    raise SystemExit(128 + number)
+
+
 def main(words, workers):
     """As check, with a line where nothing can be asked."""
+    for number in ENDING:
+        signal.signal(number, ended)
     try:
         return check_wrong(words, workers) if words.wrong else check(words, workers)
     except Fault as fault:

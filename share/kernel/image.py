@@ -7,9 +7,8 @@ from __future__ import annotations
 import os
 import shutil
 import subprocess
-import tempfile
 
-from .process import Fault
+from .apart import Fault, made_apart
 from .script import File
 
 SIZE = 8 << 20
@@ -64,5 +63,4 @@ def made(files: list[File], program: bytes, folder: str) -> bytes:
 
 def image_of(files: list[File], program: bytes) -> bytes:
     """The image with these files, each with the program's bytes."""
-    with tempfile.TemporaryDirectory(prefix="credtrace-") as folder:
-        return made(files, program, folder)
+    return made_apart(lambda folder: made(files, program, folder))

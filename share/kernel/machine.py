@@ -2,12 +2,14 @@
 
 from __future__ import annotations
 
+import os
 import re
 from dataclasses import replace
 from functools import lru_cache
 
+from .apart import Fault
 from .image import can_make, image_of
-from .process import SECONDS, Built, Driver, Fault
+from .process import SECONDS, Built, Driver
 from .script import Script, parse
 from .setup import Place, in_image, whole
 
@@ -27,9 +29,23 @@ class Lost(Exception):
         self.answers = answers
 
 
+def failure(told: str) -> str:
+    """What couldn't be made before the calls, as the driver told it."""
+    *what, number = told.split()
+    return f"{' '.join(what)}: {os.strerror(int(number))}"
+
+
+def kernel_of(first: list[str]) -> str:
+    """The kernel's name and release, from the driver's first lines."""
+    said = first[first.index("/proc/version") + 1 :] if "/proc/version" in first else []
+    if not said or not first[-1].startswith(". ready"):
+        raise Fault(f"the driver said {' '.join(first)[:200]}")
+    return " ".join(said[0].split()[:3])
+
+
 def extents(lines: list[str], name: str) -> tuple[tuple[int, int], ...]:
     """What a map of /proc, which the driver told, maps."""
-    start = lines.index(name) + 1
+    start = lines.index(name) + 1 if name in lines else len(lines)
     found = []
     for line in lines[start:]:
         words = line.split()
@@ -74,7 +90,7 @@ class Machine:
         self.built = built
         self.seconds = seconds
         self.driver = Driver(built)
-        self.kernel = " ".join(self.driver.first[1].split()[:3])
+        self.kernel = kernel_of(self.driver.first)
         self.place = place or self.find()
         if ids:
             self.place = narrowed(self.place, ids)
@@ -82,9 +98,7 @@ class Machine:
     @lru_cache(maxsize=64)
     def image(self, files: tuple) -> bytes:
         """The image of these files."""
-        with open(self.built.file, "rb", closefd=False) as program:
-            program.seek(0)
-            return image_of(list(files), program.read())
+        return image_of(list(files), self.built.program)
 
     def answers(self, script: Script) -> dict[int, str]:
         """What each line was answered."""
@@ -99,10 +113,19 @@ class Machine:
             if number.isdigit():
                 found[int(number)] = answer
             elif number == "failed":
-                raise Lost(answer, found)
+                raise Lost(failure(answer), found)
         if last != ". done 0":
-            raise Lost(last.removeprefix(". "), found)
+            raise Lost(self.ending(last), found)
         return found
+
+    def ending(self, last: str) -> str:
+        """Why a script ended before its last line."""
+        word, number = last.removeprefix(". ").split()
+        if word == "late":
+            return f"it took longer than {self.seconds} seconds"
+        if word == "refused":
+            return f"no process could be made ({os.strerror(int(number))})"
+        return f"the driver's process ended with status {number}"
 
     def try_script(self, text: str, place: Place) -> dict[int, str]:
         """The answers of a small script in this place; nothing where it can't be run."""

@@ -9,9 +9,11 @@ import sys
 from pathlib import Path
 
 from .able import why_not
+from .apart import Fault
+from .grammar import is_good
 from .machine import Lost, Machine
 from .numbers import Full
-from .process import SECONDS, Built, Fault
+from .process import SECONDS, Built
 from .report import report_of
 from .script import Script, parse
 
@@ -35,10 +37,9 @@ def read(name: str) -> str:
 def script_of(name: str) -> Script:
     """The script. One with a bad line is told to be none: `credtrace run` says which line it is."""
     text = read(name)
-    try:
-        return parse(text)
-    except (ValueError, IndexError, KeyError):
-        raise Fault(f"{name} is no script: `share/credtrace-check {name}` says why") from None
+    if not is_good(text):
+        raise Fault(f"{name} is no script: share/credtrace-check says why")
+    return parse(text)
 
 
 def answered(machine: Machine, script: Script) -> str:
@@ -58,6 +59,13 @@ def ended(number: int, _frame: object) -> None:
     raise SystemExit(128 + number)
 
 
+def seconds(word: str) -> int:
+    """How long a script may take."""
+    if not word.isdigit() or not 0 < int(word) < 100_000:
+        raise argparse.ArgumentTypeError("a number of seconds, 1 or more")
+    return int(word)
+
+
 def words_of(words: list[str]) -> argparse.Namespace:
     """The words of the command line."""
     parser = argparse.ArgumentParser(
@@ -67,8 +75,9 @@ def words_of(words: list[str]) -> argparse.Namespace:
         "--via", metavar="COMMAND", help="run the driver under this: it comes in place of {}, or last"
     )
     parser.add_argument(
-        "--seconds", type=int, default=SECONDS, metavar="N", help="how long the script may take"
+        "--seconds", type=seconds, default=SECONDS, metavar="N", help="how long the script may take"
     )
+    parser.add_argument("--ids", metavar="FIRST-LAST,..", help="map these ids alone, as a container")
     parser.add_argument("file", metavar="SCRIPT", nargs="?", default="-")
     return parser.parse_args(words)
 
@@ -82,7 +91,7 @@ def main(words: list[str]) -> int:
     try:
         script = script_of(given.file)
         built = Built(given.via)
-        sys.stdout.write(answered(Machine(built, given.seconds), script))
+        sys.stdout.write(answered(Machine(built, given.seconds, ids=given.ids), script))
         return ANSWERED
     except Fault as fault:
         print(f"{NAME}: {fault}", file=sys.stderr)

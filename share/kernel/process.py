@@ -2,14 +2,14 @@
 
 from __future__ import annotations
 
-import ctypes
 import os
 import shlex
 import shutil
-import signal
 import subprocess
 import tempfile
 from pathlib import Path
+
+from .apart import Fault, die_with_parent, made_apart
 
 SOURCES = Path(__file__).resolve().parent / "driver"
 FLAGS = (
@@ -17,18 +17,6 @@ FLAGS = (
 ).split()
 # How long one script may take, in seconds, where nothing else is said.
 SECONDS = 60
-DIE_WITH_PARENT = 1
-
-
-class Fault(Exception):
-    """Why nothing can be asked, in one line."""
-
-
-def die_with_parent() -> None:
-    """In a child: it ends where its parent does, however that ends."""
-    ctypes.CDLL(None, use_errno=True).prctl(DIE_WITH_PARENT, signal.SIGKILL, 0, 0, 0)
-
-
 def compiler() -> str:
     """The C compiler."""
     found = os.environ.get("CC") or shutil.which("cc") or shutil.which("gcc") or ""
@@ -55,23 +43,31 @@ def build(folder: str) -> str:
     return program
 
 
-class Built:
-    """The driver, built into a temporary folder; `close` removes that.
+def bytes_of(folder: str) -> bytes:
+    """The bytes of the driver, built in a folder."""
+    return Path(build(folder)).read_bytes()
 
-    Where the driver is run here, the folder goes before it is used: it is executed by its open
-    file. Under another program it stays, for as long as that may read it.
+
+class Built:
+    """The driver. It is no file, but memory; under another program it is one in a temporary folder,
+    which `close` removes.
     """
 
     def __init__(self, via: str | None = None) -> None:
         self.via = via
+        self.folder = ""
+        if via is None:
+            self.program = made_apart(bytes_of)
+            self.file = os.memfd_create("credtrace-driver")
+            os.write(self.file, self.program)
+            self.path = f"/proc/self/fd/{self.file}"
+            return
         self.folder = tempfile.mkdtemp(prefix="credtrace-")
         try:
             self.path = build(self.folder)
+            self.program = Path(self.path).read_bytes()
             self.file = os.open(self.path, os.O_RDONLY | os.O_CLOEXEC)
-            if via is None:
-                self.close()
-            else:
-                os.chmod(self.folder, 0o755)
+            os.chmod(self.folder, 0o755)
         except BaseException:
             self.close()
             raise
@@ -79,14 +75,15 @@ class Built:
     def words(self) -> list[str]:
         """What starts it."""
         if self.via is None:
-            return [f"/proc/self/fd/{self.file}"]
+            return [self.path]
         path = shlex.quote(self.path)
         command = self.via.replace("{}", path) if "{}" in self.via else f"{self.via} {path}"
         return ["sh", "-c", command]
 
     def close(self) -> None:
         """Removes the folder."""
-        shutil.rmtree(self.folder, ignore_errors=True)
+        if self.folder:
+            shutil.rmtree(self.folder, ignore_errors=True)
 
 
 class Driver:

@@ -61,7 +61,14 @@ static void enter(void) {
   write_own("/proc/self/setgroups", "deny");
   map_own("/proc/self/uid_map", user);
   map_own("/proc/self/gid_map", group);
-  denied = 1;
+}
+
+static void see_whether_denied(void) {
+  char said[8] = {0};
+  long fd = call4(__NR_openat, AT_FDCWD, "/proc/self/setgroups", 0, 0);
+  call3(__NR_read, fd, said, 4);
+  call1(__NR_close, fd);
+  denied = same(said, "deny");
 }
 
 /* The memory that the tasks share. */
@@ -195,6 +202,7 @@ __attribute__((used)) void begin(long *stack) {
     go_on(words[2], words[3]);
   call2(__NR_prctl, PR_SET_PDEATHSIG, SIGKILL_);
   enter();
+  see_whether_denied();
   tell("/proc/version");
   tell("/proc/self/uid_map");
   tell("/proc/self/gid_map");
