@@ -4,8 +4,8 @@ import re
 import signal
 import sys
 from collections import Counter
-from dataclasses import dataclass, field
-from itertools import count, islice
+from dataclasses import dataclass, field, replace
+from itertools import islice
 from multiprocessing import get_context
 from threading import Semaphore
 
@@ -29,6 +29,8 @@ OF_LIMITS = "limits of this program"
 # Subjects that have no case for a kernel.
 OTHERS = ("audit", "decode", "words", "limits")
 SAME, NOTHING = 1, 2
+# How many lines of a long script are asked where few cases are.
+BRIEF = 400
 ENDING = signal.SIGTERM, signal.SIGHUP, signal.SIGINT
 
 
@@ -151,13 +153,31 @@ def all_cases(only):
                 yield case
 
 
-def spread(cases, count):
-    """So many cases, some of each file: the first of each, then the second of each."""
-    of_file = {}
-    for case in cases:
-        of_file.setdefault(case.name.partition(":")[0], []).append(case)
-    found = [(place, case) for its in of_file.values() for place, case in enumerate(its)]
-    return [case for _, case in sorted(found, key=lambda it: it[0])][:count]
+def cut(case):
+    """The first lines of a long script, and their entries."""
+    lines = case.given.splitlines(keepends=True)
+    if len(lines) <= BRIEF or case.written is None:
+        return case
+    entries = case.written.splitlines(keepends=True)
+    some = [it for it in entries if int(it.split(b" ", 1)[0]) <= BRIEF]
+    return replace(case, given=b"".join(lines[:BRIEF]), written=b"".join(some))
+
+
+def brief():
+    """The cases that stand in files and rows, and the beginning of one script of each table."""
+    for subject in suite.subjects():
+        for file in sorted(it for it in subject.iterdir() if it.suffix in suite.READERS):
+            if subject.name not in OTHERS:
+                found = suite.READERS[file.suffix](file, f"{subject.name}/{file.stem}")
+                yield from map(cut, islice(found, 1) if file.suffix == ".py" else found)
+
+
+def counted(cases, words):
+    """So many of them, with random scripts where there are too few."""
+    found = [*islice(cases, words.count)]
+    yield from found
+    for number in range(words.seed, words.seed + words.count - len(found)):
+        yield random_task(number)
 
 
 def run(given, outcome, start, workers):
@@ -174,10 +194,18 @@ def run(given, outcome, start, workers):
     return outcome
 
 
-def random_tasks(words):
-    """Random scripts, by the numbers from the seed on."""
-    for number in islice(count(words.seed), words.random):
-        yield f"random script {number}", chance.made(number), None, ()
+def random_task(number):
+    """The random script of a number."""
+    return f"random script {number}", chance.made(number), None, ()
+
+
+def given_by(words, outcome, place):
+    """The scripts that the words ask for."""
+    if words.random:
+        return map(random_task, range(words.seed, words.seed + words.random))
+    if words.count:
+        return counted(tasks(brief(), outcome, place), words)
+    return tasks(all_cases(words.only), outcome, place)
 
 
 def check(words, workers):
@@ -188,12 +216,7 @@ def check(words, workers):
         machine.close()
         place, outcome = machine.place, Outcome()
         print(f"cases: {machine.kernel}", flush=True)
-        if words.random:
-            given = random_tasks(words)
-        else:
-            found = all_cases(words.only)
-            found = spread(found, words.count) if words.count else found
-            given = tasks(found, outcome, place)
+        given = given_by(words, outcome, place)
         return run(given, outcome, (built, place, words), workers).tell("cases")
     finally:
         built.close()

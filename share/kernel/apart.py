@@ -1,5 +1,5 @@
-"""Files that are made apart: in a mount namespace of its own, so that none is left behind, however the
-command ends.
+"""Files that are made apart: in a mount namespace of its own, so that none is left behind, however
+the command ends.
 """
 
 from __future__ import annotations
@@ -43,7 +43,8 @@ def enter() -> None:
     user, group = os.geteuid(), os.getegid()
     if LIBC.unshare(NEW_MOUNTS):
         must(LIBC.unshare(NEW_MOUNTS | NEW_USERS), "a mount or user namespace")
-        for name, text in ("setgroups", "deny"), ("uid_map", f"0 {user} 1"), ("gid_map", f"0 {group} 1"):
+        maps = ("uid_map", f"0 {user} 1"), ("gid_map", f"0 {group} 1")
+        for name, text in (("setgroups", "deny"), *maps):
             with open(f"/proc/self/{name}", "w", encoding="ascii") as target:
                 target.write(text)
     mount(b"none", b"/", b"", PRIVATE)

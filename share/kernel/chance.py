@@ -149,7 +149,8 @@ class Maker:
 
     def question(self) -> str:
         """A question."""
-        form = self.random.choice("ids caps caps groups bits capable bset ambis check check".split())
+        forms = "ids caps caps groups bits capable bset ambis check check"
+        form = self.random.choice(forms.split())
         if form == "check":
             return f"check {self.random.choice(self.files)} {self.want()}"
         return f"{form} {self.number()}" if form in ("capable", "bset", "ambis") else form

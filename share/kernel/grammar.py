@@ -1,4 +1,4 @@
-"""Whether a text is a script: the forms of docs/FORMATS.md, without telling which test a line fails."""
+"""Whether a text is a script, by the forms of docs/FORMATS.md. Which test fails isn't told."""
 
 from __future__ import annotations
 
@@ -11,7 +11,8 @@ WORDS = {
     "NUM": NUM, "ID": NUM, "ARG": f"(?:-1|{NUM})", "T": r"t[1-9]\d{0,4}", "P": r"p[1-9]\d{0,4}",
     "H": r"h[1-9]\d{0,4}", "F": r"f[1-9]\d{0,4}", "N": r"n(?:\d|1[0-5])",
     "CAP": f"(?:{NUM}|CAP_(?:{'|'.join(CAPABILITIES)}))", "SET": "[0-9a-fA-F]{1,16}",
-    "NAME": r"[A-Za-z][A-Za-z0-9_.-]{0,31}", "MODE": "[0-7]{4}", "HEX": "(?:0x)?(?:[0-9a-fA-F]{2}){1,64}",
+    "NAME": r"[A-Za-z][A-Za-z0-9_.-]{0,31}", "MODE": "[0-7]{4}",
+    "HEX": "(?:0x)?(?:[0-9a-fA-F]{2}){1,64}",
     "WANT": "(?:r|w|x|rw|rx|wx|rwx)", "KIND": "(?:reg|dir)", "IDS": f"(?: {NUM})*",
 }  # fmt: skip
 IDCALL = (

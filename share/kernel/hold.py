@@ -105,7 +105,8 @@ class Holder:
         small = parse("\n".join([*lines, ""]))
         kernel = self.asked(small)
         found = self.first(small, kernel) or difference
-        said = f"line {found.number}, {found.text}: the kernel {found.kernel}, the manual {found.manual}"
+        said = f"line {found.number}, {found.text}: the kernel {found.kernel}"
+        said += f", the manual {found.manual}"
         if found.linux != found.manual:
             said += f", Linux {found.linux}"
         if 0 in kernel:

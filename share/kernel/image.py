@@ -54,7 +54,8 @@ def made(files: list[File], program: bytes, folder: str) -> bytes:
         target.write("\n".join([*lines, ""]))
     plain = ["-q", "-F", "-I", "256", "-b", "1024", "-O", "^has_journal", image]
     for words in ([tool("mke2fs"), *plain], [tool("debugfs"), "-w", "-f", script, image]):
-        done = subprocess.run(words, stdout=subprocess.DEVNULL, stderr=subprocess.DEVNULL, check=False)
+        nothing = subprocess.DEVNULL
+        done = subprocess.run(words, stdout=nothing, stderr=nothing, check=False)
         if done.returncode:
             raise Fault(f"{words[0]} ended with status {done.returncode}")
     with open(image, "rb") as result:

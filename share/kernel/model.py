@@ -146,7 +146,8 @@ class Model:
         cred = task.cred
         if form in ("setfsuid", "setfsgid"):
             user, new = form == "setfsuid", id_of(rest[0])
-            task.cred, old = self.rule(lambda on: change.set_fs(cred, user, new, on))  # type: ignore
+            made = self.rule(lambda on: change.set_fs(cred, user, new, on))
+            task.cred, old = made  # type: ignore[misc]
             return f"ok was {old}"
         if form == "exec":
             return self.executes(name, task, rest[0])
@@ -224,8 +225,8 @@ class Model:
         return answer
 
     def may_kill(self, sender: Cred, target: Cred, on: Rows) -> bool:
-        """Whether CAP_KILL counts: by the manual it does everywhere; on Linux in the namespace of the
-        target, which those above it have it in too, and the user who made that.
+        """Whether CAP_KILL counts: by our rule it does everywhere; on Linux where it is had in the
+        target's namespace, which those above it have it in too, and the user who made that.
         """
         if not on:
             return sender.has(KILL)

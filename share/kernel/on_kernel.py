@@ -69,15 +69,15 @@ def seconds(word: str) -> int:
 def words_of(words: list[str]) -> argparse.Namespace:
     """The words of the command line."""
     parser = argparse.ArgumentParser(
-        prog=NAME, description="Makes a script's calls on the running kernel, and reports its answers."
+        prog=NAME, description="Makes a script's calls on the running kernel, and tells answers."
     )
     parser.add_argument(
-        "--via", metavar="COMMAND", help="run the driver under this: it comes in place of {}, or last"
+        "--via", metavar="COMMAND", help="what runs the driver, which stands for {}, or last"
     )
     parser.add_argument(
         "--seconds", type=seconds, default=SECONDS, metavar="N", help="how long the script may take"
     )
-    parser.add_argument("--ids", metavar="FIRST-LAST,..", help="map these ids alone, as a container")
+    parser.add_argument("--ids", metavar="FIRST-LAST,..", help="map these ids alone")
     parser.add_argument("file", metavar="SCRIPT", nargs="?", default="-")
     return parser.parse_args(words)
 

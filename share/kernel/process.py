@@ -13,7 +13,7 @@ from .apart import Fault, die_with_parent, made_apart
 
 SOURCES = Path(__file__).resolve().parent / "driver"
 FLAGS = (
-    "-std=gnu11 -O2 -Wall -static -nostdlib -ffreestanding -fno-stack-protector -fno-pie -no-pie -s"
+    "-std=gnu11 -O1 -Wall -static -nostdlib -ffreestanding -fno-stack-protector -fno-pie -no-pie -s"
 ).split()
 # How long one script may take, in seconds, where nothing else is said.
 SECONDS = 60
@@ -33,7 +33,7 @@ def build(folder: str) -> str:
     try:
         done = subprocess.run(
             words, stdout=subprocess.PIPE, stderr=subprocess.STDOUT, check=False,
-            env=os.environ | {"TMPDIR": folder},
+            env=os.environ | {"TMPDIR": folder}, preexec_fn=die_with_parent,
         )  # fmt: skip
     except OSError as fault:
         raise Fault(f"{words[0]} can't be run: {fault.strerror}") from None

@@ -3,8 +3,8 @@
 from __future__ import annotations
 
 from strace.rows import (
-    DENIED_GROUPS, FILESYSTEM_IDS, NO_NEW_PRIVS_FILE, NO_NEW_PRIVS_IDS, PLAIN_FILE, SECUREBITS, SET_ID,
-    UNMAPPED, row,
+    FILESYSTEM_IDS, NO_NEW_PRIVS_FILE, NO_NEW_PRIVS_IDS, PLAIN_FILE, SECUREBITS, SET_ID, UNMAPPED,
+    row,
 )  # fmt: skip
 
 GROUPS = "at most 1,024 groups, else EINVAL"
@@ -22,4 +22,4 @@ EXPECTED = frozenset(
 )  # fmt: skip
 MANUAL: frozenset[str] = frozenset()
 
-__all__ = ["EXPECTED", "MANUAL", "DENIED_GROUPS", "row"]
+__all__ = ["EXPECTED", "MANUAL", "row"]

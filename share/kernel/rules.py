@@ -1,4 +1,4 @@
-"""What attributes say, and what an execve gained: of docs/RULES.md, "File attributes", "execve(2)"."""
+"""What attributes say, and what an execve gained (docs/RULES.md)."""
 
 from __future__ import annotations
 

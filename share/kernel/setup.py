@@ -22,8 +22,8 @@ def within(extents: tuple[tuple[int, int], ...], number: int) -> bool:
 class Place:
     """Where a script runs: the ids that are mapped, and what the machine allows.
 
-    `extents` are those of namespace 0, pairs of a first id and how many there are, and `known` those
-    of who runs the driver, which may be more; `own` says that namespace 0 is a user
+    `extents` are those of namespace 0, pairs of a first id and how many there are, and `known`
+    those of who runs the driver, which may be more; `own` says that namespace 0 is a user
     namespace of the driver's making; `denied` that setgroups(2) is. `spaces`, `attributes` and
     `images` say that others can be made, that setxattr(2) puts attributes, and that a file system
     can be mounted whose attributes it would refuse.

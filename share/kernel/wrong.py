@@ -196,8 +196,8 @@ def _(right):
 at_change("capset leaves the ambient set", "capset", lambda old, new, *_: fields(
     new, ambient=old.ambient
 ))  # fmt: skip
-at_change("a drop from the bounding set reaches the inheritable set", "drop", lambda old, new, *_: fields(
-    new, inheritable=old.inheritable & new.bounding
+at_change("a drop from the bounding set reaches the inheritable set", "drop", lambda old, new, *_: (
+    fields(new, inheritable=old.inheritable & new.bounding)
 ))  # fmt: skip
 
 
@@ -257,7 +257,7 @@ def _(right):
 
 @wrong("an attribute of one namespace counts in all", files, "attribute_of")
 def _(right):
-    return lambda old, file, roots, on: right(old, file, [*roots, *range(100_000, 200_001, 100_000)], on)
+    return lambda old, file, roots, on: right(old, file, [*roots, 100_000, 200_000], on)
 
 
 @wrong("a capability-dumb file is executed with less than it permits", files, "execute")
@@ -287,7 +287,9 @@ def _(right):
 @wrong("access(2) decides by the effective ids", files, "by_real_ids")
 def _(right):
     return lambda old: fields(
-        right(old), users=[*old.users[:3], old.users[1]], group_ids=[*old.group_ids[:3], old.group_ids[1]]
+        right(old),
+        users=[*old.users[:3], old.users[1]],
+        group_ids=[*old.group_ids[:3], old.group_ids[1]],
     )
 
 

@@ -83,8 +83,8 @@ static u64 by_prctl(long option, long what) {
   return found;
 }
 
-/* Whether prctl(2), which tells a capability a call, tells this set too. It is asked of each set once
- * in a script, or every question would be a hundred calls. */
+/* Whether prctl(2), which tells a capability a call, tells this set too. It is asked of each set
+ * once in a script, or every question would be a hundred calls. */
 static int is_told(u64 set, long option, long what) {
   u64 key = set << 1 | (what < 0), *seen = &world->agreed[(key ^ key >> 17 ^ key >> 31) % 256];
   if (*seen == ~key)

@@ -1,7 +1,7 @@
 /* The program: it reads scripts from standard input, and runs each in namespaces of its own.
  *
- * A script comes as `script SECONDS LENGTH IMAGE`, and as many bytes of text and of an image of a file
- * system. What it is answered ends with a line `. done`, or with one that says how it ended.
+ * A script comes as `script SECONDS LENGTH IMAGE`, and as many bytes of text and of an image of a
+ * file system. What it is answered ends with a line `. done`, or with one that says how it ended.
  */
 #include "runner.h"
 

@@ -31,7 +31,8 @@ static long read_all(const char *path, char *to, long size) {
   return at;
 }
 
-static long mount(const char *source, const char *to, const char *kind, long flags, const char *with) {
+static long mount(const char *source, const char *to, const char *kind, long flags,
+                  const char *with) {
   return call5(__NR_mount, source, to, kind, flags, with);
 }
 
@@ -41,7 +42,8 @@ static long folder(const char *path) {
 
 /* A file system in an image, by a loop device that goes when it is unmounted. */
 static long mount_image(long image) {
-  long control = call4(__NR_openat, AT_FDCWD, "/dev/loop-control", 02 | CLOEXEC, 0), found = control;
+  long control = call4(__NR_openat, AT_FDCWD, "/dev/loop-control", 02 | CLOEXEC, 0);
+  long found = control;
   struct loop_config config;
   char path[40];
   for (int tries = 0; tries < 20 && found >= 0; tries++) {
@@ -116,7 +118,8 @@ static long write_file(const char *path, int executed) {
   return done < 0 ? done : 0;
 }
 
-/* PATH d|r OWNER GROUP MODE EXECUTED HEX: an owner is set first, since chown(2) clears what follows. */
+/* PATH d|r OWNER GROUP MODE EXECUTED HEX: the owner is set first, since chown(2) clears what
+ * follows. */
 int make_file(struct text *text) {
   char path[64], kind[4], hex[140];
   unsigned char bytes[64];
@@ -139,8 +142,8 @@ static int failed_space(const char *what, long error, struct slot *born) {
   return fails(what, error);
 }
 
-/* NUMBER PARENT ROOT OWN DENIED, and the map's triples: a user namespace and the task that keeps it.
- * Namespace 0 is one as well, where the machine allows it. */
+/* NUMBER PARENT ROOT OWN DENIED, and the map's triples: a user namespace and the task that keeps
+ * it. Namespace 0 is one as well, where the machine allows it. */
 int make_space(struct text *text) {
   static struct slot self;
   int number = (int)next(text), parent = (int)next(text);
@@ -150,7 +153,8 @@ int make_space(struct text *text) {
   char *to = world->map;
   for (int i = 1; !line_ends(text); i++)
     to = put(put_number(to, (u64)next(text)), i % 3 ? " " : "\n");
-  struct slot *above = parent < 0 ? &self : slot_of(SPACE + parent), *born = new_slot(SPACE + number);
+  struct slot *above = parent < 0 ? &self : slot_of(SPACE + parent);
+  struct slot *born = new_slot(SPACE + number);
   if (!above || !born)
     return fails("namespace", -ENOENT_);
   born->process = SPACE + number;

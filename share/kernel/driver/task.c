@@ -37,7 +37,8 @@ u32 inside(const struct slot *slot, u32 id) {
   return id == 0 ? slot->root : id == slot->root ? 0 : id;
 }
 
-/* seteuid(2) and setegid(2) are libc's: `-1` is EINVAL there, and else the kernel's setresuid(2). */
+/* seteuid(2) and setegid(2) are libc's: `-1` is EINVAL there, all else the kernel's
+ * setresuid(2). */
 static long set_effective(long call, u32 id) {
   return id == NO_ID ? -EINVAL_ : call3(call, NO_ID, id, NO_ID);
 }
@@ -94,8 +95,8 @@ static long open_file(const struct slot *slot) {
   return 0;
 }
 
-/* faccessat2(2). Where open(2) asks the same, both must agree; that a program which runs isn't opened
- * for writing comes after the check. */
+/* faccessat2(2). Where open(2) asks the same, both must agree; that a program which runs isn't
+ * opened for writing comes after the check. */
 static long may(const struct slot *slot) {
   long mode = slot->args[0], flags = slot->args[1], open_flags = slot->args[2];
   long found = call4(__NR_faccessat2, AT_FDCWD, world->path, mode, flags);
@@ -244,8 +245,8 @@ static int threads(void) {
 }
 
 void go_on(const char *fd, const char *slot) {
-  long size = sizeof(struct world);
-  world = (struct world *)call6(__NR_mmap, 0, size, PAGES_READ_WRITE, PAGES_SHARED, number_of(fd), 0);
+  long size = sizeof(struct world), at = number_of(fd);
+  world = (struct world *)call6(__NR_mmap, 0, size, PAGES_READ_WRITE, PAGES_SHARED, at, 0);
   if ((u64)world > (u64)-4096)
     leave(99);
   struct slot *mine = &world->slots[number_of(slot)];
