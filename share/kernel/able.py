@@ -24,7 +24,7 @@ SPACES_OF_PROCESS = "the threads of a process are in one user namespace"
 NO_SPACES = "user namespaces can't be created here"
 EVERY_ID = ((0, 0xFFFFFFFF),)
 NOT_MAPPED = "ids that aren't mapped here"
-DENIED = "setgroups(2) is denied here"
+DENIED = "setgroups(2) is denied here, so that a first task has other groups"
 NO_ATTRIBUTES = "attributes can't be set here"
 NO_IMAGE = "attributes that setxattr(2) refuses can't be had here"
 
@@ -92,7 +92,7 @@ def here(script: Script, place: Place) -> Iterator[str]:
         yield NO_SPACES
     if place.extents != EVERY_ID and not all_mapped(script, place):
         yield NOT_MAPPED
-    if place.denied and any("setgroups" in it.words or "groups" in it.words for it in script.lines):
+    if place.denied and any("groups" in it.words for it in script.lines):
         yield DENIED
     if not place.attributes and any(it.attribute is not None for it in script.files.values()):
         yield NO_ATTRIBUTES

@@ -134,7 +134,7 @@ def set_ids(cred: Cred, call: str, new: list[int], on: frozenset[str]) -> Cred:
 
 def set_groups(cred: Cred, groups: list[int], on: frozenset[str]) -> Cred:
     """setgroups(2)."""
-    if not cred.has(SETGID):
+    if not cred.has(SETGID) or rows.DENIED_GROUPS in on:
         raise Refused("eperm")
     if len(groups) > (65_536 if rows.GROUPS in on else 1_024):
         raise Refused("einval")

@@ -13,7 +13,7 @@ from . import cred as change
 from . import files
 from .cred import Cred, Refused
 from .lines import id_of
-from .rows import EXPECTED, MANUAL
+from .rows import DENIED_GROUPS, EXPECTED, MANUAL
 from .rules import chain
 from .script import CHANGES, ID_CALLS, QUERIES, Line, Script, capability
 from .setup import Place, id_map
@@ -359,6 +359,6 @@ def shown(found: object, error: Refused | None) -> object:
 
 def expected(script: Script, place: Place, on: Rows = EXPECTED) -> tuple[dict[int, str], set[str]]:
     """What each line must be answered, and the rows that made a difference."""
-    model = Model(script, place, on)
+    model = Model(script, place, on | {DENIED_GROUPS} if on and place.denied else on)
     answers = {line.number: model.answer(line) for line in script.lines}
     return answers, model.named

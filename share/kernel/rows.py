@@ -3,7 +3,7 @@
 from __future__ import annotations
 
 from strace.rows import (
-    FILESYSTEM_IDS, NO_NEW_PRIVS_FILE, NO_NEW_PRIVS_IDS, PLAIN_FILE, SECUREBITS, SET_ID, UNMAPPED,
+    DENIED_GROUPS, FILESYSTEM_IDS, NO_NEW_PRIVS_FILE, NO_NEW_PRIVS_IDS, PLAIN_FILE, SECUREBITS, SET_ID, UNMAPPED,
     row,
 )  # fmt: skip
 
@@ -20,6 +20,7 @@ EXPECTED = frozenset(
         LONG_ATTRIBUTE, CAPABILITY, UNMAPPED, UNMAPPED_FILE, IDS_TOLD,
     )
 )  # fmt: skip
+# It is one more where setgroups(2) is denied, as in a user's own namespace.
 MANUAL: frozenset[str] = frozenset()
 
-__all__ = ["EXPECTED", "MANUAL", "row"]
+__all__ = ["DENIED_GROUPS", "EXPECTED", "MANUAL", "row"]

@@ -97,7 +97,7 @@ static int one_line(struct text *text) {
   case 'M': return mount_all(text);
   case 'F': return make_file(text);
   case 'N': return make_space(text);
-  case 'I': first_task(text); return 1;
+  case 'I': return first_task(text);
   case 'G': first_tasks_become(); return 1;
   default: return 1;
   }

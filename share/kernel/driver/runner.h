@@ -36,7 +36,7 @@ void end_process(int process);
 int make_file(struct text *text);
 int mount_all(struct text *text);
 int make_space(struct text *text);
-void first_task(struct text *text);
+int first_task(struct text *text);
 void first_tasks_become(void);
 
 /* A call of the script. */

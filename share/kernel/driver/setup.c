@@ -189,7 +189,7 @@ static int first_count;
 
 /* LINE T P USER GROUP N DENIED. All first tasks are root's until the last one is made, so that a
  * process can be given its other threads. */
-void first_task(struct text *text) {
+int first_task(struct text *text) {
   struct first *first = &firsts[first_count++ % MANY_INITS];
   first->line = next(text);
   int number = (int)next(text), process = (int)next(text);
@@ -201,15 +201,17 @@ void first_task(struct text *text) {
     if (world->slots[i].live && world->slots[i].process == process)
       other = &world->slots[i];
   if (slot_of(number) || !keeper || !(born = new_slot(number)))
-    return;
+    return 1;
   born->process = process;
   born->root = keeper->root;
   struct slot *by = other ? other : keeper;
   by->args[0] = born - world->slots;
-  if (ask_of(by, other ? SPAWN : FORK) < 0)
-    return;
+  long found = ask_of(by, other ? SPAWN : FORK);
+  if (found < 0)
+    return fails("first task", found);
   born->live = 1;
   first->slot = born;
+  return 1;
 }
 
 void first_tasks_become(void) {

@@ -131,8 +131,11 @@ static char stacks[SLOTS][STACK] __attribute__((aligned(16)));
 static long start(struct slot *slot, long flags) {
   struct slot *born = &world->slots[slot->args[0]];
   born->gone = 1;
-  long tid = thread(flags | CLONE_VM | CLONE_CHILD_CLEARTID, stacks[slot->args[0]] + STACK, live_at,
-                    born, &born->gone);
+  char *stack = stacks[slot->args[0]] + STACK;
+  flags |= CLONE_VM | CLONE_CHILD_CLEARTID;
+  long tid = thread(flags, stack, live_at, born, &born->gone);
+  if (tid == -EINVAL_ && flags & CLONE_PARENT) /* A kernel may be without it. */
+    tid = thread(flags & ~(long)CLONE_PARENT, stack, live_at, born, &born->gone);
   born->tid = (int)tid;
   born->pid = flags & CLONE_THREAD ? slot->pid : (int)tid;
   return tid < 0 ? tid : 0;
