@@ -59,6 +59,11 @@ class Outcome:
         else:
             self.differ.append((name, verdict.told))
 
+    def progress(self):
+        """Says on a terminal how far it is."""
+        if sys.stderr.isatty():
+            print(f"\r{self.calls:,} calls", end="\r", file=sys.stderr, flush=True)
+
     def tell(self, what):
         """Says what came of all, and ends with the status."""
         for name, told in self.differ:
@@ -123,12 +128,15 @@ def judge(task):
     return name, verdict
 
 
-def tasks(cases, outcome, place):
-    """What workers are given: a script, and its report or some entries of it."""
+def tasks(cases, outcome, place=None):
+    """What workers are given: a script, and its report or some entries of it. With a place they are
+    such as it can be asked; else workers find that out.
+    """
     for case in cases:
         reason = not_for_a_kernel(case)
         text = case.given.decode("ascii") if not reason else ""
-        reason = reason or why_not(parse(text), place)
+        if place and not reason:
+            reason = why_not(parse(text), place)
         if reason:
             outcome.not_asked[reason] += 1
         else:
@@ -189,6 +197,7 @@ def run(given, outcome, start, workers):
         for name, verdict in pool.imap_unordered(judge, bounded(given, room)):
             room.release()
             outcome.add(name, verdict)
+            outcome.progress()
         # Those that have begun late begin all the same, before the driver's folder goes.
         pool.close()
         pool.join()
@@ -206,7 +215,7 @@ def given_by(words, outcome, place):
         return map(random_task, range(words.seed, words.seed + words.random))
     if words.count:
         return counted(tasks(brief(), outcome, place), words)
-    return tasks(all_cases(words.only), outcome, place)
+    return tasks(all_cases(words.only), outcome, place if words.wrong else None)
 
 
 def check(words, workers):

@@ -38,11 +38,6 @@ class Difference:
     linux: str
 
 
-def readable(script: Script, answers: dict[int, str], number: int) -> str:
-    """The answer of a line, as it is told: where it is long the report's last entries."""
-    return answers.get(number, LOST)
-
-
 class Holder:
     """Holds a machine to scripts. Where it is strict, to the manual alone."""
 

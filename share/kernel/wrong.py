@@ -9,7 +9,7 @@ from __future__ import annotations
 from collections.abc import Callable
 from dataclasses import replace
 
-from . import cred, files, model
+from . import cred, files
 from .cred import Cred, Refused
 from .model import Model, expected
 from .rules import ALL
@@ -365,5 +365,3 @@ class WrongKernel:
         finally:
             setattr(self.owner, self.name, self.right)
 
-
-assert model

@@ -190,7 +190,9 @@ static long become(const struct slot *slot) {
     found = call3(__NR_setresgid, group, group, group);
   if (found == 0)
     found = call3(__NR_setresuid, user, user, user);
-  call2(__NR_prctl, PR_SET_DUMPABLE, 1);
+  /* A keeper writes the maps of its children, in their directories of /proc. */
+  if (slot->number >= SPACE)
+    call2(__NR_prctl, PR_SET_DUMPABLE, 1);
   return found;
 }
 
