@@ -5,7 +5,7 @@ import signal
 import sys
 from collections import Counter
 from dataclasses import dataclass, field, replace
-from itertools import islice
+from itertools import islice, zip_longest
 from multiprocessing import get_context
 from threading import Semaphore
 
@@ -100,7 +100,11 @@ def begin(built, place, words, workers):
         signal.signal(number, signal.SIG_DFL)
     sys.stdin.close()
     stay_on_one_processor(workers)
-    HOLDER = hold.Holder(Machine(built, words.seconds, place), words.strict)
+    try:
+        HOLDER = hold.Holder(Machine(built, words.seconds, place), words.strict)
+    except Fault as fault:
+        # It is raised where there is something to judge: who begins badly is begun anew.
+        HOLDER = fault
 
 
 def stay_on_one_processor(workers):
@@ -118,6 +122,8 @@ def stay_on_one_processor(workers):
 def judge(task):
     """In a worker: holds its kernel to a script."""
     name, text, wanted, entries = task
+    if isinstance(HOLDER, Fault):
+        raise HOLDER
     script = parse(text)
     verdict = HOLDER.held(script, wanted)
     if entries and verdict.kind == hold.AGREES:
@@ -173,12 +179,17 @@ def cut(case):
 
 
 def brief():
-    """The cases that stand in files and rows, and the beginning of one script of each table."""
+    """The cases that stand in files and rows, and the beginning of one script of each table: the
+    first of each file, then the second of each, and so on.
+    """
+    files = []
     for subject in suite.subjects():
         for file in sorted(it for it in subject.iterdir() if it.suffix in suite.READERS):
             if subject.name not in OTHERS:
                 found = suite.READERS[file.suffix](file, f"{subject.name}/{file.stem}")
-                yield from map(cut, islice(found, 1) if file.suffix == ".py" else found)
+                files.append(map(cut, islice(found, 1) if file.suffix == ".py" else found))
+    for row in zip_longest(*files):
+        yield from filter(None, row)
 
 
 def counted(cases, words):

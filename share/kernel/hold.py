@@ -5,7 +5,7 @@ from __future__ import annotations
 from dataclasses import dataclass, field
 
 from .able import processes, why_not
-from .machine import Lost
+from .machine import LATE, Lost
 from .model import expected
 from .numbers import Full
 from .report import report_of
@@ -15,6 +15,11 @@ from .shrink import shrunk
 
 AGREES, ROWS, DIFFERS, NOT_ASKED = "agrees", "rows", "differs", "not asked"
 LOST = "no answer"
+
+
+def begins(wanted: dict[int, str], kernel: dict[int, str]) -> bool:
+    """Whether a kernel answers so, as far as it was waited for."""
+    return all(wanted[line] == answer for line, answer in kernel.items() if line)
 
 
 @dataclass
@@ -126,6 +131,8 @@ class Holder:
         linux, named = expected(script, self.place, self.rows)
         if kernel == linux and named:
             return Verdict(ROWS, calls, sorted(named))
+        if LATE in kernel.get(0, "") and (begins(manual, kernel) or begins(linux, kernel)):
+            return Verdict(NOT_ASKED, told=kernel[0])
         difference = self.first(script, kernel)
         if difference is None:
             return Verdict(DIFFERS, calls, told="the report is another one, and the answers aren't")

@@ -14,6 +14,8 @@ from .script import Script, parse
 from .setup import Place, in_image, whole
 
 FULL = "1ffffffffff"
+DONE = ". done 0"
+LATE = "it took longer than"
 # A script that asks what a first task is given, and others that ask for more.
 FIRST = "init t1 p1 0 0 n0\nt1 caps\nt1 bits\nt1 ids\n"
 SPACE = "ns 1 0 0\ninit t1 p1 0 0 n1\nt1 ids\n"
@@ -107,6 +109,9 @@ class Machine:
         image = self.image(files) if files else b""
         text = whole(script, self.place, named, bool(image))
         *lines, last = self.driver.run(text, image, self.seconds)
+        if last != DONE:
+            # The last line is empty, or cut.
+            lines = lines[:-1]
         found = {}
         for line in lines:
             number, _, answer = line.partition(" ")
@@ -114,7 +119,7 @@ class Machine:
                 found[int(number)] = answer
             elif number == "failed":
                 raise Lost(failure(answer), found)
-        if last != ". done 0":
+        if last != DONE:
             raise Lost(self.ending(last), found)
         return found
 
@@ -122,7 +127,7 @@ class Machine:
         """Why a script ended before its last line."""
         word, number = last.removeprefix(". ").split()
         if word == "late":
-            return f"it took longer than {self.seconds} seconds"
+            return f"{LATE} {self.seconds} seconds"
         if word == "refused":
             return f"no process could be made ({os.strerror(int(number))})"
         return f"the driver's process ended with status {number}"

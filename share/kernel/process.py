@@ -3,6 +3,7 @@
 from __future__ import annotations
 
 import os
+import re
 import shlex
 import shutil
 import subprocess
@@ -39,7 +40,8 @@ def build(folder: str) -> str:
         raise Fault(f"{words[0]} can't be run: {fault.strerror}") from None
     if done.returncode:
         first = done.stdout.decode("latin-1").strip().split("\n")[0]
-        raise Fault(f"the driver can't be built: {first[:300]}")
+        first = first[:300] or f"{words[0]} ended with status {done.returncode}"
+        raise Fault(f"the driver can't be built: {first}")
     return program
 
 
@@ -86,6 +88,14 @@ class Built:
             shutil.rmtree(self.folder, ignore_errors=True)
 
 
+def ended(status: int, said: str) -> str:
+    """Why the driver ended before it was to."""
+    refused = re.fullmatch(r"cannot unshare (\d+)", said)
+    if refused:
+        return f"a mount or user namespace isn't allowed here: {os.strerror(int(refused[1]))}"
+    return f"the driver ended with status {status}" + (f" and said: {said[:300]}" if said else "")
+
+
 class Driver:
     """A running driver, which is given one script after another."""
 
@@ -109,8 +119,7 @@ class Driver:
             found.append(text)
             if text.startswith(". "):
                 return found
-        said = f" and said: {' '.join(found)[:300]}" if found else ""
-        raise Fault(f"the driver ended with status {self.process.wait()}{said}")
+        raise Fault(ended(self.process.wait(), " ".join(found)))
 
     def run(self, text: str, image: bytes = b"", seconds: int = SECONDS) -> list[str]:
         """What a script's calls were answered."""
@@ -121,7 +130,7 @@ class Driver:
             self.process.stdin.write(head + script + image)
             self.process.stdin.flush()
         except BrokenPipeError:
-            raise Fault(f"the driver ended with status {self.process.wait()}") from None
+            raise Fault(ended(self.process.wait(), "")) from None
         return self.lines()
 
     def close(self) -> None:
