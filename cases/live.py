@@ -265,8 +265,8 @@ def misses(task):
 
 
 def check_wrong(words, workers):
-    """Holds the rules to the cases, and then each wrong kernel, the smallest cases first: one has to
-    find it.
+    """Holds the rules to the cases, and then each wrong kernel, the smallest cases first: one has
+    to find it.
     """
     given = given_by(words, Outcome(), Place())
     SCRIPTS.extend(sorted(given, key=lambda it: len(it[1])))

@@ -3,8 +3,8 @@
 from __future__ import annotations
 
 from strace.rows import (
-    DENIED_GROUPS, FILESYSTEM_IDS, NO_NEW_PRIVS_FILE, NO_NEW_PRIVS_IDS, PLAIN_FILE, SECUREBITS, SET_ID, UNMAPPED,
-    row,
+    DENIED_GROUPS, FILESYSTEM_IDS, NO_NEW_PRIVS_FILE, NO_NEW_PRIVS_IDS, PLAIN_FILE, SECUREBITS,
+    SET_ID, UNMAPPED, row,
 )  # fmt: skip
 
 GROUPS = "at most 1,024 groups, else EINVAL"
