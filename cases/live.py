@@ -225,7 +225,8 @@ def given_by(words, outcome, place):
     if words.random:
         return map(random_task, range(words.seed, words.seed + words.random))
     if words.count:
-        return counted(tasks(brief(), outcome, place), words)
+        found = (it for it in brief() if it.name.startswith(words.only))
+        return counted(tasks(found, outcome, place), words)
     return tasks(all_cases(words.only), outcome, place if words.wrong else None)
 
 
