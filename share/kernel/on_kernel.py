@@ -4,7 +4,6 @@ from __future__ import annotations
 
 import argparse
 import signal
-import subprocess
 import sys
 from pathlib import Path
 
@@ -19,7 +18,6 @@ from .script import Script, parse
 
 ANSWERED, NOT_ASKED = 0, 2
 NAME = "credtrace-on-kernel"
-PROGRAM = Path(__file__).resolve().parents[2] / "bin" / "credtrace"
 
 
 def read(name: str) -> str:

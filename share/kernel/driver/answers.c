@@ -8,7 +8,7 @@
 #include <linux/prctl.h>
 #include <linux/securebits.h>
 
-enum { LAST = 40, NO_SUCH = -1001 };
+enum { LAST = 40 };
 
 /* What an answer says where its two sources differ. */
 static long disagree(const char *what) {
@@ -209,5 +209,5 @@ long answer(struct slot *slot, enum query query, u32 capability) {
   case AMBIS:
     return tell_flag(call5(__NR_prctl, PR_CAP_AMBIENT, PR_CAP_AMBIENT_IS_SET, capability, 0, 0));
   }
-  return NO_SUCH;
+  return -EINVAL_;
 }

@@ -12,7 +12,7 @@
 #include <linux/sched.h>
 #include <linux/time_types.h>
 
-enum { SIGKILL_ = 9, SIGCHLD_ = 17, CLOSES_ON_EXEC = 02000000, EAGAIN_ = 11 };
+enum { SIGKILL_ = 9, SIGCHLD_ = 17, CLOSES_ON_EXEC = 02000000 };
 
 /* Whether groups can't be set here. */
 static int denied;
