@@ -10,12 +10,12 @@ import sys
 from dataclasses import dataclass, field
 from pathlib import Path
 
-from .command import Fault, Options, add_options, converted
+from .command import Fault, add_options, converted, options_of
 from .log import Call
 from .rows import Explainer
 from .script import Line, Script
 
-AGREES, DIFFERS, NOT_COMPARED = 0, 1, 2
+AGREES, DIFFERS, NOT_COMPARED, ENDS_BEFORE = 0, 1, 2, 3
 
 # The entries that decide a line; the others take hold of a credential and let go of it.
 DECIDING = frozenset("begin act ask change open signal spawn fork exit".split())
@@ -137,7 +137,7 @@ def main(words: list[str]) -> int:
     add_options(parser)
     given = parser.parse_args(words)
     try:
-        converter = converted(Options(given.log, given.files, given.start, given.task))
+        converter = converted(options_of(given))
         comparison = compare(converter.script)
     except Fault as fault:
         print(f"credtrace-compare: {fault}", file=sys.stderr)
@@ -146,9 +146,11 @@ def main(words: list[str]) -> int:
         print(told)
     for note in converter.notes:
         print(note, file=sys.stderr)
-    if converter.stopped:
-        print(converter.stopped)
+    for left in converter.what_is_left():
+        print(left)
     print(comparison.sum())
-    if not comparison.agree + comparison.explained + comparison.unexplained:
-        return NOT_COMPARED
-    return DIFFERS if comparison.unexplained else AGREES
+    if comparison.unexplained:
+        return DIFFERS
+    if converter.is_part():
+        return ENDS_BEFORE
+    return AGREES if comparison.agree + comparison.explained else NOT_COMPARED

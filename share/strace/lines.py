@@ -43,6 +43,13 @@ ATTACHED = re.compile(r"strace: Process (\d{1,9}) attached(?: with \d+ threads)?
 
 UNFINISHED = "<unfinished ...>"
 
+# Calls of which only some are read: write(2) where it may be of a map of ids, fcntl(2) where it makes
+# a descriptor.
+ASKED = {
+    "write": re.compile(r'\d+(?:<[^>]*>)?, "(?:(?:[0-9 ]|\\[nt])+"|deny|allow)'),
+    "fcntl": re.compile(r"\d+(?:<.*>)?, F_DUPFD"),
+}
+
 # A string, a comment, what -y writes behind a descriptor, a shift, a bracket, a comma, other text.
 TOKEN = re.compile(
     r'"(?:[^"\\]|\\.)*"(?:\.\.\.)?|/\*.*?\*/'
@@ -50,7 +57,9 @@ TOKEN = re.compile(
     r'|[(\[{)\]},]|(?:[^"/<(\[{)\]},]+|<<)+|.'
 )
 
-RESULT = re.compile(r" *= (\?|-?\d{1,20}|0x[0-9a-f]{1,16})(?:<.*>)?(?: (E[A-Z0-9]+))?(?: .*)?$")
+RESULT = re.compile(
+    r" *= (\?|-?\d{1,20}|0x[0-9a-f]{1,16})(?:<.*>(?:\(deleted\))?)?(?: (E[A-Z0-9]+))?(?: .*)?$"
+)
 
 # What --pidns-translation writes behind a pid of another PID namespace.
 TRANSLATED = re.compile(r"/\* (\d{1,9}) in strace's PID NS \*/")
@@ -60,10 +69,19 @@ ESCAPE = re.compile(r"\\(x[0-9a-fA-F]{2}|[0-7]{1,3}|.)")
 ESCAPES = {"n": "\n", "t": "\t", "r": "\r", "v": "\v", "f": "\f", "a": "\a", "b": "\b"}
 
 
-def is_other(text: str, wanted: Collection[str]) -> bool:
-    """Whether a line is a whole call which isn't wanted."""
+def other(text: str, wanted: Collection[str]) -> str | None:
+    """The name of a whole call which isn't wanted."""
     match = PLAIN.match(text)
-    return match is not None and match[1] not in wanted and " = " in text
+    if match is None or " = " not in text:
+        return None
+    name = match[1]
+    return None if name in wanted and is_asked(name, text[match.end() :]) else name
+
+
+def is_asked(name: str, rest: str) -> bool:
+    """Whether a call is of those that are read, where of its name only some are."""
+    asked = ASKED.get(name)
+    return asked is None or asked.match(rest) is not None
 
 
 def has_result(rest: str) -> bool:

@@ -7,6 +7,7 @@ execve stands where it ends: until then other threads of its process may make ca
 from __future__ import annotations
 
 import re
+from collections import Counter
 from collections.abc import Callable, Collection, Iterator
 from dataclasses import dataclass, field
 from functools import lru_cache
@@ -27,6 +28,9 @@ SUPERSEDED = re.compile(r"superseded by execve in pid (\d{1,9})")
 # The first process, where only later lines tell its pid, as on a terminal.
 UNKNOWN = 0
 
+# With -C strace writes a table of its counts behind the log, as with -c in its place.
+SUMMARY = "% time "
+
 
 @dataclass(frozen=True, slots=True)
 class Call:
@@ -38,6 +42,10 @@ class Call:
     result: Result
     first: int
     last: int
+    # What a call that makes a task returned in its PID namespace, where that isn't the log's pid.
+    inner: int | None = None
+    # Whether it was another task's, and only says where paths lead.
+    context: bool = False
 
     @property
     def text(self) -> str:
@@ -106,8 +114,10 @@ class Reader:
     wanted: Collection[str]
     found: list[tuple[int, Item]] = field(default_factory=list)
     begun: dict[int, Begun] = field(default_factory=dict)
-    passed_over: int = 0
+    passed: Counter[str] = field(default_factory=Counter)
     count: int = 0
+    # Where the log is cut, and why what follows isn't read.
+    cut: BadLog | None = None
     first_pid: int | None = None
     _alive: set[int] = field(default_factory=set)
     _children: set[int] = field(default_factory=set)
@@ -118,6 +128,8 @@ class Reader:
         """Everything that was found, in its order."""
         for text in texts:
             self.count += 1
+            if text.startswith(SUMMARY):
+                break
             self.line(text)
             if self.count % 50_000 == 0:
                 progress(self.count)
@@ -125,15 +137,17 @@ class Reader:
             raise BadLog(self.count, "the log is cut in the middle of a call")
         if self.first_pid is None:
             raise BadLog(self.count + 1, "the log has no call")
-        self.passed_over += len(self.begun)
+        self.passed.update(begun.name for begun in self.begun.values())
         self.found.sort(key=lambda pair: pair[0])
         return [item for _, item in self.found]
 
     def line(self, text: str) -> None:
         """Reads one line."""
-        if self.first_pid and self._attached is None and lines.is_other(text, self.wanted):
-            self.passed_over += 1
-            return
+        if self.first_pid and self._attached is None:
+            other = lines.other(text, self.wanted)
+            if other is not None:
+                self.passed[other] += 1
+                return
         if self._attached is not None:
             text, self._before = self._before + text, ""
         self.told_by_task(text)
@@ -155,10 +169,10 @@ class Reader:
                 return
             pid = self.pid_of(match)
             name = match["call"]
-            if name in self.wanted:
+            if name in self.wanted and lines.is_asked(name, rest):
                 self.call(pid, name, rest)
             else:
-                self.passed_over += 1
+                self.passed[name] += 1
         elif kind == "resumed":
             self.resumed(self.pid_of(match), match["resumed"], rest)
         elif kind == "ended":
@@ -232,11 +246,9 @@ class Reader:
         begun = self.begun.pop(pid, None)
         if begun is not None and begun.name == name:
             self.ends(pid, begun, rest)
-        elif begun is not None or name in self.wanted:
+        elif begun is not None or (name in self.wanted and name not in lines.ASKED):
             what = f"pid {pid} goes on with a call of {name}, which it hasn't begun"
             raise BadLog(self.count, what)
-        else:
-            self.passed_over += 1
 
     def ends(self, pid: int, begun: Begun, rest: str) -> None:
         """A call has ended: its arguments and its result are known."""

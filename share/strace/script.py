@@ -19,6 +19,7 @@ class Stop(Exception):
 
     def __init__(self, line: int, what: str) -> None:
         super().__init__(f"line {line}: {what}; the script ends before it")
+        self.line = line
 
 
 @dataclass(frozen=True)
@@ -39,11 +40,17 @@ class Script:
     names: Names = field(default_factory=Names)
     _files: dict[str, str] = field(default_factory=dict)
     _bytes: int = 0
+    _lead: list[str] = field(default_factory=list)
 
-    def begin_with(self, texts: list[str]) -> None:
-        """The first task, and what leads it to where the log begins."""
-        self.begin = texts
-        self._bytes = sum(len(text) + 1 for text in texts)
+    def begin_with(self, inits: list[str], lead: list[str]) -> None:
+        """The first tasks, and what leads them to where the log begins."""
+        self.begin, self._lead = inits + lead, lead
+        self._bytes = sum(len(text) + 1 for text in self.begin)
+
+    def head(self, declared: list[str], inits: list[str], lead: list[str]) -> None:
+        """The namespaces, with their first tasks, which stand before all calls."""
+        first = self.begin[: len(self.begin) - len(self._lead)]
+        self.begin = [*declared, *first, *inits, *self._lead, *lead]
 
     def add(self, line: int, *added: Line) -> None:
         """These lines come next, all of them or none; `line` is that of the log."""

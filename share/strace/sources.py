@@ -1,0 +1,55 @@
+"""Where a log comes from: a file, one that gzip has packed, or the files of strace -ff."""
+
+from __future__ import annotations
+
+import gzip
+import heapq
+import re
+import sys
+from collections.abc import Iterator
+from contextlib import AbstractContextManager, nullcontext
+from pathlib import Path
+from typing import BinaryIO
+
+from .lines import BadLog
+from .log import text_lines
+
+GZIP = b"\x1f\x8b"
+
+STAMP = re.compile(r"(?:(\d\d):(\d\d):(\d\d(?:\.\d+)?)|(\d{6,}(?:\.\d+)?)) +")
+
+
+def source_of(path: str) -> AbstractContextManager[BinaryIO]:
+    """The bytes of a log."""
+    if path == "-":
+        return nullcontext(sys.stdin.buffer)
+    file = open(path, "rb")  # noqa: SIM115: whoever asks closes it
+    begins = file.peek(2)[:2]
+    if begins != GZIP:
+        return file
+    return gzip.GzipFile(fileobj=file)
+
+
+def stamped(path: str, place: int) -> Iterator[tuple[float, int, int, str]]:
+    """The lines of one task, each with its time, and with the pid in front."""
+    match = re.search(r"\.(\d{1,9})(?:\.gz)?$", path)
+    if match is None:
+        raise BadLog(0, f"{Path(path).name}: of several logs each ends with a pid, as by strace -ff")
+    with source_of(path) as source:
+        for count, text in enumerate(text_lines(source), 1):
+            time = STAMP.match(text)
+            if time is None:
+                what = "of several logs each line has its time: record with -ff -ttt"
+                raise BadLog(count, f"of {Path(path).name}: {what}")
+            if time[4]:
+                seconds = float(time[4])
+            else:
+                seconds = int(time[1]) * 3600 + int(time[2]) * 60 + float(time[3])
+            yield seconds, place, count, f"{match[1]} {text[time.end():]}"
+
+
+def merged(paths: list[str]) -> Iterator[str]:
+    """The lines of several logs in the order of their times."""
+    parts = [stamped(path, place) for place, path in enumerate(paths)]
+    for _, _, _, text in heapq.merge(*parts):
+        yield text
