@@ -63,7 +63,7 @@ class Asks:
             found = self._paths.find(task, path, base)
         except (Unheld, Missing):
             return None
-        self._changes.uses(found.path, call.first)
+        self._changes.uses(found.place, call.first)
         return self._script.file(call.first, found)
 
     def lines(self, task: Task, call: Call) -> list[Line] | None:

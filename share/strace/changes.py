@@ -36,12 +36,12 @@ def places_of(paths: Paths, task: Task, call: Call) -> list[str]:
     try:
         if call.name in OPENED:
             found = paths.base(task, call.args[0])
-            return [found.place] if found else []
-        given = [paths.named(task, call, *where) for where in NAMED[call.name]]
-        follow = paths.files.listed is None
-        return [paths.lead(task, path, base, follow).place for path, base in given]
+            found_all = [found] if found else []
+        else:
+            found_all = [paths.locate(task, call, *where) for where in NAMED[call.name]]
     except (Unheld, IndexError):
         return []
+    return [found.real or found.place for found in found_all]
 
 
 class Changes:

@@ -239,7 +239,7 @@ class Converter(Sayer):
             self.passed.call(call)
             return
         for found in (*scripts, program):
-            self.changes.uses(found.path, call.first)
+            self.changes.uses(found.place, call.first)
         # A script file has to be executable too. Where it isn't, its interpreter isn't asked.
         refused = said == "eacces" and bool(scripts)
         for script in scripts[:1] if refused else scripts:

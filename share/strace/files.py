@@ -42,10 +42,11 @@ class File:
 
 @dataclass(frozen=True)
 class Found:
-    """A file and the path where it lies."""
+    """A file, the path that names it, and the place where it lies."""
 
     path: str
     file: File
+    place: str
 
 
 # An id has no leading zero, and is smaller than this (docs/FORMATS.md).
@@ -102,19 +103,19 @@ class Files:
         """A file that the log itself makes, as memfd_create(2) does."""
         self._made[place] = File(words)
 
-    def found(self, named: Located, real: Located) -> Found:
-        """The file of this name, which lies there."""
-        file = self._get(named.place, real.place)
-        mount = named.mount or real.mount
+    def found(self, named: Located) -> Found:
+        """The file that lies there."""
+        file = self._get(named.place, named.real or named.place)
+        mount, place = named.mount, named.real or named.place
         if mount is None:
-            return Found(named.place, file)
+            return Found(named.place, file, place)
         noexec = file.noexec if mount.noexec is None else mount.noexec
         words = file.words
         if mount.nosuid and " nosuid" not in words:
             words = " ".join([*words.split()[:4], "nosuid", *words.split()[4:]])
         apart = words != file.words
         name = named.place + " through a nosuid mount" if apart else named.place
-        return Found(name, File(words, file.interpreter, noexec))
+        return Found(name, File(words, file.interpreter, noexec), place)
 
     def _get(self, place: str, real: str) -> File:
         """What is known of the file that lies there."""

@@ -4,6 +4,7 @@ from __future__ import annotations
 
 import re
 from collections.abc import Callable, Iterable
+from dataclasses import replace
 
 from . import lines
 from .calls import Unheld
@@ -176,7 +177,7 @@ class Moves:
         place, _ = open_flags(call)
         try:
             path, base = self.paths.named(task, call, place, place - 1 if place else None)
-            found = self.paths.lead(task, path, base)
+            found = self.paths.both(task, path, base)
         except Unheld:
             task.descriptors.closes(call.result.value)
             return
@@ -242,7 +243,7 @@ def point_of(found: Located, over: dict[str, Mount]) -> str | None:
 def own_process(found: Located, task: Task) -> Located:
     """The same by the pid of the process where the path has `self`."""
     place = re.sub(r"^/proc/(self|thread-self)(?=/|$)", f"/proc/{task.pid}", found.place)
-    return Located(place, found.mount, found.point)
+    return replace(found, place=place)
 
 
 def bound(source: Located) -> Mount:

@@ -5,6 +5,7 @@ from __future__ import annotations
 import os
 import re
 from collections.abc import Callable
+from dataclasses import replace
 
 from . import lines
 from .calls import Unheld
@@ -79,8 +80,14 @@ class Paths:
 
     def locate(self, task: Task, call: Call, place: int, at: int | None = None) -> Located:
         """The place of the file that a call names."""
-        path, base = self.named(task, call, place, at)
-        return self.lead(task, path, base)
+        return self.both(task, *self.named(task, call, place, at))
+
+    def both(self, task: Task, path: str, base: Located | None) -> Located:
+        """The place to which a path leads, also behind symbolic links where this machine has them."""
+        found = self.lead(task, path, base)
+        if self.files.listed is not None or found.real is not None:
+            return found
+        return replace(found, real=self.lead(task, path, base, follow=True).place)
 
     def lead(self, task: Task, path: str, base: Located | None, follow: bool = False) -> Located:
         """The place to which a path leads, behind symbolic links where they are to be followed."""
@@ -123,13 +130,10 @@ class Paths:
 
     def find(self, task: Task, path: str, base: Located | None) -> Found:
         """A file with what is known of it."""
-        named = self.lead(task, path, base)
-        real = named
-        if self.files.listed is None and named.place.startswith("/proc/"):
-            raise Missing(f"{named.place} is another file for this program than for the log's")
-        if self.files.listed is None:
-            real = self.lead(task, path, base, follow=True)
-        return self.files.found(named, real)
+        found = self.both(task, path, base)
+        if self.files.listed is None and found.place.startswith("/proc/"):
+            raise Missing(f"{found.place} is another file for this program than for the log's")
+        return self.files.found(found)
 
     def programs(self, task: Task, call: Call, place: int, at: int | None) -> list[Found]:
         """The file to execute; behind a script file its interpreter, which runs in its place."""

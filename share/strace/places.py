@@ -36,6 +36,12 @@ class Located:
     mount: Mount | None = None
     # The place that the last mount on the way covers.
     point: str | None = None
+    # The place behind symbolic links, where those were followed.
+    real: str | None = None
+
+    def start(self, follows: bool) -> str:
+        """Where a path goes on from here."""
+        return self.real if follows and self.real is not None else self.place
 
 
 ROOT = Located("/")
@@ -122,7 +128,9 @@ class Where:
 
     def _walk(self, base: Located, path: str, link: Link) -> Located:
         """Goes along the path, one name after another."""
-        place, mount, point = base.place, base.mount, base.point
+        follows = link is not no_link
+        place, mount, point = base.start(follows), base.mount, base.point
+        root = self.root.start(follows)
         names = path.split("/")[::-1]
         links = LINKS
         while names:
@@ -130,7 +138,7 @@ class Where:
             if name in ("", "."):
                 continue
             if name == "..":
-                if place != self.root.place:
+                if place != root:
                     place = self._above(place)
                 continue
             covered = joined(place, name)
@@ -138,7 +146,7 @@ class Where:
             if target is not None:
                 links -= 1
                 names += target.split("/")[::-1]
-                place = self.root.place if target.startswith("/") else place
+                place = root if target.startswith("/") else place
                 continue
             place, found = self.mounts.entered(covered)
             if found is not None:
