@@ -143,3 +143,88 @@ PLACES = [
      '7 execveat(5</memfd:kept>(deleted), "", [], 0x7 /* 9 vars */, AT_EMPTY_PATH) = 0\n', "0777"),
     ("an id without a map", "7 unshare(CLONE_NEWUSER) = 0\n7 setuid(0) = 0\n", saying.NO_MAP),
 ]
+
+# Where strace began: as user 1000 without a capability, and as root with all.
+USER = """Uid:\t1000\t1000\t1000\t1000
+Gid:\t1000\t1000\t1000\t1000
+Groups:\t
+NoNewPrivs:\t0
+CapInh:\t0
+CapPrm:\t0
+CapEff:\t0
+CapBnd:\t1ffffffffff
+CapAmb:\t0
+"""
+ROOT = USER.replace("1000", "0").replace("CapPrm:\t0", "CapPrm:\t1ffffffffff").replace(
+    "CapEff:\t0", "CapEff:\t1ffffffffff"
+)
+FILES = """/bin/sh reg 0 0 0755
+/bin/su reg 0 0 4755
+/mnt/tool reg 0 0 0755 noexec
+/home/tool reg 0 0 0755
+/ dir 0 0 0755
+/home dir 0 0 0750
+"""
+IDS = "7 getresuid([1000], [1000], [1000]) = 0\n"
+RUNS = '7 execve("{}", [], 0x7 /* 9 vars */) = {}\n'
+REFUSED = "-1 EACCES (Permission denied)"
+NO_ROW = "no row explains it"
+TRACED = "execve is of a program: there are no scripts, and nobody traces the task"
+BITS = "a securebit above bit 7 is EPERM"
+
+# A log with where it begins, the status of credtrace-compare, what it has to say, and what it mustn't.
+DIFFERENCES = [
+    ("a user's strace", USER, RUNS.format("/bin/su", 0) + IDS, 0, [TRACED, "root's strace leaves"], []),
+    ("root's strace", ROOT, BEGINS + "7 setresuid(1000, 1000, 1000) = 0\n" + RUNS.format("/bin/su", 0)
+     + IDS, 1, [NO_ROW], [TRACED]),
+    ("a strace that came later", ROOT, "7 setresuid(1000, 1000, 1000) = 0\n"
+     + RUNS.format("/bin/su", 0) + IDS, 0, [f"it may be: {TRACED}"], []),
+    ("a drop that a row explains, and what is read then", USER, RUNS.format("/bin/su", 0)
+     + "7 prctl(PR_CAPBSET_DROP, CAP_CHOWN) = -1 EPERM (Operation not permitted)\n"
+     "7 prctl(PR_CAPBSET_READ, CAP_CHOWN) = 1\n", 0, [TRACED, "explained by docs/LINUX.md: 2"], []),
+    ("securebits above bit 7", ROOT, BEGINS + "7 prctl(PR_SET_SECUREBITS, 0x100 /* SECBIT_??? */) = 0\n"
+     "7 prctl(PR_GET_SECUREBITS) = 0x100\n7 prctl(PR_SET_SECUREBITS, SECBIT_NOROOT|0xf00) = 0\n"
+     "7 prctl(PR_GET_SECUREBITS) = 0xf01 (SECBIT_NOROOT|0xf00)\n", 0,
+     [BITS, "bits 8 to 11 exist", "explained by docs/LINUX.md: 4"], []),
+    ("capget by version 1", ROOT, BEGINS + "7 capget({version=_LINUX_CAPABILITY_VERSION_1, pid=0}, "
+     "{effective=0xffffffff, permitted=0xffffffff, inheritable=0}) = 0\n", 0, ["agree: 2"], []),
+    ("clear all with a further argument", ROOT, BEGINS + "7 prctl(PR_CAP_AMBIENT, "
+     "PR_CAP_AMBIENT_CLEAR_ALL, 0x5, 0, 0) = -1 EINVAL (Invalid argument)\n", 0, ["agree: 1"], []),
+    ("noexec", ROOT, BEGINS + RUNS.format("/mnt/tool", REFUSED), 0,
+     ["the file's mount has noexec"], ["directories"]),
+    ("a folder that may not be searched", USER, BEGINS + RUNS.format("/home/tool", REFUSED), 0,
+     ["its directories are not searched", "here: /home may not be searched"], ["noexec and"]),
+    ("folders that may be searched", ROOT, BEGINS + RUNS.format("/home/tool", REFUSED), 0,
+     ["access control lists", "every directory of the path may be searched"], ["its directories"]),
+    ("seccomp", ROOT, BEGINS + "7 prctl(PR_SET_NO_NEW_PRIVS, 1, 0, 0, 0) = 0\n"
+     "7 prctl(PR_SET_SECCOMP, SECCOMP_MODE_FILTER, {len=1}) = 0\n"
+     "7 setuid(5) = -1 EPERM (Operation not permitted)\n", 0,
+     ["the log: line 3 of the log installs a seccomp filter"], []),
+    ("no seccomp", ROOT, BEGINS + "7 setuid(5) = -1 EPERM (Operation not permitted)\n", 1, [NO_ROW], []),
+    ("SIGCONT within the session", ROOT, BEGINS + "7 fork() = 8\n8 setuid(5) = 0\n"
+     "8 kill(7, SIGCONT) = 0\n", 0, ["SIGCONT is also allowed"], []),
+    ("SIGCONT to another session", ROOT, BEGINS + "7 fork() = 8\n8 setsid() = 8\n8 setuid(5) = 0\n"
+     "8 kill(7, SIGCONT) = 0\n", 1, [NO_ROW], ["SIGCONT is also allowed"]),
+    ("no_new_privs and a plain file", ROOT, BEGINS + "7 prctl(PR_SET_NO_NEW_PRIVS, 1, 0, 0, 0) = 0\n"
+     + RUNS.format("/bin/sh", 0) + "7 getuid() = 5\n", 1, [NO_ROW], ["under no_new_privs"]),
+    ("setresuid that changes something", ROOT, BEGINS + "7 setfsuid(5) = 0\n"
+     "7 setresuid(5, -1, 5) = 0\n7 setfsuid(-1) = 5\n", 1, [NO_ROW], ["setreuid has no such"]),
+    ("setresuid that changes nothing", ROOT, BEGINS + "7 setfsuid(5) = 0\n"
+     "7 setresuid(0, -1, 0) = 0\n7 setfsuid(-1) = 5\n", 0, ["setreuid has no such"], []),
+    ("no --start", "", BEGINS + "7 getuid() = 1000\n7 geteuid() = 1000\n", 1,
+     ["since no --start was given", "line 2 is the first of 2 calls"], [NO_ROW]),
+    ("addresses", ROOT, BEGINS + "7 capset(0x7ffd0, 0x7ffd8) = 0\n", 3,
+     ["line 2: capset: its arguments are addresses: record without -e verbose=none"], []),
+    ("numbers", ROOT, BEGINS + "7 prctl(0x8, 0x1) = 0\n", 3,
+     ["line 2: prctl: its constants are numbers: record without -X raw or -X verbose"], []),
+    ("an early end", ROOT, BEGINS + "7 setns(5, 0) = 0\n7 getuid() = 0\n", 3,
+     ["left: 2 of 3 lines of the log, with 1 calls"], []),
+    ("tasks that nobody made", ROOT, BEGINS + "8 getuid() = 0\n", 3,
+     ["left: the calls of 1 tasks that no call made"], []),
+    ("a thread that goes on before the last", ROOT, BEGINS
+     + "7 clone(child_stack=NULL, flags=CLONE_VM|CLONE_FS|CLONE_FILES|CLONE_SIGHAND|CLONE_THREAD) = 8\n"
+     "8 setuid(5) = 0\n8 getuid() = 5\n7 setuid(5) = 0\n", 0, ["agree: 4"], []),
+    ("one thread alone", ROOT, BEGINS
+     + "7 clone(child_stack=NULL, flags=CLONE_VM|CLONE_FS|CLONE_FILES|CLONE_SIGHAND|CLONE_THREAD) = 8\n"
+     "8 setuid(5) = 0\n8 getuid() = 5\n7 getuid() = 0\n", 3, ["not all 2 threads"], []),
+]

@@ -5,11 +5,11 @@ from __future__ import annotations
 from . import lines
 from .calls import Unheld, answer
 from .changes import Changes
-from .files import Missing
+from .files import Found, Missing
 from .log import Call
 from .moves import argument, open_flags
 from .paths import Paths
-from .script import Line, Script
+from .script import Facts, Line, Script
 from .tasks import Task
 
 ACCESSES = ("access", "faccessat", "faccessat2")
@@ -54,8 +54,8 @@ class Asks:
         self._script = script
         self._changes = changes
 
-    def name(self, task: Task, call: Call, place: int) -> str | None:
-        """The script's name of a file that the list of files names."""
+    def file(self, task: Task, call: Call, place: int) -> Found | None:
+        """A file that the list of files names."""
         try:
             path, base = self._paths.named(task, call, place, place - 1 if place else None)
             if not self._paths.files.lists(self._paths.lead(task, path, base).place):
@@ -64,7 +64,7 @@ class Asks:
         except (Unheld, Missing):
             return None
         self._changes.uses(found.place, call.first)
-        return self._script.file(call.first, found)
+        return found
 
     def lines(self, task: Task, call: Call) -> list[Line] | None:
         """The lines of an open or of a question, where the list names the file."""
@@ -72,10 +72,12 @@ class Asks:
         said = answer(call.result)
         if said is None or want is None:
             return None
-        name = self.name(task, call, place)
-        if name is None:
+        found = self.file(task, call, place)
+        if found is None:
             return None
+        name = self._script.file(call.first, found)
+        facts = Facts(found.place, filtered=task.process.filtered)
         if form == "open":
-            opens = Line(f"{task.name} open {name} {want} {DESCRIPTOR}", call, said)
+            opens = Line(f"{task.name} open {name} {want} {DESCRIPTOR}", call, said, facts)
             return [opens, Line(f"{task.name} close {DESCRIPTOR}")]
-        return [Line(f"{task.name} {form} {name} {want}", call, said)]
+        return [Line(f"{task.name} {form} {name} {want}", call, said, facts)]

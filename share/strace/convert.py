@@ -8,7 +8,7 @@ from . import asks, changes, moves
 from .calls import ID_CALLS, OWN_CALLS, SET_CALLS, Said, Unheld, answer
 from .changes import Changes
 from .enters import Entries, is_map
-from .files import Files, Missing
+from .files import Files, Found, Missing
 from .lines import fields, pid
 from .log import EXECUTIONS, Call, Gone, Item, Renamed
 from .moves import Moves, argument, clone_flags
@@ -16,7 +16,7 @@ from .opened import FILE, told
 from .paths import Paths
 from .places import BEGIN, Located
 from .saying import Sayer
-from .script import TASKS, Line, Stop
+from .script import TASKS, Facts, Line, Stop
 from .start import Start
 from .tasks import Task
 from .together import Together
@@ -75,6 +75,7 @@ class Converter(Sayer):
             (changes.CALLS, self.change),
             (("unshare", "setns"), self.change_namespace),
             (("write",), self.write),
+            (("setsid", "seccomp"), self.mark),
         )
         for names, handler in handlers:
             self._handlers |= dict.fromkeys(names, handler)
@@ -93,6 +94,10 @@ class Converter(Sayer):
         tasks[0].process.ids = start.ids
         tasks[0].where.folder = self.begins(items, first)
         self.script.begin_with(start.inits(), start.lines)
+        self.script.known = self.files
+        begins = next((item for item in items if isinstance(item, Call)), None)
+        traced = begins is not None and begins.name == "execve" and begins.pid == first
+        self.script.tracer = start.traces if traced else None
         self.together = Together(items, SAYING)
         try:
             for self.at, item in enumerate(items):
@@ -244,11 +249,19 @@ class Converter(Sayer):
         refused = said == "eacces" and bool(scripts)
         for script in scripts[:1] if refused else scripts:
             name = self.script.file(call.first, script)
-            self.say(task, call, Said(f"check {name} x", said if refused else "ok"))
+            facts = self.facts(task, script)
+            self.say(task, call, Said(f"check {name} x", said if refused else "ok"), facts)
         if not refused:
-            self.say(task, call, Said(f"exec {self.script.file(call.first, program)}", said))
+            name = self.script.file(call.first, program)
+            self.say(task, call, Said(f"exec {name}", said), self.facts(task, program))
         if said == "ok":
             self.executed(task, Located(program.path) if scripts else named, program.file.words)
+
+    def facts(self, task: Task, found: Found) -> Facts:
+        """What is known of an executed file besides."""
+        words, space = found.file.words.split(), task.process.space
+        unmapped = not (space.inside(int(words[1]), False) and space.inside(int(words[2]), True))
+        return Facts(found.place, found.file.noexec, unmapped=unmapped)
 
     def executed(self, task: Task, program: Located, words: str) -> None:
         """The task has executed a program: it is the only one of its process."""
@@ -268,7 +281,16 @@ class Converter(Sayer):
         if other is None or said not in ("ok", "eperm"):
             self.passed.call(call)
         else:
-            self.say(task, call, Said(f"signal {other.name}", said))
+            apart = task.process.session != other.process.session
+            self.say(task, call, Said(f"signal {other.name}", said), Facts(apart=apart))
+
+    def mark(self, task: Task, call: Call) -> None:
+        """setsid(2) and seccomp(2): what they do shows in results of other calls."""
+        self.passed.call(call)
+        if call.name == "setsid" and call.result.error is None:
+            task.process.session = task.pid
+        elif call.name == "seccomp" and call.result.value == 0:
+            task.process.filtered = call.first
 
     def move(self, task: Task, call: Call) -> None:
         """A call that changes where paths lead, or what a descriptor is of."""

@@ -117,6 +117,15 @@ class Files:
         name = named.place + " through a nosuid mount" if apart else named.place
         return Found(name, File(words, file.interpreter, noexec), place)
 
+    def folder(self, place: str) -> str | None:
+        """The words of a folder, where it is known."""
+        if self.listed is not None:
+            return self.listed[place].words if place in self.listed else None
+        try:
+            return on_disk(place).words
+        except Missing:
+            return None
+
     def _get(self, place: str, real: str) -> File:
         """What is known of the file that lies there."""
         if place in self._made:

@@ -2,12 +2,14 @@
 
 from __future__ import annotations
 
+from dataclasses import replace
+
 from .calls import ID_CALLS, OWN_CALLS, SET_CALLS, Said, Unheld, own
 from .lines import fields, pid
 from .log import EXECUTIONS, Call
 from .moves import argument
 from .passed import Passed
-from .script import Line, Script, Stop
+from .script import NO_FACTS, Facts, Line, Script, Stop
 from .spaces import led
 from .tasks import Process, Task, Tasks
 from .together import Together
@@ -34,7 +36,9 @@ class Sayer:
         self.at = 0
         self.together = Together([], ())
 
-    def say(self, task: Task, call: Call, said: Said | None) -> None:
+    def say(
+        self, task: Task, call: Call, said: Said | None, facts: Facts = NO_FACTS
+    ) -> None:
         """The task says this in the script, or the call is passed over."""
         said = said and self.by_map(task, call, said)
         if said is None:
@@ -43,7 +47,10 @@ class Sayer:
         words = said.words.split()
         if said.answer.startswith("ok"):
             task.process.ids.after(words)
-        line = Line(f"{task.name} {said.words}", call, said.answer)
+        if task.process.filtered or task.process.space.denied:
+            denied = task.process.space.denied
+            facts = replace(facts, filtered=task.process.filtered, denied=denied)
+        line = Line(f"{task.name} {said.words}", call, said.answer, facts)
         changed = call.name in CHANGING and words[0] not in QUESTIONS
         asked = self.asking and changed and said.answer.startswith("ok")
         self.script.add(call.first, line, *([Line(f"{task.name} caps")] if asked else []))
@@ -59,6 +66,8 @@ class Sayer:
 
     def own_call(self, task: Task, call: Call) -> None:
         """A call that changes or asks the credential of the thread that makes it."""
+        if argument(call, 0) == "PR_SET_SECCOMP" and call.result.error is None:
+            task.process.filtered = call.first
         self.say(task, call, OWN_CALLS[call.name](call.args, call.result))
 
     def set_call(self, task: Task, call: Call) -> None:

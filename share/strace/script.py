@@ -4,7 +4,7 @@ from __future__ import annotations
 
 from dataclasses import dataclass, field
 
-from .files import Found, Names
+from .files import Files, Found, Names
 from .log import Call
 
 # docs/FORMATS.md, the exit statuses and the tests of a line.
@@ -23,12 +23,33 @@ class Stop(Exception):
 
 
 @dataclass(frozen=True)
+class Facts:
+    """What the log tells of a call besides, where its result may come from that."""
+
+    # Where the file lies, and whether its mount has noexec.
+    place: str = ""
+    noexec: bool = False
+    # The line at which the task installed a seccomp filter, or one of its ancestors.
+    filtered: int = 0
+    # Whether the file's owner or group has no number in the task's user namespace.
+    unmapped: bool = False
+    # Whether sender and target of a signal are in different sessions.
+    apart: bool = False
+    # Whether the task is in a namespace of the log that takes no groups.
+    denied: bool = False
+
+
+NO_FACTS = Facts()
+
+
+@dataclass(frozen=True)
 class Line:
     """A line of the script, the call that it stands for, and the answer that is the kernel's."""
 
     text: str
     call: Call | None = None
     answer: str | None = None
+    facts: Facts = NO_FACTS
 
 
 @dataclass
@@ -38,6 +59,9 @@ class Script:
     begin: list[str] = field(default_factory=list)
     body: list[Line] = field(default_factory=list)
     names: Names = field(default_factory=Names)
+    # What is known of files, and whether the tracer has CAP_SYS_PTRACE, where that is known.
+    known: Files = field(default_factory=lambda: Files({}))
+    tracer: bool | None = None
     _files: dict[str, str] = field(default_factory=dict)
     _bytes: int = 0
     _lead: list[str] = field(default_factory=list)

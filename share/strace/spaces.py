@@ -45,6 +45,16 @@ class Space:
                 return self.parent.outside(outside + value - inside, groups)
         return None
 
+    def inside(self, value: int, groups: bool) -> bool:
+        """Whether an id of the initial namespace has a number here."""
+        if self.parent is None:
+            return True
+        for _, outside, count in (self.gids if groups else self.uids) or ():
+            first = self.parent.outside(outside, groups)
+            if first is not None and first <= value < first + count:
+                return True
+        return False
+
     def root(self) -> int:
         """The user who is root here, in the initial namespace."""
         found = self.outside(0, groups=False)

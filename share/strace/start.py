@@ -26,6 +26,8 @@ class Start:
     ids: Ids = field(default_factory=Ids)
     threads: list[int] = field(default_factory=list)
     task: str = "t1"
+    # Whether strace has CAP_SYS_PTRACE, where it began with the same credential.
+    traces: bool = True
 
     def call(self, words: str) -> None:
         """One call more of the task."""
@@ -157,6 +159,7 @@ def start_of_all(statuses: list[Status]) -> Start:
     for number, status in enumerate(statuses, 1):
         start.task = f"t{number}"
         last_part(start, status)
+    start.traces = bool(first.effective >> CAPABILITIES.index("SYS_PTRACE") & 1)
     start.ids = Ids(first.users[:], first.groups[:], first.others[:], first.no_new_privs)
     if any(status.securebits is None for status in statuses):
         start.notes.append(

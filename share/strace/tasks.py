@@ -17,6 +17,9 @@ class Process:
     number: int
     threads: list[Task] = field(default_factory=list)
     program: Located | None = None
+    # Its session, and the line of the log at which it installed a seccomp filter.
+    session: int = 0
+    filtered: int = 0
     # Its ids as the log's calls leave them, and its user namespace.
     ids: Ids = field(default_factory=Ids)
     space: Space = field(default_factory=Space)
@@ -66,6 +69,7 @@ class Tasks:
         process = Process(self._processes, program=parent.process.program)
         process.space = parent.process.space
         process.ids = parent.process.ids.copy()
+        process.session, process.filtered = parent.process.session, parent.process.filtered
         process.pids = {} if "CLONE_NEWPID" in flags else parent.process.below
         process.below = process.pids
         if process.pids is not parent.process.pids:
