@@ -15,7 +15,7 @@ NOT_BEGUN = "goes on with a call of {}, which it hasn't begun"
 NO_PID = "it has no pid, and more than one process is there, or none"
 HOSTILE = [
     ("an empty file", "", "line 1: the log has no call"),
-    ("a line without its end", f"{BEGINS}7 setuid(1000) = 0", f"line 2: {CUT}"),
+    ("a line without its end", "7 setuid(1000) = 0", f"line 1: {CUT}"),
     ("a call without its result", f"{BEGINS}7 setuid(10\n7 getuid() = 0\n", f"line 2: {NO_END}"),
     (
         "a call that goes on as another one",
@@ -52,6 +52,7 @@ HOSTILE = [
 FORKS = "".join(f"7 fork() = {pid}\n" for pid in range(100, 164))
 GROUPS = ", ".join(map(str, range(1025)))
 ENDS = [
+    ("a line without its end", f"{BEGINS}7 setuid(1000) = 0", f"line 2: {CUT}"),
     ("64 tasks", BEGINS + FORKS, "line 65: a script holds 64 tasks that live"),
     # The script has a line for the file and one that begins, and then one for each of the log.
     (

@@ -55,10 +55,11 @@ class Asks:
         self._changes = changes
 
     def file(self, task: Task, call: Call, place: int) -> Found | None:
-        """A file that the list of files names."""
+        """A file that the list of files names, or that was executed before."""
         try:
             path, base = self._paths.named(task, call, place, place - 1 if place else None)
-            if not self._paths.files.lists(self._paths.lead(task, path, base).place):
+            place = self._paths.lead(task, path, base).place
+            if not (self._paths.files.lists(place) or self._script.declares(place)):
                 return None
             found = self._paths.find(task, path, base)
         except (Unheld, Missing):

@@ -7,6 +7,7 @@ import gc
 import io
 import os
 import sys
+import zlib
 from collections.abc import Callable
 from dataclasses import dataclass
 from pathlib import Path
@@ -18,6 +19,7 @@ from .kin import matched
 from .lineage import NoProcess, family
 from .lines import BadLog
 from .log import Item, Reader, text_lines
+from .script import Stop
 from .sources import merged, source_of
 from .start import BadStart, Start, start_of, start_of_threads
 
@@ -121,6 +123,8 @@ def converted(options: Options, asks: bool = False) -> Converter:
     converter.notes = start.notes + converter.notes
     converter.passed.names(reader.passed)
     converter.count = reader.count
+    if reader.cut and not converter.stopped:
+        converter.stopped = Stop(reader.cut.line, reader.cut.what)
     return converter
 
 
@@ -137,7 +141,7 @@ def items_of(
             first, items = family(items, options.task, options.start is not None)
     except (BadLog, NoProcess) as fault:
         raise Fault(f"{name}: {fault}") from None
-    except (OSError, EOFError) as fault:
+    except (OSError, zlib.error) as fault:
         reason = fault.strerror if isinstance(fault, OSError) else None
         raise Fault(f"{name}: {reason or fault}") from None
     return reader, matched(items, first), first

@@ -74,16 +74,15 @@ class Converter(Sayer):
             (self._follow, self.move),
             (changes.CALLS, self.change),
             (("unshare", "setns"), self.change_namespace),
+            (asks.ACCESSES, self.access),
             (("write",), self.write),
             (("setsid", "seccomp"), self.mark),
         )
         for names, handler in handlers:
             self._handlers |= dict.fromkeys(names, handler)
-        if self.files.listed is not None:
-            self._handlers |= dict.fromkeys(asks.ACCESSES, self.access)
 
     def wanted(self) -> frozenset[str]:
-        """The calls that a log is read for. Files are asked about where a list names them."""
+        """The calls that a log is read for."""
         return frozenset(self._handlers)
 
     def run(self, items: Iterable[Item], first: int, start: Start) -> None:
@@ -299,15 +298,14 @@ class Converter(Sayer):
             self._follow[call.name](task, call)
         if call.context:
             return
-        asked = self.files.listed is not None and call.name in moves.OPENS
-        found = self._asks.lines(task, call) if asked else None
+        found = self._asks.lines(task, call) if call.name in moves.OPENS else None
         if found:
             self.script.add(call.first, *found)
         elif not succeeds or call.name not in SILENT:
             self.passed.call(call)
 
     def access(self, task: Task, call: Call) -> None:
-        """access(2), of a file that the list names."""
+        """access(2), of a file that the list names or that was executed."""
         found = self._asks.lines(task, call)
         if found:
             self.script.add(call.first, *found)

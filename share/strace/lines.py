@@ -12,6 +12,8 @@ class BadLog(Exception):
 
     def __init__(self, line: int, what: str) -> None:
         super().__init__(f"line {line}: {what}")
+        self.line = line
+        self.what = what
 
 
 @dataclass(frozen=True)

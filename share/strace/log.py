@@ -11,7 +11,7 @@ from collections import Counter
 from collections.abc import Callable, Collection, Iterator
 from dataclasses import dataclass, field
 from functools import lru_cache
-from typing import BinaryIO
+from typing import Protocol
 
 from . import lines
 from .lines import BadLog, Result
@@ -91,7 +91,18 @@ def parsed(text: str) -> tuple[tuple[str, ...], Result] | None:
     return (tuple(parts[0]), result) if parts and result else None
 
 
-def text_lines(source: BinaryIO) -> Iterator[str]:
+class Source(Protocol):
+    """What bytes are read from."""
+
+    def read(self, count: int, /) -> bytes:
+        """At most so many bytes, and none at the end."""
+
+
+class Cut(BadLog):
+    """The log ends in the middle, as where strace was killed: what stands before is whole."""
+
+
+def text_lines(source: Source) -> Iterator[str]:
     """The lines of a log, each byte a character. The last one has to end with a line feed too."""
     kept = b""
     count = 0
@@ -104,7 +115,7 @@ def text_lines(source: BinaryIO) -> Iterator[str]:
         if len(kept) > LONGEST:
             raise BadLog(count + 1, "it is too long for a line of strace")
     if kept:
-        raise BadLog(count + 1, "the log is cut in the middle of this line")
+        raise Cut(count + 1, "the log is cut in the middle of this line")
 
 
 @dataclass
@@ -126,6 +137,23 @@ class Reader:
 
     def read(self, texts: Iterator[str], progress: Callable[[int], None]) -> list[Item]:
         """Everything that was found, in its order."""
+        try:
+            self.lines(texts, progress)
+        except Cut as cut:
+            if self.first_pid is None:
+                raise
+            self.cut = cut
+            self.count = cut.line
+        if self._before and self.cut is None:
+            raise BadLog(self.count, "the log is cut in the middle of a call")
+        if self.first_pid is None:
+            raise BadLog(self.count + 1, "the log has no call")
+        self.passed.update(begun.name for begun in self.begun.values())
+        self.found.sort(key=lambda pair: pair[0])
+        return [item for _, item in self.found]
+
+    def lines(self, texts: Iterator[str], progress: Callable[[int], None]) -> None:
+        """Reads all lines."""
         for text in texts:
             self.count += 1
             if text.startswith(SUMMARY):
@@ -133,13 +161,6 @@ class Reader:
             self.line(text)
             if self.count % 50_000 == 0:
                 progress(self.count)
-        if self._before:
-            raise BadLog(self.count, "the log is cut in the middle of a call")
-        if self.first_pid is None:
-            raise BadLog(self.count + 1, "the log has no call")
-        self.passed.update(begun.name for begun in self.begun.values())
-        self.found.sort(key=lambda pair: pair[0])
-        return [item for _, item in self.found]
 
     def line(self, text: str) -> None:
         """Reads one line."""
@@ -184,6 +205,8 @@ class Reader:
             raise BadLog(self.count, "this is no line of strace -f")
         if match := lines.ATTACHED.match(text):
             self.attached(int(match[1]))
+            # Strace was told to trace this one, before anything was traced.
+            self.first_pid = self.first_pid or int(match[1])
 
     def cut_by_message(self, text: str) -> None:
         """A message stands in the middle of a line, which the next line ends."""

@@ -6,7 +6,7 @@ from dataclasses import replace
 
 from .calls import ID_CALLS, OWN_CALLS, SET_CALLS, Said, Unheld, own
 from .lines import fields, pid
-from .log import EXECUTIONS, Call
+from .log import EXECUTIONS, UNKNOWN, Call
 from .moves import argument
 from .passed import Passed
 from .script import NO_FACTS, Facts, Line, Script, Stop
@@ -73,7 +73,9 @@ class Sayer:
     def set_call(self, task: Task, call: Call) -> None:
         """capset(2) or capget(2), where it is of the task itself."""
         named = pid(fields(argument(call, 0)).get("pid", ""))
-        mine = own(call.args, task.pid) or (named and self.tasks.find(named, task) is task)
+        known = task.pid != UNKNOWN
+        mine = own(call.args, task.pid) or not known
+        mine = mine or (named is not None and self.tasks.find(named, task) is task)
         said = SET_CALLS[call.name](call.args, call.result)
         self.say(task, call, said if mine else None)
 

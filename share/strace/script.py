@@ -96,6 +96,10 @@ class Script:
             self._bytes += len(text) + 1
         return self.names.name(found.path)
 
+    def declares(self, path: str) -> bool:
+        """Whether the file was declared already."""
+        return path in self._files
+
     def lines(self) -> list[Line]:
         """The whole script."""
         return [Line(text) for text in [*self._files.values(), *self.begin]] + self.body

@@ -2,32 +2,56 @@
 
 from __future__ import annotations
 
-import gzip
 import heapq
 import re
 import sys
+import zlib
 from collections.abc import Iterator
-from contextlib import AbstractContextManager, nullcontext
+from contextlib import contextmanager
 from pathlib import Path
 from typing import BinaryIO
 
 from .lines import BadLog
-from .log import text_lines
+from .log import Source, text_lines
 
 GZIP = b"\x1f\x8b"
+
+# zlib's word for the form of gzip.
+GZIP_FORM = 31
+
+
+class Unpacked:
+    """The bytes that gzip has packed, up to where they are cut."""
+
+    def __init__(self, file: BinaryIO) -> None:
+        self._file = file
+        self._unpacks = zlib.decompressobj(GZIP_FORM)
+
+    def read(self, count: int) -> bytes:
+        """The next bytes."""
+        found = b""
+        while not found:
+            packed = self._unpacks.unconsumed_tail or self._unpacks.unused_data
+            packed = packed or self._file.read(1 << 16)
+            if not packed:
+                return b""
+            if self._unpacks.eof:
+                self._unpacks = zlib.decompressobj(GZIP_FORM)
+            found = self._unpacks.decompress(packed, count)
+        return found
 
 STAMP = re.compile(r"(?:(\d\d):(\d\d):(\d\d(?:\.\d+)?)|(\d{6,}(?:\.\d+)?)) +")
 
 
-def source_of(path: str) -> AbstractContextManager[BinaryIO]:
+@contextmanager
+def source_of(path: str) -> Iterator[Source]:
     """The bytes of a log."""
     if path == "-":
-        return nullcontext(sys.stdin.buffer)
-    file = open(path, "rb")  # noqa: SIM115: whoever asks closes it
-    begins = file.peek(2)[:2]
-    if begins != GZIP:
-        return file
-    return gzip.GzipFile(fileobj=file)
+        yield sys.stdin.buffer
+        return
+    with open(path, "rb") as file:
+        packed = file.peek(2)[:2] == GZIP
+        yield Unpacked(file) if packed else file
 
 
 def stamped(path: str, place: int) -> Iterator[tuple[float, int, int, str]]:

@@ -42,7 +42,8 @@ class Space:
             return value
         for inside, outside, count in (self.gids if groups else self.uids) or ():
             if inside <= value < inside + count:
-                return self.parent.outside(outside + value - inside, groups)
+                found = self.parent.outside(outside + value - inside, groups)
+                return found if found is not None and found <= NO_ROOT else None
         return None
 
     def inside(self, value: int, groups: bool) -> bool:
@@ -65,13 +66,14 @@ class Space:
         if name == "setgroups":
             self.denied = text.strip() == "deny"
             return
-        found = [tuple(map(int, line.split())) for line in text.split("\n") if line.strip()]
-        if not all(len(row) == 3 for row in found):
+        found = [line.split() for line in text.split("\n") if line.strip()]
+        if not all(len(row) == 3 and all(map(is_number, row)) for row in found):
             raise Unheld(f"what is written into {name} can't be read")
+        rows = [(int(row[0]), int(row[1]), int(row[2])) for row in found]
         if name == "uid_map":
-            self.uids = [(row[0], row[1], row[2]) for row in found]
+            self.uids = rows
         else:
-            self.gids = [(row[0], row[1], row[2]) for row in found]
+            self.gids = rows
 
 
 @dataclass
@@ -108,6 +110,11 @@ class Ids:
                 self.groups[1] = int(words[2])
         for ids in (self.users, self.groups):
             ids[2] = ids[3] = ids[1]
+
+
+def is_number(word: str) -> bool:
+    """Whether it is an id or a count, as a map has them."""
+    return re.fullmatch(r"[0-9]{1,10}", word) is not None
 
 
 def set_ids(ids: list[int], name: str, values: list[int], is_root: bool) -> None:
