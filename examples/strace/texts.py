@@ -79,14 +79,25 @@ ENDS = [
 
 # A line of a script, the test that it fails, and what is told of its form.
 BAD_LINES = [
-    ("t1 setresuid 5 5", "count", "T setresuid ARG ARG ARG"),
-    ("t1 setgroups -1", "word", "T setgroups ID ..."),
-    ("t1 capset 0 0 zz", "word", "T capset SET SET SET"),
-    ("t1 exec nofile", "name", "T exec NAME"),
-    ("t1 setrsuid 5", "word", "Is setresuid meant?"),
-    ("begin t1 setuid", "count", "begin T setuid ARG"),
-    ("init t2 p2 0 0 n1", "name", "init T P ID ID N"),
-    ("t1\tcaps", "byte", "Byte 3 of the line is 0x09."),
+    ("t1 setresuid 5 5", "count", "T setresuid ARG ARG ARG", "Word 5, the ARG, lacks."),
+    ("t1 setuid 5 6", "count", "T setuid ARG", "Word 4, `6`, is too many."),
+    ("t1 setgroups -1", "word", "T setgroups ID ...", "Word 3, `-1`, is no ID."),
+    ("t1 capset 0 0 zz", "word", "T capset SET SET SET", "Word 5, `zz`, is no SET."),
+    ("t1 capset CAP_NET_RAW none 0", "word", "T capset", "`CAP_NET_RAW`, is no SET. Is 2000 meant?"),
+    ("t1 ambraise net_raw", "word", "T ambraise CAP", "is no CAP. Is CAP_NET_RAW meant?"),
+    ("t1 setuid 05", "word", "T setuid ARG", "is no ARG. Is 5 meant?"),
+    ("t1 setuid root", "word", "T setuid ARG", "Word 3, `root`, is no ARG."),
+    ("t1 exec nofile", "name", "T exec NAME", "No line above declares `nofile`."),
+    ("t1 setrsuid 5", "word", "No form", "Is setfsuid or setresuid or setreuid meant?"),
+    ("t1 frobnicate 5", "word", "No form of docs/FORMATS.md begins so.", ""),
+    ("t1 setuid 5 # leaves", "count", "T setuid ARG", "A comment is a line of its own"),
+    ("begin t1 setuid", "count", "begin T setuid ARG", "Word 4, the ARG, lacks."),
+    ("init t2 p2 0 0 n1", "name", "init T P ID ID N", "`ns 1 ROOT PARENT` would."),
+    ("init t2 p2 0 0 1", "word", "init T P ID ID N", "`1`, is no N. Is n1 meant?"),
+    ("file a reg 0 0 755", "word", "file NAME KIND", "`755`, is no MODE. Is 0755 meant?"),
+    ("file a reg 0 0 0755 caps zz", "word", "file NAME KIND", "Word 8, `zz`, is no HEX."),
+    ("file a file 0 0 0755", "word", "file NAME KIND", "`file`, is no KIND. Is reg meant?"),
+    ("t1\tcaps", "byte", "Byte 3 of the line is 0x09.", ""),
 ]
 
 # Logs of which only the file system knows the files: FOLDER is a folder that has a root of its own,

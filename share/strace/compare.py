@@ -5,6 +5,7 @@ from __future__ import annotations
 import argparse
 import os
 import re
+import shutil
 import subprocess
 import sys
 from dataclasses import dataclass, field
@@ -25,8 +26,12 @@ PROGRAM = Path(__file__).resolve().parents[2] / "bin" / "credtrace"
 
 
 def program() -> str:
-    """The program: CREDTRACE names another one than that of the repository."""
-    return os.environ.get("CREDTRACE") or str(PROGRAM)
+    """The program: CREDTRACE names another one than that of the repository.
+
+    Where these tools were copied without it, it is the one that a shell would find.
+    """
+    beside = str(PROGRAM) if PROGRAM.exists() else shutil.which("credtrace") or str(PROGRAM)
+    return os.environ.get("CREDTRACE") or beside
 
 
 def report_of(script: str) -> str:

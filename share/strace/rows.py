@@ -43,14 +43,15 @@ SYS_PTRACE = CAPABILITIES.index("SYS_PTRACE")
 
 
 def rows() -> list[tuple[str, str]]:
-    """The rows of the table of docs/LINUX.md."""
-    text = PAGE.read_text(encoding="utf-8")
+    """The rows of the table of docs/LINUX.md; none where share/ was copied without the pages."""
+    text = PAGE.read_text(encoding="utf-8") if PAGE.exists() else ""
     return re.findall(r"^\| (.*?) \| (.*) \|$", text, re.MULTILINE)
 
 
 def row(begins: str) -> tuple[str, str]:
     """The row whose first cell begins so."""
-    return next(cells for cells in rows() if cells[0].startswith(begins))
+    found = (cells for cells in rows() if cells[0].startswith(begins))
+    return next(found, (begins, ""))
 
 
 @dataclass(frozen=True)
@@ -119,7 +120,7 @@ class Explainer:
         """What is told of a row: both its cells, where it comes from, and what holds here."""
         ours, linux = row(begins)
         lines = [f"docs/LINUX.md{'' if sure else ', it may be'}: {ours}"]
-        lines += [f"Linux: {linux}"] if begins not in self._told else []
+        lines += [f"Linux: {linux}"] if linux and begins not in self._told else []
         self._told.add(begins)
         lines += [f"since {since}"] if since else []
         lines += [f"here: {why}"] if why else []
