@@ -211,7 +211,7 @@ DIFFERENCES = [
     ("seccomp", ROOT, BEGINS + "7 prctl(PR_SET_NO_NEW_PRIVS, 1, 0, 0, 0) = 0\n"
      "7 prctl(PR_SET_SECCOMP, SECCOMP_MODE_FILTER, {len=1}) = 0\n"
      "7 setuid(5) = -1 EPERM (Operation not permitted)\n", 0,
-     ["the log: line 3 of the log installs a seccomp filter"], []),
+     ["the log: line 3 of it installs a seccomp filter"], []),
     ("no seccomp", ROOT, BEGINS + "7 setuid(5) = -1 EPERM (Operation not permitted)\n", 1, [NO_ROW], []),
     ("SIGCONT within the session", ROOT, BEGINS + "7 fork() = 8\n8 setuid(5) = 0\n"
      "8 kill(7, SIGCONT) = 0\n", 0, ["SIGCONT is also allowed"], []),

@@ -244,13 +244,15 @@ class Converter(Sayer):
             return
         for found in (*scripts, program):
             self.changes.uses(found.place, call.first)
-        # A script file has to be executable too. Where it isn't, its interpreter isn't asked.
-        refused = said == "eacces" and bool(scripts)
-        for script in scripts[:1] if refused else scripts:
-            name = self.script.file(call.first, script)
-            facts = self.facts(task, script)
-            self.say(task, call, Said(f"check {name} x", said if refused else "ok"), facts)
-        if not refused:
+        # A script file has to be executable too. What is refused by EACCES is asked about alone: the
+        # reason may be one that the program doesn't know, and then it would execute the file.
+        asked = [*scripts, program][:1] if said == "eacces" else scripts
+        for found in asked:
+            name = self.script.file(call.first, found)
+            facts = self.facts(task, found)
+            answered = said if said == "eacces" else "ok"
+            self.say(task, call, Said(f"check {name} x", answered), facts)
+        if said != "eacces":
             name = self.script.file(call.first, program)
             self.say(task, call, Said(f"exec {name}", said), self.facts(task, program))
         if said == "ok":

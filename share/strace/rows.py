@@ -12,7 +12,7 @@ import re
 from dataclasses import dataclass, field
 from pathlib import Path
 
-from .calls import CAPABILITIES, ID_CALLS
+from .calls import ID_CALLS
 from .probe import Probe, Values
 from .script import Line
 
@@ -39,7 +39,8 @@ ALL = (
 # What a kept row may have changed.
 IDS, CAPS, FILE_IDS, BOUNDING, BITS, GROUPS = "ids", "caps", "file ids", "bounding", "bits", "groups"
 
-SYS_PTRACE = CAPABILITIES.index("SYS_PTRACE")
+# What the log explains itself.
+LOG = "the log:"
 
 
 def rows() -> list[tuple[str, str]]:
@@ -118,6 +119,8 @@ class Explainer:
 
     def text(self, begins: str, sure: bool = True, since: str = "", why: str = "") -> str:
         """What is told of a row: both its cells, where it comes from, and what holds here."""
+        if begins.startswith(LOG):
+            return "\n    ".join([begins, *([f"since {since}"] if since else [])])
         ours, linux = row(begins)
         lines = [f"docs/LINUX.md{'' if sure else ', it may be'}: {ours}"]
         lines += [f"Linux: {linux}"] if linux and begins not in self._told else []
@@ -208,8 +211,8 @@ class Explainer:
         words, facts = line.text.split(), line.facts
         form, pair = words[1], (kernel, told)
         if pair == ("eperm", "ok") and facts.filtered:
-            where = f"line {facts.filtered} of the log"
-            return "", f"the log: {where} installs a seccomp filter, which can refuse so (seccomp(2))"
+            where = f"{LOG} line {facts.filtered} of it installs a seccomp filter"
+            return where, f"{where}, which can refuse so (seccomp(2))"
         if form == "securebits" and int(words[2]) > 255:
             return SECUREBITS, self.text(SECUREBITS)
         if form == "setgroups" and pair == ("eperm", "ok"):

@@ -47,8 +47,9 @@ class Sayer:
         words = said.words.split()
         if said.answer.startswith("ok"):
             task.process.ids.after(words)
-        if task.process.filtered or task.process.space.denied:
-            denied = task.process.space.denied
+        space = task.process.space
+        denied = space.parent is not None and (space.gids is None or space.denied)
+        if task.process.filtered or denied:
             facts = replace(facts, filtered=task.process.filtered, denied=denied)
         line = Line(f"{task.name} {said.words}", call, said.answer, facts)
         changed = call.name in CHANGING and words[0] not in QUESTIONS
