@@ -52,7 +52,8 @@ def wrong_names() -> str | None:
             return f"--to-script makes of {text}: {names(text, '--to-script')}"
     if names(f"{COMPARED[0]}\n") != (0, f"{COMPARED[1]}\n"):
         return f"a comparison becomes {names(COMPARED[0])}"
-    said = "credtrace-names: line 1: CAP_FOO is no set: names with commas between them, none, all, all-NAME\n"
+    said = "credtrace-names: line 1: CAP_FOO is no set: names with commas between them, none, "
+    said += "all, all-NAME\n"
     if names("t1 capset CAP_FOO 0 0\n", "--to-script") != (2, said):
         return "an unknown name isn't told"
     return None if names("", "--help")[1].startswith("usage: ") else "--help isn't known"
@@ -65,7 +66,7 @@ def wrong_places(place: Path, program: str) -> str | None:
     for folder in ("share/strace", "docs"):
         shutil.copytree(TOP / folder, copied / folder)
     shutil.copytree(TOP / "share" / "strace", alone / "strace")
-    for tool in ("credtrace-check", "credtrace-compare", "credtrace-from-strace", "credtrace-names"):
+    for tool in sorted(path.name for path in (TOP / "share").glob("credtrace-*")):
         shutil.copy(TOP / "share" / tool, copied / "share")
         shutil.copy(TOP / "share" / tool, alone)
         (place / tool).symlink_to(TOP / "share" / tool)

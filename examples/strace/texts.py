@@ -83,7 +83,7 @@ BAD_LINES = [
     ("t1 setuid 5 6", "count", "T setuid ARG", "Word 4, `6`, is too many."),
     ("t1 setgroups -1", "word", "T setgroups ID ...", "Word 3, `-1`, is no ID."),
     ("t1 capset 0 0 zz", "word", "T capset SET SET SET", "Word 5, `zz`, is no SET."),
-    ("t1 capset CAP_NET_RAW none 0", "word", "T capset", "`CAP_NET_RAW`, is no SET. Is 2000 meant?"),
+    ("t1 capset CAP_NET_RAW none 0", "word", "T capset", "is no SET. Is 2000 meant?"),
     ("t1 ambraise net_raw", "word", "T ambraise CAP", "is no CAP. Is CAP_NET_RAW meant?"),
     ("t1 setuid 05", "word", "T setuid ARG", "is no ARG. Is 5 meant?"),
     ("t1 setuid root", "word", "T setuid ARG", "Word 3, `root`, is no ARG."),
@@ -124,7 +124,8 @@ PLACES = [
     ("a new root", f'{AT}7 pivot_root("jail", "jail") = 0\n' + TOOL.format("/bin/tool"), "4755"),
     ("a bind", '7 mount("FOLDER/jail", "FOLDER/usr", NULL, MS_BIND, NULL) = 0\n'
      + TOOL.format("FOLDER/usr/usr/bin/tool"), "4755"),
-    ("a nosuid mount", '7 mount("none", "FOLDER/usr", NULL, MS_REMOUNT|MS_BIND|MS_NOSUID, NULL) = 0\n'
+    ("a nosuid mount",
+     '7 mount("none", "FOLDER/usr", NULL, MS_REMOUNT|MS_BIND|MS_NOSUID, NULL) = 0\n'
      + TOOL.format("FOLDER/usr/bin/tool"), "0755 nosuid"),
     ("a tmpfs", '7 mount("none", "FOLDER/usr", "tmpfs", 0, NULL) = 0\n'
      + TOOL.format("FOLDER/usr/bin/tool"), "lies on what line 1 mounts or enters"),
@@ -184,17 +185,19 @@ NO_ROW = "no row explains it"
 TRACED = "execve is of a program: there are no scripts, and nobody traces the task"
 BITS = "a securebit above bit 7 is EPERM"
 
-# A log with where it begins, the status of credtrace-compare, what it has to say, and what it mustn't.
+# A log with where it begins, the status of credtrace-compare, what it says and what it mustn't.
 DIFFERENCES = [
-    ("a user's strace", USER, RUNS.format("/bin/su", 0) + IDS, 0, [TRACED, "root's strace leaves"], []),
-    ("root's strace", ROOT, BEGINS + "7 setresuid(1000, 1000, 1000) = 0\n" + RUNS.format("/bin/su", 0)
-     + IDS, 1, [NO_ROW], [TRACED]),
+    ("a user's strace", USER, RUNS.format("/bin/su", 0) + IDS, 0,
+     [TRACED, "root's strace leaves"], []),
+    ("root's strace", ROOT, BEGINS + "7 setresuid(1000, 1000, 1000) = 0\n"
+     + RUNS.format("/bin/su", 0) + IDS, 1, [NO_ROW], [TRACED]),
     ("a strace that came later", ROOT, "7 setresuid(1000, 1000, 1000) = 0\n"
      + RUNS.format("/bin/su", 0) + IDS, 0, [f"it may be: {TRACED}"], []),
     ("a drop that a row explains, and what is read then", USER, RUNS.format("/bin/su", 0)
      + "7 prctl(PR_CAPBSET_DROP, CAP_CHOWN) = -1 EPERM (Operation not permitted)\n"
      "7 prctl(PR_CAPBSET_READ, CAP_CHOWN) = 1\n", 0, [TRACED, "explained by docs/LINUX.md: 2"], []),
-    ("securebits above bit 7", ROOT, BEGINS + "7 prctl(PR_SET_SECUREBITS, 0x100 /* SECBIT_??? */) = 0\n"
+    ("securebits above bit 7", ROOT, BEGINS
+     + "7 prctl(PR_SET_SECUREBITS, 0x100 /* SECBIT_??? */) = 0\n"
      "7 prctl(PR_GET_SECUREBITS) = 0x100\n7 prctl(PR_SET_SECUREBITS, SECBIT_NOROOT|0xf00) = 0\n"
      "7 prctl(PR_GET_SECUREBITS) = 0xf01 (SECBIT_NOROOT|0xf00)\n", 0,
      [BITS, "bits 8 to 11 exist", "explained by docs/LINUX.md: 4"], []),
@@ -212,13 +215,15 @@ DIFFERENCES = [
      "7 prctl(PR_SET_SECCOMP, SECCOMP_MODE_FILTER, {len=1}) = 0\n"
      "7 setuid(5) = -1 EPERM (Operation not permitted)\n", 0,
      ["the log: line 3 of it installs a seccomp filter"], []),
-    ("no seccomp", ROOT, BEGINS + "7 setuid(5) = -1 EPERM (Operation not permitted)\n", 1, [NO_ROW], []),
+    ("no seccomp", ROOT, BEGINS + "7 setuid(5) = -1 EPERM (Operation not permitted)\n", 1,
+     [NO_ROW], []),
     ("SIGCONT within the session", ROOT, BEGINS + "7 fork() = 8\n8 setuid(5) = 0\n"
      "8 kill(7, SIGCONT) = 0\n", 0, ["SIGCONT is also allowed"], []),
     ("SIGCONT to another session", ROOT, BEGINS + "7 fork() = 8\n8 setsid() = 8\n8 setuid(5) = 0\n"
      "8 kill(7, SIGCONT) = 0\n", 1, [NO_ROW], ["SIGCONT is also allowed"]),
-    ("no_new_privs and a plain file", ROOT, BEGINS + "7 prctl(PR_SET_NO_NEW_PRIVS, 1, 0, 0, 0) = 0\n"
-     + RUNS.format("/bin/sh", 0) + "7 getuid() = 5\n", 1, [NO_ROW], ["under no_new_privs"]),
+    ("no_new_privs and a plain file", ROOT, BEGINS
+     + "7 prctl(PR_SET_NO_NEW_PRIVS, 1, 0, 0, 0) = 0\n" + RUNS.format("/bin/sh", 0)
+     + "7 getuid() = 5\n", 1, [NO_ROW], ["under no_new_privs"]),
     ("setresuid that changes something", ROOT, BEGINS + "7 setfsuid(5) = 0\n"
      "7 setresuid(5, -1, 5) = 0\n7 setfsuid(-1) = 5\n", 1, [NO_ROW], ["setreuid has no such"]),
     ("setresuid that changes nothing", ROOT, BEGINS + "7 setfsuid(5) = 0\n"
@@ -234,9 +239,9 @@ DIFFERENCES = [
     ("tasks that nobody made", ROOT, BEGINS + "8 getuid() = 0\n", 3,
      ["left: the calls of 1 tasks that no call made"], []),
     ("a thread that goes on before the last", ROOT, BEGINS
-     + "7 clone(child_stack=NULL, flags=CLONE_VM|CLONE_FS|CLONE_FILES|CLONE_SIGHAND|CLONE_THREAD) = 8\n"
+     + "7 clone(child_stack=NULL, flags=CLONE_VM|CLONE_FS|CLONE_FILES|CLONE_THREAD) = 8\n"
      "8 setuid(5) = 0\n8 getuid() = 5\n7 setuid(5) = 0\n", 0, ["agree: 4"], []),
     ("one thread alone", ROOT, BEGINS
-     + "7 clone(child_stack=NULL, flags=CLONE_VM|CLONE_FS|CLONE_FILES|CLONE_SIGHAND|CLONE_THREAD) = 8\n"
+     + "7 clone(child_stack=NULL, flags=CLONE_VM|CLONE_FS|CLONE_FILES|CLONE_THREAD) = 8\n"
      "8 setuid(5) = 0\n8 getuid() = 5\n7 getuid() = 0\n", 3, ["not all 2 threads"], []),
 ]

@@ -41,7 +41,7 @@ def in_parts(log: str, place: Path) -> list[str] | None:
 
 
 def without_translation(log: str, place: Path) -> list[str] | None:
-    """Without --pidns-translation: a PID namespace's pids alone, which strace writes nowhere else."""
+    """Without --pidns-translation: what clone(2) returns is a pid of the namespace alone."""
     if " in strace's PID NS */" not in log:
         return None
     text = re.sub(r" /\* \d+ in strace's PID NS \*/", "", log)

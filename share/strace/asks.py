@@ -58,6 +58,11 @@ class Asks:
         """A file that the list of files names, or that was executed before."""
         try:
             path, base = self._paths.named(task, call, place, place - 1 if place else None)
+            # Most paths of a long log are of other files: their last names say so.
+            last = path.rpartition("/")[2]
+            plain = path and not path.startswith(("/proc/", "/dev/"))
+            if plain and not (self._paths.files.has_name(last) or self._script.has_name(last)):
+                return None
             place = self._paths.lead(task, path, base).place
             if not (self._paths.files.lists(place) or self._script.declares(place)):
                 return None

@@ -140,8 +140,8 @@ def right_order(form: Form, _: list[str], before: list[str]) -> str | None:
     for number, line in enumerate(before, 1):
         words = words_of(line)
         if words and not words[0].startswith("#") and words[0] not in DECLARING:
-            told = f"Line {number} is a call, an event or a lane: `{keyword(form.text)}` stands above."
-            return told
+            word = keyword(form.text)
+            return f"Line {number} is a call, an event or a lane: `{word}` stands above."
     return None
 
 

@@ -40,7 +40,11 @@ class Converter(Sayer):
     """Makes the script call by call."""
 
     def __init__(
-        self, files: Files, asking: bool = False, folder: str | None = None, known: dict | None = None
+        self,
+        files: Files,
+        asking: bool = False,
+        folder: str | None = None,
+        known: dict[str, int] | None = None,
     ) -> None:
         super().__init__(asking)
         self.files = files
@@ -106,11 +110,12 @@ class Converter(Sayer):
                     self.apart(task.process)
         except Stop as stop:
             self.stopped = stop
-            self.left = sum(isinstance(item, Call) and item.name in SAYING for item in items[self.at :])
+            rest = items[self.at :]
+            self.left = sum(isinstance(item, Call) and item.name in SAYING for item in rest)
         self.script.head(*self.entries.head())
 
     def is_part(self) -> bool:
-        """Whether the script isn't the whole log: it ends before, or lacks tasks that were there."""
+        """Whether the script isn't the whole log: it ends before, or lacks tasks."""
         return self.stopped is not None or bool(self.strangers)
 
     def what_is_left(self) -> list[str]:
@@ -120,8 +125,8 @@ class Converter(Sayer):
             lines_left = self.count - self.stopped.line + 1
             found.append(str(self.stopped))
             found.append(
-                f"left: {lines_left} of {self.count} lines of the log, with {self.left} calls that a "
-                "script has lines for"
+                f"left: {lines_left} of {self.count} lines of the log, with {self.left} calls that "
+                "a script has lines for"
             )
         if self.strangers:
             found.append(f"left: the calls of {len(self.strangers)} tasks that no call made")
@@ -168,9 +173,9 @@ class Converter(Sayer):
         if call.pid not in self.tasks.pids and call.pid not in self.strangers:
             self.strangers.add(call.pid)
             self.notes.append(
-                f"line {call.first}: no call of this log made pid {call.pid}, so its calls are passed "
-                "over: was it a thread of the first process, --start names a folder with the status "
-                "of each (docs/A-REAL-PROCESS.md)"
+                f"line {call.first}: no call of this log made pid {call.pid}, so its calls are "
+                "passed over: was it a thread of the first process, --start names a folder with "
+                "the status of each (docs/A-REAL-PROCESS.md)"
             )
 
     def create(self, task: Task, call: Call) -> None:
@@ -179,7 +184,7 @@ class Converter(Sayer):
         if call.result.error or made is None or made <= 0:
             self.passed.call(call)
             return
-        text = next((arg for arg in call.args if arg.startswith("flags=")), "").removeprefix("flags=")
+        text = next((arg[6:] for arg in call.args if arg.startswith("flags=")), "")
         if call.name == "clone3":
             if not argument(call, 0).startswith("{"):
                 raise Unheld("its flags are an address: record without -e verbose=none")
@@ -244,8 +249,8 @@ class Converter(Sayer):
             return
         for found in (*scripts, program):
             self.changes.uses(found.place, call.first)
-        # A script file has to be executable too. What is refused by EACCES is asked about alone: the
-        # reason may be one that the program doesn't know, and then it would execute the file.
+        # A script file has to be executable too. What is refused by EACCES is asked about alone:
+        # the reason may be one that the program doesn't know, which would execute the file.
         asked = [*scripts, program][:1] if said == "eacces" else scripts
         for found in asked:
             name = self.script.file(call.first, found)

@@ -1,8 +1,9 @@
 """User namespaces that tasks of a log make and enter, as the lines of a script have them.
 
-A script's first tasks are each in a namespace, and none goes into another one. So a task that enters
-a namespace ends in the script, and goes on as a first task of the namespace, which the script's head
-leads to the ids that it had. In a namespace that it has just entered a task has all capabilities.
+A script's first tasks are each in a namespace, and none goes into another one. So a task that
+enters a namespace ends in the script, and goes on as a first task of the namespace, which the
+script's head leads to the ids that it had. In a namespace that it has just entered a task has all
+capabilities.
 """
 
 from __future__ import annotations
@@ -143,4 +144,5 @@ def only_others(flags: frozenset[str]) -> bool:
 def is_map(place: Located) -> bool:
     """Whether it is a file of /proc that maps ids."""
     parts = place.place.split("/")
-    return len(parts) == 4 and parts[1] == "proc" and parts[3] in ("uid_map", "gid_map", "setgroups")
+    names = ("uid_map", "gid_map", "setgroups")
+    return len(parts) == 4 and parts[1] == "proc" and parts[3] in names

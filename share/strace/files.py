@@ -94,10 +94,15 @@ class Files:
         self.listed = listed
         self.seen: dict[str, File] = {}
         self._made: dict[str, File] = {}
+        self._last = {path.rpartition("/")[2] for path in listed or ()}
 
     def lists(self, path: str) -> bool:
         """Whether the list names the file."""
         return self.listed is not None and path in self.listed
+
+    def has_name(self, last: str) -> bool:
+        """Whether the list names a file whose path ends so."""
+        return last in self._last
 
     def make(self, place: str, words: str) -> None:
         """A file that the log itself makes, as memfd_create(2) does."""

@@ -1,4 +1,4 @@
-"""How the words of a line are spelled, and what is likely meant by one that isn't (docs/FORMATS.md)."""
+"""How the words of a line are spelled (docs/FORMATS.md), and what a wrong one likely means."""
 
 from __future__ import annotations
 

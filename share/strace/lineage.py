@@ -11,8 +11,9 @@ CREATIONS = ("fork", "vfork", "clone", "clone3")
 
 # Calls that say where paths lead and what descriptors are of, for the children too.
 CONTEXT = frozenset(
-    "chdir fchdir chroot pivot_root mount umount umount2 open_tree fsmount move_mount mount_setattr "
-    "open openat openat2 creat dup dup2 dup3 fcntl memfd_create pidfd_open unshare setns".split()
+    "chdir fchdir chroot pivot_root mount umount umount2 open_tree fsmount move_mount "
+    "mount_setattr open openat openat2 creat dup dup2 dup3 fcntl memfd_create pidfd_open "
+    "unshare setns".split()
 )
 
 
@@ -73,7 +74,8 @@ def mounts_apart(item: Item) -> bool:
     """Whether the item mounts something, and isn't only about who sees it."""
     if not isinstance(item, Call) or item.name not in MOUNTING or item.result.error:
         return False
-    return not (item.name == "mount" and any(re.match("MS_.*(PRIV|SLAV|SHAR)", a) for a in item.args))
+    seen_by = any(re.match("MS_.*(PRIV|SLAV|SHAR)", argument) for argument in item.args)
+    return item.name != "mount" or not seen_by
 
 
 def before(item: Item, call: Call, pid: int, alone: bool) -> Item | None:

@@ -86,6 +86,8 @@ class Begun:
 @lru_cache(maxsize=1024)
 def parsed(text: str) -> tuple[tuple[str, ...], Result] | None:
     """The arguments and the result of a call. Long logs have the same few calls over and over."""
+    if (found := lines.plain_open(text)) is not None:
+        return found
     parts = lines.split(text)
     result = lines.result(parts[1]) if parts else None
     return (tuple(parts[0]), result) if parts and result else None

@@ -10,7 +10,7 @@ from . import lines
 from .calls import Unheld
 from .log import Call
 from .opened import FILE, LOOSE, NAMESPACE, PIDFD, descriptor
-from .paths import Paths
+from .paths import Paths, link_of
 from .places import Located, Mount, Mounts, Where
 from .tasks import Task
 
@@ -105,7 +105,7 @@ class Moves:
         task.where.pivot(new, old, [other.where for other in self._tasks()])
 
     def mount(self, task: Task, call: Call) -> None:
-        """mount(2): another file system or another part of one, or other flags, or another place."""
+        """mount(2): another file system, or another part of one, or other flags."""
         flags = set(argument(call, 3).split("|"))
         if flags & PROPAGATION:
             return
@@ -175,6 +175,13 @@ class Moves:
     def open(self, task: Task, call: Call) -> None:
         """open(2): a descriptor of a file."""
         place, _ = open_flags(call)
+        path = lines.string(argument(call, place))
+        plain = (place == 0 or call.args[0] == "AT_FDCWD") and not task.where.mounts.over
+        if path and plain and not path.startswith(("/proc", "/dev")):
+            before = task.where
+            where = Where(Mounts(before.mounts.root), before.root, before.folder)
+            task.descriptors.opens(call.result.value, FILE, lambda: self.lies(where, path))
+            return
         try:
             path, base = self.paths.named(task, call, place, place - 1 if place else None)
             found = self.paths.both(task, path, base)
@@ -182,6 +189,14 @@ class Moves:
             task.descriptors.closes(call.result.value)
             return
         self.opened(task, call.result.value, own_process(found, task))
+
+    def lies(self, where: Where, path: str) -> Located | None:
+        """Where a file lies that was opened by a path alone."""
+        found = where.locate(path)
+        if found is None or not self.paths.is_known(found):
+            return None
+        real = where.locate(path, None, link_of) if self.paths.files.listed is None else None
+        return replace(found, real=real.place if real else None)
 
     def opened(self, task: Task, number: int | None, found: Located) -> None:
         """A descriptor of a file, or of a namespace of a process."""

@@ -146,7 +146,8 @@ def words_in_names(line: str) -> str:
 def name_words(words: list[str], event: int, told: int) -> None:
     """Puts names in the place of sets, of numbers of capabilities and of securebits."""
     verb = words[event]
-    what = event + 1 if re.fullmatch(r"t\d+", verb) else event + 2 if verb in ("ask", "change") else 0
+    what = event + 2 if verb in ("ask", "change") else 0
+    what = event + 1 if re.fullmatch(r"t\d+", verb) else what
     word = words[what] if 0 < what < len(words) else ""
     if word == "capset":
         in_names(words, what + 1, 3)

@@ -3,6 +3,7 @@
 from __future__ import annotations
 
 import re
+from collections.abc import Callable
 
 from .lines import number
 from .places import Located, Mounts
@@ -14,12 +15,15 @@ FILE, PIDFD, NAMESPACE, LOOSE = "file", "pidfd", "namespace", "mount"
 
 What = Located | int | str | Space | Mounts
 
+# Where a file lies is found out when it is asked for: most opens of a long log nobody asks about.
+Later = Callable[[], Located | None]
+
 
 class Descriptors:
     """Which descriptor is of what: its kind, and where it lies or whose it is."""
 
     def __init__(self) -> None:
-        self._of: dict[int, tuple[str, What]] = {}
+        self._of: dict[int, tuple[str, What | Later]] = {}
 
     def copy(self) -> Descriptors:
         """The same for a child."""
@@ -27,7 +31,7 @@ class Descriptors:
         made._of = dict(self._of)
         return made
 
-    def opens(self, number_of: int | None, kind: str, what: What) -> None:
+    def opens(self, number_of: int | None, kind: str, what: What | Later) -> None:
         """A descriptor is new."""
         if number_of is not None and number_of >= 0:
             self._of[number_of] = (kind, what)
@@ -46,8 +50,19 @@ class Descriptors:
 
     def get(self, text: str, kind: str) -> What | None:
         """What the descriptor of an argument is of, where it is of this kind."""
-        found = self._of.get(descriptor(text) if descriptor(text) is not None else -1)
-        return found[1] if found and found[0] == kind else None
+        place = descriptor(text)
+        found = self._of.get(place) if place is not None else None
+        if place is None or found is None or found[0] != kind:
+            return None
+        what = found[1]
+        if callable(what):
+            lies = what()
+            if lies is None:
+                self.closes(place)
+                return None
+            self._of[place] = (kind, lies)
+            return lies
+        return what
 
 
 def descriptor(text: str) -> int | None:

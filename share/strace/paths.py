@@ -50,7 +50,7 @@ class Paths:
         self.of_pid = find
 
     def base(self, task: Task, text: str) -> Located | None:
-        """The folder or the file that a descriptor is of; None for AT_FDCWD or where nobody knows."""
+        """What a descriptor is of, a folder or a file; None for AT_FDCWD or where nobody knows."""
         shown = told(text)
         if text.startswith("AT_FDCWD"):
             if shown:
@@ -63,7 +63,9 @@ class Paths:
         seen = task.where.within(shown[0])
         return followed if followed and followed.place == seen.place else seen
 
-    def named(self, task: Task, call: Call, place: int, at: int | None) -> tuple[str, Located | None]:
+    def named(
+        self, task: Task, call: Call, place: int, at: int | None
+    ) -> tuple[str, Located | None]:
         """The path of an argument, and the folder of the descriptor before it, if there is one."""
         path = lines.string(call.args[place]) if place < len(call.args) else None
         if path is None:
@@ -83,7 +85,7 @@ class Paths:
         return self.both(task, *self.named(task, call, place, at))
 
     def both(self, task: Task, path: str, base: Located | None) -> Located:
-        """The place to which a path leads, also behind symbolic links where this machine has them."""
+        """Where a path leads, behind symbolic links too where this machine has them."""
         found = self.lead(task, path, base)
         if self.files.listed is not None or found.real is not None:
             return found
@@ -99,10 +101,14 @@ class Paths:
         found = task.where.locate(path, base, link_of if follow else no_link)
         if found is None:
             raise Unheld(no_folder(path, task.pid))
-        is_whole = found.place.startswith(("/", "@", "memfd:"))
-        if not (is_whole or self.known or self.files.lists(found.place)):
+        if not self.is_known(found):
             raise Unheld(no_folder(path, task.pid))
         return found
+
+    def is_known(self, found: Located) -> bool:
+        """Whether it is a place, and not one of a folder that nobody knows."""
+        is_whole = found.place.startswith(("/", "@", "memfd:"))
+        return is_whole or self.known or self.files.lists(found.place)
 
     def special(self, task: Task, path: str) -> Located | None:
         """The place of a path that /proc or /dev/fd has of a process."""

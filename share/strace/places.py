@@ -1,8 +1,9 @@
 """Where a task's paths lead: its root, its folder, and the mounts that the log tells of.
 
-A place is a path of the file system where the log was recorded, as before the log's first call. What
-a log mounts anew, as a tmpfs, or enters without telling, isn't there: such a place begins with
-`@LINE:`, the line of the log that made it. A place without a slash in front begins where the log does.
+A place is a path of the file system where the log was recorded, as before the log's first call.
+What a log mounts anew, as a tmpfs, or enters without telling, isn't there: such a place begins with
+`@LINE:`, the line of the log that made it. A place without a slash in front begins where the log
+does.
 """
 
 from __future__ import annotations

@@ -37,7 +37,8 @@ ALL = (
 )  # fmt: skip
 
 # What a kept row may have changed.
-IDS, CAPS, FILE_IDS, BOUNDING, BITS, GROUPS = "ids", "caps", "file ids", "bounding", "bits", "groups"
+IDS, CAPS, FILE_IDS = "ids", "caps", "file ids"
+BOUNDING, BITS, GROUPS = "bounding", "bits", "groups"
 
 # What the log explains itself.
 LOG = "the log:"
@@ -222,7 +223,8 @@ class Explainer:
         if form == "signal":
             call = line.call
             continues = call is not None and "SIGCONT" in call.args and not facts.apart
-            return (CONTINUE, self.text(CONTINUE)) if pair == ("ok", "eperm") and continues else None
+            holds = pair == ("ok", "eperm") and continues
+            return (CONTINUE, self.text(CONTINUE)) if holds else None
         if form == "exec" and kernel in ("eperm", "einval") and told == "ok":
             before = self.probe.before(number)
             under = before is None or before.no_new_privs

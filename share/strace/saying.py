@@ -109,7 +109,7 @@ class Sayer:
         self.say(task, call, ID_CALLS[call.name](call.args, call.result))
 
     def goes_on(self, process: Process) -> None:
-        """A thread goes on that has made the call: its line stands here where all others make it."""
+        """A thread goes on that has made the call: its line stands here if all others make it."""
         later = self.together.will_follow(process, self.at)
         if later is None:
             self.apart(process)

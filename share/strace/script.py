@@ -65,6 +65,7 @@ class Script:
     _files: dict[str, str] = field(default_factory=dict)
     _bytes: int = 0
     _lead: list[str] = field(default_factory=list)
+    _last: set[str] = field(default_factory=set)
 
     def begin_with(self, inits: list[str], lead: list[str]) -> None:
         """The first tasks, and what leads them to where the log begins."""
@@ -93,12 +94,17 @@ class Script:
                 raise Stop(line, f"a script declares {FILES} files")
             text = f"file {self.names.name(found.path)} {found.file.words}"
             self._files[found.path] = text
+            self._last |= {name.rpartition("/")[2] for name in (found.path, found.place)}
             self._bytes += len(text) + 1
         return self.names.name(found.path)
 
     def declares(self, path: str) -> bool:
         """Whether the file was declared already."""
         return path in self._files
+
+    def has_name(self, last: str) -> bool:
+        """Whether a file was declared whose path ends so."""
+        return last in self._last
 
     def lines(self) -> list[Line]:
         """The whole script."""

@@ -58,7 +58,8 @@ def stamped(path: str, place: int) -> Iterator[tuple[float, int, int, str]]:
     """The lines of one task, each with its time, and with the pid in front."""
     match = re.search(r"\.(\d{1,9})(?:\.gz)?$", path)
     if match is None:
-        raise BadLog(0, f"{Path(path).name}: of several logs each ends with a pid, as by strace -ff")
+        name = Path(path).name
+        raise BadLog(0, f"{name}: of several logs each has a pid at its end, as by strace -ff")
     with source_of(path) as source:
         for count, text in enumerate(text_lines(source), 1):
             time = STAMP.match(text)

@@ -1,7 +1,7 @@
 """User namespaces that a log makes: their maps, and the ids of the tasks that enter them.
 
-A script's ids are those of the initial namespace, and each of its namespaces has one root id. So the
-ids of a call are led through the map that the log writes into `uid_map` or `gid_map`.
+A script's ids are those of the initial namespace, and each of its namespaces has one root id. So
+the ids of a call are led through the map that the log writes into `uid_map` or `gid_map`.
 """
 
 from __future__ import annotations
@@ -28,7 +28,7 @@ Map = list[tuple[int, int, int]]
 
 @dataclass
 class Space:
-    """A user namespace, with the maps that were written so far; of the initial one there are none."""
+    """A user namespace, with the maps that were written so far; the initial one has none."""
 
     number: int = 0
     parent: Space | None = None

@@ -1,8 +1,8 @@
 """Id calls, which libc has every thread of a process make: in a script they are one line (nptl(7)).
 
-The threads make the call one after another, and who has made it may go on before the last one has. The
-line may stand at any place between the first and the last of them, as long as the others do nothing
-in between that their ids decide.
+The threads make the call one after another, and who has made it may go on before the last one has.
+The line may stand at any place between the first and the last of them, as long as the others do
+nothing in between that their ids decide.
 """
 
 from __future__ import annotations
