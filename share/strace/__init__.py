@@ -28,5 +28,7 @@
     kinds        how the words of a line are spelled, and what is meant by a wrong one
     names        sets and securebits as names, and back
     command      the options and inputs that the commands have in common
+    running      the program that they run
+    ending       how they end
     from_strace, compare, check, names    the commands
 """

@@ -9,9 +9,9 @@ import sys
 import textwrap
 
 from .command import Fault, shown
-from .compare import program
 from .forms import Form, NoPage, form_of, keyword, keywords, spelling, tests
 from .kinds import meant, near, wrong_word
+from .running import program
 
 GOOD, BAD, NOT_CHECKED = 0, 2, 3
 

@@ -4,14 +4,11 @@ from __future__ import annotations
 
 import argparse
 import gc
-import io
 import os
 import sys
 import zlib
-from collections.abc import Callable
 from dataclasses import dataclass
 from pathlib import Path
-from typing import NoReturn
 
 from .convert import Converter
 from .files import BadList, Files, read_list
@@ -25,9 +22,6 @@ from .start import BadStart, Start, start_of, start_of_threads
 
 # The exit statuses: the script holds the whole log; it ends before; there is none.
 WHOLE, ENDS_BEFORE, NONE = 0, 1, 2
-
-# As a shell tells the ends by SIGPIPE and by SIGINT; and as the program where writing fails.
-BROKEN, INTERRUPTED, NOT_WRITTEN = 141, 130, 4
 
 
 class Fault(Exception):
@@ -167,22 +161,3 @@ def read(reader: Reader, logs: list[str]) -> list[Item]:
 def shown(log: str) -> str:
     """The name of the log as it is told of."""
     return "standard input" if log == "-" else Path(log).name or log
-
-
-def entry(main: Callable[[list[str]], int]) -> NoReturn:
-    """Runs a command. Paths are written with the bytes that they have in the log."""
-    for stream in (sys.stdout, sys.stderr):
-        if isinstance(stream, io.TextIOWrapper):
-            stream.reconfigure(encoding="latin-1", errors="replace")
-    try:
-        status = main(sys.argv[1:])
-        sys.stdout.flush()
-    except KeyboardInterrupt:
-        status = INTERRUPTED
-    except OSError as fault:
-        # Whoever reads a pipe may end before we do.
-        status = BROKEN if isinstance(fault, BrokenPipeError) else NOT_WRITTEN
-        if status == NOT_WRITTEN:
-            print(f"standard output: {fault.strerror}", file=sys.stderr)
-        os.dup2(os.open(os.devnull, os.O_WRONLY), 1)
-    sys.exit(status)

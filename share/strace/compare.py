@@ -3,35 +3,22 @@
 from __future__ import annotations
 
 import argparse
-import os
 import re
-import shutil
 import subprocess
 import sys
 from dataclasses import dataclass, field
-from pathlib import Path
 
 from .command import Fault, add_options, converted, options_of
 from .log import Call
 from .probe import Probe
 from .rows import Explainer
+from .running import program
 from .script import Line, Script
 
 AGREES, DIFFERS, NOT_COMPARED, ENDS_BEFORE = 0, 1, 2, 3
 
 # The entries that decide a line; the others take hold of a credential and let go of it.
 DECIDING = frozenset("begin act ask change open signal spawn fork exit".split())
-
-PROGRAM = Path(__file__).resolve().parents[2] / "bin" / "credtrace"
-
-
-def program() -> str:
-    """The program: CREDTRACE names another one than that of the repository.
-
-    Where these tools were copied without it, it is the one that a shell would find.
-    """
-    beside = str(PROGRAM) if PROGRAM.exists() else shutil.which("credtrace") or str(PROGRAM)
-    return os.environ.get("CREDTRACE") or beside
 
 
 def report_of(script: str) -> str:
@@ -86,6 +73,12 @@ def agrees(kernel: str, report: str) -> bool:
     return len(wanted) == len(words) and all(map(fits, wanted, words))
 
 
+def logged(call: Call) -> str:
+    """A call as the log has it."""
+    result = f"{call.result.value} {call.result.error or ''}".strip()
+    return f"line {call.first}: pid {call.pid} {call.text} = {result}"
+
+
 @dataclass
 class Comparison:
     """How many calls agree, and what is told of the others."""
@@ -100,9 +93,8 @@ class Comparison:
         call = line.call
         if call is None:
             return
-        result = f"{call.result.value} {call.result.error or ''}".strip()
         self.told.append(
-            f"line {call.first}: pid {call.pid} {call.text} = {result}: the kernel {line.answer}, "
+            f"{logged(call)}: the kernel {line.answer}, "
             f"the report {report} (line {number}: {line.text})\n"
             f"    {row if row else 'docs/LINUX.md: no row explains it'}"
         )
@@ -138,9 +130,9 @@ def differing(lines: list[Line], found: dict[int, str]) -> list[int]:
     ]
 
 
-def compare(script: Script) -> Comparison:
-    """Runs the script, and holds each answer beside the kernel's."""
-    found = answers(report_of(script.text()))
+def compare(script: Script, report: str) -> Comparison:
+    """Holds each answer beside the kernel's."""
+    found = answers(report)
     comparison = Comparison()
     lines = script.lines()
     probe = Probe(lines, differing(lines, found), report_of, script.known)
@@ -159,6 +151,24 @@ def compare(script: Script) -> Comparison:
     return comparison
 
 
+def refusals(script: Script, report: str) -> list[str]:
+    """Why each call of the log was refused, with its line."""
+    # To say why takes another package, which is read where it is asked for alone.
+    from why.logs import refused
+
+    lines = {number: line for number, line in enumerate(script.lines(), 1) if line.call}
+    try:
+        found = refused(script.text(), report, set(lines))
+    except ValueError as fault:
+        raise Fault(str(fault)) from None
+    told = []
+    for number, sentences in found:
+        line = lines[number]
+        told.append(f"{logged(line.call)} (line {number}: {line.text})")
+        told += sentences
+    return told
+
+
 def main(words: list[str]) -> int:
     """Converts a log, runs the script, and compares."""
     parser = argparse.ArgumentParser(
@@ -166,15 +176,20 @@ def main(words: list[str]) -> int:
         description="Runs the script of a log of strace -f, and compares it with the kernel.",
     )
     add_options(parser)
+    parser.add_argument(
+        "--why", action="store_true", help="say of each call that was refused why it was"
+    )
     given = parser.parse_args(words)
     try:
         converter = converted(options_of(given))
-        comparison = compare(converter.script)
+        report = report_of(converter.script.text())
+        comparison = compare(converter.script, report)
+        refused = refusals(converter.script, report) if given.why else []
     except Fault as fault:
         print(f"credtrace-compare: {fault}", file=sys.stderr)
         return NOT_COMPARED
     forgotten = given.start is None and comparison.forgotten()
-    for told in [forgotten] if forgotten else comparison.told:
+    for told in refused + ([forgotten] if forgotten else comparison.told):
         print(told)
     for note in converter.notes:
         print(note, file=sys.stderr)

@@ -1,0 +1,19 @@
+"""Why a call was answered as it was: sentences with the values in them.
+
+    names        sets, flags and ids in words, and the manual's names of the calls
+    sources      the places in the manual that sentences rest on
+    reason       a sentence with its source, and what isn't one
+    script       a script's lines, files and namespaces
+    program      the program, asked for a report, an audit, an attribute
+    books        what the books of a journal have
+    journal      what stands after each entry of a report
+    stood        what stood in the way: tasks, labels, calls that are open, limits
+    asking       the values of credentials, asked in copies of the script
+    ids, adjust, execve, access    the rules, as sentences with their conditions
+    explain      from an entry to its sentences
+    tell         what is told of a line
+    life         the life of a capability in a task
+    command      the command
+    logs         the refusals of a log of strace, for credtrace-compare
+    check        holds the sentences to every script of cases/ and examples/
+"""

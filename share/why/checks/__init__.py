@@ -1,0 +1,1 @@
+"""What `check` asks of credtrace-why."""

@@ -1,0 +1,223 @@
+"""From a decision to its sentences: what has to be asked for it, and which rule it falls under."""
+
+from __future__ import annotations
+
+from . import access, adjust, execve, ids, sources
+from .asking import KINDS, Values
+from .books import Decision
+from .journal import Journal
+from .names import ALL, LAST, cap_number
+from .reason import BITS, CAPS, GROUPS, IDS, Fault, NotFound, Reason
+
+# What a change is decided on; and behind it, where it leads to other ids.
+BEFORE = {"exec": (IDS, CAPS, BITS), "setfsuid": (IDS, CAPS, BITS), "setfsgid": (IDS, CAPS)}
+AFTER = {"exec": (IDS, CAPS), "setfsuid": (IDS, CAPS), "setfsgid": (IDS, CAPS)}
+
+
+class Explainer:
+    """Explains the entries of a journal."""
+
+    def __init__(self, journal: Journal, values: Values, mask: int = ALL) -> None:
+        self.journal = journal
+        self.values = values
+        self.mask = mask
+        # Whether it is also told why an event was not refused.
+        self.full = journal.whole is not None
+        self.files = journal.script.files
+
+    def roots(self, credential: int) -> list[int]:
+        """The root ids of a credential's namespace and of those above it."""
+        return self.journal.script.roots[self.journal.namespaces[credential]]
+
+    def wants(self, decision: Decision) -> None:
+        """Has all asked for that the sentences of a decision rest on."""
+        event, want = decision.words[0], self.values.want
+        before, after = decision.before, decision.after
+        if self.full:
+            want(before, *KINDS)
+            want(after, *KINDS)
+            want(decision.target if event == "signal" else None, IDS)
+            return
+        if decision.reason is not None or not (decision.refused or after is not None):
+            return
+        if event in ("begin", "act"):
+            want(before, IDS, CAPS, *((BITS,) if not decision.refused else ()))
+            want(after, IDS, CAPS)
+        elif event == "commit":
+            call = decision.change[0]
+            want(before, *BEFORE.get(call, (CAPS,)))
+            want(after, *AFTER.get(call, (CAPS,)))
+        elif event == "change":
+            self.wants_of_change(decision.words[2], before)
+        elif event in ("ask", "open"):
+            if event == "open" or decision.words[2] == "check":
+                want(before, IDS, CAPS, GROUPS)
+        elif event == "signal":
+            want(before, IDS, CAPS)
+            want(decision.target, IDS)
+        elif event == "init":
+            want(after, CAPS)
+
+    def wants_of_change(self, call: str, before: int | None) -> None:
+        """What the refusal of a change rests on."""
+        if call == "exec":
+            self.values.want(before, IDS, CAPS, GROUPS, BITS)
+        else:
+            self.values.want(before, *adjust.NEEDS.get(call, ()))
+
+    def reasons(self, decision: Decision) -> list[Reason]:
+        """The sentences of a decision. One that doesn't lead to the answer is a Fault."""
+        if isinstance(decision.reason, Fault):
+            raise decision.reason
+        if decision.reason is not None:
+            return [decision.reason]
+        if decision.refused:
+            return [self.refusal(decision)]
+        if decision.words[0] == "commit":
+            return self.committed(decision)
+        if decision.words[0] in ("override", "revert"):
+            return []
+        if decision.before is None and decision.after is not None:
+            return [self.born(decision)]
+        found = self.allowed(decision) if self.full else []
+        if decision.words[0] in ("begin", "act"):
+            found += self.identified(decision)
+        return found
+
+    def allowed(self, decision: Decision) -> list[Reason]:
+        """Why a rule doesn't refuse an event."""
+        words, before, values = decision.words, decision.before, self.values
+        if words[0] in ("begin", "act"):
+            call = self.call_of(decision)
+            return [ids.allowed(call[0], call[1:], values.ids(before), values.caps(before))]
+        if words[0] == "open" or words[0] == "ask" and words[2] == "check":
+            name, want = words[2:4] if words[0] == "open" else words[3:5]
+            asked = values.ids(before), values.caps(before), values.groups(before)
+            return [access.allowed(self.files[name], want, *asked)]
+        if words[0] == "signal":
+            asked = values.ids(before), values.caps(before), values.ids(decision.target)
+            return [access.signal_allowed(*asked, decision.change)]
+        return []
+
+    def born(self, decision: Decision) -> Reason:
+        """The sets that a new task has."""
+        words, after = decision.words, decision.after
+        if decision.target is not None:
+            text = f"{decision.task} has the credential of {decision.target}, c{after}"
+            return Reason(text, sources.CLONE if words[0] == "spawn" else sources.THREAD_SETS)
+        root, user = self.roots(after)[0], int(words[3])
+        full = ALL if user == root else 0
+        if self.values.caps(after) != (full, 0, full, ALL, 0):
+            raise Fault(f"a first task of user {user} has other sets, where root is {root}")
+        is_root = "is root" if full else f"is not root ({root})"
+        sets = "all permitted and effective" if full else "none permitted and none effective"
+        text = f"a first task whose user {user} {is_root} has {sets}, and a full bounding set"
+        return Reason(text, sources.FIRST)
+
+    def call_of(self, decision: Decision) -> list[str]:
+        """The words of a call that sets ids."""
+        return decision.change if decision.words[0] == "act" else decision.words[2:]
+
+    def refusal(self, decision: Decision) -> Reason:
+        """Why a rule refuses an event."""
+        event, words, told = decision.words[0], decision.words, decision.told[0]
+        before, values = decision.before, self.values
+        if event in ("begin", "act"):
+            call = self.call_of(decision)
+            error = decision.told[2] if told == "aborted" else told
+            found = ids.refusal(call[0], call[1:], error, values.ids(before), values.caps(before))
+            if told == "aborted":
+                text = f"{found.text}; so {decision.task} can't follow, and its process ends"
+                return Reason(text, f"{found.source}; {sources.THREADS}")
+            return found
+        if event == "change":
+            return self.change_refused(words[2:], told, before)
+        if event == "ask":
+            found = self.question_refused(words[2:], told, before)
+            return by_access(found) if self.is_access(decision.line) else found
+        if event == "open" and told == "eacces":
+            file = self.files[words[2]]
+            sets = values.ids(before), values.caps(before), values.groups(before)
+            return access.refusal(file, words[3], *sets, sources.OPEN)
+        # Within one process a signal is always allowed.
+        if event == "signal" and told == "eperm" and not decision.change:
+            return self.signal_refused(decision)
+        raise Fault(f"no sentence for {' '.join(words)}, answered {told}")
+
+    def is_access(self, line: int) -> bool:
+        """Whether a line is a call of access(2)."""
+        return self.journal.script.line(line).split(" ")[1:2] == ["access"]
+
+    def change_refused(self, words: list[str], told: str, before: int) -> Reason:
+        """Why a change is refused."""
+        values = self.values
+        if words[0] == "exec":
+            asked = values.ids(before), values.caps(before), values.groups(before)
+            file = self.files[words[1]]
+            return execve.refusal(file, told, *asked, values.bits(before), self.roots(before))
+        needs = adjust.NEEDS.get(words[0], ())
+        caps = values.caps(before) if CAPS in needs else None
+        bits = values.bits(before) if BITS in needs else None
+        return adjust.refusal(words, told, caps, bits)
+
+    def question_refused(self, words: list[str], told: str, before: int) -> Reason:
+        """Why a question is refused."""
+        values = self.values
+        if words[0] == "check" and told == "eacces":
+            asked = values.ids(before), values.caps(before), values.groups(before)
+            return access.refusal(self.files[words[1]], words[2], *asked)
+        source = {"capable": sources.LIST, "bset": sources.BOUND_READ, "ambis": sources.IS_SET}
+        if told == "einval" and words[0] in source and cap_number(words[1]) > LAST:
+            return adjust.no_capability(words[1], source[words[0]])
+        raise Fault(f"the question {' '.join(words)} was answered {told}")
+
+    def signal_refused(self, decision: Decision) -> Reason:
+        """Why a signal is refused."""
+        values = self.values
+        target = values.ids(decision.target)
+        asked = values.ids(decision.before), values.caps(decision.before)
+        return access.signal_refused(*asked, target)
+
+    def identified(self, decision: Decision) -> list[Reason]:
+        """What a call that set ids made of the sets."""
+        call, values = self.call_of(decision)[0], self.values
+        before, after = decision.before, decision.after
+        old, new = values.ids(before)[:3], values.ids(after)[:3]
+        bits, root = values.bits(before)[0], self.roots(before)[0]
+        return ids.changes(call, old, new, values.caps(before), values.caps(after), bits, root)
+
+    def committed(self, decision: Decision) -> list[Reason]:
+        """What a commit made of the sets."""
+        words, values = decision.change, self.values
+        before, after = decision.before, decision.after
+        sets = values.caps(before), values.caps(after)
+        if words[0] == "exec":
+            file = self.files[words[1]]
+            asked = values.ids(before), values.ids(after), *sets, values.bits(before)
+            return execve.changes(file, decision.told, *asked, self.roots(before), self.mask)
+        if words[0] in ("setfsuid", "setfsgid"):
+            asked = values.ids(before), values.ids(after), *sets
+            bits = values.bits(before)[0] if words[0] == "setfsuid" else 0
+            return ids.filesystem(*words, *asked, bits, self.roots(before)[0])
+        return adjust.changes(words, *sets)
+
+    def explained(self, decisions: list[Decision]) -> list[list[Reason] | Fault | NotFound]:
+        """The sentences of many decisions, all of which are asked for at once; or why one has none:
+        that is a fault, or there was no room for a question."""
+        for decision in decisions:
+            self.wants(decision)
+        self.values.ask()
+        found: list[list[Reason] | Fault | NotFound] = []
+        for decision in decisions:
+            try:
+                found.append(self.reasons(decision))
+            except (Fault, NotFound) as fault:
+                found.append(fault)
+        return found
+
+
+def by_access(reason: Reason) -> Reason:
+    """A check that access(2) makes."""
+    takes = "access(2) takes the real ids as filesystem ids"
+    text = reason.text.replace("EACCES: ", f"EACCES: {takes}; ", 1)
+    return Reason(text, f"{sources.ACCESS}; {reason.source}")

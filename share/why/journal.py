@@ -1,0 +1,368 @@
+"""What stands after each entry of a report: tasks, labels, files, calls of all threads.
+
+The report says what each event was answered; this keeps the books that go with it, so that an entry
+can be told with what stood in its way. No rule on credentials is known here.
+"""
+
+from __future__ import annotations
+
+from . import stood
+from .books import Cast, Decision, Home, Label, Task
+from .reason import CAPS, IDS, Fault
+from .script import Script
+
+RULED = frozenset(("eperm", "einval", "eacces"))
+HOLDS = 512
+
+
+class Journal:
+    """The entries of a report, followed one after another."""
+
+    def __init__(self, script: Script, report: str, line: int | None = None) -> None:
+        self.script = script
+        # The line of which all entries are told, not its refusals and changes alone.
+        self.whole = line
+        self.tasks: dict[str, Task] = {}
+        self.gone_tasks: dict[str, tuple[int, str]] = {}
+        self.processes: dict[str, dict[str, None]] = {}
+        self.labels: dict[str, Label] = {}
+        self.gone_labels: dict[str, tuple[int, str]] = {}
+        self.files: dict[str, tuple[int, int]] = {}
+        self.gone_files: dict[str, int] = {}
+        self.casts: dict[str, Cast] = {}
+        self.ended_casts: dict[int, str] = {}
+        self.slots: dict[int, int] = {}
+        self.namespaces: dict[int, int] = {}
+        self.homes: dict[int, Home] = {}
+        self.known: dict[tuple[int, str], list[str]] = {}
+        self.decisions: list[Decision] = []
+        self.births: list[Decision] = []
+        self.lendings: list[Decision] = []
+        self.index = self.line = 0
+        self.entries = report.split("\n")
+        if self.entries[-1] == "":
+            self.entries.pop()
+        # Which entries, one behind another, are of one line: (line, first, behind the last).
+        self.runs: list[tuple[int, int, int]] = []
+        self.follow()
+
+    def follow(self) -> None:
+        """Follows all entries."""
+        begun, line = 0, 0
+        handlers = {name[3:]: getattr(self, name) for name in dir(self) if name.startswith("on_")}
+        for index, entry in enumerate(self.entries):
+            event, _, answer = entry.partition(" -> ")
+            words = event.split(" ")
+            number = int(words[0])
+            if number != line:
+                if index:
+                    self.runs.append((line, begun, index))
+                begun, line = index, number
+            self.index, self.line = index, number
+            handlers[words[1]](words[1:], answer.split(" "))
+        if self.entries:
+            self.runs.append((line, begun, len(self.entries)))
+
+    # What several events have in common.
+
+    def actor(self, task: str | None) -> str:
+        """The task that the line is of."""
+        first = self.script.lines[self.line - 1].split(None, 1)[0]
+        return first if first[0] == "t" and first[1:].isdigit() else task or ""
+
+    def decide(self, words, told, task, before=None, after=None) -> Decision:
+        """Keeps an entry that is told."""
+        decision = Decision(self.index, self.line, words, told, task, before, after)
+        self.decisions.append(decision)
+        return decision
+
+    def refuse(self, words, told, task=None, before=None) -> Decision:
+        """Keeps a refusal; one that is about what is there, with what stood in the way."""
+        decision = self.decide(words, told, task or self.actor(None), before)
+        if told[0] not in RULED and not (told[0] == "aborted" and told[2] == "eperm"):
+            try:
+                decision.reason = stood.reason(self, words, told)
+            except Fault as fault:
+                decision.reason = fault
+        return decision
+
+    def seal(self, told, place, task: Task) -> int:
+        """A credential that came into use, and where it stands."""
+        number = int(told[place][1:])
+        self.slots[number] = int(told[place + 1][1:])
+        self.namespaces[number] = task.namespace
+        full = len(self.labels) >= HOLDS and self.holds() >= HOLDS
+        self.homes[number] = Home(self.index, task.name, bool(task.overrides), full)
+        return number
+
+    def holds(self) -> int:
+        """How many labels hold."""
+        return sum(label.slot is None for label in self.labels.values())
+
+    def leaves(self, task: Task, number: int) -> None:
+        """A task no longer acts with a credential."""
+        home = self.homes[number]
+        if home.task == task.name and home.until is None:
+            home.until = self.index
+
+    def current(self, task: Task, number: int) -> None:
+        """A credential becomes the task's current one."""
+        self.leaves(task, task.current)
+        task.current, task.since = number, self.line
+
+    def born(self, words, told, name, process, namespace, current, how, creator) -> None:
+        """A task is there."""
+        self.tasks[name] = Task(name, process, namespace, current, self.line, how, creator)
+        self.processes.setdefault(process, {})[name] = None
+        self.gone_tasks.pop(name, None)
+        birth = Decision(self.index, self.line, words, told, name, None, current)
+        birth.target = creator
+        self.births.append(birth)
+
+    def ends(self, name: str, how: str) -> None:
+        """A task is gone."""
+        task = self.tasks.pop(name)
+        self.leaves(task, task.current)
+        self.gone_tasks[name] = (self.line, how)
+        members = self.processes[task.process]
+        del members[name]
+        if not members:
+            del self.processes[task.process]
+        cast = self.casts.get(task.process)
+        if cast is not None and name in cast.waiting:
+            del cast.waiting[name]
+            self.completed(task.process, cast)
+
+    def completed(self, process: str, cast: Cast) -> None:
+        """A call that nobody waits for any more is over."""
+        if not cast.waiting:
+            del self.casts[process]
+            self.ended_casts[cast.line] = f"every thread had made it by line {self.line}"
+
+    def dropped(self, process: str, how: str) -> None:
+        """A call of all threads is given up."""
+        cast = self.casts.pop(process, None)
+        if cast is not None:
+            self.ended_casts[cast.line] = how
+
+    # The events.
+
+    def on_init(self, words, told):
+        """A first task."""
+        if told[0] != "ok":
+            self.refuse(words, told, words[1])
+            return
+        namespace = int(words[5][1:])
+        number = int(told[1][1:])
+        self.born(words, told, words[1], words[2], namespace, number, "first task", None)
+        self.seal(told, 1, self.tasks[words[1]])
+
+    def on_take(self, words, told):
+        """A hold on what a task acts with, or is acted on by."""
+        if told[0] == "ok":
+            self.labels[words[1]] = Label(int(told[1][1:]), self.line)
+        else:
+            self.refuse(words, told)
+
+    on_takereal = on_takefile = on_take
+
+    def on_drop(self, words, told):
+        """A hold is given up."""
+        if told[0] != "ok":
+            self.refuse(words, told)
+            return
+        del self.labels[words[1]]
+        self.gone_labels[words[1]] = (self.line, "dropped")
+
+    def on_ask(self, words, told):
+        """A question: its answer is kept; a check that isn't passed is told."""
+        label = self.labels.get(words[1])
+        if told[0] == "ok":
+            if words[2] in (IDS, CAPS, "bits", "groups"):
+                self.known[label.credential, words[2]] = told[1:]
+            if self.line == self.whole:
+                self.decide(words, told, self.actor(None), label.credential)
+            return
+        before = label.credential if label and label.slot is None else None
+        self.refuse(words, told, None, before)
+
+    def on_prepare(self, words, told):
+        """A credential is prepared."""
+        if told[0] != "ok":
+            self.refuse(words, told, words[2])
+            return
+        base = self.labels[words[3]].credential
+        self.labels[words[1]] = Label(base, self.line, words[2], int(told[1][1:]))
+
+    def on_change(self, words, told):
+        """A prepared credential is changed."""
+        label = self.labels.get(words[1])
+        task = label.task if label else None
+        before = label.credential if label and label.slot is not None else None
+        if told[0] != "ok":
+            self.refuse(words, told, task, before)
+            return
+        label.change, label.access = words[2:], words[2] == "access"
+        self.decide(words, told, task, before)
+
+    def on_commit(self, words, told):
+        """A prepared credential becomes the task's."""
+        label = self.labels.get(words[1])
+        if told[0] != "ok":
+            self.refuse(words, told, label.task if label else None)
+            if told[0] == "stale":
+                self.give_up(words[1], "given up by the stale commit")
+            return
+        task = self.tasks[label.task]
+        number = self.seal(told, 1, task)
+        decision = self.decide(words, told, label.task, task.current, number)
+        decision.change = label.change
+        self.current(task, number)
+        self.give_up(words[1], "committed")
+        if len(told) > 3:
+            self.executes(task)
+
+    def executes(self, task: Task) -> None:
+        """An execve ends the other threads, and a call that they were in."""
+        self.dropped(task.process, f"the execve of {task.name} in line {self.line} dropped it")
+        for other in [name for name in self.processes[task.process] if name != task.name]:
+            self.ends(other, f"the execve of {task.name} ended it")
+
+    def give_up(self, name: str, how: str) -> None:
+        """A prepared label is gone."""
+        del self.labels[name]
+        self.gone_labels[name] = (self.line, how)
+
+    def on_abort(self, words, told):
+        """A prepared credential is given up."""
+        if told[0] == "ok":
+            self.give_up(words[1], "aborted")
+        else:
+            self.refuse(words, told)
+
+    def on_override(self, words, told):
+        """A task acts with another credential."""
+        if told[0] != "ok":
+            self.refuse(words, told, words[1])
+            return
+        task, label = self.tasks[words[1]], self.labels[words[2]]
+        number = int(told[1][1:])
+        if label.slot is not None:
+            self.seal(told, 1, task)
+            self.homes[number].overridden = False
+            self.give_up(words[2], "lent to its task by the override")
+        task.overrides.append((number, self.line))
+        self.lends(words, told, task, number)
+
+    def on_revert(self, words, told):
+        """The newest override ends."""
+        if told[0] != "ok":
+            self.refuse(words, told, words[1])
+            return
+        task = self.tasks[words[1]]
+        self.leaves(task, task.overrides.pop()[0])
+        self.lends(words, told, task, task.overrides[-1][0] if task.overrides else task.current)
+
+    def lends(self, words, told, task: Task, number: int) -> None:
+        """A task acts with another credential from now on."""
+        if self.script.line(self.line).split(" ")[1] != "access":
+            lent = Decision(self.index, self.line, words, told, task.name, None, number)
+            self.lendings.append(lent)
+
+    def on_begin(self, words, told):
+        """A call that sets ids, by the thread that begins it."""
+        task = self.tasks.get(words[1])
+        if told[0] != "ok":
+            self.refuse(words, told, words[1], task.current if task else None)
+            return
+        number = self.seal(told, 1, task)
+        self.decide(words, told, words[1], task.current, number)
+        self.current(task, number)
+        waiting = {name: None for name in self.processes[task.process] if name != task.name}
+        cast = self.casts[task.process] = Cast(self.line, words[1], words[2:], waiting)
+        self.completed(task.process, cast)
+
+    def on_act(self, words, told):
+        """A waiting thread makes the call too."""
+        process, cast = self.cast_of(int(words[1]))
+        if told[0] not in ("ok", "aborted"):
+            self.refuse(words, told)
+            return
+        task = self.tasks[told[1]]
+        if told[0] == "aborted":
+            self.refuse(words, told, task.name, task.current).change = cast.words
+            self.dropped(process, f"{task.name} could not follow in line {self.line}")
+            for name in list(self.processes[process]):
+                self.ends(name, f"its process ended, since {told[1]} could not follow a call,")
+            return
+        number = self.seal(told, 2, task)
+        self.decide(words, told, task.name, task.current, number).change = cast.words
+        self.current(task, number)
+        del cast.waiting[task.name]
+        self.completed(process, cast)
+
+    def cast_of(self, line: int) -> tuple[str, Cast | None]:
+        """The call that a line began, while it is open."""
+        found = ((process, cast) for process, cast in self.casts.items() if cast.line == line)
+        return next(found, ("", None))
+
+    def on_spawn(self, words, told):
+        """A thread more."""
+        if told[0] != "ok":
+            self.refuse(words, told, words[1])
+            return
+        task = self.tasks[words[1]]
+        how = f"spawned by {task.name}"
+        number = int(told[1][1:])
+        self.born(words, told, words[2], task.process, task.namespace, number, how, task.name)
+        cast = self.casts.get(task.process)
+        if cast is not None and task.name in cast.waiting:
+            cast.waiting[words[2]] = None
+
+    def on_fork(self, words, told):
+        """A process more."""
+        if told[0] != "ok":
+            self.refuse(words, told, words[1])
+            return
+        task = self.tasks[words[1]]
+        how = f"forked by {task.name}"
+        number = int(told[1][1:])
+        self.born(words, told, words[2], words[3], task.namespace, number, how, task.name)
+
+    def on_exit(self, words, told):
+        """A task ends."""
+        if told[0] == "ok":
+            self.ends(words[1], "it ended")
+        else:
+            self.refuse(words, told, words[1])
+
+    def on_open(self, words, told):
+        """A file is opened."""
+        credential = self.labels[words[1]].credential if words[1] in self.labels else None
+        if told[0] == "ok":
+            self.files[words[4]] = (credential, self.line)
+            self.decide(words, told, self.actor(None), credential)
+        else:
+            self.refuse(words, told, None, credential)
+
+    def on_close(self, words, told):
+        """A file is closed."""
+        if told[0] == "ok":
+            del self.files[words[1]]
+            self.gone_files[words[1]] = self.line
+        else:
+            self.refuse(words, told)
+
+    def on_signal(self, words, told):
+        """A signal."""
+        if told[0] == "ok" and self.line != self.whole:
+            return
+        labels = [self.labels[word].credential for word in (words[2], words[4])]
+        keep = self.decide if told[0] == "ok" else self.refuse
+        decision = keep(words, told, words[1], labels[0])
+        decision.target = labels[1]
+        sender, other = self.tasks.get(words[1]), self.tasks.get(words[3])
+        decision.change = bool(sender and other and sender.process == other.process)
+
+    def on_sweep(self, words, told):
+        """What was given up is let go of."""
