@@ -105,9 +105,9 @@ class Converter(Sayer):
         try:
             for self.at, item in enumerate(items):
                 self.item(item)
-            for task in self.tasks.by_pid.values():
+            for task in list(self.tasks.by_pid.values()):
                 if task.process.making:
-                    self.apart(task.process)
+                    self.goes_on(task.process)
         except Stop as stop:
             self.stopped = stop
             rest = items[self.at :]
@@ -190,6 +190,9 @@ class Converter(Sayer):
                 raise Unheld("its flags are an address: record without -e verbose=none")
             text = fields(call.args[0]).get("flags", "")
         flags = clone_flags(text)
+        if call.context:
+            self.tasks.descend(task, flags, call.inner)
+            return
         if old := self.tasks.by_pid.get(made):
             self.gone([old], call.first)
         self.room(call.first, 1)
@@ -235,10 +238,14 @@ class Converter(Sayer):
     def execute(self, task: Task, call: Call) -> None:
         """execve(2) or execveat(2): the other threads of the process are gone after it."""
         said = answer(call.result)
+        place, at = (1, 0) if call.name == "execveat" else (0, None)
+        if call.context:
+            if said == "ok":
+                task.process.program = self.paths.locate(task, call, place, at)
+            return
         if said is None:
             self.passed.call(call)
             return
-        place, at = (1, 0) if call.name == "execveat" else (0, None)
         try:
             *scripts, program = self.paths.programs(task, call, place, at)
             named = self.paths.locate(task, call, place, at)

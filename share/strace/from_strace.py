@@ -41,8 +41,9 @@ def list_of(converter: Converter) -> str:
     """The list of all files that were asked for."""
     found = []
     for path, file in converter.files.seen.items():
+        noexec = " noexec" if file.noexec else ""
         interpreter = f" #! {file.interpreter}" if file.interpreter else ""
-        found.append(f"{quoted(path)} {file.words}{interpreter}\n")
+        found.append(f"{quoted(path)} {file.words}{noexec}{interpreter}\n")
     return "".join(found)
 
 

@@ -13,7 +13,7 @@ CREATIONS = ("fork", "vfork", "clone", "clone3")
 CONTEXT = frozenset(
     "chdir fchdir chroot pivot_root mount umount umount2 open_tree fsmount move_mount "
     "mount_setattr open openat openat2 creat dup dup2 dup3 fcntl memfd_create pidfd_open "
-    "unshare setns".split()
+    "unshare setns execve execveat".split()
 )
 
 
@@ -88,7 +88,8 @@ def before(item: Item, call: Call, pid: int, alone: bool) -> Item | None:
             "--start what leads to it comes first"
         )
     if alone:
-        return replace(item, pid=pid, context=True) if item.name in CONTEXT else None
+        told = item.name in CONTEXT or item is call
+        return replace(item, pid=pid, context=True) if told else None
     return item if item is call or creates(item) is None or is_thread(item) else None
 
 

@@ -110,6 +110,11 @@ class Sayer:
 
     def goes_on(self, process: Process) -> None:
         """A thread goes on that has made the call: its line stands here if all others make it."""
+        leaving = self.together.leaving(process, self.at)
+        call = next(iter(process.making.values()))
+        for thread in leaving:
+            self.tasks.end(thread)
+            self.script.add(call.first, Line(f"{thread.name} exit"))
         later = self.together.will_follow(process, self.at)
         if later is None:
             self.apart(process)

@@ -76,6 +76,16 @@ class Tasks:
             process.pids.setdefault(1, pid)
         return self._add(self._child(pid, parent, process, flags))
 
+    def descend(self, task: Task, flags: frozenset[str], inner: int | None) -> None:
+        """An ancestor of the task made the next one: in which PID namespace, and with which pid."""
+        process = task.process
+        before, process.pids = process.pids, {} if "CLONE_NEWPID" in flags else process.below
+        process.below = process.pids
+        if process.pids is not before:
+            process.pids.setdefault(1, task.pid)
+        if inner is not None:
+            process.pids[inner] = task.pid
+
     def spawn(self, pid: int, creator: Task, flags: frozenset[str] = frozenset()) -> Task:
         """A thread more of a process."""
         return self._add(self._child(pid, creator, creator.process, flags))
