@@ -7,6 +7,7 @@ credentials, as where it failed for another reason.
 
 from __future__ import annotations
 
+import re
 from collections.abc import Callable
 from dataclasses import dataclass
 
@@ -49,7 +50,8 @@ GROUPS = 1024
 class Said:
     """What a task says in the script, and the answer that the kernel's result is.
 
-    In the answer `*` stands for any word, and `&MASK=VALUE` for a number with these bits.
+    In the answer `*` stands for any word, `&MASK=VALUE` for a number with these bits, and
+    `MASK&=VALUE` for a set that is this one as far as the mask goes, both hexadecimal.
     """
 
     words: str
@@ -65,6 +67,15 @@ def answer(result: Result) -> str | None:
     if result.error is None:
         return "ok" if result.value is not None and result.value >= 0 else None
     return result.error.lower() if result.error in ("EPERM", "EINVAL", "EACCES") else None
+
+
+NUMBERS = "its constants are numbers: record without -X raw or -X verbose"
+ADDRESSES = "its arguments are addresses: record without -e verbose=none"
+
+
+def is_address(text: str) -> bool:
+    """Whether strace wrote where an argument lies, and not what it is."""
+    return re.fullmatch(r"0x[0-9a-f]+", text) is not None
 
 
 def told(words: str, result: Result) -> Said | None:
@@ -113,6 +124,8 @@ def setgroups(args: Args, result: Result) -> Said | None:
     if listed is None:
         if result.error is not None:
             return None
+        if is_address(args[1]):
+            raise Unheld(ADDRESSES)
         raise Unheld("the list of groups is shortened: strace writes all of it with -v")
     if len(listed) > GROUPS and result.error is None:
         raise Unheld(
@@ -130,10 +143,14 @@ def own(args: Args, pid: int) -> bool:
     return named in (0, pid)
 
 
-def sets(args: Args) -> list[int] | None:
+def sets(args: Args, result: Result) -> list[int] | None:
     """The permitted, the inheritable and the effective set that capset(2) or capget(2) names."""
     version = lines.fields(args[0]).get("version", "") if len(args) == 2 else ""
     if not version.startswith("_LINUX_CAPABILITY_VERSION_"):
+        if result.error is None and len(args) == 2 and is_address(args[0]):
+            raise Unheld(ADDRESSES)
+        if result.error is None and version[:1].isdigit() and "???" not in version:
+            raise Unheld(NUMBERS)
         return None
     named = lines.fields(args[1])
     found = [
@@ -145,7 +162,7 @@ def sets(args: Args) -> list[int] | None:
 
 def capset(args: Args, result: Result) -> Said | None:
     """capset(2), of the task itself."""
-    found = sets(args)
+    found = sets(args, result)
     if found is None:
         return None
     return told("capset " + " ".join(f"{value:x}" for value in found), result)
@@ -153,10 +170,12 @@ def capset(args: Args, result: Result) -> Said | None:
 
 def capget(args: Args, result: Result) -> Said | None:
     """capget(2): a question about the sets."""
-    found = sets(args)
+    found = sets(args, result)
     if found is None or result.value != 0:
         return None
-    permitted, inheritable, effective = (f"{value:x}" for value in found)
+    # Version 1 has the lower 32 bits alone.
+    mask = "ffffffff&=" if "VERSION_1" in args[0] else ""
+    permitted, inheritable, effective = (f"{mask}{value:x}" for value in found)
     return Said("caps", f"ok {permitted} {inheritable} {effective} * *")
 
 
@@ -174,6 +193,8 @@ def three_ids(first: int) -> Reading:
 
     def read(args: Args, result: Result) -> Said | None:
         values = [lines.number(arg.strip("[]")) for arg in args]
+        if result.value == 0 and any(map(is_address, args)):
+            raise Unheld(ADDRESSES)
         if result.value != 0 or len(values) != 3 or None in values:
             return None
         known = {first + place: value or 0 for place, value in enumerate(values)}
@@ -209,7 +230,8 @@ def capability(text: str) -> str | None:
 def ambient(args: Args, result: Result) -> Said | None:
     """prctl(2), PR_CAP_AMBIENT: raise, lower, clear all, ask."""
     what = args[1].removeprefix("PR_CAP_AMBIENT_") if len(args) > 1 else ""
-    if any(lines.number(arg) != 0 for arg in args[3:]):
+    # A further argument is EINVAL, whatever the task is.
+    if any(lines.number(arg) != 0 for arg in args[2 if what == "CLEAR_ALL" else 3 :]):
         return None
     if what == "CLEAR_ALL":
         return told("ambclear", result)
@@ -288,7 +310,10 @@ OPERATIONS: dict[str, Reading] = {
 
 def prctl(args: Args, result: Result) -> Said | None:
     """prctl(2), where its operation is one on credentials."""
-    read = OPERATIONS.get(args[0]) if args else None
+    operation = args[0] if args else ""
+    if operation[:1].isdigit() and "???" not in operation and result.error is None:
+        raise Unheld(NUMBERS)
+    read = OPERATIONS.get(operation)
     return read(args, result) if read else None
 
 

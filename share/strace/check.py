@@ -7,16 +7,19 @@ import re
 import subprocess
 import sys
 import textwrap
-from difflib import get_close_matches
 
 from .command import Fault, shown
-from .forms import form_of, keywords, spelling, tests
+from .forms import Form, NoPage, form_of, keyword, keywords, spelling, tests
+from .kinds import meant, near, wrong_word
 from .running import program
 
 GOOD, BAD, NOT_CHECKED = 0, 2, 3
 
 # The program's status for a script with a bad line, and for one that is too large.
 STATUS_BAD, STATUS_LARGE = 2, 6
+
+# The lines that stand before all others.
+DECLARING = ("ns", "file", "init")
 
 
 def verdict(script: bytes) -> tuple[int, str] | None:
@@ -46,10 +49,16 @@ def wrapped(text: str) -> str:
     return textwrap.fill(text, 100, initial_indent="    ", subsequent_indent="      ")
 
 
+def words_of(line: str) -> list[str]:
+    """The words of a line."""
+    return [word for word in line.split(" ") if word]
+
+
 def explained(script: bytes, number: int, reason: str) -> list[str]:
     """What is told of a bad line."""
-    line = script.split(b"\n")[number - 1].decode("latin-1")
-    words = [word for word in line.split(" ") if word]
+    lines = script.decode("latin-1").split("\n")
+    line = lines[number - 1]
+    words = words_of(line)
     form = form_of(words)
     shown_line = "".join(c if " " <= c <= "~" else f"\\x{ord(c):02x}" for c in line)
     told = [f"line {number}: {shown_line[:200]}"]
@@ -58,15 +67,107 @@ def explained(script: bytes, number: int, reason: str) -> list[str]:
         place = next(place for place, c in enumerate(line, 1) if not " " <= c <= "~")
         told.append(wrapped(f"Byte {place} of the line is 0x{ord(line[place - 1]):02x}."))
         return told
-    if reason == "count":
-        told.append(wrapped(f"The line has {len(words)} words."))
-    if form is None:
-        near = [other for word in words[:3] for other in get_close_matches(word, keywords(), 1)]
-        likely = f" Is {near[0]} meant?" if near else ""
-        told.append(wrapped("No form of docs/FORMATS.md begins so." + likely))
+    if any(word.startswith("#") for word in words[1:]):
+        told.append(wrapped("A comment is a line of its own: its first word begins with `#`."))
+    elif form is None:
+        told.append(wrapped("No form of docs/FORMATS.md begins so." + likely(words)))
         return told
-    told.append(wrapped(f"The form: {form.text} ({form.does})"))
-    told += [wrapped(f"{name}: {text}") for name, text in spelling(form)]
+    elif hint := HINTS.get(reason, lambda *_: None)(form, words, lines[: number - 1]):
+        told.append(wrapped(hint))
+    if form is not None:
+        told.append(wrapped(f"The form: {form.text} ({form.does})"))
+        told += [wrapped(f"{name}: {text}") for name, text in spelling(form)]
+    return told
+
+
+def likely(words: list[str]) -> str:
+    """The form that is likely meant: one letter or two of its word differ, or the task lacks."""
+    known = keywords()
+    for word in words[:3]:
+        if re.match(r"[tphf][0-9]", word):
+            continue
+        guess = near(word, known)
+        if guess and guess != word:
+            return f" Is {guess} meant?"
+    return ""
+
+
+def right_word(form: Form, words: list[str], _: list[str]) -> str | None:
+    """Which word isn't as its place asks, and what would be right."""
+    wrong = wrong_word(form.text, words)
+    if wrong is None:
+        return None
+    place, kind = wrong
+    word = words[place]
+    guess = meant(kind, word)
+    wrong_so = f"is no {kind}" if kind.isupper() else f"isn't `{kind}`"
+    return f"Word {place + 1}, `{word}`, {wrong_so}." + (f" Is {guess} meant?" if guess else "")
+
+
+def right_count(form: Form, words: list[str], _: list[str]) -> str:
+    """How many words there are, and which lacks or is too many."""
+    told = f"The line has {len(words)} words."
+    expected = form.text.split()
+    if "..." in expected or "[" in form.text:
+        return told
+    if len(words) < len(expected):
+        return f"{told} Word {len(words) + 1}, the {expected[len(words)]}, lacks."
+    return f"{told} Word {len(expected) + 1}, `{words[len(expected)]}`, is too many."
+
+
+def right_name(form: Form, words: list[str], before: list[str]) -> str | None:
+    """Which name isn't declared above, or is twice."""
+    above = [words_of(line) for line in before]
+    files = {line[1]: number for number, line in enumerate(above, 1) if line[:1] == ["file"]}
+    spaces = {line[1]: number for number, line in enumerate(above, 1) if line[:1] == ["ns"]}
+    declared = files if words[0] == "file" else spaces if words[0] == "ns" else {}
+    if words[0] in ("file", "ns") and words[1] in declared:
+        return f"`{words[1]}` was declared by line {declared[words[1]]} already."
+    for place, kind in enumerate(form.text.split()[: len(words)]):
+        word = words[place]
+        if kind == "NAME" and word not in files:
+            guess = near(word, set(files))
+            return f"No line above declares `{word}`." + (f" Is {guess} meant?" if guess else "")
+        if kind == "N" and word != "n0" and word[1:] not in spaces:
+            return f"No line above declares {word}: `ns {word[1:]} ROOT PARENT` would."
+    if words[0] == "ns":
+        return f"No line above declares the parent, {words[3]}."
+    return None
+
+
+def right_order(form: Form, _: list[str], before: list[str]) -> str | None:
+    """Which line the declaration stands behind."""
+    for number, line in enumerate(before, 1):
+        words = words_of(line)
+        if words and not words[0].startswith("#") and words[0] not in DECLARING:
+            word = keyword(form.text)
+            return f"Line {number} is a call, an event or a lane: `{word}` stands above."
+    return None
+
+
+HINTS = {"word": right_word, "count": right_count, "name": right_name, "order": right_order}
+
+
+def unmade(script: bytes) -> list[str]:
+    """Lines of tasks that no line makes: their reports say `no task`."""
+    made: set[str] = set()
+    told = []
+    warned: set[str] = set()
+    for number, line in enumerate(script.decode("latin-1").split("\n"), 1):
+        words = words_of(line)
+        if not words or words[0].startswith("#"):
+            continue
+        if words[0] == "init":
+            made.add(words[1])
+        elif len(words) > 2 and words[1] in ("fork", "spawn"):
+            made.add(words[2])
+        elif words[0] in ("fork", "spawn"):
+            made.add(words[2])
+        named = [word for word in words[:3] if re.fullmatch(r"t[0-9]+", word)]
+        for task in named:
+            if task not in made and task not in warned:
+                warned.add(task)
+                told.append(f"warning: line {number}: no init, fork or spawn makes {task} before")
     return told
 
 
@@ -95,7 +196,11 @@ def main(words: list[str]) -> int:
         print(f"credtrace-check: {name}: {fault}", file=sys.stderr)
         return NOT_CHECKED
     if bad is None:
-        print(f"{name} is a script")
+        print("\n".join([*unmade(script), f"{name} is a script"]))
         return GOOD
-    print("\n".join(explained(script, *bad)))
+    try:
+        print("\n".join(explained(script, *bad)))
+    except NoPage as fault:
+        print(f"line {bad[0]}: {bad[1]}")
+        print(f"credtrace-check: {fault}", file=sys.stderr)
     return BAD

@@ -4,17 +4,21 @@ from __future__ import annotations
 
 import argparse
 import gc
+import os
 import sys
+import zlib
 from dataclasses import dataclass
 from pathlib import Path
-from typing import BinaryIO
 
 from .convert import Converter
 from .files import BadList, Files, read_list
+from .kin import matched
 from .lineage import NoProcess, family
 from .lines import BadLog
 from .log import Item, Reader, text_lines
-from .start import BadStart, start_of
+from .script import Stop
+from .sources import merged, source_of
+from .start import BadStart, Start, start_of, start_of_threads
 
 # The exit statuses: the script holds the whole log; it ends before; there is none.
 WHOLE, ENDS_BEFORE, NONE = 0, 1, 2
@@ -28,10 +32,16 @@ class Fault(Exception):
 class Options:
     """The options that both tools have."""
 
-    log: str
-    files: str | None
-    start: str | None
-    task: int | None
+    logs: list[str]
+    files: str | None = None
+    start: str | None = None
+    task: int | None = None
+    folder: str | None = None
+
+
+def options_of(given: argparse.Namespace) -> Options:
+    """The options as they were given."""
+    return Options(given.log or ["-"], given.files, given.start, given.task, given.folder)
 
 
 def add_options(parser: argparse.ArgumentParser) -> None:
@@ -40,13 +50,22 @@ def add_options(parser: argparse.ArgumentParser) -> None:
         "--files", metavar="FILE", help="a list of the files that the log executes or opens"
     )
     parser.add_argument(
-        "--start", metavar="FILE", help="the text of /proc/PID/status where the log begins"
+        "--start",
+        metavar="FILE",
+        help="the text of /proc/PID/status where the log begins; or a folder like /proc/PID/task, "
+        "with the status of each thread",
     )
     parser.add_argument(
         "--task", metavar="PID", type=int, help="this process of the log and its children alone"
     )
     parser.add_argument(
-        "log", metavar="LOG", nargs="?", default="-", help="the log; else standard input"
+        "--folder", metavar="PATH", help="the folder where the log begins, for relative paths"
+    )
+    parser.add_argument(
+        "log",
+        metavar="LOG",
+        nargs="*",
+        help="the log, or the logs that strace -ff -ttt wrote; else standard input",
     )
 
 
@@ -65,43 +84,75 @@ def progress(count: int) -> None:
         print(f"\r{count} lines", end="", file=sys.stderr, flush=True)
 
 
+def start_from(path: str | None) -> Start:
+    """Where the log begins: as root, or as a file or a folder says."""
+    if path is None:
+        return Start()
+    try:
+        if not os.path.isdir(path):
+            return start_of(text_of(path, "the status"))
+        names = [name for name in os.listdir(path) if name.isdigit() and len(name) < 10]
+        texts = {int(name): text_of(f"{path}/{name}/status", "the status") for name in names}
+        return start_of_threads(texts)
+    except BadStart as fault:
+        raise Fault(f"{path}: {fault}") from None
+
+
 def converted(options: Options, asks: bool = False) -> Converter:
     """The script of a log, with what is to be said of it."""
     try:
         listed = read_list(text_of(options.files, "the list")) if options.files else None
     except BadList as fault:
         raise Fault(f"{options.files}: {fault}") from None
-    try:
-        start = start_of(text_of(options.start, "the status")) if options.start else None
-    except BadStart as fault:
-        raise Fault(f"{options.start}: {fault}") from None
-    converter = Converter(Files(listed), asks)
-    reader = Reader(converter.wanted())
-    try:
-        if options.log == "-":
-            items = read(reader, sys.stdin.buffer)
-        else:
-            with open(options.log, "rb") as source:
-                items = read(reader, source)
-        first = reader.first_pid or 0
-        if options.task is not None:
-            first, items = family(items, options.task, start is not None)
-    except (BadLog, NoProcess) as fault:
-        raise Fault(f"{shown(options.log)}: {fault}") from None
-    except OSError as fault:
-        raise Fault(f"{shown(options.log)}: {fault.strerror}") from None
-    converter.run(items, first, start.lines if start else [])
-    converter.notes = (start.notes if start else []) + converter.notes
-    converter.passed_over += reader.passed_over
+    start = start_from(options.start)
+    known: dict[str, int] = {}
+    reader, items, first = items_of(options, Converter(Files(listed)).wanted(), start)
+    while True:
+        converter = Converter(Files(listed), asks, options.folder, known)
+        converter.run(items, first, start)
+        # A file that was used before it changed: the script ends where it was used.
+        if set(converter.changes.found) <= set(known):
+            break
+        known |= converter.changes.found
+    converter.notes = start.notes + converter.notes
+    converter.passed.names(reader.passed)
+    converter.count = reader.count
+    if reader.cut and not converter.stopped:
+        converter.stopped = Stop(reader.cut.line, reader.cut.what)
     return converter
 
 
-def read(reader: Reader, source: BinaryIO) -> list[Item]:
-    """All that a log tells."""
+def items_of(
+    options: Options, wanted: frozenset[str], start: Start
+) -> tuple[Reader, list[Item], int]:
+    """What the log tells, with the reader of it and the pid of the first task."""
+    reader = Reader(wanted)
+    name = shown(options.logs[0])
+    try:
+        items = read(reader, options.logs)
+        first = start.threads[0] if start.threads else reader.first_pid or 0
+        if options.task is not None:
+            first, items = family(items, options.task, options.start is not None)
+    except (BadLog, NoProcess) as fault:
+        raise Fault(f"{name}: {fault}") from None
+    except (OSError, zlib.error) as fault:
+        reason = fault.strerror if isinstance(fault, OSError) else None
+        raise Fault(f"{name}: {reason or fault}") from None
+    return reader, matched(items, first), first
+
+
+def read(reader: Reader, logs: list[str]) -> list[Item]:
+    """All that a log tells, or the logs of one strace."""
     # A log's calls are all kept: to look for garbage among them takes a third of the time.
     gc.disable()
-    items = reader.read(text_lines(source), progress)
-    gc.enable()
+    try:
+        if len(logs) > 1:
+            items = reader.read(merged(logs), progress)
+        else:
+            with source_of(logs[0]) as source:
+                items = reader.read(text_lines(source), progress)
+    finally:
+        gc.enable()
     if reader.count >= 50_000 and sys.stderr.isatty():
         print(f"\r{reader.count} lines", file=sys.stderr)
     return items

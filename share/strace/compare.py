@@ -8,13 +8,14 @@ import subprocess
 import sys
 from dataclasses import dataclass, field
 
-from .command import Fault, Options, add_options, converted
+from .command import Fault, add_options, converted, options_of
 from .log import Call
+from .probe import Probe
 from .rows import Explainer
 from .running import program
 from .script import Line, Script
 
-AGREES, DIFFERS, NOT_COMPARED = 0, 1, 2
+AGREES, DIFFERS, NOT_COMPARED, ENDS_BEFORE = 0, 1, 2, 3
 
 # The entries that decide a line; the others take hold of a credential and let go of it.
 DECIDING = frozenset("begin act ask change open signal spawn fork exit".split())
@@ -58,6 +59,9 @@ def fits(pattern: str, word: str) -> bool:
     match = re.fullmatch(r"&(\d+)=(\d+)", pattern)
     if match:
         return word.isdigit() and int(word) & int(match[1]) == int(match[2])
+    match = re.fullmatch(r"([0-9a-f]+)&=([0-9a-f]+)", pattern)
+    if match:
+        return int(word, 16) & int(match[1], 16) == int(match[2], 16)
     return pattern == word
 
 
@@ -92,12 +96,22 @@ class Comparison:
         self.told.append(
             f"{logged(call)}: the kernel {line.answer}, "
             f"the report {report} (line {number}: {line.text})\n"
-            f"    docs/LINUX.md: {row if row else 'no row explains it'}"
+            f"    {row if row else 'docs/LINUX.md: no row explains it'}"
         )
         if row:
             self.explained += 1
         else:
             self.unexplained += 1
+
+    def forgotten(self) -> str | None:
+        """What is said where the first difference is that the log begins otherwise."""
+        if not self.told or "no row explains it" not in self.told[0]:
+            return None
+        return (
+            "the script begins as root with all capabilities, since no --start was given, and the "
+            f"log doesn't: {self.told[0].split(': ')[0]} is the first of {len(self.told)} calls "
+            "that differ. Name the text of /proc/PID/status where the log begins by --start"
+        )
 
     def sum(self) -> str:
         """How many agree."""
@@ -107,21 +121,33 @@ class Comparison:
         )
 
 
+def differing(lines: list[Line], found: dict[int, str]) -> list[int]:
+    """The numbers of the lines whose answers aren't the kernel's."""
+    return [
+        number
+        for number, line in enumerate(lines, 1)
+        if line.answer is not None and not agrees(line.answer, found.get(number, "nothing"))
+    ]
+
+
 def compare(script: Script, report: str) -> Comparison:
     """Holds each answer beside the kernel's."""
     found = answers(report)
     comparison = Comparison()
-    explainer = Explainer()
+    lines = script.lines()
+    probe = Probe(lines, differing(lines, found), report_of, script.known)
+    explainer = Explainer(probe, script.tracer)
     before: Call | None = None
-    for number, line in enumerate(script.lines(), 1):
+    for number, line in enumerate(lines, 1):
         if line.call is not None and line.answer is not None:
             report = found.get(number, "nothing")
             if agrees(line.answer, report):
                 comparison.agree += line.call is not before
             else:
-                comparison.differs(number, line, report, explainer.explain(line, report))
+                reason = explainer.explain(number, line, report)
+                comparison.differs(number, line, report, reason)
             before = line.call
-        explainer.see(line)
+        explainer.see(number, line)
     return comparison
 
 
@@ -155,20 +181,23 @@ def main(words: list[str]) -> int:
     )
     given = parser.parse_args(words)
     try:
-        converter = converted(Options(given.log, given.files, given.start, given.task))
+        converter = converted(options_of(given))
         report = report_of(converter.script.text())
         comparison = compare(converter.script, report)
         refused = refusals(converter.script, report) if given.why else []
     except Fault as fault:
         print(f"credtrace-compare: {fault}", file=sys.stderr)
         return NOT_COMPARED
-    for told in refused + comparison.told:
+    forgotten = given.start is None and comparison.forgotten()
+    for told in refused + ([forgotten] if forgotten else comparison.told):
         print(told)
     for note in converter.notes:
         print(note, file=sys.stderr)
-    if converter.stopped:
-        print(converter.stopped)
+    for left in converter.what_is_left():
+        print(left)
     print(comparison.sum())
-    if not comparison.agree + comparison.explained + comparison.unexplained:
-        return NOT_COMPARED
-    return DIFFERS if comparison.unexplained else AGREES
+    if comparison.unexplained:
+        return DIFFERS
+    if converter.is_part():
+        return ENDS_BEFORE
+    return AGREES if comparison.agree + comparison.explained else NOT_COMPARED

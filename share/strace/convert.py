@@ -2,66 +2,71 @@
 
 from __future__ import annotations
 
-import os
-import re
 from collections.abc import Callable, Iterable
-from dataclasses import dataclass, field
 
-from . import lines
-from .calls import ID_CALLS, OWN_CALLS, SET_CALLS, Said, Unheld, answer, own
+from . import asks, changes, moves
+from .calls import ID_CALLS, OWN_CALLS, SET_CALLS, Said, Unheld, answer
+from .changes import Changes
+from .enters import Entries, is_map
 from .files import Files, Found, Missing
+from .lines import fields, pid
 from .log import EXECUTIONS, Call, Gone, Item, Renamed
-from .script import TASKS, Line, Script, Stop
-from .tasks import Process, Task, Tasks
+from .moves import Moves, argument, clone_flags
+from .opened import FILE, told
+from .paths import Paths
+from .places import BEGIN, Located
+from .saying import Sayer
+from .script import TASKS, Facts, Line, Stop
+from .start import Start
+from .tasks import Task
+from .together import Together
 
 CREATIONS = ("fork", "vfork", "clone", "clone3")
 
 ENDS = ("exit", "exit_group")
 
-# The descriptor under which a file is opened. It is closed at once, since no call of a log asks who
-# opened it.
-DESCRIPTOR = "f1"
+# What a thread of a process shares with the others (clone(2)).
+THREAD = frozenset({"CLONE_FS", "CLONE_FILES"})
 
-NAMESPACE = "a user namespace is entered, which no line does: record and convert within it"
+# The calls of which a script has lines.
+SAYING = frozenset([*ID_CALLS, *OWN_CALLS, *SET_CALLS, *EXECUTIONS, *CREATIONS, *ENDS, "kill"])
 
-# The calls behind which --ask asks for the sets, where they are no questions themselves.
-CHANGING = frozenset([*ID_CALLS, *EXECUTIONS, "setfsuid", "capset", "prctl"])
-QUESTIONS = ("bset", "ambis", "bits", "check")
-
-WANTED_BITS = {"R_OK": 4, "W_OK": 2, "X_OK": 1, "F_OK": 0}
-
-OPENED_FOR = {"O_RDONLY": "r", "O_WRONLY": "w", "O_RDWR": "rw"}
+# What each follows without saying anything in the script.
+SILENT = ("chdir", "fchdir", "memfd_create", "pidfd_open", "dup", "dup2", "dup3", "fcntl", "chroot")
+SILENT += moves.OPENS
 
 
-def want_of(text: str) -> str | None:
-    """What access(2) asks, in the order of a script."""
-    value = lines.bits(text, WANTED_BITS)
-    if not value or value > 7:
-        return None
-    return "".join(letter for letter, bit in (("r", 4), ("w", 2), ("x", 1)) if value & bit)
-
-
-def folder_of(text: str) -> str | None:
-    """The folder that -y writes behind a descriptor or AT_FDCWD."""
-    match = re.match(r"(?:AT_FDCWD|\d+)<(/.*)>$", text)
-    return match[1] if match else None
-
-
-@dataclass
-class Converter:
+class Converter(Sayer):
     """Makes the script call by call."""
 
-    files: Files
-    asks: bool = False
-    script: Script = field(default_factory=Script)
-    tasks: Tasks = field(default_factory=Tasks)
-    notes: list[str] = field(default_factory=list)
-    stopped: str | None = None
-    passed_over: int = 0
-    _strangers: set[int] = field(default_factory=set)
-    _handlers: dict[str, Callable[[Task, Call], None]] = field(default_factory=dict)
+    def __init__(
+        self,
+        files: Files,
+        asking: bool = False,
+        folder: str | None = None,
+        known: dict[str, int] | None = None,
+    ) -> None:
+        super().__init__(asking)
+        self.files = files
+        self.notes: list[str] = []
+        self.stopped: Stop | None = None
+        self.strangers: set[int] = set()
+        self.paths = Paths(files, folder is not None, self.tasks.find)
+        self.changes = Changes(self.paths, known or {})
+        self.entries = Entries(self.tasks)
+        self.most = 1
+        # How many lines the log has, and how many calls are left where the script ends before it.
+        self.count = 0
+        self.left = 0
+        self._folder = folder
+        self._moves = Moves(self.paths, lambda: self.tasks.by_pid.values())
+        self._follow = self._moves.handlers()
+        self._asks = asks.Asks(self.paths, self.script, self.changes)
+        self._handlers: dict[str, Callable[[Task, Call], None]] = {}
+        self._take_handlers()
 
-    def __post_init__(self) -> None:
+    def _take_handlers(self) -> None:
+        """Which call is read by what."""
         handlers = (
             (ID_CALLS, self.id_call),
             (OWN_CALLS, self.own_call),
@@ -70,31 +75,77 @@ class Converter:
             (CREATIONS, self.create),
             (ENDS, self.end),
             (("kill", "tkill", "tgkill"), self.kill),
-            (("access", "faccessat", "faccessat2"), self.access),
-            (("open", "openat", "openat2", "creat"), self.open),
-            (("chdir", "fchdir"), self.change_folder),
+            (self._follow, self.move),
+            (changes.CALLS, self.change),
             (("unshare", "setns"), self.change_namespace),
+            (asks.ACCESSES, self.access),
+            (("write",), self.write),
+            (("setsid", "seccomp"), self.mark),
         )
         for names, handler in handlers:
             self._handlers |= dict.fromkeys(names, handler)
 
     def wanted(self) -> frozenset[str]:
-        """The calls that a log is read for. Files are opened where a list names them."""
-        asked = {"access", "faccessat", "faccessat2", "open", "openat", "openat2", "creat"}
-        return frozenset(self._handlers) - (asked if self.files.listed is None else set())
+        """The calls that a log is read for."""
+        return frozenset(self._handlers)
 
-    def run(self, items: Iterable[Item], first: int, begin: list[str]) -> None:
+    def run(self, items: Iterable[Item], first: int, start: Start) -> None:
         """Makes the script of all these, as far as one can."""
-        self.script.begin_with(["init t1 p1 0 0 n0", *begin])
-        self.tasks.first(first)
+        items = list(items)
+        tasks = [self.tasks.first(first)]
+        tasks += [self.tasks.spawn(pid, tasks[0], THREAD) for pid in start.threads[1:]]
+        tasks[0].process.ids = start.ids
+        tasks[0].where.folder = self.begins(items, first)
+        self.script.begin_with(start.inits(), start.lines)
+        self.script.known = self.files
+        begins = next((item for item in items if isinstance(item, Call)), None)
+        traced = begins is not None and begins.name == "execve" and begins.pid == first
+        self.script.tracer = start.traces if traced else None
+        self.together = Together(items, SAYING)
         try:
-            for item in items:
+            for self.at, item in enumerate(items):
                 self.item(item)
-            for task in self.tasks.by_pid.values():
+            for task in list(self.tasks.by_pid.values()):
                 if task.process.making:
-                    self.apart(task.process)
+                    self.goes_on(task.process)
         except Stop as stop:
-            self.stopped = str(stop)
+            self.stopped = stop
+            rest = items[self.at :]
+            self.left = sum(isinstance(item, Call) and item.name in SAYING for item in rest)
+        self.script.head(*self.entries.head())
+
+    def is_part(self) -> bool:
+        """Whether the script isn't the whole log: it ends before, or lacks tasks."""
+        return self.stopped is not None or bool(self.strangers)
+
+    def what_is_left(self) -> list[str]:
+        """What of the log the script doesn't have."""
+        found = []
+        if self.stopped:
+            lines_left = self.count - self.stopped.line + 1
+            found.append(str(self.stopped))
+            found.append(
+                f"left: {lines_left} of {self.count} lines of the log, with {self.left} calls that "
+                "a script has lines for"
+            )
+        if self.strangers:
+            found.append(f"left: the calls of {len(self.strangers)} tasks that no call made")
+        return found
+
+    def begins(self, items: list[Item], first: int) -> Located:
+        """The folder where the log begins: the one that is named, or that -y tells first."""
+        if self._folder is not None:
+            return Located("" if self._folder == "." else self._folder.rstrip("/") or "/")
+        for item in items:
+            if not isinstance(item, Call):
+                continue
+            if item.name in ("chdir", "fchdir", "chroot", "pivot_root", *CREATIONS):
+                break
+            shown = told(argument(item, 0)) if item.pid == first else None
+            if shown and item.args[0].startswith("AT_FDCWD"):
+                self.paths.known = True
+                return Located(shown[0])
+        return BEGIN
 
     def item(self, item: Item) -> None:
         """What the log tells next."""
@@ -110,7 +161,7 @@ class Converter:
             self.stranger(item)
             return
         if task.number in task.process.making and item.name not in ENDS:
-            self.apart(task.process)
+            self.goes_on(task.process)
         try:
             self._handlers[item.name](task, item)
         except (Unheld, Missing) as reason:
@@ -118,91 +169,57 @@ class Converter:
 
     def stranger(self, call: Call) -> None:
         """A call of a task that no call of the log made, or that is on its way out."""
-        self.passed_over += 1
-        if call.pid not in self.tasks.pids and call.pid not in self._strangers:
-            self._strangers.add(call.pid)
+        self.passed.call(call)
+        if call.pid not in self.tasks.pids and call.pid not in self.strangers:
+            self.strangers.add(call.pid)
             self.notes.append(
-                f"line {call.first}: no call of this log made pid {call.pid}; "
-                "its calls are passed over (in a PID namespace record with --pidns-translation)"
+                f"line {call.first}: no call of this log made pid {call.pid}, so its calls are "
+                "passed over: was it a thread of the first process, --start names a folder with "
+                "the status of each (docs/A-REAL-PROCESS.md)"
             )
-
-    def say(self, task: Task, call: Call, said: Said | None) -> None:
-        """The task says this in the script, or the call is passed over."""
-        if said is None:
-            self.passed_over += 1
-        else:
-            line = Line(f"{task.name} {said.words}", call, said.answer)
-            changes = call.name in CHANGING and said.words.split()[0] not in QUESTIONS
-            asked = self.asks and changes and said.answer.startswith("ok")
-            question = [Line(f"{task.name} caps")] if asked else []
-            self.script.add(call.first, line, *question)
-
-    def own_call(self, task: Task, call: Call) -> None:
-        """A call that changes or asks the credential of the thread that makes it."""
-        self.say(task, call, OWN_CALLS[call.name](call.args, call.result))
-
-    def set_call(self, task: Task, call: Call) -> None:
-        """capset(2) or capget(2), where it is of the task itself."""
-        mine = own(call.args, task.pid)
-        self.say(task, call, SET_CALLS[call.name](call.args, call.result) if mine else None)
-
-    def id_call(self, task: Task, call: Call) -> None:
-        """A call that is one line where every thread of the process makes it."""
-        said = ID_CALLS[call.name](call.args, call.result)
-        making = task.process.making
-        first = next(iter(making.values()), call)
-        if said is None:
-            self.passed_over += 1
-        elif (first.name, first.args) != (call.name, call.args):
-            self.apart(task.process)
-        else:
-            making[task.number] = call
-            self.complete(task.process)
-
-    def complete(self, process: Process) -> None:
-        """The call is one line as soon as every thread has made it, the one who began it last."""
-        making = process.making
-        if not making or len(making) < len(process.threads):
-            return
-        number, call = list(making.items())[-1]
-        if len({made.result for made in making.values()}) > 1:
-            self.apart(process)
-        making.clear()
-        task = next(thread for thread in process.threads if thread.number == number)
-        self.say(task, call, ID_CALLS[call.name](call.args, call.result))
-
-    def apart(self, process: Process) -> None:
-        """The threads don't all make the call, or not with the same result."""
-        call = next(iter(process.making.values()))
-        raise Stop(
-            call.first,
-            f"pid {call.pid} makes {call.text}, and not all {len(process.threads)} threads of its "
-            "process make it, or with another result (docs/LINUX.md: an id call is every thread's, "
-            "whatever line makes it)",
-        )
 
     def create(self, task: Task, call: Call) -> None:
         """fork(2), vfork(2) or clone(2)."""
-        pid = call.result.value
-        if call.result.error or pid is None or pid <= 0:
-            self.passed_over += 1
+        made = call.result.value
+        if call.result.error or made is None or made <= 0:
+            self.passed.call(call)
             return
-        flags = next((arg for arg in call.args if arg.startswith("flags=")), "")
+        text = next((arg[6:] for arg in call.args if arg.startswith("flags=")), "")
         if call.name == "clone3":
-            flags = lines.fields(call.args[0]).get("flags", "") if call.args else ""
-        if "CLONE_NEWUSER" in flags:
-            raise Unheld(NAMESPACE)
-        if old := self.tasks.by_pid.get(pid):
+            if not argument(call, 0).startswith("{"):
+                raise Unheld("its flags are an address: record without -e verbose=none")
+            text = fields(call.args[0]).get("flags", "")
+        flags = clone_flags(text)
+        if call.context:
+            self.tasks.descend(task, flags, call.inner)
+            return
+        if old := self.tasks.by_pid.get(made):
             self.gone([old], call.first)
-        if len(self.tasks.by_pid) >= TASKS:
-            raise Stop(call.first, f"a script holds {TASKS} tasks that live")
+        self.room(call.first, 1)
         if "CLONE_THREAD" in flags:
-            child = self.tasks.spawn(pid, task)
-            words = f"spawn {child.name}"
+            child = self.tasks.spawn(made, task, flags)
+            self.say(task, call, Said(f"spawn {child.name}", "ok"))
         else:
-            child = self.tasks.fork(pid, task)
-            words = f"fork {child.name} p{child.process.number}"
-        self.say(task, call, Said(words, "ok"))
+            self.fork(task, call, made, flags)
+
+    def room(self, line: int, more: int) -> None:
+        """Tells where there are more tasks than a script holds; first tasks are there at once."""
+        self.most = max(self.most, len(self.tasks.by_pid) + more)
+        if self.most + len(self.entries.seats) > TASKS:
+            raise Stop(line, f"a script holds {TASKS} tasks that live")
+
+    def fork(self, task: Task, call: Call, made: int, flags: frozenset[str]) -> None:
+        """A new process, which may be in a user namespace of its own."""
+        child = self.tasks.fork(made, task, flags)
+        if call.inner is not None:
+            task.process.pids[call.inner] = made
+        if "CLONE_NEWNS" in flags:
+            self._moves.new_mounts(child)
+        if "CLONE_NEWUSER" in flags:
+            self.entries.sits(child, self.entries.made(task.process.space))
+            self.room(call.first, 0)
+        else:
+            self.say(task, call, Said(f"fork {child.name} p{child.process.number}", "ok"))
 
     def end(self, task: Task, call: Call) -> None:
         """_exit(2) of one thread, or of all."""
@@ -212,7 +229,7 @@ class Converter:
     def gone(self, ended: list[Task], line: int) -> None:
         """These tasks of one process are gone."""
         if any(task.number in task.process.making for task in ended):
-            self.apart(ended[0].process)
+            self.goes_on(ended[0].process)
         for task in ended:
             self.tasks.end(task)
         self.complete(ended[0].process)
@@ -221,118 +238,124 @@ class Converter:
     def execute(self, task: Task, call: Call) -> None:
         """execve(2) or execveat(2): the other threads of the process are gone after it."""
         said = answer(call.result)
-        if said is None:
-            self.passed_over += 1
+        place, at = (1, 0) if call.name == "execveat" else (0, None)
+        if call.context:
+            if said == "ok":
+                task.process.program = self.paths.locate(task, call, place, at)
             return
-        place = 1 if call.name == "execveat" else 0
-        path = self.path(task, call, place)
+        if said is None:
+            self.passed.call(call)
+            return
         try:
-            *scripts, program = self.files.programs(path)
+            *scripts, program = self.paths.programs(task, call, place, at)
+            named = self.paths.locate(task, call, place, at)
         except Missing:
             if said == "ok":
                 raise
-            self.passed_over += 1
+            self.passed.call(call)
             return
-        # A script file has to be executable too. Where it isn't, its interpreter isn't asked.
-        refused = said == "eacces" and bool(scripts)
-        for script in scripts[:1] if refused else scripts:
-            name = self.script.file(call.first, script)
-            self.say(task, call, Said(f"check {name} x", said if refused else "ok"))
-        if not refused:
-            self.say(task, call, Said(f"exec {self.script.file(call.first, program)}", said))
+        for found in (*scripts, program):
+            self.changes.uses(found.place, call.first)
+        # A script file has to be executable too. What is refused by EACCES is asked about alone:
+        # the reason may be one that the program doesn't know, which would execute the file.
+        asked = [*scripts, program][:1] if said == "eacces" else scripts
+        for found in asked:
+            name = self.script.file(call.first, found)
+            facts = self.facts(task, found)
+            answered = said if said == "eacces" else "ok"
+            self.say(task, call, Said(f"check {name} x", answered), facts)
+        if said != "eacces":
+            name = self.script.file(call.first, program)
+            self.say(task, call, Said(f"exec {name}", said), self.facts(task, program))
         if said == "ok":
-            task.process.program = program.path
-            if task.process.making:
-                self.apart(task.process)
-            for other in [one for one in task.process.threads if one is not task]:
-                self.tasks.end(other)
+            self.executed(task, Located(program.path) if scripts else named, program.file.words)
 
-    def path(self, task: Task, call: Call, place: int) -> str:
-        """The path that an argument names, from the root where that is known."""
-        path = lines.string(call.args[place]) if place < len(call.args) else None
-        if path is None:
-            raise Unheld("its path can't be read")
-        folder = folder_of(call.args[0]) if place else None
-        if folder and call.args[0].startswith("AT_FDCWD"):
-            task.process.folder = folder
-        if path == "":
-            if folder is None:
-                raise Unheld("its descriptor has no path: strace writes it with -y")
-            return folder
-        if path == "/proc/self/exe" and task.process.program:
-            return task.process.program
-        if re.match(r"/proc/(self|thread-self|\d+)/", path):
-            raise Unheld(f"{path} is another file for this program than for that of the log")
-        if place and folder is None and not (path[0] == "/" or call.args[0] == "AT_FDCWD"):
-            raise Unheld("its descriptor has no path: strace writes it with -y")
-        return os.path.normpath(os.path.join(folder or task.process.folder or "", path))
+    def facts(self, task: Task, found: Found) -> Facts:
+        """What is known of an executed file besides."""
+        words, space = found.file.words.split(), task.process.space
+        unmapped = not (space.inside(int(words[1]), False) and space.inside(int(words[2]), True))
+        return Facts(found.place, found.file.noexec, unmapped=unmapped)
+
+    def executed(self, task: Task, program: Located, words: str) -> None:
+        """The task has executed a program: it is the only one of its process."""
+        task.process.program = program
+        task.process.ids.executes(words.split())
+        task.descriptors = task.descriptors.copy()
+        if task.process.making:
+            self.apart(task.process)
+        for other in [one for one in task.process.threads if one is not task]:
+            self.tasks.end(other)
 
     def kill(self, task: Task, call: Call) -> None:
         """kill(2), tkill(2), tgkill(2), where the target is a task of the log."""
-        place = 1 if call.name == "tgkill" else 0
-        pid = lines.pid(call.args[place]) if place < len(call.args) else None
-        other = self.tasks.by_pid.get(pid) if pid is not None else None
+        target = pid(argument(call, 1 if call.name == "tgkill" else 0))
+        other = self.tasks.find(target, task) if target is not None else None
         said = answer(call.result)
         if other is None or said not in ("ok", "eperm"):
-            self.passed_over += 1
+            self.passed.call(call)
         else:
-            self.say(task, call, Said(f"signal {other.name}", said))
+            apart = task.process.session != other.process.session
+            self.say(task, call, Said(f"signal {other.name}", said), Facts(apart=apart))
 
-    def listed(self, task: Task, call: Call, place: int) -> str | None:
-        """The script's name of a file that the list of files names."""
-        try:
-            path = self.path(task, call, place)
-        except Unheld:
-            return None
-        if not self.files.lists(path):
-            return None
-        try:
-            return self.script.file(call.first, Found(path, self.files.get(path)))
-        except Missing:
-            return None
+    def mark(self, task: Task, call: Call) -> None:
+        """setsid(2) and seccomp(2): what they do shows in results of other calls."""
+        self.passed.call(call)
+        if call.name == "setsid" and call.result.error is None:
+            task.process.session = task.pid
+        elif call.name == "seccomp" and call.result.value == 0:
+            task.process.filtered = call.first
+
+    def move(self, task: Task, call: Call) -> None:
+        """A call that changes where paths lead, or what a descriptor is of."""
+        succeeds = call.result.error is None and (call.result.value or 0) >= 0
+        if succeeds:
+            self._follow[call.name](task, call)
+        if call.context:
+            return
+        found = self._asks.lines(task, call) if call.name in moves.OPENS else None
+        if found:
+            self.script.add(call.first, *found)
+        elif not succeeds or call.name not in SILENT:
+            self.passed.call(call)
 
     def access(self, task: Task, call: Call) -> None:
-        """access(2), of a file that the list names."""
-        place = 0 if call.name == "access" else 1
-        want = want_of(call.args[place + 1]) if len(call.args) > place + 1 else None
-        effective = "AT_EACCESS" in call.args[-1]
-        self.about_file(task, call, place, "check" if effective else "access", want)
-
-    def open(self, task: Task, call: Call) -> None:
-        """open(2), of a file that the list names."""
-        place = 0 if call.name in ("open", "creat") else 1
-        flags = call.args[place + 1] if len(call.args) > place + 1 else ""
-        if call.name == "openat2":
-            flags = lines.fields(flags).get("flags", "")
-        modes = [OPENED_FOR[word] for word in flags.split("|") if word in OPENED_FOR]
-        want = "w" if call.name == "creat" else modes[0] if modes else None
-        self.about_file(task, call, place, "open", None if "O_PATH" in flags else want)
-
-    def about_file(self, task: Task, call: Call, place: int, form: str, want: str | None) -> None:
-        """A question about a file, or an open of it."""
-        name = self.listed(task, call, place)
-        said = answer(call.result)
-        if name is None or said is None or want is None:
-            self.passed_over += 1
-        elif form == "open":
-            opened = Line(f"{task.name} open {name} {want} {DESCRIPTOR}", call, said)
-            self.script.add(call.first, opened, Line(f"{task.name} close {DESCRIPTOR}"))
+        """access(2), of a file that the list names or that was executed."""
+        found = self._asks.lines(task, call)
+        if found:
+            self.script.add(call.first, *found)
         else:
-            self.say(task, call, Said(f"{form} {name} {want}", said))
+            self.passed.call(call)
 
-    def change_folder(self, task: Task, call: Call) -> None:
-        """chdir(2), fchdir(2): paths begin here from now on."""
-        self.passed_over += 1
-        if call.result.value == 0 and call.args:
-            named = lines.string(call.args[0])
-            folder = folder_of(call.args[0]) if named is None else named
-            before = task.process.folder or ""
-            task.process.folder = os.path.join(before, folder) if folder else None
+    def change(self, task: Task, call: Call) -> None:
+        """chmod(2) and what else changes a file."""
+        self.passed.call(call)
+        if call.result.value == 0:
+            self.changes.changes(task, call)
+
+    def write(self, task: Task, call: Call) -> None:
+        """write(2), of a map of a user namespace."""
+        found = task.descriptors.get(argument(call, 0), FILE) or self.paths.base(task, call.args[0])
+        if isinstance(found, Located) and is_map(found) and (call.result.value or 0) > 0:
+            self.entries.map_written(task, call, found)
+        else:
+            self.passed.call(call)
 
     def change_namespace(self, task: Task, call: Call) -> None:
-        """unshare(2), setns(2): a user namespace can't be entered in a script."""
-        entered = call.name == "setns" and "CLONE_NEWUSER" in call.text
-        made = call.name == "unshare" and "CLONE_NEWUSER" in call.text
-        if (entered or made) and call.result.value == 0:
-            raise Unheld(NAMESPACE)
-        self.passed_over += 1
+        """unshare(2), setns(2)."""
+        if call.result.value != 0:
+            self.passed.call(call)
+            return
+        space, flags = None, clone_flags(argument(call, 0))
+        if call.name == "setns":
+            space = self.entries.entered(task, call)
+            enters, mounts = self.entries.mounts(task, call)
+            if enters:
+                self._moves.enter_mounts(task, mounts, call.first)
+        else:
+            self._moves.unshare(task, flags)
+            if "CLONE_NEWUSER" in flags:
+                space = self.entries.made(task.process.space)
+        if space is not None:
+            before = self.entries.enter(task, space)
+            self.script.add(call.first, Line(f"{before} exit"))
+            self.room(call.first, 0)

@@ -1,8 +1,9 @@
 """The files that a log executes or opens: owner, group, mode, nosuid and attribute.
 
 A list of them is a text of lines, each `PATH KIND OWNER GROUP MODE`, then `nosuid` and `caps HEX`
-where they hold, as in a script but for the path, and `#! INTERPRETER` of a script file. A path with
-a space or with quotes stands in quotes, as in C. Lines that begin with `#` say nothing.
+where they hold, as in a script but for the path, then `noexec` where the mount has that, and
+`#! INTERPRETER` of a script file. A path with a space or with quotes stands in quotes, as in C.
+Lines that begin with `#` say nothing.
 """
 
 from __future__ import annotations
@@ -14,6 +15,7 @@ import stat
 from dataclasses import dataclass
 
 from . import lines
+from .places import Located
 
 # How many script files may stand one behind the other (execve(2), "Interpreter scripts").
 SCRIPTS = 4
@@ -35,21 +37,24 @@ class File:
 
     words: str
     interpreter: str | None = None
+    noexec: bool = False
 
 
 @dataclass(frozen=True)
 class Found:
-    """A file and the path where it lies."""
+    """A file, the path that names it, and the place where it lies."""
 
     path: str
     file: File
+    place: str
 
 
 # An id has no leading zero, and is smaller than this (docs/FORMATS.md).
 NO_ID = 4294967295
 ID = r"(0|[1-9][0-9]{0,9})"
 LINE = re.compile(
-    rf"(?:reg|dir) {ID} {ID} [0-7]{{4}}(?: nosuid)?(?: caps (?:0x)?(?:[0-9a-fA-F]{{2}}){{1,64}})?$"
+    rf"(?:reg|dir) {ID} {ID} [0-7]{{4}}(?: nosuid)?(?: caps (?:0x)?(?:[0-9a-fA-F]{{2}}){{1,64}})?"
+    r"(?P<noexec> noexec)?$"
 )
 
 
@@ -73,10 +78,12 @@ def read_list(text: str) -> dict[str, File]:
         words = " ".join(parts[2].split())
         words, _, interpreter = words.partition(" #! ")
         ids = LINE.match(words)
-        if ids is None or any(int(owner) >= NO_ID for owner in ids.groups()):
-            form = "KIND OWNER GROUP MODE [nosuid] [caps HEX] [#! INTERPRETER]"
+        if ids is None or any(int(owner) >= NO_ID for owner in ids.groups()[:2]):
+            form = "KIND OWNER GROUP MODE [nosuid] [caps HEX] [noexec] [#! INTERPRETER]"
             raise BadList(f"line {count}: {words[:60]!r} isn't {form}")
-        found[path or ""] = File(words, interpreter or None)
+        noexec = ids["noexec"] is not None
+        words = words.removesuffix(" noexec") if noexec else words
+        found[path or ""] = File(words, interpreter or None, noexec)
     return found
 
 
@@ -86,31 +93,60 @@ class Files:
     def __init__(self, listed: dict[str, File] | None) -> None:
         self.listed = listed
         self.seen: dict[str, File] = {}
+        self._made: dict[str, File] = {}
+        self._last = {path.rpartition("/")[2] for path in listed or ()}
 
     def lists(self, path: str) -> bool:
         """Whether the list names the file."""
         return self.listed is not None and path in self.listed
 
-    def get(self, path: str) -> File:
-        """The file of this path."""
-        if self.listed is not None:
-            if path not in self.listed:
-                raise Missing(f"{path} isn't in the list of files")
-            self.seen[path] = self.listed[path]
-        elif path not in self.seen:
-            self.seen[path] = on_disk(path)
-        return self.seen[path]
+    def has_name(self, last: str) -> bool:
+        """Whether the list names a file whose path ends so."""
+        return last in self._last
 
-    def programs(self, path: str) -> list[Found]:
-        """The file to execute; behind a script file its interpreter, which runs in its place."""
-        found: list[Found] = []
-        for _ in range(SCRIPTS + 1):
-            file = self.get(path)
-            found.append(Found(path, file))
-            if file.interpreter is None:
-                return found
-            path = os.path.join(os.path.dirname(path), file.interpreter)
-        raise Missing(f"{path} is one script file more than execve(2) follows")
+    def make(self, place: str, words: str) -> None:
+        """A file that the log itself makes, as memfd_create(2) does."""
+        self._made[place] = File(words)
+
+    def found(self, named: Located) -> Found:
+        """The file that lies there."""
+        file = self._get(named.place, named.real or named.place)
+        mount, place = named.mount, named.real or named.place
+        if mount is None:
+            return Found(named.place, file, place)
+        noexec = file.noexec if mount.noexec is None else mount.noexec
+        words = file.words
+        if mount.nosuid and " nosuid" not in words:
+            words = " ".join([*words.split()[:4], "nosuid", *words.split()[4:]])
+        apart = words != file.words
+        name = named.place + " through a nosuid mount" if apart else named.place
+        return Found(name, File(words, file.interpreter, noexec), place)
+
+    def folder(self, place: str) -> str | None:
+        """The words of a folder, where it is known."""
+        if self.listed is not None:
+            return self.listed[place].words if place in self.listed else None
+        try:
+            return on_disk(place).words
+        except Missing:
+            return None
+
+    def _get(self, place: str, real: str) -> File:
+        """What is known of the file that lies there."""
+        if place in self._made:
+            return self._made[place]
+        if self.listed is not None:
+            if place not in self.listed:
+                raise Missing(f"{place} isn't in the list of files")
+            self.seen[place] = self.listed[place]
+        elif place not in self.seen:
+            if match := re.match(r"@(\d+):", real):
+                raise Missing(
+                    f"it lies on what line {match[1]} mounts or enters, which isn't followed: list "
+                    f"it as {place} (--files)"
+                )
+            self.seen[place] = on_disk(real)
+        return self.seen[place]
 
 
 def on_disk(path: str) -> File:
@@ -119,17 +155,18 @@ def on_disk(path: str) -> File:
         name = path.encode("latin-1")
         status = os.stat(name)
         interpreter = interpreter_of(name) if stat.S_ISREG(status.st_mode) else None
-        return File(words_of(name, status), interpreter)
+        flags = os.statvfs(name).f_flag
+        return File(words_of(name, status, flags), interpreter, bool(flags & os.ST_NOEXEC))
     except (OSError, ValueError) as fault:
         reason = fault.strerror if isinstance(fault, OSError) else str(fault)
         raise Missing(f"{path} can't be asked for its owner and mode: {reason}") from None
 
 
-def words_of(name: bytes, status: os.stat_result) -> str:
+def words_of(name: bytes, status: os.stat_result, flags: int) -> str:
     """The words of a `file` line behind its name."""
     kind = "dir" if stat.S_ISDIR(status.st_mode) else "reg"
     words = [kind, str(status.st_uid), str(status.st_gid), f"{status.st_mode & 0o7777:04o}"]
-    if os.statvfs(name).f_flag & os.ST_NOSUID:
+    if flags & os.ST_NOSUID:
         words.append("nosuid")
     with contextlib.suppress(OSError):
         attribute = os.getxattr(name, ATTRIBUTE).hex()

@@ -26,6 +26,18 @@ class Form:
     does: str
 
 
+class NoPage(Exception):
+    """The page isn't beside the tools, as where share/ was copied alone."""
+
+
+def page() -> str:
+    """The text of docs/FORMATS.md."""
+    try:
+        return PAGE.read_text(encoding="utf-8")
+    except FileNotFoundError:
+        raise NoPage(f"{PAGE} isn't here, which has the forms: copy docs/ beside share/") from None
+
+
 def cells(line: str) -> Row:
     """The cells of a row of a table."""
     return [cell.strip() for cell in line.strip().strip("|").split(" | ")]
@@ -35,7 +47,7 @@ def tables() -> dict[tuple[str, ...], list[Row]]:
     """The rows of each table, by the heads of its columns."""
     found: dict[tuple[str, ...], list[Row]] = {}
     rows: list[Row] | None = None
-    for line in PAGE.read_text(encoding="utf-8").split("\n"):
+    for line in page().split("\n"):
         if not line.startswith("|"):
             rows = None
         elif rows is None:
@@ -47,7 +59,7 @@ def tables() -> dict[tuple[str, ...], list[Row]]:
 
 def tests() -> list[tuple[str, str]]:
     """The tests that a line passes, in their order: the reason and the sentence."""
-    text = PAGE.read_text(encoding="utf-8")
+    text = page()
     found = re.findall(r"^\d\. `(\w+)`: (.*(?:\n   .*)*)", text, re.MULTILINE)
     return [(reason, " ".join(sentence.split())) for reason, sentence in found]
 

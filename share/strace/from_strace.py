@@ -5,7 +5,7 @@ from __future__ import annotations
 import argparse
 import sys
 
-from .command import ENDS_BEFORE, NONE, WHOLE, Fault, Options, add_options, converted
+from .command import ENDS_BEFORE, NONE, WHOLE, Fault, add_options, converted, options_of
 from .convert import Converter
 from .files import quoted
 
@@ -41,8 +41,9 @@ def list_of(converter: Converter) -> str:
     """The list of all files that were asked for."""
     found = []
     for path, file in converter.files.seen.items():
+        noexec = " noexec" if file.noexec else ""
         interpreter = f" #! {file.interpreter}" if file.interpreter else ""
-        found.append(f"{quoted(path)} {file.words}{interpreter}\n")
+        found.append(f"{quoted(path)} {file.words}{noexec}{interpreter}\n")
     return "".join(found)
 
 
@@ -50,7 +51,7 @@ def main(words: list[str]) -> int:
     """Converts a log."""
     given = parser().parse_args(words)
     try:
-        converter = converted(Options(given.log, given.files, given.start, given.task), given.ask)
+        converter = converted(options_of(given), given.ask)
         if given.table:
             write_table(given.table, table(converter))
     except Fault as fault:
@@ -61,9 +62,9 @@ def main(words: list[str]) -> int:
     else:
         sys.stdout.write(converter.script.text())
         tell(converter, bool(given.table))
-    if converter.stopped:
-        print(converter.stopped, file=sys.stderr)
-    return ENDS_BEFORE if converter.stopped else WHOLE
+    for left in converter.what_is_left():
+        print(left, file=sys.stderr)
+    return ENDS_BEFORE if converter.is_part() else WHOLE
 
 
 def tell(converter: Converter, has_table: bool) -> None:
@@ -73,7 +74,8 @@ def tell(converter: Converter, has_table: bool) -> None:
         sys.stderr.write(table(converter))
     for note in converter.notes:
         print(note, file=sys.stderr)
-    print(f"passed over: {converter.passed_over} other calls", file=sys.stderr)
+    for told in converter.passed.told():
+        print(told, file=sys.stderr)
 
 
 def write_table(path: str, text: str) -> None:

@@ -2,13 +2,19 @@
 
 from __future__ import annotations
 
+import re
 from dataclasses import replace
 
 from .log import Call, Item, Renamed
 
 CREATIONS = ("fork", "vfork", "clone", "clone3")
 
-FOLDERS = ("chdir", "fchdir")
+# Calls that say where paths lead and what descriptors are of, for the children too.
+CONTEXT = frozenset(
+    "chdir fchdir chroot pivot_root mount umount umount2 open_tree fsmount move_mount "
+    "mount_setattr open openat openat2 creat dup dup2 dup3 fcntl memfd_create pidfd_open "
+    "unshare setns execve execveat".split()
+)
 
 
 class NoProcess(Exception):
@@ -55,12 +61,35 @@ def creates(item: Item) -> int | None:
     return None
 
 
+def enters(call: Call) -> bool:
+    """Whether the call makes or enters a user namespace."""
+    named = call.name in CREATIONS or call.name in ("unshare", "setns")
+    return named and call.result.error is None and any("CLONE_NEWUSER" in arg for arg in call.args)
+
+
+MOUNTING = ("mount", "umount", "umount2", "move_mount")
+
+
+def mounts_apart(item: Item) -> bool:
+    """Whether the item mounts something, and isn't only about who sees it."""
+    if not isinstance(item, Call) or item.name not in MOUNTING or item.result.error:
+        return False
+    seen_by = any(re.match("MS_.*(PRIV|SLAV|SHAR)", argument) for argument in item.args)
+    return item.name != "mount" or not seen_by
+
+
 def before(item: Item, call: Call, pid: int, alone: bool) -> Item | None:
-    """What an ancestor's item means for the process: what leads to it, or its folder alone."""
+    """What an ancestor's item means for the process: what leads to it, or its place alone."""
     if not isinstance(item, Call):
         return None if alone else item
+    if alone and enters(item) and (item is call or creates(item) is None):
+        raise NoProcess(
+            f"pid {pid} is in a user namespace that line {item.first} makes or enters: without "
+            "--start what leads to it comes first"
+        )
     if alone:
-        return replace(item, pid=pid) if item.name in FOLDERS else None
+        told = item.name in CONTEXT or item is call
+        return replace(item, pid=pid, context=True) if told else None
     return item if item is call or creates(item) is None or is_thread(item) else None
 
 
@@ -90,4 +119,9 @@ def family(items: list[Item], pid: int, alone: bool) -> tuple[int, list[Item]]:
             if item is above[process]:
                 done.add(process)
                 inside |= {pid} if creates(item) == pid else set()
+        elif mounts_apart(item):
+            raise NoProcess(
+                f"line {item.last}: pid {item.pid} mounts what pid {pid} may see, and --task keeps "
+                "neither: convert the whole log"
+            )
     return (pid if alone or not above else list(above)[-1]), kept

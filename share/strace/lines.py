@@ -12,6 +12,8 @@ class BadLog(Exception):
 
     def __init__(self, line: int, what: str) -> None:
         super().__init__(f"line {line}: {what}")
+        self.line = line
+        self.what = what
 
 
 @dataclass(frozen=True)
@@ -43,6 +45,22 @@ ATTACHED = re.compile(r"strace: Process (\d{1,9}) attached(?: with \d+ threads)?
 
 UNFINISHED = "<unfinished ...>"
 
+# Calls of which only some are read: write(2) where it may be of a map of ids, fcntl(2) where it
+# makes a descriptor.
+ASKED = {
+    "write": re.compile(r'\d+(?:<[^>]*>)?, "(?:(?:[0-9 ]|\\[nt])+"|deny|allow)'),
+    "fcntl": re.compile(r"\d+(?:<.*>)?, F_DUPFD"),
+}
+
+# Calls of which there are many in a long log, and of which those that failed otherwise say nothing.
+PATH_CALLS = frozenset("open openat openat2 creat access faccessat faccessat2".split())
+REFUSED = re.compile(r" = -1 E(?:ACCES|PERM|INVAL)\b")
+
+# An open as most are, which needs no whole reading.
+OPEN = re.compile(
+    r'(AT_FDCWD), ("(?:[^"\\]|\\.)*"), ([A-Z_|]+)(?:, (0[0-7]*))?\) *= (\d{1,9})$'
+)
+
 # A string, a comment, what -y writes behind a descriptor, a shift, a bracket, a comma, other text.
 TOKEN = re.compile(
     r'"(?:[^"\\]|\\.)*"(?:\.\.\.)?|/\*.*?\*/'
@@ -50,7 +68,9 @@ TOKEN = re.compile(
     r'|[(\[{)\]},]|(?:[^"/<(\[{)\]},]+|<<)+|.'
 )
 
-RESULT = re.compile(r" *= (\?|-?\d{1,20}|0x[0-9a-f]{1,16})(?:<.*>)?(?: (E[A-Z0-9]+))?(?: .*)?$")
+RESULT = re.compile(
+    r" *= (\?|-?\d{1,20}|0x[0-9a-f]{1,16})(?:<.*>(?:\(deleted\))?)?(?: (E[A-Z0-9]+))?(?: .*)?$"
+)
 
 # What --pidns-translation writes behind a pid of another PID namespace.
 TRANSLATED = re.compile(r"/\* (\d{1,9}) in strace's PID NS \*/")
@@ -60,10 +80,22 @@ ESCAPE = re.compile(r"\\(x[0-9a-fA-F]{2}|[0-7]{1,3}|.)")
 ESCAPES = {"n": "\n", "t": "\t", "r": "\r", "v": "\v", "f": "\f", "a": "\a", "b": "\b"}
 
 
-def is_other(text: str, wanted: Collection[str]) -> bool:
-    """Whether a line is a whole call which isn't wanted."""
+def other(text: str, wanted: Collection[str]) -> str | None:
+    """The name of a whole call which isn't wanted."""
     match = PLAIN.match(text)
-    return match is not None and match[1] not in wanted and " = " in text
+    if match is None or " = " not in text:
+        return None
+    name = match[1]
+    return None if name in wanted and is_asked(name, text[match.end() :]) else name
+
+
+def is_asked(name: str, rest: str) -> bool:
+    """Whether a call is of those that are read, where of its name only some are."""
+    if name in PATH_CALLS:
+        # Where a file isn't there nobody asks who may do what to it.
+        return " = -1 E" not in rest or REFUSED.search(rest) is not None
+    asked = ASKED.get(name)
+    return asked is None or asked.match(rest) is not None
 
 
 def has_result(rest: str) -> bool:
@@ -88,6 +120,16 @@ def split(text: str) -> tuple[list[str], str] | None:
             found.append(text[start : token.start()].strip())
             start = token.end()
     return None
+
+
+def plain_open(text: str) -> tuple[tuple[str, ...], Result] | None:
+    """The arguments and the result of an open as most are."""
+    match = OPEN.match(text)
+    if match is None:
+        return None
+    folder, path, flags, mode, value = match.groups()
+    given = (folder, path, flags) if mode is None else (folder, path, flags, mode)
+    return given, Result(int(value), None)
 
 
 def result(text: str) -> Result | None:

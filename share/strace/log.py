@@ -7,10 +7,11 @@ execve stands where it ends: until then other threads of its process may make ca
 from __future__ import annotations
 
 import re
+from collections import Counter
 from collections.abc import Callable, Collection, Iterator
 from dataclasses import dataclass, field
 from functools import lru_cache
-from typing import BinaryIO
+from typing import Protocol
 
 from . import lines
 from .lines import BadLog, Result
@@ -27,6 +28,9 @@ SUPERSEDED = re.compile(r"superseded by execve in pid (\d{1,9})")
 # The first process, where only later lines tell its pid, as on a terminal.
 UNKNOWN = 0
 
+# With -C strace writes a table of its counts behind the log, as with -c in its place.
+SUMMARY = "% time "
+
 
 @dataclass(frozen=True, slots=True)
 class Call:
@@ -38,6 +42,10 @@ class Call:
     result: Result
     first: int
     last: int
+    # What a call that makes a task returned in its PID namespace, where that isn't the log's pid.
+    inner: int | None = None
+    # Whether it was another task's, and only says where paths lead.
+    context: bool = False
 
     @property
     def text(self) -> str:
@@ -78,12 +86,25 @@ class Begun:
 @lru_cache(maxsize=1024)
 def parsed(text: str) -> tuple[tuple[str, ...], Result] | None:
     """The arguments and the result of a call. Long logs have the same few calls over and over."""
+    if (found := lines.plain_open(text)) is not None:
+        return found
     parts = lines.split(text)
     result = lines.result(parts[1]) if parts else None
     return (tuple(parts[0]), result) if parts and result else None
 
 
-def text_lines(source: BinaryIO) -> Iterator[str]:
+class Source(Protocol):
+    """What bytes are read from."""
+
+    def read(self, count: int, /) -> bytes:
+        """At most so many bytes, and none at the end."""
+
+
+class Cut(BadLog):
+    """The log ends in the middle, as where strace was killed: what stands before is whole."""
+
+
+def text_lines(source: Source) -> Iterator[str]:
     """The lines of a log, each byte a character. The last one has to end with a line feed too."""
     kept = b""
     count = 0
@@ -96,7 +117,7 @@ def text_lines(source: BinaryIO) -> Iterator[str]:
         if len(kept) > LONGEST:
             raise BadLog(count + 1, "it is too long for a line of strace")
     if kept:
-        raise BadLog(count + 1, "the log is cut in the middle of this line")
+        raise Cut(count + 1, "the log is cut in the middle of this line")
 
 
 @dataclass
@@ -106,8 +127,10 @@ class Reader:
     wanted: Collection[str]
     found: list[tuple[int, Item]] = field(default_factory=list)
     begun: dict[int, Begun] = field(default_factory=dict)
-    passed_over: int = 0
+    passed: Counter[str] = field(default_factory=Counter)
     count: int = 0
+    # Where the log is cut, and why what follows isn't read.
+    cut: BadLog | None = None
     first_pid: int | None = None
     _alive: set[int] = field(default_factory=set)
     _children: set[int] = field(default_factory=set)
@@ -116,24 +139,38 @@ class Reader:
 
     def read(self, texts: Iterator[str], progress: Callable[[int], None]) -> list[Item]:
         """Everything that was found, in its order."""
-        for text in texts:
-            self.count += 1
-            self.line(text)
-            if self.count % 50_000 == 0:
-                progress(self.count)
-        if self._before:
+        try:
+            self.lines(texts, progress)
+        except Cut as cut:
+            if self.first_pid is None:
+                raise
+            self.cut = cut
+            self.count = cut.line
+        if self._before and self.cut is None:
             raise BadLog(self.count, "the log is cut in the middle of a call")
         if self.first_pid is None:
             raise BadLog(self.count + 1, "the log has no call")
-        self.passed_over += len(self.begun)
+        self.passed.update(begun.name for begun in self.begun.values())
         self.found.sort(key=lambda pair: pair[0])
         return [item for _, item in self.found]
 
+    def lines(self, texts: Iterator[str], progress: Callable[[int], None]) -> None:
+        """Reads all lines."""
+        for text in texts:
+            self.count += 1
+            if text.startswith(SUMMARY):
+                break
+            self.line(text)
+            if self.count % 50_000 == 0:
+                progress(self.count)
+
     def line(self, text: str) -> None:
         """Reads one line."""
-        if self.first_pid and self._attached is None and lines.is_other(text, self.wanted):
-            self.passed_over += 1
-            return
+        if self.first_pid and self._attached is None:
+            other = lines.other(text, self.wanted)
+            if other is not None:
+                self.passed[other] += 1
+                return
         if self._attached is not None:
             text, self._before = self._before + text, ""
         self.told_by_task(text)
@@ -155,10 +192,10 @@ class Reader:
                 return
             pid = self.pid_of(match)
             name = match["call"]
-            if name in self.wanted:
+            if name in self.wanted and lines.is_asked(name, rest):
                 self.call(pid, name, rest)
             else:
-                self.passed_over += 1
+                self.passed[name] += 1
         elif kind == "resumed":
             self.resumed(self.pid_of(match), match["resumed"], rest)
         elif kind == "ended":
@@ -170,6 +207,8 @@ class Reader:
             raise BadLog(self.count, "this is no line of strace -f")
         if match := lines.ATTACHED.match(text):
             self.attached(int(match[1]))
+            # Strace was told to trace this one, before anything was traced.
+            self.first_pid = self.first_pid or int(match[1])
 
     def cut_by_message(self, text: str) -> None:
         """A message stands in the middle of a line, which the next line ends."""
@@ -232,11 +271,9 @@ class Reader:
         begun = self.begun.pop(pid, None)
         if begun is not None and begun.name == name:
             self.ends(pid, begun, rest)
-        elif begun is not None or name in self.wanted:
+        elif begun is not None or (name in self.wanted and name not in lines.ASKED):
             what = f"pid {pid} goes on with a call of {name}, which it hasn't begun"
             raise BadLog(self.count, what)
-        else:
-            self.passed_over += 1
 
     def ends(self, pid: int, begun: Begun, rest: str) -> None:
         """A call has ended: its arguments and its result are known."""

@@ -2,7 +2,8 @@
 
 A row is named by how its first cell begins. Some rows explain an answer by itself; others an answer
 that comes later, since the kernel had left another credential: such a row is kept for the task, and
-for its children, with what it may have changed.
+for its children, with what it may have changed. A row is told where its condition holds by what the
+program says of the task; where that couldn't be asked it is told as what may be.
 """
 
 from __future__ import annotations
@@ -12,6 +13,7 @@ from dataclasses import dataclass, field
 from pathlib import Path
 
 from .calls import ID_CALLS
+from .probe import Probe, Values
 from .script import Line
 
 PAGE = Path(__file__).resolve().parents[2] / "docs" / "LINUX.md"
@@ -25,27 +27,33 @@ NOT_MODE = "a check looks at the kind, the owner, the group and the mode"
 CONTINUE = "a signal is allowed by ids, by CAP_KILL or within the process"
 NO_NEW_PRIVS_FILE = "under no_new_privs execve ignores the set-id bits and the attribute"
 NO_NEW_PRIVS_IDS = "under no_new_privs execve keeps the effective ids"
+UNMAPPED_OWNER = "a set-user-ID bit makes the file's owner the effective user"
 SET_ID = "a set-id bit in force makes a file privileged"
 PLAIN_FILE = "a plain file is not privileged"
 TRACED = "execve is of a program: there are no scripts, and nobody traces the task"
 ALL = (
     FILESYSTEM_IDS, SECUREBITS, UNMAPPED, DENIED_GROUPS, DIRECTORIES, NOT_MODE, CONTINUE,
-    NO_NEW_PRIVS_FILE, NO_NEW_PRIVS_IDS, SET_ID, PLAIN_FILE, TRACED,
+    NO_NEW_PRIVS_FILE, NO_NEW_PRIVS_IDS, UNMAPPED_OWNER, SET_ID, PLAIN_FILE, TRACED,
 )  # fmt: skip
 
 # What a kept row may have changed.
 IDS, CAPS, FILE_IDS = "ids", "caps", "file ids"
+BOUNDING, BITS, GROUPS = "bounding", "bits", "groups"
+
+# What the log explains itself.
+LOG = "the log:"
 
 
-def rows() -> list[str]:
-    """The first cells of the table of docs/LINUX.md."""
-    text = PAGE.read_text(encoding="utf-8")
-    return re.findall(r"^\| (.*?) \| .* \|$", text, re.MULTILINE)
+def rows() -> list[tuple[str, str]]:
+    """The rows of the table of docs/LINUX.md; none where share/ was copied without the pages."""
+    text = PAGE.read_text(encoding="utf-8") if PAGE.exists() else ""
+    return re.findall(r"^\| (.*?) \| (.*) \|$", text, re.MULTILINE)
 
 
-def row(begins: str) -> str:
-    """The whole first cell that begins so."""
-    return next(cell for cell in rows() if cell.startswith(begins))
+def row(begins: str) -> tuple[str, str]:
+    """The row whose first cell begins so."""
+    found = (cells for cells in rows() if cells[0].startswith(begins))
+    return next(found, (begins, ""))
 
 
 @dataclass(frozen=True)
@@ -54,33 +62,46 @@ class Kept:
 
     row: str
     part: str
+    number: int
+    text: str
     more: bool | None = None
+    sure: bool = True
 
 
 @dataclass
 class Known:
     """What is known of a task besides its credential."""
 
-    no_new_privs: bool = False
-    group_changed: bool = False
     kept: list[Kept] = field(default_factory=list)
 
     def copy(self) -> Known:
         """The same for a child."""
-        return Known(self.no_new_privs, self.group_changed, self.kept[:])
+        return Known(self.kept[:])
 
     def keep(self, *kept: Kept) -> None:
         """These rows may explain what comes; the newest is asked first."""
-        self.kept = [*kept, *(old for old in self.kept if old not in kept)]
+        new = {(one.row, one.part) for one in kept}
+        self.kept = [*kept, *(old for old in self.kept if (old.row, old.part) not in new)]
 
 
 # What the answer of each form depends on. Of the others no kept row explains any.
 DEPENDS: dict[str, tuple[str, ...]] = (
-    {"ids": (IDS,)}
-    | dict.fromkeys(("caps", "ambis", "capset", "capdrop", "ambraise", "securebits"), (CAPS,))
+    {"ids": (IDS,), "bset": (BOUNDING,), "bits": (BITS,), "groups": (GROUPS,)}
+    | dict.fromkeys(("caps", "ambis", "capdrop"), (CAPS,))
+    | dict.fromkeys(("capset", "ambraise"), (CAPS, BOUNDING, BITS))
+    | dict.fromkeys(("securebits", "keepcaps"), (CAPS, BITS))
     | dict.fromkeys((*ID_CALLS, "signal"), (IDS, CAPS))
     | dict.fromkeys(("setfsuid", "setfsgid", "exec"), (FILE_IDS, CAPS, IDS))
-    | dict.fromkeys(("open", "check", "access"), (FILE_IDS, CAPS, IDS))
+    | dict.fromkeys(("open", "check", "access"), (FILE_IDS, CAPS, IDS, GROUPS))
+)
+
+# What each form changes, where the kernel makes it and the program refuses it, or the reverse.
+CHANGED: dict[str, tuple[str, ...]] = (
+    {"capdrop": (BOUNDING,), "setgroups": (GROUPS,), "exec": (IDS, CAPS, FILE_IDS)}
+    | dict.fromkeys(("ambraise", "amblower", "ambclear", "capset"), (CAPS,))
+    | dict.fromkeys(("securebits", "keepcaps"), (BITS, CAPS))
+    | dict.fromkeys(set(ID_CALLS) - {"setgroups"}, (IDS, FILE_IDS, CAPS))
+    | {"setfsuid": (FILE_IDS, CAPS), "setfsgid": (FILE_IDS,), "nonewprivs": (BITS, IDS, CAPS)}
 )
 
 # The answers that rules give. Another one, as that a task isn't there, no row explains.
@@ -91,14 +112,29 @@ RULED = ("ok", "eperm", "einval", "eacces")
 class Explainer:
     """Goes through a script's lines in their order, and explains differences."""
 
+    probe: Probe
+    tracer: bool | None = None
     files: dict[str, str] = field(default_factory=dict)
     tasks: dict[str, Known] = field(default_factory=dict)
+    _told: set[str] = field(default_factory=set)
+
+    def text(self, begins: str, sure: bool = True, since: str = "", why: str = "") -> str:
+        """What is told of a row: both its cells, where it comes from, and what holds here."""
+        if begins.startswith(LOG):
+            return "\n    ".join([begins, *([f"since {since}"] if since else [])])
+        ours, linux = row(begins)
+        lines = [f"docs/LINUX.md{'' if sure else ', it may be'}: {ours}"]
+        lines += [f"Linux: {linux}"] if linux and begins not in self._told else []
+        self._told.add(begins)
+        lines += [f"since {since}"] if since else []
+        lines += [f"here: {why}"] if why else []
+        return "\n    ".join(lines)
 
     def known(self, task: str) -> Known:
         """What is known of a task."""
         return self.tasks.setdefault(task, Known())
 
-    def see(self, line: Line) -> None:
+    def see(self, number: int, line: Line) -> None:
         """Keeps what a line means for later ones."""
         words = line.text.split()
         if words[0] == "file":
@@ -113,57 +149,133 @@ class Explainer:
         elif not succeeds:
             return
         elif words[1] in ("setresuid", "setresgid") and words[3] == "-1":
-            known.keep(Kept(FILESYSTEM_IDS, FILE_IDS))
-        elif words[1] == "nonewprivs":
-            known.no_new_privs = True
-        elif words[1] == "setfsgid":
-            known.group_changed = True
+            if keeps_filesystem_id(words, self.probe.before(number)):
+                known.keep(Kept(FILESYSTEM_IDS, FILE_IDS, number, line.text))
         elif words[1] == "exec":
-            self.executed(known, self.files.get(words[2], ""))
+            known.keep(*self.executed(number, line, self.files.get(words[2], "")))
 
-    def executed(self, known: Known, file: str) -> None:
+    def executed(self, number: int, line: Line, file: str) -> list[Kept]:
         """What an execve may have made of the credential otherwise."""
-        mode = int(file.split()[5], 8) if len(file.split()) > 5 else 0
-        counts = mode & 0o6000 or " caps " in file
-        if known.no_new_privs:
-            known.keep(Kept(NO_NEW_PRIVS_IDS, IDS), Kept(NO_NEW_PRIVS_FILE, CAPS))
-        elif counts and " nosuid" not in file:
-            known.keep(Kept(TRACED, IDS), Kept(TRACED, CAPS, more=False))
-            if mode & 0o6000:
-                known.keep(Kept(SET_ID, CAPS, more=True))
-        elif known.group_changed:
-            known.keep(Kept(PLAIN_FILE, CAPS, more=False))
-        known.group_changed = False
+        words = file.split()
+        mode = int(words[5], 8) if len(words) > 5 else 0
+        set_id, counts = mode & 0o6000, mode & 0o6000 or " caps " in file
+        before = self.probe.before(number)
+        found: list[tuple[str, str, bool | None]] = []
+        if " nosuid" in file:
+            return []
+        if before is None or before.no_new_privs:
+            if " caps " in file:
+                found.append((NO_NEW_PRIVS_FILE, CAPS, None))
+            if before is None or before.users[0] != before.users[1] or " caps " in file:
+                found += [(NO_NEW_PRIVS_IDS, part, None) for part in (IDS, FILE_IDS, CAPS)]
+        if before is None or not before.no_new_privs:
+            if set_id and line.facts.unmapped:
+                found += [(UNMAPPED_OWNER, part, None) for part in (IDS, FILE_IDS, CAPS)]
+            if set_id and (before is None or keeps_ambient(before, words)):
+                found.append((SET_ID, CAPS, True))
+            if counts and not self.tracer:
+                found += [(TRACED, IDS, None), (TRACED, FILE_IDS, None), (TRACED, CAPS, None)]
+            if not counts and (before is None or loses_ambient(before)):
+                found.append((PLAIN_FILE, CAPS, False))
+        sure = before is not None and self.tracer is not None
+        return [
+            Kept(one, part, number, line.text, more, sure or one == UNMAPPED_OWNER)
+            for one, part, more in found
+        ]
 
-    def explain(self, line: Line, report: str) -> str | None:
-        """The row that explains why the kernel's answer is another one than the report's."""
+    def explain(self, number: int, line: Line, report: str) -> str | None:
+        """The reason why the kernel's answer is another one than the report's."""
         words = line.text.split()
         known = self.known(words[0])
-        form, kernel = words[1], (line.answer or "").split()[0]
-        told = report.split()[0]
+        kernel, told = (line.answer or "").split()[0], report.split()[0]
         if told not in RULED:
             return None
-        if form == "securebits" and int(words[2]) > 255:
-            return row(SECUREBITS)
-        if form == "setgroups" and (kernel, told) == ("eperm", "ok"):
-            return row(DENIED_GROUPS)
-        if form in ID_CALLS and (kernel, told) == ("einval", "ok"):
-            return row(UNMAPPED)
-        if form == "signal":
-            continues = line.call is not None and "SIGCONT" in line.call.args
-            return row(CONTINUE) if (kernel, told) == ("ok", "eperm") and continues else None
-        if form == "exec" and known.no_new_privs and kernel in ("eperm", "einval"):
-            return row(NO_NEW_PRIVS_FILE)
-        if form in ("exec", "open", "check", "access") and (kernel, told) == ("eacces", "ok"):
-            return row(DIRECTORIES)
-        if form in ("open", "access", "check") and (kernel, told) == ("eperm", "ok"):
-            return row(NOT_MODE)
-        depends = DEPENDS.get(form, ())
-        more = has_more(form, line.answer or "", report)
+        own = self.own(number, line, kernel, told)
+        if own is not None:
+            begins, text = own
+            if begins:
+                parts = CHANGED.get(words[1], ())
+                known.keep(*(Kept(begins, part, number, line.text) for part in parts))
+            return text
+        depends = DEPENDS.get(words[1], ())
+        more = has_more(words[1], line.answer or "", report)
         for kept in known.kept:
             if kept.part in depends and (more is None or kept.more in (None, more)):
-                return row(kept.row)
+                if kernel != told:
+                    parts = CHANGED.get(words[1], ())
+                    known.keep(*(Kept(kept.row, part, kept.number, kept.text) for part in parts))
+                return self.text(kept.row, kept.sure, f"line {kept.number}: {kept.text}")
         return None
+
+    def own(self, number: int, line: Line, kernel: str, told: str) -> tuple[str, str] | None:
+        """The row that explains an answer by itself, with its text; the log may explain it too."""
+        words, facts = line.text.split(), line.facts
+        form, pair = words[1], (kernel, told)
+        if pair == ("eperm", "ok") and facts.filtered:
+            where = f"{LOG} line {facts.filtered} of it installs a seccomp filter"
+            return where, f"{where}, which can refuse so (seccomp(2))"
+        if form == "securebits" and int(words[2]) > 255:
+            return SECUREBITS, self.text(SECUREBITS)
+        if form == "setgroups" and pair == ("eperm", "ok"):
+            return DENIED_GROUPS, self.text(DENIED_GROUPS, facts.denied)
+        if form in ID_CALLS and pair == ("einval", "ok"):
+            return UNMAPPED, self.text(UNMAPPED)
+        if form == "signal":
+            call = line.call
+            continues = call is not None and "SIGCONT" in call.args and not facts.apart
+            holds = pair == ("ok", "eperm") and continues
+            return (CONTINUE, self.text(CONTINUE)) if holds else None
+        if form == "exec" and kernel in ("eperm", "einval") and told == "ok":
+            before = self.probe.before(number)
+            under = before is None or before.no_new_privs
+            holds = under and " caps " in self.files.get(words[2], "")
+            text = self.text(NO_NEW_PRIVS_FILE, before is not None) if holds else ""
+            return (NO_NEW_PRIVS_FILE, text) if holds else None
+        if form in ("exec", "open", "check", "access"):
+            return self.refused(number, line, pair)
+        return None
+
+    def refused(self, number: int, line: Line, pair: tuple[str, str]) -> tuple[str, str] | None:
+        """Why the kernel refuses a file that the program allows."""
+        if pair == ("eperm", "ok") and not line.text.split()[1] == "exec":
+            return "", self.text(NOT_MODE)
+        if pair != ("eacces", "ok"):
+            return None
+        if line.facts.noexec:
+            return "", self.text(NOT_MODE, why="the file's mount has noexec")
+        before = self.probe.before(number)
+        searched = before.searched if before else {}
+        closed = [place for place, may in searched.items() if not may]
+        if closed:
+            return "", self.text(DIRECTORIES, why=f"{closed[0]} may not be searched")
+        count = line.facts.place.count("/")
+        if searched and len(searched) == count:
+            return "", self.text(NOT_MODE, why="every directory of the path may be searched")
+        return "", self.text(DIRECTORIES, sure=False)
+
+
+def keeps_filesystem_id(words: list[str], before: Values | None) -> bool:
+    """Whether setresuid(2) or setresgid(2) changes nothing, and so leaves the filesystem id."""
+    if before is None:
+        return True
+    real, effective, saved, filesystem = (
+        before.users if words[1] == "setresuid" else before.group_ids
+    )
+    kept = words[2] in ("-1", str(real)) and words[4] in ("-1", str(saved))
+    return kept and effective != filesystem
+
+
+def keeps_ambient(before: Values, words: list[str]) -> bool:
+    """Whether Linux leaves the ambient set over the execve of a file with set-id bits."""
+    mode, owner, group = int(words[5], 8), int(words[3]), int(words[4])
+    user_stays = not mode & 0o4000 or owner == before.users[1]
+    group_stays = mode & 0o2010 != 0o2010 or group in (before.group_ids[3], *before.groups)
+    return bool(before.sets[4]) and user_stays and group_stays
+
+
+def loses_ambient(before: Values) -> bool:
+    """Whether execve of a plain file empties the ambient set, by the filesystem group."""
+    return bool(before.sets[4]) and before.group_ids[3] != before.group_ids[1]
 
 
 def has_more(form: str, kernel: str, report: str) -> bool | None:
@@ -171,9 +283,9 @@ def has_more(form: str, kernel: str, report: str) -> bool | None:
     words, others = kernel.split(), report.split()
     if form == "caps" and len(words) == len(others):
         pairs = list(zip(words[1:4], others[1:4], strict=True))
-        return any(int(one, 16) & ~int(other, 16) for one, other in pairs)
+        return any(int(one.split("=")[-1], 16) & ~int(other, 16) for one, other in pairs)
     if form in ("ambis", "bset") and len(words) == len(others) == 2:
         return words[1] == "1"
-    if form == "ids":
+    if form in ("ids", "bits", "groups", "setfsuid", "setfsgid"):
         return None
     return words[0] == "ok" if words[0] != others[0] else None

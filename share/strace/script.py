@@ -4,7 +4,7 @@ from __future__ import annotations
 
 from dataclasses import dataclass, field
 
-from .files import Found, Names
+from .files import Files, Found, Names
 from .log import Call
 
 # docs/FORMATS.md, the exit statuses and the tests of a line.
@@ -19,6 +19,27 @@ class Stop(Exception):
 
     def __init__(self, line: int, what: str) -> None:
         super().__init__(f"line {line}: {what}; the script ends before it")
+        self.line = line
+
+
+@dataclass(frozen=True)
+class Facts:
+    """What the log tells of a call besides, where its result may come from that."""
+
+    # Where the file lies, and whether its mount has noexec.
+    place: str = ""
+    noexec: bool = False
+    # The line at which the task installed a seccomp filter, or one of its ancestors.
+    filtered: int = 0
+    # Whether the file's owner or group has no number in the task's user namespace.
+    unmapped: bool = False
+    # Whether sender and target of a signal are in different sessions.
+    apart: bool = False
+    # Whether the task is in a namespace of the log that takes no groups.
+    denied: bool = False
+
+
+NO_FACTS = Facts()
 
 
 @dataclass(frozen=True)
@@ -28,6 +49,7 @@ class Line:
     text: str
     call: Call | None = None
     answer: str | None = None
+    facts: Facts = NO_FACTS
 
 
 @dataclass
@@ -37,13 +59,23 @@ class Script:
     begin: list[str] = field(default_factory=list)
     body: list[Line] = field(default_factory=list)
     names: Names = field(default_factory=Names)
+    # What is known of files, and whether the tracer has CAP_SYS_PTRACE, where that is known.
+    known: Files = field(default_factory=lambda: Files({}))
+    tracer: bool | None = None
     _files: dict[str, str] = field(default_factory=dict)
     _bytes: int = 0
+    _lead: list[str] = field(default_factory=list)
+    _last: set[str] = field(default_factory=set)
 
-    def begin_with(self, texts: list[str]) -> None:
-        """The first task, and what leads it to where the log begins."""
-        self.begin = texts
-        self._bytes = sum(len(text) + 1 for text in texts)
+    def begin_with(self, inits: list[str], lead: list[str]) -> None:
+        """The first tasks, and what leads them to where the log begins."""
+        self.begin, self._lead = inits + lead, lead
+        self._bytes = sum(len(text) + 1 for text in self.begin)
+
+    def head(self, declared: list[str], inits: list[str], lead: list[str]) -> None:
+        """The namespaces, with their first tasks, which stand before all calls."""
+        first = self.begin[: len(self.begin) - len(self._lead)]
+        self.begin = [*declared, *first, *inits, *self._lead, *lead]
 
     def add(self, line: int, *added: Line) -> None:
         """These lines come next, all of them or none; `line` is that of the log."""
@@ -62,8 +94,17 @@ class Script:
                 raise Stop(line, f"a script declares {FILES} files")
             text = f"file {self.names.name(found.path)} {found.file.words}"
             self._files[found.path] = text
+            self._last |= {name.rpartition("/")[2] for name in (found.path, found.place)}
             self._bytes += len(text) + 1
         return self.names.name(found.path)
+
+    def declares(self, path: str) -> bool:
+        """Whether the file was declared already."""
+        return path in self._files
+
+    def has_name(self, last: str) -> bool:
+        """Whether a file was declared whose path ends so."""
+        return last in self._last
 
     def lines(self) -> list[Line]:
         """The whole script."""

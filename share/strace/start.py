@@ -6,6 +6,7 @@ import re
 from dataclasses import dataclass, field
 
 from .calls import ALL_CAPABILITIES, CAPABILITIES, GROUPS
+from .spaces import Ids
 
 # setuid(2) and its kin leave the sets as they are while this flag is set (capabilities(7)).
 NO_SETUID_FIXUP = 4
@@ -21,10 +22,21 @@ class Start:
 
     lines: list[str] = field(default_factory=list)
     notes: list[str] = field(default_factory=list)
+    # The ids of the first process, and the pids of its threads where they are known.
+    ids: Ids = field(default_factory=Ids)
+    threads: list[int] = field(default_factory=list)
+    task: str = "t1"
+    # Whether strace has CAP_SYS_PTRACE, where it began with the same credential.
+    traces: bool = True
 
     def call(self, words: str) -> None:
-        """One call more of the first task."""
-        self.lines.append(f"t1 {words}")
+        """One call more of the task."""
+        self.lines.append(f"{self.task} {words}")
+
+    def inits(self) -> list[str]:
+        """The lines that create the first tasks, all of one process."""
+        count = max(1, len(self.threads))
+        return [f"init t{number} p1 0 0 n0" for number in range(1, count + 1)]
 
 
 def fields_of(text: str) -> dict[str, list[str]]:
@@ -51,68 +63,147 @@ def numbers(fields: dict[str, list[str]], name: str, count: int | None, base: in
     return values
 
 
-def start_of(text: str) -> Start:
-    """The lines that begin a script, for the text of /proc/PID/status.
+@dataclass(frozen=True)
+class Status:
+    """What a text of /proc/PID/status says of a task."""
 
-    While the task is still root it takes all that it will have; NO_SETUID_FIXUP keeps its sets over
-    the change of ids; what it shall not have it gives up last.
-    """
+    users: list[int]
+    groups: list[int]
+    others: list[int]
+    permitted: int
+    inheritable: int
+    effective: int
+    bounding: int
+    ambient: int
+    no_new_privs: bool
+    securebits: int | None
+    pid: int | None
+    process: int | None
+
+    def users_change(self) -> bool:
+        """Whether it is no task of root's alone."""
+        return self.users != [0] * 4
+
+
+def status_of(text: str) -> Status:
+    """The text of /proc/PID/status, or a part of it that has all of the credential."""
     fields = fields_of(text)
-    real, effective, saved, filesystem = numbers(fields, "Uid", 4, 10)
-    groups = numbers(fields, "Gid", 4, 10)
-    others = numbers(fields, "Groups", None, 10)
-    permitted, inheritable, effective_set, bounding, ambient = (
+    sets = [
         numbers(fields, name, 1, 16)[0] & ALL_CAPABILITIES
         for name in ("CapPrm", "CapInh", "CapEff", "CapBnd", "CapAmb")
+    ]
+    bits = numbers(fields, "Securebits", 1, 10)[0] if "Securebits" in fields else None
+    pid, process = (
+        numbers(fields, name, 1, 10)[0] if name in fields else None for name in ("Pid", "Tgid")
     )
-    start = Start()
-    if inheritable:
-        start.call(f"capset {ALL_CAPABILITIES:x} {inheritable:x} {ALL_CAPABILITIES:x}")
-    for place, name in enumerate(CAPABILITIES):
-        if not bounding >> place & 1:
-            start.call(f"capdrop CAP_{name}")
-    users_change = [real, effective, saved, filesystem] != [0] * 4
-    if users_change:
-        start.call(f"securebits {NO_SETUID_FIXUP}")
-    set_groups(start, groups, others)
-    if users_change:
-        start.call(f"setresuid {real} {effective} {saved}")
-        if filesystem != effective:
-            start.call(f"setfsuid {filesystem}")
-    for place, name in enumerate(CAPABILITIES):
-        if ambient >> place & 1:
-            start.call(f"ambraise CAP_{name}")
-    securebits(start, fields, users_change)
-    if (permitted, effective_set) != (ALL_CAPABILITIES, ALL_CAPABILITIES):
-        start.call(f"capset {permitted:x} {inheritable:x} {effective_set:x}")
-    if numbers(fields, "NoNewPrivs", 1, 10)[0]:
-        start.call("nonewprivs 1")
+    return Status(
+        numbers(fields, "Uid", 4, 10),
+        numbers(fields, "Gid", 4, 10),
+        numbers(fields, "Groups", None, 10),
+        *sets,
+        bool(numbers(fields, "NoNewPrivs", 1, 10)[0]),
+        bits,
+        pid,
+        process,
+    )
+
+
+def start_of(text: str) -> Start:
+    """The lines that begin a script, for the text of /proc/PID/status."""
+    status = status_of(text)
+    start = start_of_all([status])
+    start.threads = [] if status.pid is None else [status.pid]
     return start
 
 
-def set_groups(start: Start, groups: list[int], others: list[int]) -> None:
-    """The group ids, and the supplementary groups as far as a script holds them."""
-    if len(others) > GROUPS:
-        start.notes.append(
-            f"the task has {len(others)} groups, of which a script holds the first {GROUPS}"
-        )
-    if others:
-        start.call("setgroups " + " ".join(map(str, others[:GROUPS])))
-    real, effective, saved, filesystem = groups
-    if groups != [0] * 4:
-        start.call(f"setresgid {real} {effective} {saved}")
-        if filesystem != effective:
-            start.call(f"setfsgid {filesystem}")
+def start_of_threads(texts: dict[int, str]) -> Start:
+    """The same for all threads of a process, by their thread ids."""
+    found = {}
+    for pid, text in texts.items():
+        try:
+            found[pid] = status_of(text)
+        except BadStart as fault:
+            raise BadStart(f"{pid}: {fault}") from None
+    if not found:
+        raise BadStart("it has no folder of a thread with a file status, as /proc/PID/task has")
+    process = next((one.process for one in found.values() if one.process in found), min(found))
+    pids = [process, *sorted(pid for pid in found if pid != process)]
+    statuses = [found[pid] for pid in pids if pid is not None]
+    first = statuses[0]
+    for pid, one in zip(pids, statuses, strict=True):
+        if (one.users[:3], one.groups[:3], sorted(one.others)) != (
+            first.users[:3],
+            first.groups[:3],
+            sorted(first.others),
+        ):
+            raise BadStart(f"thread {pid} has other ids than the first: no line leads to that")
+    start = start_of_all(statuses)
+    start.threads = [pid for pid in pids if pid is not None]
+    return start
 
 
-def securebits(start: Start, fields: dict[str, list[str]], changed: bool) -> None:
-    """The securebits, which a line `Securebits: N` may tell: the kernel's text doesn't."""
-    value = 0
-    if "Securebits" in fields:
-        value = numbers(fields, "Securebits", 1, 10)[0]
-    else:
+def start_of_all(statuses: list[Status]) -> Start:
+    """The lines that lead the threads of a process from root to what they are.
+
+    While a task is still root it takes all that it will have; NO_SETUID_FIXUP keeps its sets over
+    the change of ids; what it shall not have it gives up last. The ids are those of the process.
+    """
+    start, first = Start(), statuses[0]
+    for number, status in enumerate(statuses, 1):
+        start.task = f"t{number}"
+        first_part(start, status)
+    start.task = "t1"
+    set_groups(start, first)
+    if first.users_change():
+        start.call("setresuid {} {} {}".format(*first.users))
+    for number, status in enumerate(statuses, 1):
+        start.task = f"t{number}"
+        last_part(start, status)
+    start.traces = bool(first.effective >> CAPABILITIES.index("SYS_PTRACE") & 1)
+    start.ids = Ids(first.users[:], first.groups[:], first.others[:], first.no_new_privs)
+    if any(status.securebits is None for status in statuses):
         start.notes.append(
             "/proc/PID/status doesn't tell securebits: they begin as 0 (or add `Securebits: N`)"
         )
-    if changed or value:
-        start.call(f"securebits {value}")
+    return start
+
+
+def first_part(start: Start, status: Status) -> None:
+    """What a task has to do while it has all capabilities and is root."""
+    if status.inheritable:
+        start.call(f"capset {ALL_CAPABILITIES:x} {status.inheritable:x} {ALL_CAPABILITIES:x}")
+    for place, name in enumerate(CAPABILITIES):
+        if not status.bounding >> place & 1:
+            start.call(f"capdrop CAP_{name}")
+    if status.users_change():
+        start.call(f"securebits {NO_SETUID_FIXUP}")
+
+
+def set_groups(start: Start, status: Status) -> None:
+    """The group ids, and the supplementary groups as far as a script holds them."""
+    if len(status.others) > GROUPS:
+        start.notes.append(
+            f"the task has {len(status.others)} groups, of which a script holds the first {GROUPS}"
+        )
+    if status.others:
+        start.call("setgroups " + " ".join(map(str, status.others[:GROUPS])))
+    if status.groups != [0] * 4:
+        start.call("setresgid {} {} {}".format(*status.groups))
+
+
+def last_part(start: Start, status: Status) -> None:
+    """What a task gives up last, and what only a task alone has."""
+    if status.groups[3] != status.groups[1]:
+        start.call(f"setfsgid {status.groups[3]}")
+    if status.users[3] != status.users[1]:
+        start.call(f"setfsuid {status.users[3]}")
+    for place, name in enumerate(CAPABILITIES):
+        if status.ambient >> place & 1:
+            start.call(f"ambraise CAP_{name}")
+    if status.users_change() or status.securebits:
+        start.call(f"securebits {status.securebits or 0}")
+    permitted, effective = status.permitted, status.effective
+    if (permitted, effective) != (ALL_CAPABILITIES, ALL_CAPABILITIES):
+        start.call(f"capset {permitted:x} {status.inheritable:x} {effective:x}")
+    if status.no_new_privs:
+        start.call("nonewprivs 1")

@@ -5,6 +5,9 @@ from __future__ import annotations
 from dataclasses import dataclass, field
 
 from .log import Call
+from .opened import Descriptors
+from .places import Located, Where
+from .spaces import Ids, Space
 
 
 @dataclass
@@ -13,10 +16,20 @@ class Process:
 
     number: int
     threads: list[Task] = field(default_factory=list)
-    program: str | None = None
-    folder: str | None = None
+    program: Located | None = None
+    # Its session, and the line of the log at which it installed a seccomp filter.
+    session: int = 0
+    filtered: int = 0
+    # Its ids as the log's calls leave them, and its user namespace.
+    ids: Ids = field(default_factory=Ids)
+    space: Space = field(default_factory=Space)
+    # The log's pids by those that its PID namespace has, and the same for its children.
+    pids: dict[int, int] = field(default_factory=dict)
+    below: dict[int, int] = field(default_factory=dict)
     # The call that its threads make one after another, by the number of the task that made it.
     making: dict[int, Call] = field(default_factory=dict)
+    # Who makes a call only later whose line stands already.
+    ahead: set[int] = field(default_factory=set)
 
 
 @dataclass
@@ -26,6 +39,8 @@ class Task:
     number: int
     pid: int
     process: Process
+    where: Where = field(default_factory=Where)
+    descriptors: Descriptors = field(default_factory=Descriptors)
 
     @property
     def name(self) -> str:
@@ -45,29 +60,63 @@ class Tasks:
 
     def first(self, pid: int) -> Task:
         """The first task, with its process."""
-        return self.fork(pid, None)
+        self._processes += 1
+        return self._add(Task(0, pid, Process(self._processes)))
 
-    def fork(self, pid: int, parent: Task | None) -> Task:
+    def fork(self, pid: int, parent: Task, flags: frozenset[str] = frozenset()) -> Task:
         """A task of a process of its own."""
         self._processes += 1
-        process = Process(self._processes)
-        if parent:
-            process.program, process.folder = parent.process.program, parent.process.folder
-        return self._add(pid, process)
+        process = Process(self._processes, program=parent.process.program)
+        process.space = parent.process.space
+        process.ids = parent.process.ids.copy()
+        process.session, process.filtered = parent.process.session, parent.process.filtered
+        process.pids = {} if "CLONE_NEWPID" in flags else parent.process.below
+        process.below = process.pids
+        if process.pids is not parent.process.pids:
+            process.pids.setdefault(1, pid)
+        return self._add(self._child(pid, parent, process, flags))
 
-    def spawn(self, pid: int, creator: Task) -> Task:
+    def descend(self, task: Task, flags: frozenset[str], inner: int | None) -> None:
+        """An ancestor of the task made the next one: in which PID namespace, and with which pid."""
+        process = task.process
+        before, process.pids = process.pids, {} if "CLONE_NEWPID" in flags else process.below
+        process.below = process.pids
+        if process.pids is not before:
+            process.pids.setdefault(1, task.pid)
+        if inner is not None:
+            process.pids[inner] = task.pid
+
+    def spawn(self, pid: int, creator: Task, flags: frozenset[str] = frozenset()) -> Task:
         """A thread more of a process."""
-        return self._add(pid, creator.process)
+        return self._add(self._child(pid, creator, creator.process, flags))
 
-    def _add(self, pid: int, process: Process) -> Task:
+    def _child(self, pid: int, parent: Task, process: Process, flags: frozenset[str]) -> Task:
+        """A task that has what its parent had, or shares it (clone(2))."""
+        where = parent.where if "CLONE_FS" in flags else parent.where.copy()
+        shares = "CLONE_FILES" in flags
+        descriptors = parent.descriptors if shares else parent.descriptors.copy()
+        return Task(0, pid, process, where, descriptors)
+
+    def _add(self, task: Task) -> Task:
         """A task more, with the next number."""
         self._tasks += 1
-        task = Task(self._tasks, pid, process)
-        process.threads.append(task)
-        self.by_pid[pid] = task
-        self.pids.add(pid)
-        self.told.append(f"t{task.number} p{process.number} {pid}")
+        task.number = self._tasks
+        task.process.threads.append(task)
+        self.by_pid[task.pid] = task
+        self.pids.add(task.pid)
+        self.told.append(f"{task.name} p{task.process.number} {task.pid}")
         return task
+
+    def again(self, task: Task) -> None:
+        """The only task of a process goes on under other names: it is in another user namespace."""
+        self._tasks += 1
+        self._processes += 1
+        task.number, task.process.number = self._tasks, self._processes
+        self.told.append(f"{task.name} p{task.process.number} {task.pid}")
+
+    def find(self, pid: int, asker: Task) -> Task | None:
+        """The task that another one names by a pid of its PID namespace."""
+        return self.by_pid.get(asker.process.pids.get(pid, pid))
 
     def end(self, task: Task) -> None:
         """The task is gone."""

@@ -1,0 +1,148 @@
+"""User namespaces that tasks of a log make and enter, as the lines of a script have them.
+
+A script's first tasks are each in a namespace, and none goes into another one. So a task that
+enters a namespace ends in the script, and goes on as a first task of the namespace, which the
+script's head leads to the ids that it had. In a namespace that it has just entered a task has all
+capabilities.
+"""
+
+from __future__ import annotations
+
+from dataclasses import dataclass
+
+from . import lines
+from .calls import Unheld
+from .log import Call
+from .moves import argument, clone_flags
+from .opened import NAMESPACE, PIDFD
+from .places import Located, Mounts
+from .spaces import SPACES, Ids, Space
+from .start import NO_SETUID_FIXUP
+from .tasks import Task, Tasks
+
+UNKNOWN = "which user namespace it enters isn't known from the log"
+
+
+@dataclass(frozen=True)
+class Seat:
+    """A first task of a namespace, with the ids that it begins with."""
+
+    task: str
+    process: int
+    space: Space
+    ids: Ids
+
+
+def lead(seat: Seat) -> tuple[str, list[str]]:
+    """The line that creates the first task, and those that lead it to its ids."""
+    root, ids = seat.space.root(), seat.ids
+    init = f"init {seat.task} p{seat.process} {root} {ids.groups[1]} n{seat.space.number}"
+    is_root = ids.users == [root] * 4 and ids.groups == [ids.groups[1]] * 4
+    calls = [] if is_root else [f"securebits {NO_SETUID_FIXUP}"]
+    if ids.others:
+        calls.append("setgroups " + " ".join(map(str, ids.others)))
+    if not is_root:
+        for name, (real, effective, saved, filesystem) in (("g", ids.groups), ("u", ids.users)):
+            calls.append(f"setres{name}id {real} {effective} {saved}")
+            if filesystem != effective:
+                calls.append(f"setfs{name}id {filesystem}")
+        calls.append("securebits 0")
+    if ids.no_new_privs:
+        calls.append("nonewprivs 1")
+    return init, [f"{seat.task} {call}" for call in calls]
+
+
+class Entries:
+    """The namespaces that the log makes, and the tasks that enter them."""
+
+    def __init__(self, tasks: Tasks) -> None:
+        self._tasks = tasks
+        self.spaces: list[Space] = []
+        self.seats: list[Seat] = []
+
+    def made(self, parent: Space) -> Space:
+        """A namespace more."""
+        if len(self.spaces) + 1 == SPACES:
+            raise Unheld(f"a script declares {SPACES - 1} user namespaces")
+        self.spaces.append(Space(len(self.spaces) + 1, parent))
+        return self.spaces[-1]
+
+    def sits(self, task: Task, space: Space) -> None:
+        """The task is a first task of the namespace now."""
+        task.process.space = space
+        self.seats.append(Seat(task.name, task.process.number, space, task.process.ids.copy()))
+
+    def enter(self, task: Task, space: Space) -> str:
+        """A task enters a namespace; its name before, which ends in the script."""
+        if len(task.process.threads) > 1:
+            raise Unheld("a user namespace is entered by one of several threads")
+        name = task.name
+        self._tasks.again(task)
+        self.sits(task, space)
+        return name
+
+    def entered(self, task: Task, call: Call) -> Space | None:
+        """The user namespace that setns(2) enters, if it enters one."""
+        text = argument(call, 0)
+        flags = clone_flags(argument(call, 1))
+        found = task.descriptors.get(text, NAMESPACE)
+        if isinstance(found, Space):
+            return found
+        pid = task.descriptors.get(text, PIDFD)
+        if isinstance(pid, int):
+            owner = self._tasks.find(pid, task)
+            if "CLONE_NEWUSER" not in flags:
+                return None
+            if owner is None:
+                raise Unheld(UNKNOWN)
+            return owner.process.space
+        # What -y writes behind the descriptor tells which kind of namespace it is of.
+        kind = text.partition("<")[2].partition(":")[0]
+        other = found is not None or kind in ("mnt", "pid", "net", "ipc", "uts", "cgroup", "time")
+        if "CLONE_NEWUSER" in flags or kind == "user" or not (other or only_others(flags)):
+            raise Unheld(UNKNOWN)
+        return None
+
+    def mounts(self, task: Task, call: Call) -> tuple[bool, Mounts | None]:
+        """Whether setns(2) enters a mount namespace, and which one, where the log tells it."""
+        text = argument(call, 0)
+        found = task.descriptors.get(text, NAMESPACE)
+        pid = task.descriptors.get(text, PIDFD)
+        owner = self._tasks.find(pid, task) if isinstance(pid, int) else None
+        enters = "CLONE_NEWNS" in clone_flags(argument(call, 1)) or isinstance(found, Mounts)
+        enters = enters or "<mnt:" in text
+        if isinstance(found, Mounts):
+            return enters, found
+        return enters, owner.where.mounts if owner else None
+
+    def map_written(self, task: Task, call: Call, place: Located) -> None:
+        """write(2) into uid_map, gid_map or setgroups of a process."""
+        _, _, pid, name = (place.place.split("/") + ["", "", ""])[:4]
+        owner = self._tasks.find(int(pid), task) if pid.isdigit() else None
+        if owner is None or owner.process.space.parent is None:
+            return
+        text = lines.string(argument(call, 1))
+        if text is None:
+            raise Unheld(f"what is written into {name} is shortened: strace writes it with -s 4096")
+        owner.process.space.write(name, text)
+
+    def head(self) -> tuple[list[str], list[str], list[str]]:
+        """The lines that declare the namespaces, create the first tasks, and lead these."""
+        declared = [
+            f"ns {space.number} {space.root()} {space.parent.number if space.parent else 0}"
+            for space in self.spaces
+        ]
+        led = [lead(seat) for seat in self.seats]
+        return declared, [init for init, _ in led], [line for _, calls in led for line in calls]
+
+
+def only_others(flags: frozenset[str]) -> bool:
+    """Whether setns(2) is told to enter namespaces of other kinds alone."""
+    return "0" not in flags and "CLONE_NEWUSER" not in flags
+
+
+def is_map(place: Located) -> bool:
+    """Whether it is a file of /proc that maps ids."""
+    parts = place.place.split("/")
+    names = ("uid_map", "gid_map", "setgroups")
+    return len(parts) == 4 and parts[1] == "proc" and parts[3] in names

@@ -1,0 +1,145 @@
+"""How the words of a line are spelled (docs/FORMATS.md), and what a wrong one likely means."""
+
+from __future__ import annotations
+
+import re
+from collections.abc import Callable
+
+from .calls import CAPABILITIES
+from .names import set_in_hex
+
+MOST = (1 << 32) - 1
+ALL = (1 << len(CAPABILITIES)) - 1
+
+
+def is_num(word: str, least: int = 0, most: int = MOST) -> bool:
+    """A NUM within limits."""
+    return re.fullmatch(r"0|[1-9][0-9]{0,9}", word) is not None and least <= int(word) <= most
+
+
+def is_named(letter: str, least: int, most: int) -> Callable[[str], bool]:
+    """A letter with a NUM behind it."""
+    return lambda word: word[:1] == letter and is_num(word[1:], least, most)
+
+
+def is_cap(word: str) -> bool:
+    """A CAP."""
+    return is_num(word) or word.removeprefix("CAP_") in CAPABILITIES and word.startswith("CAP_")
+
+
+def is_set(word: str) -> bool:
+    """A SET."""
+    return re.fullmatch(r"[0-9a-fA-F]{1,16}", word) is not None and int(word, 16) <= ALL
+
+
+KINDS: dict[str, Callable[[str], bool]] = {
+    "NUM": is_num,
+    "ID": lambda word: is_num(word, most=MOST - 1),
+    "ARG": lambda word: word == "-1" or is_num(word, most=MOST - 1),
+    "T": is_named("t", 1, 99999),
+    "P": is_named("p", 1, 99999),
+    "H": is_named("h", 1, 99999),
+    "F": is_named("f", 1, 99999),
+    "N": is_named("n", 0, 15),
+    "CAP": is_cap,
+    "SET": is_set,
+    "NAME": lambda word: re.fullmatch(r"[A-Za-z][A-Za-z0-9_.-]{0,31}", word) is not None,
+    "MODE": lambda word: re.fullmatch(r"[0-7]{4}", word) is not None,
+    "HEX": lambda word: re.fullmatch(r"(?:0x)?(?:[0-9a-fA-F]{2}){1,64}", word) is not None,
+    "WANT": lambda word: word in ("r", "w", "x", "rw", "rx", "wx", "rwx"),
+    "LINE": lambda word: is_num(word, 1, 20000),
+    "KIND": lambda word: word in ("reg", "dir"),
+}
+
+
+def wrong_word(form: str, words: list[str]) -> tuple[int, str] | None:
+    """The first word that isn't as its place asks, by its place, and what should stand there."""
+    expected = form.split()
+    if words[:1] == ["file"]:
+        expected = expected[:6] + (["nosuid"] if words[6:7] == ["nosuid"] else []) + ["caps", "HEX"]
+    for place, word in enumerate(words):
+        kind = expected[min(place, len(expected) - 1)]
+        if kind == "...":
+            kind = expected[-2]
+        kind = kind.strip("[]")
+        fits = KINDS.get(kind)
+        if fits is not None and not fits(word):
+            return place, kind
+        if fits is None and kind.islower() and kind != word:
+            return place, kind
+    return None
+
+
+def meant(kind: str, word: str) -> str | None:
+    """What would be right, where that can be told."""
+    guess = GUESSES.get(kind)
+    found = guess(word) if guess else None
+    if found is None and re.fullmatch(r"0+[0-9]+", word):
+        found = str(int(word))
+    if found is None and KINDS.get(kind, is_num)(word.lower()):
+        found = word.lower()
+    fits = KINDS.get(kind)
+    return found if found and fits and fits(found) else None
+
+
+def guess_cap(word: str) -> str | None:
+    """A capability without its prefix, or in small letters."""
+    name = word.upper().removeprefix("CAP_")
+    return f"CAP_{name}" if name in CAPABILITIES else None
+
+
+def guess_mode(word: str) -> str | None:
+    """Three octal digits, or letters as ls(1) writes them."""
+    if re.fullmatch(r"[0-7]{1,3}", word):
+        return word.zfill(4)
+    match = re.fullmatch(r"-?((?:[r-][w-][xsStT-]){3})", word)
+    if match is None:
+        return None
+    value = 0
+    for place, letter in enumerate(match[1]):
+        value |= (letter not in "-ST") << (8 - place)
+        value |= (letter in "sStT") << (11 - place // 3)
+    return f"{value:04o}"
+
+
+def guess_want(word: str) -> str | None:
+    """The same letters in their order."""
+    return "".join(letter for letter in "rwx" if letter in word.lower()) or None
+
+
+def guess_numbered(letter: str) -> Callable[[str], str | None]:
+    """A number without its letter."""
+    return lambda word: letter + word if word.isdigit() else None
+
+
+GUESSES: dict[str, Callable[[str], str | None]] = {
+    "CAP": guess_cap,
+    "SET": set_in_hex,
+    "MODE": guess_mode,
+    "WANT": guess_want,
+    "KIND": {"file": "reg", "regular": "reg", "directory": "dir", "folder": "dir"}.get,
+} | {letter.upper(): guess_numbered(letter) for letter in "tphfn"}
+
+
+def distance(one: str, other: str) -> int:
+    """How many letters differ: lacking, added, changed, or two exchanged."""
+    rows = [list(range(len(other) + 1))]
+    for i, a in enumerate(one, 1):
+        row = [i]
+        for j, b in enumerate(other, 1):
+            best = min(rows[-1][j] + 1, row[-1] + 1, rows[-1][j - 1] + (a != b))
+            if i > 1 and j > 1 and a == other[j - 2] and one[i - 2] == b:
+                best = min(best, rows[-2][j - 2] + 1)
+            row.append(best)
+        rows.append(row)
+    return rows[-1][-1]
+
+
+def near(word: str, known: set[str]) -> str | None:
+    """The known words from which one letter or two differ; of a short word one letter."""
+    most = 2 if len(word) > 4 else 1
+    far = {other: distance(word, other) for other in known if abs(len(word) - len(other)) <= most}
+    least = min(far.values(), default=most + 1)
+    if least > most:
+        return None
+    return " or ".join(sorted(other for other, count in far.items() if count == least)[:3])

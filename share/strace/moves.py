@@ -1,0 +1,267 @@
+"""Calls that change where a task's paths lead, and what its descriptors are of."""
+
+from __future__ import annotations
+
+import re
+from collections.abc import Callable, Iterable
+from dataclasses import replace
+
+from . import lines
+from .calls import Unheld
+from .log import Call
+from .opened import FILE, LOOSE, NAMESPACE, PIDFD, descriptor
+from .paths import Paths, link_of
+from .places import Located, Mount, Mounts, Where
+from .tasks import Task
+
+Handler = Callable[[Task, Call], None]
+
+# mount(2): flags that only say who sees it.
+PROPAGATION = frozenset({"MS_SHARED", "MS_PRIVATE", "MS_SLAVE", "MS_UNBINDABLE"})
+
+CLONE_BITS = {
+    "CLONE_VM": 0x100,
+    "CLONE_FS": 0x200,
+    "CLONE_FILES": 0x400,
+    "CLONE_PARENT": 0x8000,
+    "CLONE_THREAD": 0x10000,
+    "CLONE_NEWNS": 0x20000,
+    "CLONE_NEWUSER": 0x10000000,
+    "CLONE_NEWPID": 0x20000000,
+}
+
+OPENS = ("open", "openat", "openat2", "creat")
+
+
+def clone_flags(text: str) -> frozenset[str]:
+    """The flags of clone(2), unshare(2) and setns(2), also where -X raw writes a number."""
+    found = set()
+    for word in re.sub(r"/\*.*?\*/", "", text).split("|"):
+        value = lines.number(word.strip())
+        found |= {name for name, bit in CLONE_BITS.items() if value and value & bit}
+        found.add(word.strip())
+    return frozenset(found)
+
+
+def argument(call: Call, place: int) -> str:
+    """An argument, or nothing where there are fewer."""
+    return call.args[place] if place < len(call.args) else ""
+
+
+def open_flags(call: Call) -> tuple[int, str]:
+    """Where the path of an open stands among the arguments, and its flags."""
+    place = 0 if call.name in ("open", "creat") else 1
+    flags = argument(call, place + 1)
+    return place, lines.fields(flags).get("flags", "") if call.name == "openat2" else flags
+
+
+class Moves:
+    """Follows the roots, folders, mounts and descriptors of tasks."""
+
+    def __init__(self, paths: Paths, tasks: Callable[[], Iterable[Task]]) -> None:
+        self.paths = paths
+        self._tasks = tasks
+
+    def handlers(self) -> dict[str, Handler]:
+        """Which call is followed how."""
+        found: dict[str, Handler] = {
+            "chdir": self.chdir,
+            "fchdir": self.fchdir,
+            "chroot": self.chroot,
+            "pivot_root": self.pivot_root,
+            "mount": self.mount,
+            "umount2": self.umount,
+            "umount": self.umount,
+            "open_tree": self.open_tree,
+            "fsmount": self.fsmount,
+            "move_mount": self.move_mount,
+            "mount_setattr": self.mount_setattr,
+            "memfd_create": self.memfd_create,
+            "pidfd_open": self.pidfd_open,
+        }
+        found |= dict.fromkeys(OPENS, self.open)
+        return found | dict.fromkeys(("dup", "dup2", "dup3", "fcntl"), self.dup)
+
+    def chdir(self, task: Task, call: Call) -> None:
+        """chdir(2): paths begin here from now on."""
+        try:
+            task.where.folder = self.paths.locate(task, call, 0)
+        except Unheld:
+            path = lines.string(argument(call, 0))
+            # Nobody knows where a relative path leads then, but it can still be listed.
+            task.where.folder = task.where.locate(path) if path is not None else None
+
+    def fchdir(self, task: Task, call: Call) -> None:
+        """fchdir(2)."""
+        task.where.folder = self.paths.base(task, argument(call, 0))
+
+    def chroot(self, task: Task, call: Call) -> None:
+        """chroot(2): absolute paths begin here from now on."""
+        task.where.root = self.paths.locate(task, call, 0)
+
+    def pivot_root(self, task: Task, call: Call) -> None:
+        """pivot_root(2)."""
+        new, old = self.paths.locate(task, call, 0), self.paths.locate(task, call, 1)
+        task.where.pivot(new, old, [other.where for other in self._tasks()])
+
+    def mount(self, task: Task, call: Call) -> None:
+        """mount(2): another file system, or another part of one, or other flags."""
+        flags = set(argument(call, 3).split("|"))
+        if flags & PROPAGATION:
+            return
+        target = self.paths.locate(task, call, 1)
+        kept = Mount(target.place, "MS_NOSUID" in flags, "MS_NOEXEC" in flags)
+        over = task.where.mounts.over
+        if "MS_REMOUNT" in flags:
+            over[point_of(target, over) or target.place] = kept
+        elif flags & {"MS_BIND", "MS_MOVE"}:
+            source = self.paths.locate(task, call, 0)
+            if "MS_MOVE" in flags and source.point:
+                over.pop(source.point, None)
+            over[target.place] = bound(source)
+        elif lines.string(argument(call, 2)) == "proc":
+            over[target.place] = Mount("/proc", kept.nosuid, kept.noexec)
+        else:
+            over[target.place] = Mount(f"@{call.first}:/", kept.nosuid, kept.noexec)
+
+    def umount(self, task: Task, call: Call) -> None:
+        """umount2(2): what was there before is there again."""
+        try:
+            target = self.paths.locate(task, call, 0)
+        except Unheld:
+            return
+        point = point_of(target, task.where.mounts.over)
+        if point is not None:
+            del task.where.mounts.over[point]
+
+    def open_tree(self, task: Task, call: Call) -> None:
+        """open_tree(2): a part of a file system, which move_mount(2) mounts."""
+        found = self.paths.locate(task, call, 1, 0)
+        kind = LOOSE if "OPEN_TREE_CLONE" in argument(call, 2) else FILE
+        task.descriptors.opens(call.result.value, kind, found)
+
+    def fsmount(self, task: Task, call: Call) -> None:
+        """fsmount(2): a new file system, which move_mount(2) mounts."""
+        flags = argument(call, 2)
+        place = f"@{call.first}:/"
+        mount = Mount(place, "MOUNT_ATTR_NOSUID" in flags, "MOUNT_ATTR_NOEXEC" in flags)
+        task.descriptors.opens(call.result.value, LOOSE, Located(place, mount))
+
+    def move_mount(self, task: Task, call: Call) -> None:
+        """move_mount(2): what a descriptor is of is mounted, or moved."""
+        target = self.paths.locate(task, call, 3, 2)
+        loose = task.descriptors.get(argument(call, 0), LOOSE)
+        if not isinstance(loose, Located):
+            loose = self.paths.locate(task, call, 1, 0)
+            task.where.mounts.over.pop(loose.point or "", None)
+        task.where.mounts.over[target.place] = bound(loose)
+        task.descriptors.opens(descriptor(argument(call, 0)), FILE, loose)
+
+    def mount_setattr(self, task: Task, call: Call) -> None:
+        """mount_setattr(2): other flags."""
+        given = lines.fields(argument(call, 3)).get("attr_set", "")
+        if "MOUNT_ATTR_NOSUID" not in given and "MOUNT_ATTR_NOEXEC" not in given:
+            return
+        loose = task.descriptors.get(argument(call, 0), LOOSE)
+        found = loose if isinstance(loose, Located) else self.paths.locate(task, call, 1, 0)
+        nosuid, noexec = "MOUNT_ATTR_NOSUID" in given, "MOUNT_ATTR_NOEXEC" in given
+        mount = Mount(found.place, nosuid, noexec)
+        if found is loose:
+            task.descriptors.opens(descriptor(call.args[0]), LOOSE, Located(found.place, mount))
+        else:
+            over = task.where.mounts.over
+            over[point_of(found, over) or found.place] = mount
+
+    def open(self, task: Task, call: Call) -> None:
+        """open(2): a descriptor of a file."""
+        place, _ = open_flags(call)
+        path = lines.string(argument(call, place))
+        plain = (place == 0 or call.args[0] == "AT_FDCWD") and not task.where.mounts.over
+        if path and plain and not path.startswith(("/proc", "/dev")):
+            before = task.where
+            where = Where(Mounts(before.mounts.root), before.root, before.folder)
+            task.descriptors.opens(call.result.value, FILE, lambda: self.lies(where, path))
+            return
+        try:
+            path, base = self.paths.named(task, call, place, place - 1 if place else None)
+            found = self.paths.both(task, path, base)
+        except Unheld:
+            task.descriptors.closes(call.result.value)
+            return
+        self.opened(task, call.result.value, own_process(found, task))
+
+    def lies(self, where: Where, path: str) -> Located | None:
+        """Where a file lies that was opened by a path alone."""
+        found = where.locate(path)
+        if found is None or not self.paths.is_known(found):
+            return None
+        real = where.locate(path, None, link_of) if self.paths.files.listed is None else None
+        return replace(found, real=real.place if real else None)
+
+    def opened(self, task: Task, number: int | None, found: Located) -> None:
+        """A descriptor of a file, or of a namespace of a process."""
+        match = re.fullmatch(r"/proc/(\d+)(?:/task/\d+)?/ns/(\w+)", found.place)
+        owner = self.paths.of_pid(int(match[1]), task) if match else None
+        if match and owner and match[2] == "user":
+            task.descriptors.opens(number, NAMESPACE, owner.process.space)
+        elif match and owner and match[2] == "mnt":
+            task.descriptors.opens(number, NAMESPACE, owner.where.mounts)
+        elif match:
+            task.descriptors.opens(number, NAMESPACE, match[2])
+        else:
+            task.descriptors.opens(number, FILE, found)
+
+    def dup(self, task: Task, call: Call) -> None:
+        """dup(2) and its kin, and fcntl(2) with F_DUPFD."""
+        task.descriptors.duplicates(descriptor(argument(call, 0)), call.result.value)
+
+    def memfd_create(self, task: Task, call: Call) -> None:
+        """memfd_create(2): a file of its creator's without any place, which all may execute."""
+        place = f"memfd:{lines.string(argument(call, 0)) or ''}@{call.first}"
+        words = f"reg {task.process.ids.users[3]} {task.process.ids.groups[3]} 0777"
+        self.paths.files.make(place, words)
+        task.descriptors.opens(call.result.value, FILE, Located(place))
+
+    def pidfd_open(self, task: Task, call: Call) -> None:
+        """pidfd_open(2)."""
+        task.descriptors.opens(call.result.value, PIDFD, lines.pid(argument(call, 0)) or 0)
+
+    def unshare(self, task: Task, flags: frozenset[str]) -> None:
+        """unshare(2), but for a user namespace."""
+        if "CLONE_FS" in flags or "CLONE_NEWNS" in flags:
+            task.where = task.where.copy()
+        if "CLONE_NEWNS" in flags:
+            self.new_mounts(task)
+        if "CLONE_FILES" in flags:
+            task.descriptors = task.descriptors.copy()
+        if "CLONE_NEWPID" in flags:
+            task.process.below = {}
+
+    def new_mounts(self, task: Task) -> None:
+        """unshare(2) or clone(2) with CLONE_NEWNS."""
+        where = task.where.copy()
+        where.mounts = task.where.mounts.copy()
+        task.where = where
+
+    def enter_mounts(self, task: Task, mounts: Mounts | None, line: int) -> None:
+        """setns(2) into a mount namespace, which the log may tell of."""
+        known = mounts or Mounts(Located(f"@{line}:/"))
+        task.where = Where(known, known.root, known.root)
+
+
+def point_of(found: Located, over: dict[str, Mount]) -> str | None:
+    """The place that a mount covers, where the path leads to the mount itself."""
+    mount = over.get(found.point) if found.point is not None else None
+    return found.point if mount is not None and mount.source == found.place else None
+
+
+def own_process(found: Located, task: Task) -> Located:
+    """The same by the pid of the process where the path has `self`."""
+    place = re.sub(r"^/proc/(self|thread-self)(?=/|$)", f"/proc/{task.pid}", found.place)
+    return replace(found, place=place)
+
+
+def bound(source: Located) -> Mount:
+    """A mount of what lies there, with the flags that it has there."""
+    flags = source.mount or Mount("")
+    return Mount(source.place, flags.nosuid, flags.noexec)

@@ -1,0 +1,154 @@
+"""The files that a call names, by paths and by descriptors."""
+
+from __future__ import annotations
+
+import os
+import re
+from collections.abc import Callable
+from dataclasses import replace
+
+from . import lines
+from .calls import Unheld
+from .files import SCRIPTS, Files, Found, Missing
+from .log import Call
+from .opened import FILE, told
+from .places import Located, no_link
+from .tasks import Task
+
+NO_DESCRIPTOR = "what its descriptor is of isn't known: strace writes it with -y"
+
+OWN_DESCRIPTOR = re.compile(r"/(?:proc/(?:self|thread-self|(?P<pid>\d+))|dev)/fd/(?P<fd>\d{1,9})$")
+
+PROCESS = re.compile(r"/proc/(?:self|thread-self|(?P<pid>\d+))(?:/(?P<what>exe|cwd|root)(?=/|$))?")
+
+
+def no_folder(path: str, pid: int) -> str:
+    """What is said of a relative path whose folder isn't known."""
+    return (
+        f"{path} is of the folder where pid {pid} is, which the log doesn't tell: record with -y, "
+        "or name the folder where the log begins by --folder"
+    )
+
+
+def link_of(place: str) -> str | None:
+    """To where a symbolic link of this machine's file system leads; None where it is none."""
+    if place.startswith(("@", "/proc/", "memfd:")):
+        return None
+    try:
+        return os.readlink(place.encode("latin-1")).decode("latin-1")
+    except (OSError, ValueError):
+        return None
+
+
+class Paths:
+    """Where the paths of calls lead."""
+
+    def __init__(self, files: Files, known: bool, find: Callable[[int, Task], Task | None]) -> None:
+        self.files = files
+        # Whether the folder where the log begins is known.
+        self.known = known
+        self.of_pid = find
+
+    def base(self, task: Task, text: str) -> Located | None:
+        """What a descriptor is of, a folder or a file; None for AT_FDCWD or where nobody knows."""
+        shown = told(text)
+        if text.startswith("AT_FDCWD"):
+            if shown:
+                task.where.folder = task.where.within(shown[0])
+            return None
+        known = task.descriptors.get(text, FILE)
+        followed = known if isinstance(known, Located) else None
+        if shown is None or shown[1] or shown[0] == "/" or shown[0].startswith("/memfd:"):
+            return followed or (task.where.within("/") if shown == ("/", False) else None)
+        seen = task.where.within(shown[0])
+        return followed if followed and followed.place == seen.place else seen
+
+    def named(
+        self, task: Task, call: Call, place: int, at: int | None
+    ) -> tuple[str, Located | None]:
+        """The path of an argument, and the folder of the descriptor before it, if there is one."""
+        path = lines.string(call.args[place]) if place < len(call.args) else None
+        if path is None:
+            raise Unheld("its path can't be read: strace writes the whole with -s 4096")
+        if at is None:
+            return path, None
+        base = self.base(task, call.args[at])
+        lost = base is None and not call.args[at].startswith("AT_FDCWD")
+        if lost and not path.startswith("/"):
+            raise Unheld(NO_DESCRIPTOR)
+        if path == "" and base is None:
+            base = task.where.folder
+        return path, base
+
+    def locate(self, task: Task, call: Call, place: int, at: int | None = None) -> Located:
+        """The place of the file that a call names."""
+        return self.both(task, *self.named(task, call, place, at))
+
+    def both(self, task: Task, path: str, base: Located | None) -> Located:
+        """Where a path leads, behind symbolic links too where this machine has them."""
+        found = self.lead(task, path, base)
+        if self.files.listed is not None or found.real is not None:
+            return found
+        return replace(found, real=self.lead(task, path, base, follow=True).place)
+
+    def lead(self, task: Task, path: str, base: Located | None, follow: bool = False) -> Located:
+        """The place to which a path leads, behind symbolic links where they are to be followed."""
+        if path == "" and base is not None:
+            return base
+        special = self.special(task, path)
+        if special is not None:
+            return special
+        found = task.where.locate(path, base, link_of if follow else no_link)
+        if found is None:
+            raise Unheld(no_folder(path, task.pid))
+        if not self.is_known(found):
+            raise Unheld(no_folder(path, task.pid))
+        return found
+
+    def is_known(self, found: Located) -> bool:
+        """Whether it is a place, and not one of a folder that nobody knows."""
+        is_whole = found.place.startswith(("/", "@", "memfd:"))
+        return is_whole or self.known or self.files.lists(found.place)
+
+    def special(self, task: Task, path: str) -> Located | None:
+        """The place of a path that /proc or /dev/fd has of a process."""
+        if match := OWN_DESCRIPTOR.match(path):
+            owner = self.of_pid(int(match["pid"]), task) if match["pid"] else task
+            found = owner.descriptors.get(match["fd"], FILE) if owner else None
+            if isinstance(found, Located):
+                return found
+            raise Unheld(NO_DESCRIPTOR)
+        match = PROCESS.match(path)
+        if match is None or match["what"] is None:
+            return None
+        owner = self.of_pid(int(match["pid"]), task) if match["pid"] else task
+        if owner is None:
+            raise Unheld(f"{path} is of a process that the log doesn't have")
+        known = {
+            "exe": owner.process.program,
+            "cwd": owner.where.folder,
+            "root": owner.where.root,
+        }[match["what"]]
+        if known is None:
+            raise Unheld(f"{path} isn't known from the log")
+        rest = path[match.end() :].lstrip("/")
+        return owner.where.locate(rest, known) if rest else known
+
+    def find(self, task: Task, path: str, base: Located | None) -> Found:
+        """A file with what is known of it."""
+        found = self.both(task, path, base)
+        if self.files.listed is None and found.place.startswith("/proc/"):
+            raise Missing(f"{found.place} is another file for this program than for the log's")
+        return self.files.found(found)
+
+    def programs(self, task: Task, call: Call, place: int, at: int | None) -> list[Found]:
+        """The file to execute; behind a script file its interpreter, which runs in its place."""
+        path, base = self.named(task, call, place, at)
+        found: list[Found] = []
+        for _ in range(SCRIPTS + 1):
+            found.append(self.find(task, path, base))
+            interpreter = found[-1].file.interpreter
+            if interpreter is None:
+                return found
+            path, base = interpreter, None
+        raise Missing(f"{path} is one script file more than execve(2) follows")

@@ -1,0 +1,173 @@
+"""Where a task's paths lead: its root, its folder, and the mounts that the log tells of.
+
+A place is a path of the file system where the log was recorded, as before the log's first call.
+What a log mounts anew, as a tmpfs, or enters without telling, isn't there: such a place begins with
+`@LINE:`, the line of the log that made it. A place without a slash in front begins where the log
+does.
+"""
+
+from __future__ import annotations
+
+import os
+import re
+from collections.abc import Callable
+from dataclasses import dataclass, field
+
+# How many symbolic links are followed (path_resolution(7)).
+LINKS = 40
+
+# Whether a place is a symbolic link, and to where; None where it is none, or nobody can say.
+Link = Callable[[str], str | None]
+
+
+@dataclass(frozen=True)
+class Mount:
+    """What lies where something is mounted, and with which flags; None for what was before."""
+
+    source: str
+    nosuid: bool | None = None
+    noexec: bool | None = None
+
+
+@dataclass(frozen=True)
+class Located:
+    """Where a path leads, and the mount through which it came, if the log made it."""
+
+    place: str
+    mount: Mount | None = None
+    # The place that the last mount on the way covers.
+    point: str | None = None
+    # The place behind symbolic links, where those were followed.
+    real: str | None = None
+
+    def start(self, follows: bool) -> str:
+        """Where a path goes on from here."""
+        return self.real if follows and self.real is not None else self.place
+
+
+ROOT = Located("/")
+
+# The folder where the log begins.
+BEGIN = Located("")
+
+
+@dataclass
+class Mounts:
+    """The mounts of a mount namespace that the log made, by the place that each covers."""
+
+    root: Located = ROOT
+    over: dict[str, Mount] = field(default_factory=dict)
+
+    def copy(self) -> Mounts:
+        """The same for a new mount namespace."""
+        return Mounts(self.root, dict(self.over))
+
+    def entered(self, place: str) -> tuple[str, Mount | None]:
+        """What is there: the mount that covers the place, if one does."""
+        found = None
+        for _ in range(len(self.over) + 1):
+            mount = self.over.get(place)
+            if mount is None:
+                break
+            found = mount
+            if mount.source == place:
+                break
+            place = mount.source
+        return place, found
+
+    def above(self, place: str) -> str:
+        """The folder that the place stands in, also from the root of a mount."""
+        for point, mount in self.over.items():
+            if mount.source == place != point:
+                return parent(point)
+        return parent(place)
+
+
+def parent(place: str) -> str:
+    """The folder that a place stands in."""
+    if re.fullmatch(r"@\d+:/|/", place):
+        return place
+    above = os.path.dirname(place)
+    return above + "/" if above.endswith(":") else above
+
+
+def joined(folder: str, name: str) -> str:
+    """The place of a name in a folder."""
+    return folder + name if folder.endswith("/") or not folder else f"{folder}/{name}"
+
+
+def no_link(_: str) -> str | None:
+    """Nobody follows symbolic links."""
+    return None
+
+
+@dataclass
+class Where:
+    """The root, the folder and the mounts of a task; the folder is None where nobody knows it."""
+
+    mounts: Mounts = field(default_factory=Mounts)
+    root: Located = ROOT
+    folder: Located | None = BEGIN
+
+    def copy(self) -> Where:
+        """The same for a child, which shares the mounts."""
+        return Where(self.mounts, self.root, self.folder)
+
+    def locate(
+        self, path: str, base: Located | None = None, link: Link = no_link
+    ) -> Located | None:
+        """Where a path leads; None where it begins in a folder that nobody knows."""
+        if path.startswith("/"):
+            base = self.root
+        elif base is None:
+            base = self.folder
+        return None if base is None else self._walk(base, path, link)
+
+    def within(self, path: str) -> Located:
+        """Where a path leads that strace tells: from the root of the mount namespace."""
+        return self._walk(self.mounts.root, path, no_link)
+
+    def _walk(self, base: Located, path: str, link: Link) -> Located:
+        """Goes along the path, one name after another."""
+        follows = link is not no_link
+        place, mount, point = base.start(follows), base.mount, base.point
+        root = self.root.start(follows)
+        names = path.split("/")[::-1]
+        links = LINKS
+        while names:
+            name = names.pop()
+            if name in ("", "."):
+                continue
+            if name == "..":
+                if place != root:
+                    place = self._above(place)
+                continue
+            covered = joined(place, name)
+            target = link(covered) if links and covered not in self.mounts.over else None
+            if target is not None:
+                links -= 1
+                names += target.split("/")[::-1]
+                place = root if target.startswith("/") else place
+                continue
+            place, found = self.mounts.entered(covered)
+            if found is not None:
+                mount, point = found, covered
+        return Located(place, mount, point)
+
+    def _above(self, place: str) -> str:
+        """The folder above, which for a folder without any name is one that nobody knows."""
+        if place == "" or place.split("/")[-1] == "..":
+            return joined(place, "..")
+        return self.mounts.above(place)
+
+    def pivot(self, new: Located, old: Located | None, tasks: list[Where]) -> None:
+        """pivot_root(2): the new root is everybody's whose root the old one was."""
+        before = self.mounts.root
+        if old is not None and old.place != new.place:
+            self.mounts.over[old.place] = Mount(before.place)
+        self.mounts.root = new
+        for where in tasks:
+            if where.mounts is self.mounts:
+                where.root = new if where.root.place == before.place else where.root
+                at_root = where.folder is not None and where.folder.place == before.place
+                where.folder = new if at_root else where.folder

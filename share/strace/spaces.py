@@ -1,0 +1,172 @@
+"""User namespaces that a log makes: their maps, and the ids of the tasks that enter them.
+
+A script's ids are those of the initial namespace, and each of its namespaces has one root id. So
+the ids of a call are led through the map that the log writes into `uid_map` or `gid_map`.
+"""
+
+from __future__ import annotations
+
+import re
+from dataclasses import dataclass, field, replace
+
+from .calls import ID_CALLS, Said, Unheld
+
+# The user who is root of a namespace whose map has no root: nobody is.
+NO_ROOT = 4294967294
+
+# What a namespace tells of an id that it has no number for (user_namespaces(7)).
+OVERFLOW = 65534
+
+# docs/FORMATS.md: `n0` to `n15`.
+SPACES = 16
+
+UID_WORDS = frozenset({"setuid", "setreuid", "setresuid", "setfsuid"})
+GID_WORDS = frozenset({"setgid", "setregid", "setresgid", "setfsgid", "setgroups"})
+
+Map = list[tuple[int, int, int]]
+
+
+@dataclass
+class Space:
+    """A user namespace, with the maps that were written so far; the initial one has none."""
+
+    number: int = 0
+    parent: Space | None = None
+    uids: Map | None = None
+    gids: Map | None = None
+    denied: bool = False
+
+    def outside(self, value: int, groups: bool) -> int | None:
+        """The id in the initial namespace."""
+        if self.parent is None:
+            return value
+        for inside, outside, count in (self.gids if groups else self.uids) or ():
+            if inside <= value < inside + count:
+                found = self.parent.outside(outside + value - inside, groups)
+                return found if found is not None and found <= NO_ROOT else None
+        return None
+
+    def inside(self, value: int, groups: bool) -> bool:
+        """Whether an id of the initial namespace has a number here."""
+        if self.parent is None:
+            return True
+        for _, outside, count in (self.gids if groups else self.uids) or ():
+            first = self.parent.outside(outside, groups)
+            if first is not None and first <= value < first + count:
+                return True
+        return False
+
+    def root(self) -> int:
+        """The user who is root here, in the initial namespace."""
+        found = self.outside(0, groups=False)
+        return NO_ROOT if found is None else found
+
+    def write(self, name: str, text: str) -> None:
+        """A map is written, or `deny` into setgroups."""
+        if name == "setgroups":
+            self.denied = text.strip() == "deny"
+            return
+        found = [line.split() for line in text.split("\n") if line.strip()]
+        if not all(len(row) == 3 and all(map(is_number, row)) for row in found):
+            raise Unheld(f"what is written into {name} can't be read")
+        rows = [(int(row[0]), int(row[1]), int(row[2])) for row in found]
+        if name == "uid_map":
+            self.uids = rows
+        else:
+            self.gids = rows
+
+
+@dataclass
+class Ids:
+    """The ids of a task as the calls of the log leave them, by the initial namespace."""
+
+    users: list[int] = field(default_factory=lambda: [0, 0, 0, 0])
+    groups: list[int] = field(default_factory=lambda: [0, 0, 0, 0])
+    others: list[int] = field(default_factory=list)
+    no_new_privs: bool = False
+
+    def copy(self) -> Ids:
+        """The same for a child."""
+        return replace(self, users=self.users[:], groups=self.groups[:], others=self.others[:])
+
+    def after(self, words: list[str]) -> None:
+        """A call that succeeded has changed them."""
+        name, values = words[0], [int(word) for word in words[1:] if re.fullmatch(r"-?\d+", word)]
+        if name == "setgroups":
+            self.others = values
+        elif name == "nonewprivs":
+            self.no_new_privs = True
+        elif name in ID_CALLS or name in ("setfsuid", "setfsgid"):
+            ids = self.users if name.endswith("uid") else self.groups
+            set_ids(ids, name.replace("gid", "uid"), values, self.users[1] == 0)
+
+    def executes(self, words: list[str]) -> None:
+        """The effective ids after an execve of this file: kind, owner, group and mode."""
+        mode = int(words[3], 8)
+        if not self.no_new_privs and "nosuid" not in words:
+            if mode & 0o4000:
+                self.users[1] = int(words[1])
+            if mode & 0o2010 == 0o2010:
+                self.groups[1] = int(words[2])
+        for ids in (self.users, self.groups):
+            ids[2] = ids[3] = ids[1]
+
+
+def is_number(word: str) -> bool:
+    """Whether it is an id or a count, as a map has them."""
+    return re.fullmatch(r"[0-9]{1,10}", word) is not None
+
+
+def set_ids(ids: list[int], name: str, values: list[int], is_root: bool) -> None:
+    """What a call that succeeded makes of real, effective, saved and filesystem id."""
+    kept = [old if new == -1 else new for old, new in zip(ids, values, strict=False)]
+    if name == "setfsuid":
+        ids[3] = values[0] if values[0] != -1 else ids[3]
+    elif name == "setuid":
+        is_new = values[0] not in (ids[0], ids[2])
+        ids[:] = [values[0]] * 4 if is_root or is_new else [ids[0], values[0], ids[2], values[0]]
+    elif name == "setresuid":
+        ids[:] = [*kept, kept[1]]
+    elif name == "setreuid":
+        saves = values[0] != -1 or (values[1] != -1 and values[1] != ids[0])
+        ids[:] = [kept[0], kept[1], kept[1] if saves else ids[2], kept[1]]
+
+
+def led(said: Said, space: Space) -> Said | None:
+    """The same by the ids of the initial namespace; None where the namespace has no such id."""
+    if space.parent is None:
+        return said
+    words, answer = said.words.split(), said.answer.split()
+    if words[0] in UID_WORDS | GID_WORDS:
+        groups = words[0] in GID_WORDS
+        values = [outer(word, space, groups) for word in words[1:]]
+        if None in values:
+            return None
+        words[1:] = [value for value in values if value]
+        if words[0] in ("setfsuid", "setfsgid"):
+            answer[2:] = [told(answer[2], space, groups)]
+    elif words[0] == "ids":
+        answer[1:] = [told(word, space, place >= 4) for place, word in enumerate(answer[1:])]
+    elif words[0] == "groups":
+        values = [told(word, space, groups=True) for word in answer[1:]]
+        known = sorted(int(value) for value in values if value != "*")
+        answer[1:] = map(str, known) if len(known) == len(values) else ["*"] * len(values)
+    return Said(" ".join(words), " ".join(answer))
+
+
+def outer(word: str, space: Space, groups: bool) -> str | None:
+    """An id of an argument."""
+    if word == "-1":
+        return word
+    found = space.outside(int(word), groups)
+    return None if found is None else str(found)
+
+
+def told(word: str, space: Space, groups: bool) -> str:
+    """An id of an answer; any where the namespace has no number for it."""
+    if word == "*" or not word.isdigit():
+        return word
+    if int(word) == OVERFLOW:
+        return "*"
+    found = space.outside(int(word), groups)
+    return "*" if found is None else str(found)
