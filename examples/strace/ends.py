@@ -65,7 +65,8 @@ def wrong_places(place: Path, program: str) -> str | None:
     alone = place / "alone" / "share"
     for folder in ("share/strace", "docs"):
         shutil.copytree(TOP / folder, copied / folder)
-    shutil.copytree(TOP / "share" / "strace", alone / "strace")
+    for package in ("capabilities", "strace"):
+        shutil.copytree(TOP / "share" / package, alone / package)
     for tool in sorted(path.name for path in (TOP / "share").glob("credtrace-*")):
         shutil.copy(TOP / "share" / tool, copied / "share")
         shutil.copy(TOP / "share" / tool, alone)

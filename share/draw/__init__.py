@@ -6,7 +6,7 @@
     told         what a report tells of credentials, and which changes of sets can be seen from that
     slots        the lives of slots: which credential stood where, when it was given up and swept
     window       the part of all that the page shows, as lists that its script reads
-    names        the names of capabilities and securebits, from share/credtrace-names
+    names        the names of capabilities and securebits, from share/capabilities
     page         the page: its skeleton, style, script and data in one file
     command      the command credtrace-draw
     browser      a browser that runs without a window, for check

@@ -9,7 +9,7 @@ import os
 import sys
 from typing import BinaryIO, NoReturn
 
-from .names import NoNames, tables
+from .names import tables
 from .page import page
 from .report import BadReport, entries
 from .story import Story
@@ -88,7 +88,7 @@ def main(words: list[str]) -> int:
     given = parser.parse_args(words)
     try:
         text = drawn(sys.stdin and sys.stdin.buffer, given.first, given.last)
-    except (BadReport, Fault, NoNames) as fault:
+    except (BadReport, Fault) as fault:
         print(f"credtrace-draw: {fault}", file=sys.stderr)
         return NOT_DRAWN
     except OSError as fault:

@@ -1,4 +1,4 @@
-// Sets and securebits as names: what share/credtrace-names does, with its tables.
+// Sets and securebits as names: what share/credtrace-names does.
 
 let CAPS = [];
 let FLAGS = [];

@@ -1,33 +1,13 @@
-"""The names of capabilities and securebits, from share/credtrace-names, which has them once."""
+"""The names of capabilities and securebits, as the page's script has them."""
 
 from __future__ import annotations
 
-import re
-from pathlib import Path
-
-SOURCE = Path(__file__).resolve().parents[1] / "credtrace-names"
-
-
-class NoNames(Exception):
-    """The file of the names can't be read as expected, in one line."""
+from capabilities import CAPABILITIES, SECUREBITS
 
 
 def tables() -> dict[str, list[str]]:
-    """The capabilities in the order of their numbers, and the securebits in that of their bits."""
-    try:
-        text = SOURCE.read_text(encoding="utf-8")
-    except (OSError, UnicodeDecodeError) as fault:
-        raise NoNames(f"{SOURCE} can't be read: {fault}") from None
-    found: list[str] = []
-    lists: dict[str, list[str]] = {}
-    for line in text.splitlines():
-        more = re.fullmatch(r'  names = (names )?"([A-Z_ ]+)"', line)
-        done = re.fullmatch(r'  (CAPS|FLAGS) = split\(names, \w+, " "\)', line)
-        if more:
-            found = (found if more[1] else []) + more[2].split()
-        elif done:
-            prefix = "CAP_" if done[1] == "CAPS" else "SECBIT_"
-            lists[done[1].lower()] = [prefix + name for name in found]
-    if set(lists) != {"caps", "flags"} or not all(lists.values()):
-        raise NoNames(f"{SOURCE} has no tables of names")
-    return lists
+    """The capabilities in the order of their numbers, and a script's securebits in that of their bits."""
+    return {
+        "caps": [f"CAP_{name}" for name in CAPABILITIES],
+        "flags": [f"SECBIT_{name}" for name in SECUREBITS[:8]],
+    }

@@ -11,6 +11,9 @@ import re
 from collections.abc import Callable
 from dataclasses import dataclass
 
+from capabilities import CAPABILITIES
+from capabilities import SECUREBITS as FLAG_NAMES
+
 from . import lines
 from .lines import Result
 
@@ -19,28 +22,12 @@ class Unheld(Exception):
     """A call that no line of a script can say, and that can't be passed over."""
 
 
-# capabilities(7), in the order of their numbers.
-CAPABILITIES = (
-    "CHOWN DAC_OVERRIDE DAC_READ_SEARCH FOWNER FSETID KILL SETGID SETUID SETPCAP LINUX_IMMUTABLE "
-    "NET_BIND_SERVICE NET_BROADCAST NET_ADMIN NET_RAW IPC_LOCK IPC_OWNER SYS_MODULE SYS_RAWIO "
-    "SYS_CHROOT SYS_PTRACE SYS_PACCT SYS_ADMIN SYS_BOOT SYS_NICE SYS_RESOURCE SYS_TIME "
-    "SYS_TTY_CONFIG MKNOD LEASE AUDIT_WRITE AUDIT_CONTROL SETFCAP MAC_OVERRIDE MAC_ADMIN SYSLOG "
-    "WAKE_ALARM BLOCK_SUSPEND AUDIT_READ PERFMON BPF CHECKPOINT_RESTORE"
-).split()
-
 ALL_CAPABILITIES = (1 << len(CAPABILITIES)) - 1
 
 CAP_BITS = {f"1<<CAP_{name}": 1 << place for place, name in enumerate(CAPABILITIES)}
 
 # capabilities(7), "The securebits flags", with those of Linux 6.14 and later.
-SECUREBITS = {
-    f"SECBIT_{name}": 1 << place
-    for place, name in enumerate(
-        "NOROOT NOROOT_LOCKED NO_SETUID_FIXUP NO_SETUID_FIXUP_LOCKED KEEP_CAPS KEEP_CAPS_LOCKED "
-        "NO_CAP_AMBIENT_RAISE NO_CAP_AMBIENT_RAISE_LOCKED EXEC_RESTRICT_FILE "
-        "EXEC_RESTRICT_FILE_LOCKED EXEC_DENY_INTERACTIVE EXEC_DENY_INTERACTIVE_LOCKED".split()
-    )
-}
+SECUREBITS = {f"SECBIT_{name}": 1 << place for place, name in enumerate(FLAG_NAMES)}
 
 # The limit of groups (docs/FORMATS.md).
 GROUPS = 1024
