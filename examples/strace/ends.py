@@ -63,7 +63,7 @@ def wrong_places(place: Path, program: str) -> str | None:
     """The tools work through a symbolic link and from a copy, also of share/ alone."""
     copied = place / "copy"
     alone = place / "alone" / "share"
-    for folder in ("share/strace", "docs"):
+    for folder in ("share/capabilities", "share/strace", "docs"):
         shutil.copytree(TOP / folder, copied / folder)
     for package in ("capabilities", "strace"):
         shutil.copytree(TOP / "share" / package, alone / package)
