@@ -72,11 +72,11 @@ row script entries 'proved s, KiB' 'plain s, KiB' 'mark, KiB' \
 for name in calls changes holds checks broadcast; do
   "$proved" run < "$dir/$name" > "$dir/report"
   case $name in
-    calls) mark=73 ;;
-    changes) mark=114 ;;
-    holds) mark=23.1 ;;
-    checks) mark=53.3 ;;
-    broadcast) mark=527.5 ;;
+    calls) mark=38.6 ;;
+    changes) mark=71.6 ;;
+    holds) mark=20.6 ;;
+    checks) mark=49 ;;
+    broadcast) mark=120.4 ;;
   esac
   ours=$(seconds "$proved" "$name")
   theirs=- a=0 b=0
