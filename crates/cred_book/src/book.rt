@@ -20,7 +20,7 @@ mod works;
 
 use crate::beginning::{Beginning, begin};
 use crate::journal::Journal;
-use crate::step::{Handed, Step};
+use crate::step::Step;
 use cred_copies::copy_answer;
 use cred_course::Course;
 use cred_cursor::{Cursors, cursor_after, next_event};
@@ -256,10 +256,9 @@ impl Book {
             return Ok(Step::Ended);
         };
         let line = course.line();
-        let event = match self.hand_out(cells, lane, line, event)? {
-            Handed::Out(work) => return Ok(Step::Work(work)),
-            Handed::Back(event) => event,
-        };
+        if let Some(work) = self.hand_out(cells, lane, line, &event)? {
+            return Ok(Step::Work(work));
+        }
         let cursor = self.enter(cells, lane, course, event)?;
         self.move_on(lane, line, cursor);
         Ok(Step::More)

@@ -1,74 +1,65 @@
 -- What is lent for an event, and how it is decided on that.
-use Rattle.std.specs.Prelude.{◌≡◌, ℕ, List, false, None, Some, Ok, Err}
+use Rattle.std.specs.Prelude.{◌≡◌, ℕ, List, Bool, false, is_some, None, Some, Result, Ok, Err}
+use Rattle.std.specs.Prelude.{⊤, IfSome}
 use Rattle.std.specs.declared.option.Option.{Option}
 use Rattle.atomic_table.specs.Seated.{TableId}
-use Rattle.cred_record.specs.Credential.{Credential}
 use Rattle.cred_record.specs.File.{File}
 use Rattle.cred_rules.specs.Access.{may_signal}
-use Rattle.cred_event.specs.declared.event.Change.{Change}
-use Rattle.cred_event.specs.declared.event.Query.{Query}
-use Rattle.cred_event.specs.declared.event.Query.TheVariants.{Check}
+use Rattle.cred_event.specs.declared.answer.Answer.{Answer}
 use Rattle.cred_event.specs.declared.event.Event.{Event}
 use Rattle.cred_event.specs.declared.event.Event.TheVariants.{Ask, Signal, Alter, OpenFile}
 use Rattle.cred_hold.specs.Tokens.{Written}
-use Rattle.cred_model.specs.Answers.{reply}
-use Rattle.cred_model.specs.Change.{by_change}
-use Rattle.cred_lent.specs.Changes.{made_as, has_executed, is_exec}
+use Rattle.cred_model.specs.Answers.{checked, reply}
+use Rattle.cred_model.specs.Change.{Made, by_change}
 use Rattle.cred_lent.specs.declared.lent.Lent.{Lent}
-use Rattle.cred_lent.specs.declared.lent.Lent.TheVariants.{One, Two, Kept}
-use Rattle.cred_lent.specs.declared.lent.Decided.{Decided}
-use Rattle.cred_lent.specs.declared.lent.Decided.TheVariants.{Told, May, Put}
+use Rattle.cred_lent.specs.declared.lent.Lent.TheVariants.{Asking, Opening, Signalling, Altering}
 
--- the tokens are of these cells
+-- the event for which it is lent
+abbrev pub event_of : Lent → Event
+event_of (Asking hold query told) = Ask hold.label query
+event_of (Opening hold file want fd told) = OpenFile hold.label file want fd
+event_of (Signalling from hold to target may) = Signal from hold.label to target.label
+event_of (Altering base writer change made) = Alter base.label change
+
+-- the tokens are of these cells, and the two of a change have one label
 abbrev pub AreOf : TableId → Lent → Type 0
-AreOf cells (One hold) = hold.id ≡ cells
-AreOf cells (Two from to) = (from.id ≡ cells) × (to.id ≡ cells)
-AreOf cells (Kept base writer) = (base.id ≡ cells) × (writer.id ≡ cells)
+AreOf cells (Asking hold query told) = hold.id ≡ cells
+AreOf cells (Opening hold file want fd told) = hold.id ≡ cells
+AreOf cells (Signalling from hold to target may) = (hold.id ≡ cells) × (target.id ≡ cells)
+AreOf cells (Altering base writer change made) =
+    (base.id ≡ cells) × (writer.id ≡ cells) × (writer.label ≡ base.label)
 
--- the tokens have the labels that the event names
-abbrev pub AreFor : Event → Lent → Type 0
-AreFor (Ask label query) (One hold) = hold.label ≡ label
-AreFor (OpenFile label file want fd) (One hold) = hold.label ≡ label
-AreFor (Signal from label to target) (Two sender receiver) =
-    (sender.label ≡ label) × (receiver.label ≡ target)
-AreFor (Alter label change) (Kept base writer) = (base.label ≡ label) × (writer.label ≡ label)
-AreFor event lent = ⊥
+-- the same with no decision, and before anything was put
+abbrev pub bare : Lent → Lent
+bare (Asking hold query told) = Asking hold query None
+bare (Opening hold file want fd told) = Opening hold file want fd None
+bare (Signalling from hold to target may) = Signalling from hold to target None
+bare (Altering base writer change made) = Altering base (record writer { put = None }) change None
 
--- what the writer has put once it is decided so
-abbrev pub put_by : Decided → Written → Written
-put_by (Put built cred) writer = record writer { put = Some cred }
-put_by decided writer = writer
+-- it is decided
+abbrev pub is_decided : Lent → Bool
+is_decided (Asking hold query told) = is_some told
+is_decided (Opening hold file want fd told) = is_some told
+is_decided (Signalling from hold to target may) = is_some may
+is_decided (Altering base writer change made) = is_some made
 
--- the tokens once it is decided so
-abbrev pub left_by : Decided → Lent → Lent
-left_by decided (Kept base writer) = Kept base (put_by decided writer)
-left_by decided lent = lent
+-- what the writer has put once the change has made this
+abbrev pub put_by : Result Made Answer → Written → Written
+put_by (Ok made) writer = record writer { put = Some made.cred }
+put_by (Err answer) writer = writer
 
--- what an event asks of the one hold that it is decided on. The opening of a file is decided as its
--- check is
-abbrev pub query_of : Event → Option Query
-query_of (Ask label query) = Some query
-query_of (OpenFile label file want fd) = Some (Check file want)
-query_of event = None
+-- what a change made was put
+abbrev pub IsPut : Lent → Type 0
+IsPut (Altering base writer change (Some (Ok made))) = writer.put ≡ Some made.cred
+IsPut lent = ⊤
 
--- the decision on a change of this credential: it is refused so, or what it made was put
-abbrev pub IsRightChange :
-    Change → Option File → List ℕ → Credential → Option Credential → Decided → Type 0
-IsRightChange change file chain base put (Told answer) =
-    by_change file chain base change ≡ Err answer
-IsRightChange change file chain base put (Put built cred) =
-    (by_change file chain base change ≡ Ok (made_as built cred)) ×
-    (has_executed built ≡ is_exec change) ×
-    (put ≡ Some cred)
-IsRightChange change file chain base put decided = ⊥
-
--- the decision is that of the rules, on the credentials of the holds
-abbrev pub IsRight : Event → Option File → List ℕ → Lent → Decided → Type 0
-IsRight (Ask label query) file chain (One hold) (Told answer) = answer ≡ reply file hold.cred query
-IsRight (OpenFile label place want fd) file chain (One hold) (Told answer) =
-    answer ≡ reply file hold.cred (Check place want)
-IsRight (Signal from label to target) file chain (Two sender receiver) (May may) =
-    may ≡ may_signal sender.cred receiver.cred false
-IsRight (Alter label change) file chain (Kept base writer) decided =
-    IsRightChange change file chain base.cred writer.put decided
-IsRight event file chain lent decided = ⊥
+-- what was decided, if anything was, is as the rules have it, on the credentials of the holds
+abbrev pub IsRight : Option File → List ℕ → Lent → Type 0
+IsRight file chain (Asking hold query told) =
+    IfSome told (λ told. told ≡ reply file hold.cred query)
+IsRight file chain (Opening hold place want fd told) =
+    IfSome told (λ told. told ≡ checked hold.cred file want)
+IsRight file chain (Signalling from hold to target may) =
+    IfSome may (λ may. may ≡ may_signal hold.cred target.cred false)
+IsRight file chain (Altering base writer change made) =
+    IfSome made (λ made. made ≡ by_change file chain base.cred change)

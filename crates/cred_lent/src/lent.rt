@@ -1,29 +1,150 @@
-//! What is lent for an event that waits for a decision, and what was decided.
-ghost use Rattle.std.specs.Prelude.{◌≡◌};
+//! What is lent for an event, and what was decided on it.
+ghost use Rattle.std.specs.Prelude.{◌≡◌, true, OnOk, OnErr};
+ghost use Rattle.std.specs.Option.{option_map};
+ghost use Rattle.cred_lent.specs.Decisions.{bare, event_of, is_decided, AreOf, IsPut, IsRight};
 
-use crate::changes::Built;
-use cred_event::Answer;
-use cred_hold::{Hold, Writer};
-use cred_record::Cred;
+use crate::changes::alter;
+use crate::questions::{checked, decide};
+use crate::signals::decide_signal;
+use cred_decide::Made;
+use cred_event::{Answer, Change, Event, Query};
+use cred_hold::{Cells, Hold, Writer};
+use cred_ids::{Id, NoMemory};
+use cred_record::{FileInfo, Want};
+use std::alloc::Global;
 
-/// The tokens that an event is decided on.
+/// The tokens that an event is decided on, each under the label that the event names, with the rest
+/// of the event, and once it is made, the decision.
 #[derive(Drop)]
 pub enum Lent {
-    /// The hold that a question, or the opening of a file, is decided on.
-    One(Hold),
-    /// The holds of a signal's sender and of its target.
-    Two(Hold, Hold),
-    /// The hold of the base of what is prepared, and the writer of the slot that is kept for it.
-    Kept(Hold, Writer),
+    /// A question.
+    Asking {
+        hold: Hold,
+        query: Query,
+        told: Option<Answer>,
+    },
+    /// The opening of a file, which is decided as its check is.
+    Opening {
+        hold: Hold,
+        file: u32,
+        want: Want,
+        fd: u32,
+        told: Option<Answer>,
+    },
+    /// A signal: whether it may be sent to a task of another process.
+    Signalling {
+        from: u32,
+        hold: Hold,
+        to: u32,
+        target: Hold,
+        may: Option<bool>,
+    },
+    /// A change of what is prepared, whose base is held. The writer is of the slot that is kept for
+    /// the new credential, and has put it where the change isn't refused.
+    Altering {
+        base: Hold,
+        writer: Writer,
+        change: Change,
+        made: Option<Result<Made, Answer>>,
+    },
 }
 
-/// What was decided.
-#[derive(Drop)]
-pub enum Decided {
-    /// What the question is answered, whether the file may be opened, or how the change is refused.
-    Told(Answer),
-    /// Whether the signal may be sent to a task of another process.
-    May(bool),
-    /// What the change tells, and the credential that it made and that was put.
-    Put(Built, Cred),
+impl Lent {
+    /// The event for which it is lent.
+    pub fn event(&self) -> Event
+        ensures { result ≡ event_of self.now }
+    {
+        match self {
+            Lent::Asking { hold, query, .. } => Event::Ask {
+                label: hold.label(),
+                query: *query,
+            },
+            Lent::Opening {
+                hold,
+                file,
+                want,
+                fd,
+                ..
+            } => Event::OpenFile {
+                hold: hold.label(),
+                file: *file,
+                want: *want,
+                fd: *fd,
+            },
+            Lent::Signalling {
+                from,
+                hold,
+                to,
+                target,
+                ..
+            } => Event::Signal {
+                from: *from,
+                hold: hold.label(),
+                to: *to,
+                target: target.label(),
+            },
+            Lent::Altering { base, change, .. } => Event::Alter {
+                label: base.label(),
+                change: *change,
+            },
+        }
+    }
+
+    /// Decides the event, as the rules have it. The tokens stay, but for the new credential, which
+    /// the writer has put where the change isn't refused. It waits for nobody.
+    ///
+    /// `file` is the file that the event names, if it names one, and `chain` has the root ids of
+    /// the base's user namespace and of that one's ancestors, the nearest first.
+    ///
+    /// # Errors
+    ///
+    /// `NoMemory` if an allocation fails. All stays as it was.
+    // No call, since what it takes or gives is large, and would be moved.
+    #[inline(always)]
+    pub fn decide(
+        &mut self,
+        alloc: Global,
+        cells: &Cells,
+        file: Option<&FileInfo>,
+        chain: &[Id],
+    ) -> Result<(), NoMemory>
+        requires own { AreOf cells.now self.old }
+        ensures decided { OnOk result (is_decided self.new ≡ true) }
+        ensures right { OnOk result (IsRight (option_map (λ file. file.now) file.entry) chain.now
+            self.new) }
+        ensures put { OnOk result (IsPut self.new) }
+        ensures stays { bare self.new ≡ bare self.old }
+        ensures same { OnErr result (self.new ≡ self.old) }
+    {
+        match self {
+            Lent::Asking { hold, query, told } => {
+                *told = Some(decide(alloc, cells, hold, *query, file)?);
+            }
+            Lent::Opening {
+                hold,
+                want,
+                told,
+                ..
+            } => {
+                *told = Some(checked(alloc, cells, hold, file, *want)?);
+            }
+            Lent::Signalling {
+                hold,
+                target,
+                may,
+                ..
+            } => {
+                *may = Some(decide_signal(cells, hold, target));
+            }
+            Lent::Altering {
+                base,
+                writer,
+                change,
+                made,
+            } => {
+                *made = Some(alter(alloc, cells, base, change, file, chain, writer)?);
+            }
+        }
+        Ok(())
+    }
 }

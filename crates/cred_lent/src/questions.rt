@@ -91,7 +91,7 @@ fn on_whole(
 
 /// The answer to the check of a file, by the parts of the credential that the check asks of.
 #[inline(always)]
-fn checked(
+pub(crate) fn checked(
     alloc: Global,
     cells: &Cells,
     hold: &mut Hold,

@@ -1,29 +1,24 @@
--- A question is answered on the one hold that is lent for it.
-use Rattle.std.proofs.Common.{◌≡◌, ℕ, ◌∷◌, [], Some, sym, ap, ◌∙◌}
+-- What was lent was lent of the state before.
+use Rattle.std.proofs.Common.{◌≡◌, sym, subst}
 use Rattle.atomic_table.specs.Seated.{TableId}
-use Rattle.cred_event.specs.declared.event.Event.TheVariants.{Ask}
-use Rattle.cred_event.specs.declared.event.Query.{Query}
-use Rattle.cred_hold.specs.Tokens.{Held, entry}
-use Rattle.cred_lent.specs.declared.lent.Lent.TheVariants.{One}
-use Rattle.cred_model.specs.State.{Numbered, held_by}
+use Rattle.cred_event.specs.declared.event.Event.{Event}
+use Rattle.cred_lent.specs.Decisions.{AreOf, event_of}
+use Rattle.cred_lent.specs.declared.lent.Lent.{Lent}
 use Rattle.cred_sound.specs.Sound.{IsSound}
 use Rattle.cred_tables.specs.Kept.{Standing}
-use Rattle.cred_tables.specs.Out.{AreHome, AreOut}
-use Rattle.cred_tables.proofs.Outs.{hold_token_is}
-use Rattle.cred_state.specs.Lending.{IsStanding, WereLent}
+use Rattle.cred_tables.specs.Out.{AreHome, AreOut, tokens_in}
+use Rattle.cred_state.specs.Lending.{IsStanding, WereLent, entries_of}
 
-pub asked_were : (before : Standing) (cells : TableId) (label : ℕ) (query : Query) (held : Numbered) (hold : Held)
-    → held_by before.state label ≡ Some held
-    → hold ≡ record { id = cells; label = label; slot = held.slot; cred = held.cred }
-    → IsSound before.state → AreOut before.state before.words.out → AreHome (Ask label query) before.words.out → IsStanding before
-    → WereLent before (One hold)
-asked_were before cells label query held hold is made sound out home standing = record {
-  event = Ask label query;
-  labels = ap (λ (h : Held). h.label) made;
-  tokens = ap (λ (h : Held). entry h.label h.slot (Some h.cred) ∷ []) made ∙ sym (hold_token_is before.state label held is);
+pub were_of : (before : Standing) (cells : TableId) (lent : Lent) (event : Event) → event_of lent ≡ event → AreOf cells lent
+    → entries_of lent ≡ tokens_in before.state event → IsSound before.state → AreOut before.state before.words.out → AreHome event before.words.out
+    → IsStanding before → WereLent before lent
+were_of before cells lent event named of tokens sound out home standing = record {
+  cells = cells;
+  of = of;
+  tokens = subst (λ (e : Event). entries_of lent ≡ tokens_in before.state e) (sym named) tokens;
   sound = sound;
   out = out;
-  home = home;
+  home = subst (λ (e : Event). AreHome e before.words.out) (sym named) home;
   put = standing.put;
   slots = standing.slots;
   creds = standing.creds;

@@ -1,6 +1,7 @@
 -- Events that were decided are entered.
 use Rattle.std.proofs.Common.{◌≡◌, ◌<◌, ◌⊎◌, inl, inr, ℕ, Bool, true, false, List, [], ◌∷◌, ◌++◌, length, nat_lt, Option, None, Some, Result, Ok, Err, IfOk, OnOk, count_by, is_some, refl, sym, ap, ◌∙◌, arith}
-use Rattle.std.specs.Option.{IfSome}
+use Rattle.std.specs.Option.{IfSome, option_map}
+use Rattle.std.proofs.lemmas.Option.{same_Some}
 use Rattle.std.proofs.lemmas.Bool.Decides.{nat_tests}
 use Rattle.cred_ids.specs.Limits.{OPEN_FILES}
 use Rattle.cred_record.specs.Credential.{Credential}
@@ -13,23 +14,18 @@ use Rattle.cred_event.specs.declared.answer.Counted.TheVariants as counted
 use Rattle.cred_event.specs.declared.answer.Named.TheVariants as named
 use Rattle.cred_event.specs.declared.event.Change.{Change}
 use Rattle.cred_event.specs.declared.event.Change.TheVariants as change
-use Rattle.cred_event.specs.declared.event.Event.TheVariants.{Alter}
 use Rattle.cred_model.specs.Answers.{checked}
-use Rattle.cred_model.specs.Change.{by_change}
+use Rattle.cred_model.specs.Change.{Made, by_change}
 use Rattle.cred_model.specs.Moves.{altered}
 use Rattle.cred_model.specs.Named.{change_files}
 use Rattle.cred_model.specs.Script.{Script, chain_of, info_of}
 use Rattle.cred_model.specs.State.{State, Prepared, Numbered, held_by, numbered, open_of, prepared_of}
 use Rattle.cred_model.specs.Step.{by_alter, by_open, outcome}
 use Rattle.cred_model.proofs.Places.{if_some}
-use Rattle.cred_hold.specs.Tokens.{Entry, Held, Written}
-use Rattle.cred_lent.specs.Changes.{made_as}
-use Rattle.cred_lent.specs.declared.changes.Built.{Built}
-use Rattle.cred_lent.specs.declared.changes.Built.TheVariants.{Plain, Was, Exec}
-use Rattle.cred_lent.specs.declared.lent.Lent.TheVariants.{Kept}
+use Rattle.cred_hold.specs.Tokens.{Entry}
 use Rattle.cred_tables.specs.Out.{AreSameTokens}
 use Rattle.cred_tables.proofs.Back.{count_one, taken_count}
-use Rattle.cred_state.specs.Lending.{AreTaken, IsBase, IsChain}
+use Rattle.cred_state.specs.Lending.{AreTaken, IsBase, IsChainOf, IsMadeOf}
 
 -- ---- a file
 
@@ -82,45 +78,32 @@ module _ (script : Script) (s : State) (label file : ℕ) (want : Want) (fd : �
 -- ---- a change
 
 -- the root ids are those that the script has of the base's namespace, where they matter
-chain_right : (script : Script) (label : ℕ) (ch : Change) (base : Held) (writer : Written) (chain : List ℕ) (file : Option File) (c : Credential)
-    → IsChain script (Alter label ch) (Kept base writer) chain
-    → by_change file chain c ch ≡ by_change file (chain_of script base.cred.ns) c ch
-chain_right script label (change.SetFs kind id) base writer chain file c is = refl
-chain_right script label (change.Adjust call) base writer chain file c is = refl
-chain_right script label (change.Exec place) base writer chain file c is = ap (λ (ids : List ℕ). by_change file ids c (change.Exec place)) is
-chain_right script label change.Access base writer chain file c is = refl
-
-pub made_cred : (built : Built) (c : Credential) → (made_as built c).cred ≡ c
-made_cred Plain c = refl
-made_cred (Was previous) c = refl
-made_cred (Exec gains) c = refl
+chain_right : (script : Script) (ch : Change) (ns : ℕ) (chain : List ℕ) (file : Option File) (c : Credential)
+    → IsChainOf script ch ns chain → by_change file chain c ch ≡ by_change file (chain_of script ns) c ch
+chain_right script (change.SetFs kind id) ns chain file c is = refl
+chain_right script (change.Adjust call) ns chain file c is = refl
+chain_right script (change.Exec place) ns chain file c is = ap (λ (ids : List ℕ). by_change file ids c (change.Exec place)) is
+chain_right script change.Access ns chain file c is = refl
 
 module _ (script : Script) (s : State) (label : ℕ) (ch : Change) (p : Prepared) (base : Numbered) (prepared : prepared_of s label ≡ Some p)
-    (sealed : numbered s.creds p.base ≡ Some base) (hold : Held) (writer : Written) (own : IsBase s label hold.cred)
-    (chain : List ℕ) (of : IsChain script (Alter label ch) (Kept hold writer) chain) where
-  base_is : base.cred ≡ hold.cred
+    (sealed : numbered s.creds p.base ≡ Some base) (own : Credential) (of : IsBase s label own) (chain : List ℕ) where
+  base_is : base.cred ≡ own
   base_is =
-      if_some (λ (b : Numbered). b.cred ≡ hold.cred) (numbered s.creds p.base) base sealed
-      (if_some (λ (q : Prepared). IfSome (numbered s.creds q.base) (λ b. b.cred ≡ hold.cred)) (prepared_of s label) p prepared own)
+      if_some (λ (b : Numbered). b.cred ≡ own) (numbered s.creds p.base) base sealed
+      (if_some (λ (q : Prepared). IfSome (numbered s.creds q.base) (λ b. b.cred ≡ own)) (prepared_of s label) p prepared of)
 
-  by_same : by_change (info_of script (change_files ch)) (chain_of script base.cred.ns) base.cred ch ≡ by_change (info_of script (change_files ch)) chain hold.cred ch
-  by_same =
+  by_same : IsChainOf script ch own.ns chain
+      → by_change (info_of script (change_files ch)) (chain_of script base.cred.ns) base.cred ch ≡ by_change (info_of script (change_files ch)) chain own ch
+  by_same is =
       ap (λ (c : Credential). by_change (info_of script (change_files ch)) (chain_of script c.ns) c ch) base_is
-      ∙ sym (chain_right script label ch hold writer chain (info_of script (change_files ch)) hold.cred of)
+      ∙ sym (chain_right script ch own.ns chain (info_of script (change_files ch)) own is)
 
-  pub alter_refused : (answer : Answer) → by_change (info_of script (change_files ch)) chain hold.cred ch ≡ Err answer
-      → outcome s (by_alter script s label ch) ≡ (answer, s)
-  alter_refused answer refused = rw (prepared, sealed, by_same ∙ refused) refl
+  pub alter_refused : (answer : Answer) → IsMadeOf script chain own ch (Err answer) → outcome s (by_alter script s label ch) ≡ (answer, s)
+  alter_refused answer (is, refused) = rw (prepared, sealed, by_same is ∙ sym refused) refl
 
-  pub alter_made : (built : Built) (cred : Credential) → by_change (info_of script (change_files ch)) chain hold.cred ch ≡ Ok (made_as built cred)
-      → outcome s (by_alter script s label ch)
-      ≡ ((made_as built cred).answer, altered s label (record { change = ch; cred = cred; gains = (made_as built cred).gains }))
-  alter_made built cred made =
-      let found : outcome s (by_alter script s label ch)
-      ≡ ((made_as built cred).answer, altered s label (record { change = ch; cred = (made_as built cred).cred; gains = (made_as built cred).gains }))
-      = rw (prepared, sealed, by_same ∙ made) refl in
-      found
-      ∙ ap (λ (c : Credential). ((made_as built cred).answer, altered s label (record { change = ch; cred = c; gains = (made_as built cred).gains }))) (made_cred built cred)
+  pub alter_made : (made : Made) → IsMadeOf script chain own ch (Ok made)
+      → outcome s (by_alter script s label ch) ≡ (made.answer, altered s label (record { change = ch; cred = made.cred; gains = made.gains }))
+  alter_made made (is, done) = rw (prepared, sealed, by_same is ∙ sym done) refl
 
 -- ---- what the holds have
 
@@ -136,6 +119,13 @@ pub one_right : {X : Type 0} (f : Credential → X) (told : X) (o : Option Numbe
     → IfSome o (λ held. told ≡ f held.cred)
 one_right f told None x own is = tt
 one_right f told (Some c) x own is = is ∙ sym (ap f own)
+
+-- what is told, if anything is
+pub told_right : {R X : Type 0} (now : R → X) (o : Option R) (told : Option X) (f : Credential → X) (held : Option Numbered) (x : Credential)
+    → option_map now o ≡ told → IfSome told (λ t. t ≡ f x) → IfSome held (λ h. h.cred ≡ x) → IfSome o (λ r. IfSome held (λ h. now r ≡ f h.cred))
+told_right now None told f held x same right own = tt
+told_right now (Some r) None f held x same right own = cc
+told_right now (Some r) (Some t) f held x same right own = one_right f (now r) held x own (same_Some _ _ same ∙ right)
 
 pub with_ok : {A E : Type 0} (r : Result A E) (T : Type 0) (P Q : A → Type 0) → OnOk r T → IfOk r P → (T → (x : A) → P x → Q x) → IfOk r Q
 with_ok (Ok x) T P Q on is f = f on x is

@@ -34,7 +34,6 @@ use cred_record::Cred;
 use cred_script::Script;
 use cred_slots::Slots;
 use cred_tables::{Holds, Numbered, Preparing, sealed_at};
-pub use enters::Unentered;
 use std::alloc::Global;
 use std::marker::Model;
 
@@ -158,9 +157,9 @@ impl State {
     {
         match event {
             Event::Ask { label, query } => self.ask(cells, script, *label, *query),
-            Event::Signal { .. } | Event::Alter { .. } | Event::OpenFile { .. } => self.decide(
-                cells, script, line, event,
-            ),
+            Event::Signal { .. } | Event::Alter { .. } | Event::OpenFile { .. } => {
+                self.decide(cells, script, event)
+            }
             Event::Take { label, task, side } => self.take(*label, *task, *side),
             Event::Release { label } => Ok(self.release(*label)),
             Event::Prepare { label, task, hold } => self.prepare(cells, *label, *task, *hold),

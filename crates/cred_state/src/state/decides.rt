@@ -14,11 +14,12 @@ ghost use Rattle.cred_tables.specs.Out.{AreHome, AreOut, waits_in};
 ghost use Rattle.cred_state.specs.Lending.{is_decided};
 
 use crate::state::State;
+use crate::state::lends::NO_NS;
 use cred_declared::{asked_file, chain_of, event_file};
 use cred_event::{Answer, Event, Query};
 use cred_hold::Cells;
 use cred_ids::NoMemory;
-use cred_lent::{Lent, decide, decide_event};
+use cred_lent::decide;
 use cred_script::Script;
 
 impl State {
@@ -32,7 +33,6 @@ impl State {
         &mut self,
         cells: &Cells,
         script: &Script,
-        line: u32,
         event: &Event,
     ) -> Result<Answer, NoMemory>
         requires own { self.old.words.id ≡ cells.now }
@@ -40,28 +40,28 @@ impl State {
         requires home { AreHome event.now self.old.words.out }
         requires sound { IsSound self.old.state }
         requires decided { is_decided event.now ≡ true }
-        ensures ok { IfOk result (λ answer.
+        ensures ok { (line : ℕ) → IfOk result (λ answer.
             GivesLike self.old.state (done script.now self.old.state line event.now) answer
             self.new.state) }
         ensures err { OnErr result (self.new ≡ self.old) }
         ensures words { self.new.words ≡ self.old.words }
     {
-        let ns = self.deciding_ns(cells, event);
+        let ns = self.deciding_ns(cells, event).unwrap_or(NO_NS);
         let Some(mut lent) = self.lend(cells, event) else {
             return Ok(self.missing(event));
         };
         let file = event_file(script, event);
         let chain = chain_of(script, ns);
-        match decide_event(self.alloc, cells, event, file, chain, &mut lent) {
-            Ok(decided) => match self.enter(cells, script, line, event, lent, decided) {
+        match lent.decide(self.alloc, cells, file, chain) {
+            Ok(()) => match self.enter(cells, lent) {
                 Ok(answer) => Ok(answer),
                 Err(left) => {
-                    self.take_back(cells, event, Lent::One(left.hold));
+                    self.take_back(cells, left);
                     Err(NoMemory)
                 }
             },
             Err(NoMemory) => {
-                self.take_back(cells, event, lent);
+                self.take_back(cells, lent);
                 Err(NoMemory)
             }
         }

@@ -7,4 +7,4 @@ pub open_by-requires-clause-used : goal.open_by-requires-clause-used
 open_by-requires-clause-used c =
     let s = c.args.self.now.state in
     let may = c.in-Ok.ensures in
-    subst (λ (n : ℕ). IsInUse s n) may.number (held-in_use s c.args.label may.held may.is)
+    subst (λ (n : ℕ). IsInUse s n) may.number (held-in_use s c.label.result may.held may.is)
