@@ -17,9 +17,9 @@ use Rattle.cred_cursor.proofs.Courses.{line_at-place}
 use Rattle.cred_words.specs.Lists.{Has}
 use Rattle.cred_hold.specs.Tokens.{Entry, Held, Written, entry}
 use Rattle.atomic_table.specs.Seated.{TableId}
-use Rattle.cred_lent.specs.Decisions.{AreOf, event_of}
-use Rattle.cred_lent.specs.declared.lent.Lent.{Lent}
-use Rattle.cred_lent.specs.declared.lent.Lent.TheVariants.{Asking, Opening, Signalling, Altering}
+use Rattle.cred_work.specs.Decisions.{AreOf, event_of}
+use Rattle.cred_work.specs.declared.lent.Lent.{Lent}
+use Rattle.cred_work.specs.declared.lent.Lent.TheVariants.{Asking, Opening, Signalling, Altering}
 use Rattle.cred_work.specs.Work.{Work}
 use Rattle.cred_tables.specs.Out.{AreOut, hold_token, kept_tokens, tokens_in, waits_in}
 use Rattle.cred_tables.proofs.Back.{has_taken, taken_has}
@@ -88,7 +88,7 @@ module _ (s : State) (sound : IsSound s) (out : List Entry) (are : AreOut s out)
   pub tokens_back : (cells : TableId) (lent : Lent) → waits_in s (event_of lent) ≡ true → AreOf cells lent
       → ((e : Entry) → Has (entries_of lent) e → Has out e) → entries_of lent ≡ tokens_in s (event_of lent)
   tokens_back cells (Asking hold query told) waits of has = hold_back hold.label hold refl waits (has (held_entry hold) (inl refl))
-  tokens_back cells (Opening hold file want fd told) waits of has = hold_back hold.label hold refl waits (has (held_entry hold) (inl refl))
+  tokens_back cells (Opening hold file want fd may) waits of has = hold_back hold.label hold refl waits (has (held_entry hold) (inl refl))
   tokens_back cells (Signalling from hold to target may) waits of has =
       let both = both_true (is_some (hold_of s hold.label)) (is_some (hold_of s target.label)) waits in
       λ k. hold_back target.label target refl both.1 (has (held_entry target) (inl refl)) k
@@ -107,7 +107,7 @@ pub record HasToken (lent : Lent) : Type 0 where
 one_token : (cells : TableId) (lent : Lent) → AreOf cells lent → HasToken lent
 one_token cells (Asking hold query told) of =
     record { it = entry hold.label hold.slot (Some hold.cred); is = inl refl; named = Contains-push [] hold.label }
-one_token cells (Opening hold file want fd told) of =
+one_token cells (Opening hold file want fd may) of =
     record { it = entry hold.label hold.slot (Some hold.cred); is = inl refl; named = Contains-push [] hold.label }
 one_token cells (Signalling from hold to target may) of =
     record { it = entry target.label target.slot (Some target.cred); is = inl refl; named = Contains-push (hold.label ∷ []) target.label }
@@ -116,7 +116,7 @@ one_token cells (Altering base writer change made) (own, its, same) =
 
 pub lent_waits : (lent : Lent) → may_wait (event_of lent) ≡ true
 lent_waits (Asking hold query told) = refl
-lent_waits (Opening hold file want fd told) = refl
+lent_waits (Opening hold file want fd may) = refl
 lent_waits (Signalling from hold to target may) = refl
 lent_waits (Altering base writer change made) = refl
 

@@ -22,9 +22,9 @@ use Rattle.cred_cursor.proofs.Turns.{next_some}
 use Rattle.cred_sound.proofs.Sound.{sound_after}
 use Rattle.cred_words.specs.Lists.{Has}
 use Rattle.cred_hold.specs.Tokens.{Entry, entry}
-use Rattle.cred_lent.specs.Decisions.{AreOf, event_of as its_event}
-use Rattle.cred_lent.specs.declared.lent.Lent.{Lent}
-use Rattle.cred_lent.specs.declared.lent.Lent.TheVariants.{Altering}
+use Rattle.cred_work.specs.Decisions.{AreOf, event_of as its_event}
+use Rattle.cred_work.specs.declared.lent.Lent.{Lent}
+use Rattle.cred_work.specs.declared.lent.Lent.TheVariants.{Altering}
 use Rattle.cred_work.specs.Work.{Work}
 use Rattle.cred_work.specs.Works.{IsUndecided}
 use Rattle.cred_tables.specs.Kept.{Words}

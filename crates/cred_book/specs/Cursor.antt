@@ -14,7 +14,7 @@ use Rattle.cred_cursor.specs.Cursor.{left_at}
 use Rattle.cred_cursor.specs.Cursors.{AreCursors}
 use Rattle.cred_left.specs.Waiting.{waiting}
 use Rattle.cred_tables.specs.Out.{AreSameTokens, waits_in}
-use Rattle.cred_lent.specs.Decisions.{event_of}
+use Rattle.cred_work.specs.Decisions.{event_of}
 use Rattle.cred_work.specs.Work.{Work}
 use Rattle.cred_work.specs.Works.{IsUndecided}
 use Rattle.cred_book.specs.Book.{Recorded, out_of}

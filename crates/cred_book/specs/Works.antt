@@ -16,8 +16,8 @@ use Rattle.cred_names.specs.Labels.{labels}
 use Rattle.cred_script.specs.Lines.{line_at}
 use Rattle.cred_script.specs.Sound.{AreApart}
 use Rattle.cred_hold.specs.Tokens.{Entry}
-use Rattle.cred_lent.specs.Decisions.{AreOf, event_of}
-use Rattle.cred_lent.specs.declared.lent.Lent.{Lent}
+use Rattle.cred_work.specs.Decisions.{AreOf, event_of}
+use Rattle.cred_work.specs.declared.lent.Lent.{Lent}
 use Rattle.cred_work.specs.Work.{Work}
 use Rattle.cred_work.specs.Works.{IsUndecided}
 use Rattle.cred_tables.specs.Out.{AreBack, tokens_in, waits_in}

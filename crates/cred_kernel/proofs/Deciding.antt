@@ -2,7 +2,7 @@
 use Rattle.std.proofs.Common.{◌≡◌, ◌∙◌, sym, ap, subst}
 use Rattle.atomic_table.specs.Seated.{TableId}
 use Rattle.cred_event.specs.declared.event.Event.{Event}
-use Rattle.cred_lent.specs.Decisions.{event_of}
+use Rattle.cred_work.specs.Decisions.{event_of}
 use Rattle.cred_model.specs.Named.{event_files}
 use Rattle.cred_model.specs.Script.{Script, info_of}
 use Rattle.cred_state.proofs.Lending.{chain_stays, event_stays, of_stays}

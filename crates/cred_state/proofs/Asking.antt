@@ -2,8 +2,8 @@
 use Rattle.std.proofs.Common.{◌≡◌, sym, subst}
 use Rattle.atomic_table.specs.Seated.{TableId}
 use Rattle.cred_event.specs.declared.event.Event.{Event}
-use Rattle.cred_lent.specs.Decisions.{AreOf, event_of}
-use Rattle.cred_lent.specs.declared.lent.Lent.{Lent}
+use Rattle.cred_work.specs.Decisions.{AreOf, event_of}
+use Rattle.cred_work.specs.declared.lent.Lent.{Lent}
 use Rattle.cred_sound.specs.Sound.{IsSound}
 use Rattle.cred_tables.specs.Kept.{Standing}
 use Rattle.cred_tables.specs.Out.{AreHome, AreOut, tokens_in}

@@ -23,9 +23,9 @@ use Rattle.cred_sound.specs.Sound.{IsSound}
 use Rattle.cred_sound.proofs.Sound.{like_sound}
 use Rattle.cred_words.specs.Lists.{Has, IsTaken}
 use Rattle.cred_hold.specs.Tokens.{Entry, Held, Written, entry, IsAlone}
-use Rattle.cred_lent.specs.Decisions.{bare, event_of}
-use Rattle.cred_lent.specs.declared.lent.Lent.{Lent}
-use Rattle.cred_lent.specs.declared.lent.Lent.TheVariants.{Asking, Opening, Signalling, Altering}
+use Rattle.cred_work.specs.Decisions.{bare, event_of}
+use Rattle.cred_work.specs.declared.lent.Lent.{Lent}
+use Rattle.cred_work.specs.declared.lent.Lent.TheVariants.{Asking, Opening, Signalling, Altering}
 use Rattle.cred_tables.specs.Kept.{Standing, creds_in}
 use Rattle.cred_tables.specs.Out.{AreHome, AreOut, cleared, hold_token, kept_tokens, tokens_in}
 use Rattle.cred_tables.proofs.Back.{back_new, has_taken, set_again}
@@ -67,7 +67,7 @@ tokens_out s event = All-nil (λ e. IsToken s e)
 
 pub lent_words : (before : Standing) (lent : Lent) → (with_lent before lent).words ≡ record before.words { out = entries_of lent ++ before.words.out }
 lent_words before (Asking hold query told) = refl
-lent_words before (Opening hold file want fd told) = refl
+lent_words before (Opening hold file want fd may) = refl
 lent_words before (Signalling from hold to target may) = refl
 lent_words before (Altering base writer change made) = refl
 
@@ -101,7 +101,7 @@ module _ {before : Standing} {lent : Lent} (were : WereLent before lent) where
 
 pub with_bare : (before : Standing) (lent : Lent) → with_lent before (bare lent) ≡ with_lent before lent
 with_bare before (Asking hold query told) = refl
-with_bare before (Opening hold file want fd told) = refl
+with_bare before (Opening hold file want fd may) = refl
 with_bare before (Signalling from hold to target may) = refl
 with_bare before (Altering base writer change made) = refl
 

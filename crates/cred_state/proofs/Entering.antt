@@ -1,13 +1,12 @@
 -- Events that were decided are entered.
-use Rattle.std.proofs.Common.{◌≡◌, ◌<◌, ◌⊎◌, inl, inr, ℕ, Bool, true, false, List, [], ◌∷◌, ◌++◌, length, nat_lt, Option, None, Some, Result, Ok, Err, IfOk, OnOk, count_by, is_some, refl, sym, ap, ◌∙◌, arith}
-use Rattle.std.specs.Option.{IfSome, option_map}
-use Rattle.std.proofs.lemmas.Option.{same_Some}
+use Rattle.std.proofs.Common.{if◌then◌else◌, ◌≡◌, ◌<◌, ℕ, Bool, true, false, List, [], ◌∷◌, ◌++◌, length, nat_lt, Option, None, Some, Result, Ok, Err, IfOk, OnOk, count_by, is_some, refl, sym, ap, ◌∙◌, subst, arith}
+use Rattle.std.specs.Option.{IfSome}
 use Rattle.std.proofs.lemmas.Bool.Decides.{nat_tests}
 use Rattle.cred_ids.specs.Limits.{OPEN_FILES}
 use Rattle.cred_record.specs.Credential.{Credential}
 use Rattle.cred_record.specs.File.{File}
 use Rattle.cred_record.specs.declared.want.Want.{Want}
-use Rattle.cred_rules.specs.Access.{may, may_signal}
+use Rattle.cred_rules.specs.Access.{may_signal}
 use Rattle.cred_event.specs.declared.answer.Answer.{Answer}
 use Rattle.cred_event.specs.declared.answer.Answer.TheVariants.{Done, Eacces, Exists, NoHold, TooMany}
 use Rattle.cred_event.specs.declared.answer.Counted.TheVariants as counted
@@ -29,14 +28,6 @@ use Rattle.cred_state.specs.Lending.{AreTaken, IsBase, IsChainOf, IsMadeOf}
 
 -- ---- a file
 
-checked_is : (c : Credential) (file : Option File) (want : Want) → (checked c file want ≡ Done) ⊎ (checked c file want ≡ Eacces)
-checked_is c None want = inr refl
-checked_is c (Some file) want = by (may c file want) refl
-  where
-    by : (test : Bool) → may c file want ≡ test → (checked c (Some file) want ≡ Done) ⊎ (checked c (Some file) want ≡ Eacces)
-    by true is = inl (rw is refl)
-    by false is = inr (rw is refl)
-
 few_files : (n : ℕ) → n < OPEN_FILES → nat_lt n OPEN_FILES ≡ true
 few_files n few = grind (arith, nat_tests)
 
@@ -48,24 +39,20 @@ module _ (script : Script) (s : State) (label file : ℕ) (want : Want) (fd : �
     pub open_exists : is_some (open_of s fd) ≡ true → outcome s (by_open script s label file want fd) ≡ (Exists named.File fd, s)
     open_exists there = rw (at, there) refl
 
-    module _ (told : Answer) (right : IfSome (held_by s label) (λ held. told ≡ checked held.cred (info_of script (file ∷ [])) want)) (new : open_of s fd ≡ None) where
-      told_is : told ≡ checked held.cred (info_of script (file ∷ [])) want
-      told_is = if_some (λ (h : Numbered). told ≡ checked h.cred (info_of script (file ∷ [])) want) (held_by s label) held at right
+    module _ (may : Bool) (right : IfSome (held_by s label) (λ held. checked held.cred (info_of script (file ∷ [])) want ≡ (if may then Done else Eacces)))
+        (new : open_of s fd ≡ None) where
+      checks : checked held.cred (info_of script (file ∷ [])) want ≡ (if may then Done else Eacces)
+      checks =
+          if_some (λ (h : Numbered). checked h.cred (info_of script (file ∷ [])) want ≡ (if may then Done else Eacces)) (held_by s label) held at right
 
-      refused : checked held.cred (info_of script (file ∷ [])) want ≡ Eacces → outcome s (by_open script s label file want fd) ≡ (Eacces, s)
-      refused is = rw (at, new, is) refl
+      pub open_refused : may ≡ false → outcome s (by_open script s label file want fd) ≡ (Eacces, s)
+      open_refused no =
+          let refused : checked held.cred (info_of script (file ∷ [])) want ≡ Eacces = checks ∙ ap (λ (b : Bool). if b then Done else Eacces) no in
+          rw (at, new, refused) refl
 
-      pub open_refused : (told ≡ Done → ⊥) → outcome s (by_open script s label file want fd) ≡ (Eacces, s)
-      open_refused other = by (checked_is held.cred (info_of script (file ∷ [])) want)
-        where
-          by : (checked held.cred (info_of script (file ∷ [])) want ≡ Done) ⊎ (checked held.cred (info_of script (file ∷ [])) want ≡ Eacces)
-              → outcome s (by_open script s label file want fd) ≡ (Eacces, s)
-          by (inl done) = absurd (other (told_is ∙ done))
-          by (inr denied) = refused denied
-
-      module _ (done : told ≡ Done) where
+      module _ (yes : may ≡ true) where
         may_be : checked held.cred (info_of script (file ∷ [])) want ≡ Done
-        may_be = sym told_is ∙ done
+        may_be = checks ∙ ap (λ (b : Bool). if b then Done else Eacces) yes
 
         pub open_full : nat_lt (length s.files) OPEN_FILES ≡ false → outcome s (by_open script s label file want fd) ≡ (TooMany counted.Files, s)
         open_full many = rw (at, new, may_be, many) refl
@@ -120,12 +107,12 @@ pub one_right : {X : Type 0} (f : Credential → X) (told : X) (o : Option Numbe
 one_right f told None x own is = tt
 one_right f told (Some c) x own is = is ∙ sym (ap f own)
 
--- what is told, if anything is
-pub told_right : {R X : Type 0} (now : R → X) (o : Option R) (told : Option X) (f : Credential → X) (held : Option Numbered) (x : Credential)
-    → option_map now o ≡ told → IfSome told (λ t. t ≡ f x) → IfSome held (λ h. h.cred ≡ x) → IfSome o (λ r. IfSome held (λ h. now r ≡ f h.cred))
-told_right now None told f held x same right own = tt
-told_right now (Some r) None f held x same right own = cc
-told_right now (Some r) (Some t) f held x same right own = one_right f (now r) held x own (same_Some _ _ same ∙ right)
+-- what is true of the credential that a label holds, if it holds any
+pub held_right : {X : Type 0} (P : X → Credential → Type 0) (o : Option X) (held : Option Numbered) (c : Credential)
+    → IfSome o (λ x. P x c) → IfSome held (λ h. h.cred ≡ c) → IfSome o (λ x. IfSome held (λ h. P x h.cred))
+held_right P None held c right own = tt
+held_right P (Some x) None c right own = tt
+held_right P (Some x) (Some h) c right own = subst (P x) (sym own) right
 
 pub with_ok : {A E : Type 0} (r : Result A E) (T : Type 0) (P Q : A → Type 0) → OnOk r T → IfOk r P → (T → (x : A) → P x → Q x) → IfOk r Q
 with_ok (Ok x) T P Q on is f = f on x is

@@ -10,9 +10,9 @@ use Rattle.cred_model.specs.State.{State, Prepared, Numbered, numbered, held_by,
 use Rattle.cred_model.proofs.Likes.{like_self}
 use Rattle.cred_sound.specs.Sound.{IsSound}
 use Rattle.cred_hold.specs.Tokens.{Entry, Held, Written, entry}
-use Rattle.cred_lent.specs.Decisions.{AreOf, bare, event_of}
-use Rattle.cred_lent.specs.declared.lent.Lent.{Lent}
-use Rattle.cred_lent.specs.declared.lent.Lent.TheVariants.{Asking, Opening, Signalling, Altering}
+use Rattle.cred_work.specs.Decisions.{AreOf, bare, event_of}
+use Rattle.cred_work.specs.declared.lent.Lent.{Lent}
+use Rattle.cred_work.specs.declared.lent.Lent.TheVariants.{Asking, Opening, Signalling, Altering}
 use Rattle.cred_tables.specs.Kept.{Standing}
 use Rattle.cred_tables.specs.Out.{cleared, hold_token, tokens_in}
 use Rattle.cred_tables.proofs.Outs.{cleared_like}
@@ -66,7 +66,7 @@ kept_by s base writer is = by (prepared_of s base.label) refl is
 pub like_lent : (before : Standing) (lent : Lent) → IsSound before.state → entries_of lent ≡ tokens_in before.state (event_of lent)
     → IsLike (with_lent before lent).state before.state
 like_lent before (Asking hold query told) sound is = like_self before.state
-like_lent before (Opening hold file want fd told) sound is = like_self before.state
+like_lent before (Opening hold file want fd may) sound is = like_self before.state
 like_lent before (Signalling from hold to target may) sound is = like_self before.state
 like_lent before (Altering base writer change made) sound is =
     let by = kept_by before.state base writer is in
@@ -76,28 +76,28 @@ like_lent before (Altering base writer change made) sound is =
 -- a decision leaves the entries
 pub entries_bare : (lent : Lent) → entries_of (bare lent) ≡ entries_of lent
 entries_bare (Asking hold query told) = refl
-entries_bare (Opening hold file want fd told) = refl
+entries_bare (Opening hold file want fd may) = refl
 entries_bare (Signalling from hold to target may) = refl
 entries_bare (Altering base writer change made) = refl
 
 -- and the event
 pub event_bare : (lent : Lent) → event_of (bare lent) ≡ event_of lent
 event_bare (Asking hold query told) = refl
-event_bare (Opening hold file want fd told) = refl
+event_bare (Opening hold file want fd may) = refl
 event_bare (Signalling from hold to target may) = refl
 event_bare (Altering base writer change made) = refl
 
 -- and what the tokens are of
 pub of_bare : (cells : TableId) (lent : Lent) → AreOf cells (bare lent) ≡ AreOf cells lent
 of_bare cells (Asking hold query told) = refl
-of_bare cells (Opening hold file want fd told) = refl
+of_bare cells (Opening hold file want fd may) = refl
 of_bare cells (Signalling from hold to target may) = refl
 of_bare cells (Altering base writer change made) = refl
 
 -- and the root ids
 pub chain_bare : (script : Script) (chain : List ℕ) (lent : Lent) → IsChain script (bare lent) chain ≡ IsChain script lent chain
 chain_bare script chain (Asking hold query told) = refl
-chain_bare script chain (Opening hold file want fd told) = refl
+chain_bare script chain (Opening hold file want fd may) = refl
 chain_bare script chain (Signalling from hold to target may) = refl
 chain_bare script chain (Altering base writer change made) = refl
 

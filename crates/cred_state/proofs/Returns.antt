@@ -21,9 +21,9 @@ use Rattle.cred_sound.specs.Sound.{IsSound}
 use Rattle.cred_words.specs.Lists.{Has, IsTaken}
 use Rattle.cred_hold.specs.Tokens.{Entry, entry, IsAlone}
 use Rattle.atomic_table.specs.Seated.{TableId}
-use Rattle.cred_lent.specs.Decisions.{AreOf, event_of}
-use Rattle.cred_lent.specs.declared.lent.Lent.{Lent}
-use Rattle.cred_lent.specs.declared.lent.Lent.TheVariants.{Asking, Opening, Signalling, Altering}
+use Rattle.cred_work.specs.Decisions.{AreOf, event_of}
+use Rattle.cred_work.specs.declared.lent.Lent.{Lent}
+use Rattle.cred_work.specs.declared.lent.Lent.TheVariants.{Asking, Opening, Signalling, Altering}
 use Rattle.cred_slots.specs.Table.{Table}
 use Rattle.cred_tables.specs.Kept.{Parts, state_of, IsKept}
 use Rattle.cred_tables.specs.Out.{AreHome, AreOut, ArePut}
@@ -196,7 +196,7 @@ pub named_for : (cells : TableId) (lent : Lent) → AreOf cells lent → All (λ
 named_for cells (Asking hold query told) of =
     let P : Entry → Type 0 = λ e. Contains (hold.label ∷ []) e.label in
     All-cons P (held_entry hold) [] (Contains-push [] hold.label) (All-nil P)
-named_for cells (Opening hold file want fd told) of =
+named_for cells (Opening hold file want fd may) of =
     let P : Entry → Type 0 = λ e. Contains (hold.label ∷ []) e.label in
     All-cons P (held_entry hold) [] (Contains-push [] hold.label) (All-nil P)
 named_for cells (Signalling from hold to target may) of =
@@ -236,7 +236,7 @@ all_back cells lent out new of home taken = by lent (named_for cells lent of) ho
     by : (lent : Lent) → All (λ e. Contains (event_labels (event_of lent)) e.label) (entries_of lent) → AreHome (event_of lent) out
         → AreTaken (entries_of lent) (entries_of lent ++ out) new → new ≡ out
     by (Asking hold query told) own home taken = one (event_of (Asking hold query told)) (held_entry hold) home own taken
-    by (Opening hold file want fd told) own home taken = one (event_of (Opening hold file want fd told)) (held_entry hold) home own taken
+    by (Opening hold file want fd may) own home taken = one (event_of (Opening hold file want fd may)) (held_entry hold) home own taken
     by (Signalling from hold to target may) own home taken =
         two (event_of (Signalling from hold to target may)) (held_entry target) (held_entry hold) home own taken
     by (Altering base writer change made) own home taken =

@@ -3,7 +3,6 @@ use Rattle.std.specs.Prelude.{◌≡◌, ◌≢◌, ℕ, List, [], ◌∷◌, �
 use Rattle.std.specs.Prelude.{IfSome, IsSome, Bool, true, false, ◌<◌, length, Result, Ok, Err}
 use Rattle.cred_ids.specs.Limits.{OPEN_FILES}
 use Rattle.cred_event.specs.declared.answer.Answer.{Answer}
-use Rattle.cred_event.specs.declared.answer.Answer.TheVariants.{Done}
 use Rattle.std.specs.declared.option.Option.{Option}
 use Rattle.std.specs.Option.{option_and_then, option_map}
 use Rattle.atomic_table.specs.Seated.{TableId}
@@ -28,9 +27,9 @@ use Rattle.cred_model.specs.State.{open_of}
 use Rattle.cred_sound.specs.Sound.{IsSound}
 use Rattle.cred_words.specs.Lists.{IsTaken}
 use Rattle.cred_hold.specs.Tokens.{Entry, Held, Written, entry}
-use Rattle.cred_lent.specs.Decisions.{event_of, AreOf}
-use Rattle.cred_lent.specs.declared.lent.Lent.{Lent}
-use Rattle.cred_lent.specs.declared.lent.Lent.TheVariants.{Asking, Opening, Signalling, Altering}
+use Rattle.cred_work.specs.Decisions.{event_of, AreOf}
+use Rattle.cred_work.specs.declared.lent.Lent.{Lent}
+use Rattle.cred_work.specs.declared.lent.Lent.TheVariants.{Asking, Opening, Signalling, Altering}
 use Rattle.cred_tables.specs.Kept.{Standing, creds_in}
 use Rattle.cred_tables.specs.Out.{AreHome, AreOut, ArePut, cleared, tokens_in}
 
@@ -42,7 +41,7 @@ held_entry hold = entry hold.label hold.slot (Some hold.cred)
 -- has put.
 abbrev pub entries_of : Lent → List Entry
 entries_of (Asking hold query told) = held_entry hold ∷ []
-entries_of (Opening hold file want fd told) = held_entry hold ∷ []
+entries_of (Opening hold file want fd may) = held_entry hold ∷ []
 entries_of (Signalling from hold to target may) = held_entry target ∷ held_entry hold ∷ []
 entries_of (Altering base writer change made) =
     entry writer.label writer.slot None ∷ held_entry base ∷ []
@@ -180,10 +179,10 @@ is_of_label event = false
 
 -- The label holds the credential of this number, which may open the file, and the descriptor is
 -- new.
-pub record MayOpen (s : State) (label fd opener : ℕ) (told : Answer) : Type 0 where
+pub record MayOpen (s : State) (label fd opener : ℕ) (may : Bool) : Type 0 where
   pub held : Numbered
   pub is : held_by s label ≡ Some held
   pub number : held.number ≡ opener
   pub new : open_of s fd ≡ None
   pub room : length s.files < OPEN_FILES
-  pub done : told ≡ Done
+  pub may : may ≡ true

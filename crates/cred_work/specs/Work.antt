@@ -2,7 +2,7 @@
 use Rattle.std.specs.Prelude.{ℕ, List}
 use Rattle.std.specs.declared.option.Option.{Option}
 use Rattle.cred_record.specs.File.{File}
-use Rattle.cred_lent.specs.declared.lent.Lent.{Lent}
+use Rattle.cred_work.specs.declared.lent.Lent.{Lent}
 use Rattle.cred_work.specs.declared.work.Asked.{Asked}
 
 -- what is lent for an event, with its decision once it is made, its line, the file that it names, if

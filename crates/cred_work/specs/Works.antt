@@ -1,6 +1,6 @@
 -- Works: what stays of them, and when they are decided.
 use Rattle.std.specs.Prelude.{◌≡◌, true}
-use Rattle.cred_lent.specs.Decisions.{IsPut, IsRight, bare, is_decided}
+use Rattle.cred_work.specs.Decisions.{IsPut, IsRight, bare, is_decided}
 use Rattle.cred_work.specs.Work.{Work}
 
 -- the work is the same, but for its decision, and for what its writer has put by that

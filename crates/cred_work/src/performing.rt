@@ -1,6 +1,6 @@
 //! A work is decided.
 ghost use Rattle.std.specs.Prelude.{◌≡◌, OnOk, OnErr};
-ghost use Rattle.cred_lent.specs.Decisions.{AreOf};
+ghost use Rattle.cred_work.specs.Decisions.{AreOf};
 ghost use Rattle.cred_work.specs.Works.{Stays, IsDecided};
 
 use crate::work::Work;

@@ -3,7 +3,7 @@
 ghost use Rattle.std.specs.Prelude.{◌≡◌};
 ghost use Rattle.cred_work.specs.Work.{work_of};
 
-use cred_lent::Lent;
+use crate::lent::Lent;
 use cred_record::{FileInfo, IdList};
 use std::marker::Model;
 

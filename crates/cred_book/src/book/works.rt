@@ -8,7 +8,7 @@ ghost use Rattle.cred_model.specs.Named.{event_files};
 ghost use Rattle.cred_model.specs.Script.{chain_of, info_of};
 ghost use Rattle.cred_script.specs.Lines.{line_at};
 ghost use Rattle.cred_cursor.specs.Cursor.{IsOfLine, MovesOnTo};
-ghost use Rattle.cred_lent.specs.Decisions.{bare, event_of, AreOf};
+ghost use Rattle.cred_work.specs.Decisions.{bare, event_of, AreOf};
 ghost use Rattle.cred_work.specs.Works.{IsDecided};
 ghost use Rattle.cred_tables.specs.Out.{AreHome, tokens_in, waits_in};
 ghost use Rattle.cred_state.specs.Lending.{entries_of, is_decided};
@@ -28,9 +28,8 @@ use cred_declared::{chain_of as declared_chain, event_file};
 use cred_event::{Entry, Event};
 use cred_hold::Cells;
 use cred_ids::NoMemory;
-use cred_lent::Lent;
 use cred_record::{FileInfo, IdList};
-use cred_work::{Asked, Work};
+use cred_work::{Asked, Lent, Work};
 
 impl Book {
     /// Takes a work of the lane back, which is decided, and enters its event, the lane's next one.

@@ -1,6 +1,6 @@
 //! That works are decided where memory is left, which no clause can say.
 ghost use Rattle.std.specs.Prelude.{◌≡◌, []};
-ghost use Rattle.cred_lent.specs.Decisions.{AreOf};
+ghost use Rattle.cred_work.specs.Decisions.{AreOf};
 
 use crate::tests::hold::{many, seal};
 use crate::tests::parts::id;
@@ -8,9 +8,8 @@ use cred_decide::Made;
 use cred_event::{Answer, Change, Query, Told};
 use cred_hold::{Cells, Master, make};
 use cred_ids::{Arg, Id, Kind, NoMemory};
-use cred_lent::Lent;
 use cred_record::{Cred, IdList, first};
-use cred_work::{Asked, Work, perform};
+use cred_work::{Asked, Lent, Work, perform};
 use std::alloc::Global;
 use std::test::Fail;
 

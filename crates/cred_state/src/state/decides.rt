@@ -19,8 +19,8 @@ use cred_declared::{asked_file, chain_of, event_file};
 use cred_event::{Answer, Event, Query};
 use cred_hold::Cells;
 use cred_ids::NoMemory;
-use cred_lent::decide;
 use cred_script::Script;
+use cred_work::decide;
 
 impl State {
     /// Decides an event on what is lent for it in this call, and enters it.

@@ -1,7 +1,9 @@
 //! Events are entered as they were decided on what was lent for them.
 ghost use Rattle.std.specs.Prelude.{◌≡◌, ◌∷◌, [], List, ℕ, Result, Some, None, IfOk, IfErr, IfSome};
-ghost use Rattle.std.specs.Prelude.{OnOk};
+ghost use Rattle.std.specs.Prelude.{if◌then◌else◌, OnOk};
 ghost use Rattle.cred_event.specs.declared.answer.Answer.{Answer as Answered};
+ghost use Rattle.cred_event.specs.declared.answer.Answer.TheVariants.{Done, Eacces};
+ghost use Rattle.cred_model.specs.Answers.{checked};
 ghost use Rattle.cred_model.specs.Change as model;
 ghost use Rattle.cred_model.specs.Script.{Script as Declared};
 ghost use Rattle.cred_model.specs.Like.{Gives, GivesLike};
@@ -9,14 +11,13 @@ ghost use Rattle.cred_model.specs.Script.{info_of};
 ghost use Rattle.cred_model.specs.Slots.{kept};
 ghost use Rattle.cred_model.specs.State.{held_by};
 ghost use Rattle.cred_model.specs.Named.{event_files};
-ghost use Rattle.cred_model.specs.Answers.{checked};
 ghost use Rattle.cred_model.specs.Step.{by_alter, by_open, done};
 ghost use Rattle.cred_record.specs.Credential.{Credential};
 ghost use Rattle.cred_record.specs.declared.want.Want.{Want as Wanted};
 ghost use Rattle.cred_sound.specs.Sound.{IsSound};
 ghost use Rattle.cred_words.specs.Lists.{IsTaken};
 ghost use Rattle.cred_hold.specs.Tokens.{entry};
-ghost use Rattle.cred_lent.specs.Decisions.{event_of, AreOf, IsPut, IsRight};
+ghost use Rattle.cred_work.specs.Decisions.{event_of, AreOf, IsPut, IsRight};
 ghost use Rattle.cred_tables.specs.Out.{AreBack, AreOut};
 ghost use Rattle.cred_state.specs.Lending.{entries_of, held_entry, AreApart, AreTaken, IsChain};
 ghost use Rattle.cred_state.specs.Lending.{IsBase, IsMadeOf, IsMadePut};
@@ -26,8 +27,8 @@ use cred_decide::Made;
 use cred_event::{Answer, Change};
 use cred_hold::{Cells, Hold, Writer};
 use cred_ids::NoMemory;
-use cred_lent::Lent;
 use cred_tables::Changed;
+use cred_work::Lent;
 
 impl State {
     /// Enters an event as it was decided, and takes back what was lent for it. A change that is
@@ -73,15 +74,15 @@ impl State {
                 file,
                 want,
                 fd,
-                told,
-            } => match self.opened(cells, hold, file, fd, told.as_ref()) {
+                may,
+            } => match self.opened(cells, hold, file, fd, may) {
                 Ok(answer) => Ok(answer),
                 Err(hold) => Err(Lent::Opening {
                     hold,
                     file,
                     want,
                     fd,
-                    told,
+                    may,
                 }),
             },
             Lent::Signalling {
@@ -215,13 +216,14 @@ impl State {
         hold: Hold,
         file: u32,
         fd: u32,
-        told: Option<&Answer>,
+        may: Option<bool>,
     ) -> Result<Answer, Hold>
         requires own { (self.old.words.id ≡ cells.now) × (hold.id ≡ cells.now) }
         requires apart { AreApart (kept self.old.state) self.old.words.out }
         ensures ok { IfOk result (λ answer. (script : Declared) (want : Wanted)
-            → IfSome told.entry (λ told. IfSome (held_by self.old.state hold.label) (λ held.
-            told.now ≡ checked held.cred (info_of script (file ∷ [])) want))
+            → IfSome may (λ may. IfSome (held_by self.old.state hold.label) (λ held.
+            checked held.cred (info_of script (file ∷ [])) want
+            ≡ (if may then Done else Eacces)))
             → Gives self.old.state (by_open script self.old.state hold.label file want fd) answer
             self.new.state) }
         ensures taken { OnOk result (IsTaken self.old.words.out (held_entry hold)
@@ -229,10 +231,10 @@ impl State {
         ensures id { self.new.words.id ≡ self.old.words.id }
         ensures err { IfErr result (λ left. (self.new ≡ self.old) × (left ≡ hold)) }
     {
-        let Some(told) = told else {
+        let Some(may) = may else {
             return Err(hold);
         };
-        let opener = match self.may_open(hold.label(), fd, told) {
+        let opener = match self.may_open(hold.label(), fd, may) {
             Ok(opener) => opener,
             Err(answer) => {
                 self.give_back(cells, hold);

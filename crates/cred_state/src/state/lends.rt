@@ -3,7 +3,7 @@ ghost use Rattle.std.specs.Prelude.{◌≡◌, ◌∷◌, [], is_some, None, IfS
 ghost use Rattle.std.specs.Option.{option_and_then, option_map};
 ghost use Rattle.cred_model.specs.State.{hold_of, numbered, prepared_of};
 ghost use Rattle.cred_sound.specs.Sound.{IsSound};
-ghost use Rattle.cred_lent.specs.Decisions.{bare, event_of, AreOf};
+ghost use Rattle.cred_work.specs.Decisions.{bare, event_of, AreOf};
 ghost use Rattle.cred_tables.specs.Kept.{cred_under, seen_in, IsInUse};
 ghost use Rattle.cred_tables.specs.Out.{AreHome, AreOut, hold_token, tokens_in, waits_in};
 ghost use Rattle.cred_state.specs.Lending.{entries_of, held_entry, with_hold, with_kept};
@@ -12,8 +12,8 @@ ghost use Rattle.cred_state.specs.Lending.{is_decided, with_lent, IsHome, IsKept
 use crate::state::State;
 use cred_event::{Change, Event};
 use cred_hold::{Cells, Hold, Writer};
-use cred_lent::Lent;
 use cred_tables::Numbered;
+use cred_work::Lent;
 
 /// The namespace of an event that is decided by none. No script declares it, so that its root ids,
 /// of which there are none, take no memory where they are copied.
@@ -54,7 +54,7 @@ impl State {
                 file: *file,
                 want: *want,
                 fd: *fd,
-                told: None,
+                may: None,
             }),
             Event::Signal {
                 from,

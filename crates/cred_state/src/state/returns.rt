@@ -7,15 +7,15 @@ ghost use Rattle.cred_sound.specs.Ledger.{ledger};
 ghost use Rattle.cred_sound.specs.Sound.{IsSound};
 ghost use Rattle.cred_words.specs.Lists.{IsTaken};
 ghost use Rattle.cred_hold.specs.Tokens.{entry};
-ghost use Rattle.cred_lent.specs.Decisions.{AreOf};
+ghost use Rattle.cred_work.specs.Decisions.{AreOf};
 ghost use Rattle.cred_tables.specs.Kept.{creds_in, Standing};
 ghost use Rattle.cred_tables.specs.Out.{AreOut};
 ghost use Rattle.cred_state.specs.Lending.{earlier_of, with_lent, AreApart, WereLent};
 
 use crate::state::State;
 use cred_hold::{Cells, Hold, Writer, put, unput};
-use cred_lent::Lent;
 use cred_tables::{Changed, Preparation};
+use cred_work::Lent;
 
 impl State {
     /// Takes back what was lent for an event that isn't entered: the state is as it was before.

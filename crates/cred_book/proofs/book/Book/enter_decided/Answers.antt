@@ -9,10 +9,10 @@ use Rattle.cred_model.specs.Like.{GivesLike}
 use Rattle.cred_model.specs.Step.{done}
 use Rattle.cred_script.specs.Lines.{line_at}
 use Rattle.cred_cursor.specs.Cursor.{MovesOnTo}
-use Rattle.cred_lent.specs.Decisions.{IsRight, event_of}
+use Rattle.cred_work.specs.Decisions.{IsRight, event_of}
 use Rattle.cred_model.specs.Named.{event_files}
 use Rattle.cred_model.specs.Script.{info_of}
-use Rattle.cred_lent.specs.declared.lent.Lent.{Lent}
+use Rattle.cred_work.specs.declared.lent.Lent.{Lent}
 use Rattle.cred_work.specs.Work.{Work}
 use Rattle.cred_tables.specs.Out.{AreBack}
 use Rattle.cred_tables.proofs.Outs.{out_like}

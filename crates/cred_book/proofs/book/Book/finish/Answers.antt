@@ -5,7 +5,7 @@ use Rattle.cred_model.specs.Journal.{replay}
 use Rattle.cred_cursor.specs.Cursors.{due_of}
 use Rattle.cred_cursor.proofs.Turns.{lane_has_place}
 use Rattle.cred_tables.specs.Out.{AreOut}
-use Rattle.cred_lent.specs.Decisions.{event_of}
+use Rattle.cred_work.specs.Decisions.{event_of}
 use Rattle.cred_book.specs.Book.{Recorded}
 use Rattle.cred_book.specs.Cursor.{moved_on}
 use Rattle.cred_book.proofs.Cursors.{due_counts, due_found, due_goes_on, due_of_line, lane_has_out}

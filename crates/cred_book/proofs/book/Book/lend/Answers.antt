@@ -3,7 +3,7 @@ use Rattle.cred_model.specs.State.{State}
 use Rattle.cred_model.specs.Journal.{replay}
 use Rattle.cred_model.specs.Like.{IsLike}
 use Rattle.cred_model.proofs.Likes.{like_trans}
-use Rattle.cred_lent.specs.declared.lent.Lent.{Lent}
+use Rattle.cred_work.specs.declared.lent.Lent.{Lent}
 use Rattle.cred_tables.specs.Kept.{Standing}
 use Rattle.cred_tables.specs.Out.{AreHome, AreOut, tokens_in}
 use Rattle.cred_tables.proofs.Outs.{out_like, tokens_like}

@@ -3,7 +3,7 @@ use Rattle.std.specs.Prelude.{Contains}
 use Rattle.std.proofs.lemmas.List.Elements.{Contains-push}
 use Rattle.cred_event.specs.declared.event.Event.TheVariants.{Ask}
 use Rattle.cred_hold.specs.Tokens.{Held, entry}
-use Rattle.cred_lent.specs.declared.lent.Lent.TheVariants.{Asking}
+use Rattle.cred_work.specs.declared.lent.Lent.TheVariants.{Asking}
 use Rattle.cred_tables.specs.Kept.{seen_in}
 use Rattle.cred_tables.proofs.Outs.{hold_token_is}
 use Rattle.cred_state.specs.Lending.{with_lent}

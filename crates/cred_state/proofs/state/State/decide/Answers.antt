@@ -1,7 +1,7 @@
 use Rattle.std.proofs.Common.{◌≡◌, ℕ, List, sym, ap, ◌∙◌, subst}
 use Rattle.cred_event.specs.declared.event.Event.{Event}
 use Rattle.cred_hold.specs.Tokens.{Entry}
-use Rattle.cred_lent.specs.Decisions.{event_of}
+use Rattle.cred_work.specs.Decisions.{event_of}
 use Rattle.cred_model.specs.Like.{GivesLike}
 use Rattle.cred_model.specs.Step.{done}
 use Rattle.cred_model.proofs.Likes.{does_like}

@@ -1,4 +1,6 @@
-use Rattle.std.proofs.Common.{◌∷◌, [], ℕ, None, Some, refl, ◌∙◌}
+use Rattle.std.proofs.Common.{if◌then◌else◌, ◌≡◌, ◌∷◌, [], ℕ, None, Some, refl, ◌∙◌}
+
+use Rattle.cred_event.specs.declared.answer.Answer.TheVariants.{Done, Eacces}
 use Rattle.cred_model.specs.Answers.{checked, reply}
 use Rattle.cred_model.specs.Named.{query_files}
 use Rattle.cred_model.specs.Script.{info_of}
@@ -8,7 +10,7 @@ use Rattle.cred_model.proofs.Likes.{does_same}
 use Rattle.cred_hold.specs.Tokens.{entry}
 use Rattle.cred_tables.proofs.Back.{has_taken, taken_has}
 use Rattle.cred_state.specs.Lending.{held_entry}
-use Rattle.cred_state.proofs.Entering.{both_right, one_right, taken_same, told_right}
+use Rattle.cred_state.proofs.Entering.{both_right, held_right, one_right, taken_same}
 use Rattle.cred_state.proofs.Returns.{apart_taken, held_own, holds_apart}
 use Rattle.cred_state.proofs.state.State.enter.Goals as goal
 
@@ -50,9 +52,8 @@ returns-in-Ok-clause-ok c = λ script line chain is right.
     let r = rw a.is at right in
     let has = has_taken out (held_entry hold) c.opened.new.self.words.out c.in-Ok.ensures.taken in
     let own = held_own s out c.requires.sound c.requires.out hold.label hold.slot hold.cred has in
-    let told = told_right (λ x. x.now) c.as_ref.result a.told (λ x. checked x (info_of script (a.file ∷ [])) a.want) (held_by s hold.label) hold.cred
-    c.as_ref.ensures.value r own in
-    rw a.is (does_same _ _ _ (c.in-Ok.ensures.ok script a.want told))
+    let may = held_right (λ m x. checked x (info_of script (a.file ∷ [])) a.want ≡ (if m then Done else Eacces)) a.may (held_by s hold.label) hold.cred r own in
+    rw a.is (does_same _ _ _ (c.in-Ok.ensures.ok script a.want may))
 
 pub returns-in-Some-may-clause-ok : goal.returns-in-Some-may-clause-ok
 returns-in-Some-may-clause-ok c = λ script line chain is right.

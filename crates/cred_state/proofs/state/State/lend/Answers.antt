@@ -1,7 +1,7 @@
 use Rattle.std.proofs.Common.{◌≡◌, ◌∷◌, ◌++◌, [], None, Some, refl, sym, ap, ◌∙◌}
 use Rattle.std.proofs.lemmas.List.Elements.{Contains-push}
 use Rattle.cred_event.specs.declared.event.Event.TheVariants.{Ask, Signal, Alter, OpenFile}
-use Rattle.cred_lent.specs.declared.lent.Lent.TheVariants.{Asking, Opening, Signalling, Altering}
+use Rattle.cred_work.specs.declared.lent.Lent.TheVariants.{Asking, Opening, Signalling, Altering}
 use Rattle.cred_hold.specs.Tokens.{Entry, Held, Written, entry}
 use Rattle.cred_tables.specs.Kept.{seen_in}
 use Rattle.cred_tables.proofs.Outs.{hold_token_is, kept_tokens_are}

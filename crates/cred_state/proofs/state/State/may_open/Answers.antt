@@ -7,4 +7,4 @@ pub returns-in_default-told : goal.returns-in_default-told
 returns-in_default-told c = λ script file want right.
     let s = c.args.self.now.state in
     let new = none_by_test _ c.has.result c.has.ensures c.if-has.false in
-    open_refused script s c.args.label file want c.args.fd _ (sym c.in-Some.ensures) c.args.told.now right (rw (← c.self.view_is) new) c.in_default-told.not-Done
+    open_refused script s c.args.label file want c.args.fd _ (sym c.in-Some.ensures) c.args.may right (rw (← c.self.view_is) new) c.if-may.false

@@ -1,7 +1,7 @@
 use Rattle.std.proofs.Common.{◌≡◌, ◌∷◌, [], ℕ, List, Option, Result, sym, ap, subst}
 use Rattle.std.proofs.lemmas.List.Elements.{Contains-push}
-use Rattle.cred_lent.specs.Decisions.{event_of}
-use Rattle.cred_lent.specs.declared.lent.Lent.TheVariants.{Asking, Opening, Signalling, Altering}
+use Rattle.cred_work.specs.Decisions.{event_of}
+use Rattle.cred_work.specs.declared.lent.Lent.TheVariants.{Asking, Opening, Signalling, Altering}
 use Rattle.cred_model.specs.Slots.{kept}
 use Rattle.cred_state.specs.Lending.{held_entry}
 use Rattle.cred_state.proofs.Deciding.{back_one, back_two, back_kept}

@@ -2,7 +2,7 @@
 ghost use Rattle.std.specs.Prelude.{◌≡◌, IfOk, OnErr};
 ghost use Rattle.std.specs.Option.{option_map};
 ghost use Rattle.cred_model.specs.Change.{by_change};
-ghost use Rattle.cred_lent.specs.Decisions.{put_by};
+ghost use Rattle.cred_work.specs.Decisions.{put_by};
 
 use cred_decide::{Made, change as change_of};
 use cred_event::{Answer, Change};

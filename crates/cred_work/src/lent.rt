@@ -1,10 +1,10 @@
 //! What is lent for an event, and what was decided on it.
 ghost use Rattle.std.specs.Prelude.{◌≡◌, true, OnOk, OnErr};
 ghost use Rattle.std.specs.Option.{option_map};
-ghost use Rattle.cred_lent.specs.Decisions.{bare, event_of, is_decided, AreOf, IsPut, IsRight};
+ghost use Rattle.cred_work.specs.Decisions.{bare, event_of, is_decided, AreOf, IsPut, IsRight};
 
 use crate::changes::alter;
-use crate::questions::{checked, decide};
+use crate::questions::{decide, may_open};
 use crate::signals::decide_signal;
 use cred_decide::Made;
 use cred_event::{Answer, Change, Event, Query};
@@ -23,13 +23,13 @@ pub enum Lent {
         query: Query,
         told: Option<Answer>,
     },
-    /// The opening of a file, which is decided as its check is.
+    /// The opening of a file: whether it may be opened so.
     Opening {
         hold: Hold,
         file: u32,
         want: Want,
         fd: u32,
-        told: Option<Answer>,
+        may: Option<bool>,
     },
     /// A signal: whether it may be sent to a task of another process.
     Signalling {
@@ -123,10 +123,10 @@ impl Lent {
             Lent::Opening {
                 hold,
                 want,
-                told,
+                may,
                 ..
             } => {
-                *told = Some(checked(alloc, cells, hold, file, *want)?);
+                *may = Some(may_open(alloc, cells, hold, file, *want)?);
             }
             Lent::Signalling {
                 hold,
