@@ -275,6 +275,8 @@ impl Book {
 
     /// Enters the next event of a lane's course, and answers the lane's cursor after it; the book's
     /// own stay. The answer moves into the entry, where `event` makes a copy of it.
+    // Called for each event of a lane, from one place of it.
+    #[inline(always)]
     fn enter(
         &mut self,
         cells: &Cells,

@@ -1,10 +1,11 @@
 -- An event is decided on what is lent for it in the same call.
-use Rattle.std.proofs.Common.{◌≡◌, ◌≢◌, ◌==◌, ◌⊎◌, inl, inr, ℕ, List, [], ◌∷◌, ◌++◌, map, slice_get, slice_set, Bool, true, is_some, Option, None, Some, Result, refl, sym, ap, ◌∙◌, subst}
+use Rattle.std.proofs.Common.{◌≡◌, ◌≢◌, ◌==◌, ◌⊎◌, inl, inr, ℕ, List, [], ◌∷◌, ◌++◌, map, slice_get, slice_set, Bool, true, is_some, Option, None, Some, Result, Ok, Err, refl, sym, ap, ◌∙◌, subst}
 use Rattle.std.specs.List.{All}
 use Rattle.std.specs.Prelude.{Contains}
 use Rattle.std.specs.Option.{IfSome, option_and_then, option_map, option_map_or, unwrap_or}
 use Rattle.std.proofs.lemmas.List.Elements.{All-append, All-head, All-nil}
 use Rattle.std.proofs.lemmas.Option.{same_Some}
+use Rattle.atomic_table.specs.Seated.{TableId}
 use Rattle.cred_record.specs.Credential.{Credential}
 use Rattle.cred_event.specs.declared.answer.Answer.{Answer}
 use Rattle.cred_event.specs.declared.event.Change.{Change}
@@ -16,14 +17,14 @@ use Rattle.cred_model.specs.Script.{Script, chain_of}
 use Rattle.cred_model.specs.State.{State, Prepared, Changed, Numbered, SealedCred, numbered, prepared_of}
 use Rattle.cred_model.specs.Like.{IsLike}
 use Rattle.cred_model.proofs.Lists.{All-at}
-use Rattle.cred_model.proofs.Places.{place-of_found}
+use Rattle.cred_model.proofs.Places.{if_some, place-of_found}
 use Rattle.cred_names.specs.Labels.{event_labels}
 use Rattle.cred_sound.specs.Ledger.{ledger}
 use Rattle.cred_sound.specs.Sound.{IsSound}
 use Rattle.cred_sound.proofs.Sound.{like_sound}
 use Rattle.cred_words.specs.Lists.{Has, IsTaken}
 use Rattle.cred_hold.specs.Tokens.{Entry, Held, Written, entry, IsAlone}
-use Rattle.cred_work.specs.Decisions.{bare, event_of}
+use Rattle.cred_work.specs.Decisions.{event_of, put_by}
 use Rattle.cred_work.specs.declared.lent.Lent.{Lent}
 use Rattle.cred_work.specs.declared.lent.Lent.TheVariants.{Asking, Opening, Signalling, Altering}
 use Rattle.cred_tables.specs.Kept.{Standing, creds_in}
@@ -32,9 +33,10 @@ use Rattle.cred_tables.proofs.Back.{back_new, has_taken, set_again}
 use Rattle.cred_tables.proofs.Outs.{IsToken, has_first, has_last, has_out, held_token, kept_alone, kept_token, out_like}
 use Rattle.cred_tables.proofs.Puts.{was_put}
 use Rattle.cred_tables.proofs.Stored.{slots-creds_in}
-use Rattle.cred_state.specs.Lending.{AreTaken, IsChain, IsNs, WereLent, earlier_of, entries_of, held_entry, with_hold, with_kept, with_lent}
+use Rattle.cred_state.specs.Lending.{AreTaken, IsChainOf, IsKeptBy, IsNs, earlier_of, entries_of, held_entry, with_hold, with_kept, with_lent}
+use Rattle.cred_state.proofs.Asking.{WereLent}
 use Rattle.cred_state.proofs.Keeping.{home_is}
-use Rattle.cred_state.proofs.Lending.{entries_stay, event_stays, like_lent, of_stays}
+use Rattle.cred_state.proofs.Lending.{like_lent}
 use Rattle.cred_state.proofs.Returns.{all_back, fresh, named_for, writer_is}
 
 -- ---- the tokens of an event are out
@@ -97,60 +99,27 @@ module _ {before : Standing} {lent : Lent} (were : WereLent before lent) where
       all_back were.cells lent before.words.out new were.of were.home
       (subst (λ es. AreTaken (entries_of lent) es new) (lent_out before lent) taken)
 
--- ---- while they are decided
+-- ---- a writer that was used
 
-pub with_bare : (before : Standing) (lent : Lent) → with_lent before (bare lent) ≡ with_lent before lent
-with_bare before (Asking hold query told) = refl
-with_bare before (Opening hold file want fd may) = refl
-with_bare before (Signalling from hold to target may) = refl
-with_bare before (Altering base writer change made) = refl
+pub put_label : (made : Result Made Answer) (writer : Written) → (put_by made writer).label ≡ writer.label
+put_label (Ok made) writer = refl
+put_label (Err answer) writer = refl
 
-module _ (before : Standing) (old new : Lent) (stays : bare new ≡ bare old) where
-  pub with_stays : with_lent before new ≡ with_lent before old
-  with_stays = sym (with_bare before new) ∙ ap (λ l. with_lent before l) stays ∙ with_bare before old
+pub put_slot : (made : Result Made Answer) (writer : Written) → (put_by made writer).slot ≡ writer.slot
+put_slot (Ok made) writer = refl
+put_slot (Err answer) writer = refl
 
-  pub were_stays : WereLent before old → WereLent before new
-  were_stays were = record {
-    cells = were.cells;
-    of = of_stays old new stays were.cells were.of;
-    tokens = entries_stay old new stays ∙ were.tokens ∙ ap (λ e. tokens_in before.state e) (sym (event_stays old new stays));
-    sound = were.sound;
-    out = were.out;
-    home = subst (λ e. AreHome e before.words.out) (sym (event_stays old new stays)) were.home;
-    put = were.put;
-    slots = were.slots;
-    creds = were.creds;
-  }
+-- ---- the root ids that a change is decided by
 
--- ---- the root ids that an event is decided by
-
-base_ns_is : (script : Script) (s : State) (label ns : ℕ) (base : Held) (writer : Written)
-    → IfSome (prepared_of s label) (λ p. IfSome (numbered s.creds p.base) (λ c. ns ≡ c.cred.ns))
-    → entry writer.label writer.slot None ∷ held_entry base ∷ [] ≡ kept_tokens s label → ns ≡ base.cred.ns
-base_ns_is script s label ns base writer right is = by (prepared_of s label) right is
-  where
-    sealed : (p : Prepared) → (o : Option Numbered) → IfSome o (λ c. ns ≡ c.cred.ns)
-        → entry writer.label writer.slot None ∷ held_entry base ∷ [] ≡ option_map_or (λ (c : Numbered). entry label p.slot None ∷ entry label c.slot (Some c.cred) ∷ []) o [] → ns ≡ base.cred.ns
-    sealed p None right is = cc
-    sealed p (Some c) right is =
-        let last : entry base.label base.slot (Some base.cred) ≡ entry label c.slot (Some c.cred) = cc in
-        let same : base.cred ≡ c.cred = same_Some _ _ (ap (λ (e : Entry). e.held) last) in
-        right ∙ sym (ap (λ (x : Credential). x.ns) same)
-
-    by : (o : Option Prepared) → IfSome o (λ p. IfSome (numbered s.creds p.base) (λ c. ns ≡ c.cred.ns))
-        → entry writer.label writer.slot None ∷ held_entry base ∷ [] ≡ option_map_or (λ p. option_map_or (λ (c : Numbered). entry label p.slot None ∷ entry label c.slot (Some c.cred) ∷ []) (numbered s.creds p.base) []) o []
-        → ns ≡ base.cred.ns
-    by None right is = cc
-    by (Some p) right is = sealed p (numbered s.creds p.base) right is
-
-pub chain_is : (script : Script) (s : State) (ns : ℕ) (lent : Lent) → IsNs s (event_of lent) ns → entries_of lent ≡ tokens_in s (event_of lent)
-    → IsChain script lent (chain_of script ns)
-chain_is script s ns (Altering base writer (change.Exec file) made) right is = ap (chain_of script) (base_ns_is script s base.label ns base writer right is)
-chain_is script s ns lent right is = tt
-
-pub some_is : {A : Type 0} (P : A → Type 0) (o : Option A) (x d : A) → is_some o ≡ true → IfSome o P → x ≡ unwrap_or o d → P x
-some_is P None x d some holds is = cc
-some_is P (Some y) x d some holds is = subst P (sym is) holds
+pub chain_is : (cells : TableId) (script : Script) (s : State) (label : ℕ) (ch : Change) (base : Held) (writer : Written) (ns : ℕ)
+    → IsKeptBy cells s label base writer → IsNs s (Alter label ch) ns → IsChainOf script ch base.cred.ns (chain_of script ns)
+chain_is cells script s label (change.SetFs kind id) base writer ns kept right = tt
+chain_is cells script s label (change.Adjust call) base writer ns kept right = tt
+chain_is cells script s label (change.Exec file) base writer ns kept right =
+    let of = if_some (λ (p : Prepared). IfSome (numbered s.creds p.base) (λ c. ns ≡ c.cred.ns)) (prepared_of s label) kept.preparation kept.prepared right in
+    let found = if_some (λ (c : Numbered). ns ≡ c.cred.ns) (numbered s.creds kept.preparation.base) kept.found kept.sealed of in
+    ap (chain_of script) (found ∙ sym (ap (λ (h : Held). h.cred.ns) kept.base_is))
+chain_is cells script s label change.Access base writer ns kept right = tt
 
 -- ---- a writer comes back unput
 

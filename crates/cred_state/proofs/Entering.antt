@@ -46,13 +46,13 @@ module _ (script : Script) (s : State) (label file : ℕ) (want : Want) (fd : �
           if_some (λ (h : Numbered). checked h.cred (info_of script (file ∷ [])) want ≡ (if may then Done else Eacces)) (held_by s label) held at right
 
       pub open_refused : may ≡ false → outcome s (by_open script s label file want fd) ≡ (Eacces, s)
-      open_refused no =
-          let refused : checked held.cred (info_of script (file ∷ [])) want ≡ Eacces = checks ∙ ap (λ (b : Bool). if b then Done else Eacces) no in
+      open_refused is =
+          let refused : checked held.cred (info_of script (file ∷ [])) want ≡ Eacces = checks ∙ ap (λ (b : Bool). if b then Done else Eacces) is in
           rw (at, new, refused) refl
 
-      module _ (yes : may ≡ true) where
+      module _ (allowed : may ≡ true) where
         may_be : checked held.cred (info_of script (file ∷ [])) want ≡ Done
-        may_be = checks ∙ ap (λ (b : Bool). if b then Done else Eacces) yes
+        may_be = checks ∙ ap (λ (b : Bool). if b then Done else Eacces) allowed
 
         pub open_full : nat_lt (length s.files) OPEN_FILES ≡ false → outcome s (by_open script s label file want fd) ≡ (TooMany counted.Files, s)
         open_full many = rw (at, new, may_be, many) refl

@@ -24,14 +24,12 @@ use Rattle.cred_model.specs.Named.{change_files}
 use Rattle.cred_model.specs.Script.{Script, chain_of, info_of}
 use Rattle.cred_model.specs.State.{State, Prepared, Numbered, numbered, prepared_of, held_by}
 use Rattle.cred_model.specs.State.{open_of}
-use Rattle.cred_sound.specs.Sound.{IsSound}
 use Rattle.cred_words.specs.Lists.{IsTaken}
 use Rattle.cred_hold.specs.Tokens.{Entry, Held, Written, entry}
-use Rattle.cred_work.specs.Decisions.{event_of, AreOf}
 use Rattle.cred_work.specs.declared.lent.Lent.{Lent}
 use Rattle.cred_work.specs.declared.lent.Lent.TheVariants.{Asking, Opening, Signalling, Altering}
 use Rattle.cred_tables.specs.Kept.{Standing, creds_in}
-use Rattle.cred_tables.specs.Out.{AreHome, AreOut, ArePut, cleared, tokens_in}
+use Rattle.cred_tables.specs.Out.{ArePut, cleared}
 
 -- the entry of a hold that is lent
 abbrev pub held_entry : Held → Entry
@@ -77,18 +75,6 @@ abbrev pub IsChain : Script → Lent → List ℕ → Type 0
 IsChain script (Altering base writer change made) chain =
     IsChainOf script change base.cred.ns chain
 IsChain script lent chain = ⊤
-
--- The tokens were lent of this state, under labels that nothing else was lent under.
-pub record WereLent (before : Standing) (lent : Lent) : Type 0 where
-  pub cells : TableId
-  pub of : AreOf cells lent
-  pub tokens : entries_of lent ≡ tokens_in before.state (event_of lent)
-  pub sound : IsSound before.state
-  pub out : AreOut before.state before.words.out
-  pub home : AreHome (event_of lent) before.words.out
-  pub put : ArePut before.state.prepared before.words.out before.places
-  pub slots : List ℕ
-  pub creds : before.state.creds ≡ creds_in before.places slots
 
 -- what stands in the words of kept slots was prepared, and what is seen is what stands in the words
 pub record IsStanding (s : Standing) : Type 0 where
@@ -185,4 +171,4 @@ pub record MayOpen (s : State) (label fd opener : ℕ) (may : Bool) : Type 0 whe
   pub number : held.number ≡ opener
   pub new : open_of s fd ≡ None
   pub room : length s.files < OPEN_FILES
-  pub may : may ≡ true
+  pub allowed : may ≡ true

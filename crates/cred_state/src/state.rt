@@ -157,9 +157,19 @@ impl State {
     {
         match event {
             Event::Ask { label, query } => self.ask(cells, script, *label, *query),
-            Event::Signal { .. } | Event::Alter { .. } | Event::OpenFile { .. } => {
-                self.decide(cells, script, event)
-            }
+            Event::Signal {
+                from,
+                hold,
+                to,
+                target,
+            } => Ok(self.signal(cells, *from, *hold, *to, *target)),
+            Event::Alter { label, change } => self.alter(cells, script, *label, *change),
+            Event::OpenFile {
+                hold,
+                file,
+                want,
+                fd,
+            } => self.open(cells, script, *hold, *file, *want, *fd),
             Event::Take { label, task, side } => self.take(*label, *task, *side),
             Event::Release { label } => Ok(self.release(*label)),
             Event::Prepare { label, task, hold } => self.prepare(cells, *label, *task, *hold),

@@ -4,7 +4,8 @@ ghost use Rattle.std.specs.Option.{option_map};
 ghost use Rattle.cred_model.specs.Change.{by_change};
 ghost use Rattle.cred_work.specs.Decisions.{put_by};
 
-use cred_decide::{Made, change as change_of};
+use crate::made::BoxedMade;
+use cred_decide::change as change_of;
 use cred_event::{Answer, Change};
 use cred_hold::{Cells, Hold, Writer, put, read};
 use cred_ids::{Id, NoMemory};
@@ -19,7 +20,7 @@ use std::alloc::Global;
 /// # Errors
 ///
 /// `NoMemory` if an allocation fails.
-pub(crate) fn alter(
+pub fn alter(
     alloc: Global,
     cells: &Cells,
     base: &mut Hold,
@@ -27,7 +28,7 @@ pub(crate) fn alter(
     file: Option<&FileInfo>,
     chain: &[Id],
     writer: &mut Writer,
-) -> Result<Result<Made, Answer>, NoMemory>
+) -> Result<Result<BoxedMade, Answer>, NoMemory>
     requires own { (base.old.id ≡ cells.now) × (writer.old.id ≡ cells.now) }
     ensures made { IfOk result (λ made. made ≡ by_change
         (option_map (λ file. file.now) file.entry) chain.now base.old.cred change.now) }
@@ -36,9 +37,12 @@ pub(crate) fn alter(
     ensures same { OnErr result (writer.new ≡ writer.old) }
 {
     let old = read(alloc, cells, base)?;
-    let made = change_of(&old, file, chain, change)?;
-    if let Ok(new) = &made {
-        put(cells, writer, &new.cred);
+    match change_of(&old, file, chain, change)? {
+        Ok(new) => {
+            let new = BoxedMade::new(alloc, new)?;
+            put(cells, writer, new.cred());
+            Ok(Ok(new))
+        }
+        Err(answer) => Ok(Err(answer)),
     }
-    Ok(made)
 }

@@ -4,9 +4,9 @@ ghost use Rattle.std.specs.Option.{option_map};
 ghost use Rattle.cred_work.specs.Decisions.{bare, event_of, is_decided, AreOf, IsPut, IsRight};
 
 use crate::changes::alter;
+use crate::made::BoxedMade;
 use crate::questions::{decide, may_open};
 use crate::signals::decide_signal;
-use cred_decide::Made;
 use cred_event::{Answer, Change, Event, Query};
 use cred_hold::{Cells, Hold, Writer};
 use cred_ids::{Id, NoMemory};
@@ -45,7 +45,7 @@ pub enum Lent {
         base: Hold,
         writer: Writer,
         change: Change,
-        made: Option<Result<Made, Answer>>,
+        made: Option<Result<BoxedMade, Answer>>,
     },
 }
 

@@ -9,13 +9,16 @@
 
 mod changes;
 mod lent;
+mod made;
 mod performing;
 mod questions;
 mod signals;
 mod work;
 
+pub use changes::alter;
 pub use lent::Lent;
+pub use made::BoxedMade;
 pub use performing::perform;
-pub use questions::decide;
+pub use questions::{decide, may_open};
 pub use signals::decide_signal;
 pub use work::{Asked, Work};

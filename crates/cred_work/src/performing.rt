@@ -3,7 +3,7 @@ ghost use Rattle.std.specs.Prelude.{◌≡◌, OnOk, OnErr};
 ghost use Rattle.cred_work.specs.Decisions.{AreOf};
 ghost use Rattle.cred_work.specs.Works.{Stays, IsDecided};
 
-use crate::work::Work;
+use crate::work::{Parts, Work};
 use cred_hold::Cells;
 use cred_ids::NoMemory;
 use std::alloc::Global;
@@ -20,6 +20,16 @@ pub fn perform(alloc: Global, cells: &Cells, work: &mut Work) -> Result<(), NoMe
     ensures stays { Stays work.old work.new }
     ensures same { OnErr result (work.new ≡ work.old) }
 {
-    let Work { asked, lent } = work;
-    lent.decide(alloc, cells, asked.file.as_ref(), asked.chain.items())
+    let Work { parts } = work;
+    let Parts {
+        file,
+        chain,
+        lent,
+        ..
+    } = parts.as_mut();
+    match lent {
+        Some(lent) => lent.decide(alloc, cells, file.as_ref(), chain.items()),
+        // Something is lent for each work.
+        None => Ok(()),
+    }
 }

@@ -1,27 +1,103 @@
 //! What a work has: what is lent for an event, with the event's line and all else that its decision
 //! needs.
-ghost use Rattle.std.specs.Prelude.{◌≡◌};
+ghost use Rattle.std.specs.Prelude.{◌≡◌, IfOk, IfErr};
 ghost use Rattle.cred_work.specs.Work.{work_of};
 
 use crate::lent::Lent;
+use cred_ids::NoMemory;
 use cred_record::{FileInfo, IdList};
+use std::alloc::Global;
 use std::marker::Model;
+
+/// All of a work, which is large, or of what is asked for, for which nothing is lent.
+#[derive(Drop)]
+pub(crate) struct Parts {
+    pub(crate) line: u32,
+    pub(crate) file: Option<FileInfo>,
+    pub(crate) chain: IdList,
+    pub(crate) lent: Option<Lent>,
+}
 
 /// What an event is decided by besides credentials, with its line: copies of the file that it
 /// names, if it names one, and of the root ids of the base's user namespace and of that one's
-/// ancestors, the nearest first.
-#[derive(Drop)]
+/// ancestors, the nearest first. It stands in memory of its own, in which there is room for what is
+/// lent. Contracts see the record `Asked` of `specs/Work.antt`.
 pub struct Asked {
-    pub line: u32,
-    pub file: Option<FileInfo>,
-    pub chain: IdList,
+    parts: Box<Parts>,
+}
+
+impl Model for Asked {
+    ghost use Rattle.cred_work.specs.Work as spec;
+
+    ghost Value = { spec.Asked };
+
+    ghost view = { λ a. record {
+      line = a.parts.value.line;
+      file = a.parts.value.file;
+      chain = a.parts.value.chain;
+    } };
+}
+
+/// Written out, so that it is proved here alone: of a derived one, each crate above that lets go of
+/// it proves all parts anew.
+impl Drop for Asked {
+    fn drop(self) {
+        let Asked { parts } = self;
+        drop(parts);
+    }
+}
+
+impl Asked {
+    /// What is asked for this line, with its file and its root ids.
+    ///
+    /// # Errors
+    ///
+    /// `NoMemory` if the allocation of its memory fails.
+    pub fn new(
+        alloc: Global,
+        line: u32,
+        file: Option<FileInfo>,
+        chain: IdList,
+    ) -> Result<Asked, NoMemory>
+        ensures { IfOk result (λ asked. asked ≡ record {
+          line = line;
+          file = file;
+          chain = chain;
+        }) }
+    {
+        let parts = Parts {
+            line,
+            file,
+            chain,
+            lent: None,
+        };
+        Ok(Asked {
+            parts: Box::new(alloc, parts)?,
+        })
+    }
+
+    /// The line whose event it is.
+    pub fn line(&self) -> u32
+        ensures { result ≡ self.now.line }
+    {
+        self.parts.line
+    }
+
+    /// Its memory.
+    fn into_parts(self) -> Box<Parts>
+        ensures { (result.value.line ≡ self.line) × (result.value.file ≡ self.file)
+            × (result.value.chain ≡ self.chain) }
+    {
+        let Asked { parts } = self;
+        parts
+    }
 }
 
 /// An event that waits for its decision: the tokens that are lent for it, with the decision once it
-/// is made, and what it is decided by. Contracts see the record `Work` of `specs/Work.antt`.
+/// is made, and what it is decided by. Contracts see the record `Work` of `specs/Work.antt`. To move
+/// one is cheap: it stands in memory of its own.
 pub struct Work {
-    pub(crate) asked: Asked,
-    pub(crate) lent: Lent,
+    pub(crate) parts: Box<Parts>,
 }
 
 impl Model for Work {
@@ -29,39 +105,55 @@ impl Model for Work {
 
     ghost Value = { spec.Work };
 
-    ghost view = { λ w. spec.work_of w.asked w.lent };
+    ghost view = { λ w. record {
+      line = w.parts.value.line;
+      file = w.parts.value.file;
+      chain = w.parts.value.chain;
+      lent = spec.some_lent w.parts.value.lent;
+    } };
+
+    ghost use Rattle.std.specs.Prelude.{IsSome};
+
+    ghost invariant = { λ w. IsSome w.parts.value.lent };
 }
 
-/// Written out, so that it is proved here alone: of a derived one, each crate above that lets go of
-/// it proves all parts anew.
+/// Written out, as that of `Asked`.
 impl Drop for Work {
     fn drop(self) {
-        let Work { asked, lent } = self;
-        drop(asked);
-        drop(lent);
+        let Work { parts } = self;
+        drop(parts);
     }
 }
 
 impl Work {
-    /// The work of the event for which these tokens are lent.
+    /// The work of the event for which these tokens are lent. No memory is taken.
+    // No call, since what it takes or gives is large, and would be moved.
+    #[inline(always)]
     pub fn of(asked: Asked, lent: Lent) -> Work
         ensures { result ≡ work_of asked lent }
     {
-        Work { asked, lent }
+        let mut parts = asked.into_parts();
+        parts.as_mut().lent = Some(lent);
+        Work { parts }
     }
 
-    /// What it was made of.
+    /// What it was made of. No memory is taken.
+    // No call, since what it takes or gives is large, and would be moved.
+    #[inline(always)]
     pub fn apart(self) -> (Asked, Lent)
         ensures { self ≡ work_of result.0 result.1 }
     {
-        let Work { asked, lent } = self;
-        (asked, lent)
+        let Work { mut parts } = self;
+        let Some(lent) = parts.as_mut().lent.take() else {
+            unreachable!()
+        };
+        (Asked { parts }, lent)
     }
 
     /// The line whose event waits.
     pub fn line(&self) -> u32
         ensures { result ≡ self.now.line }
     {
-        self.asked.line
+        self.parts.line
     }
 }

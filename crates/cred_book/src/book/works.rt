@@ -86,10 +86,11 @@ impl Book {
             return Ok(None);
         };
         let (file, chain) = self.copies(event, ns)?;
+        let asked = Asked::new(self.alloc, line, file, chain)?;
         let Some(lent) = self.lend(cells, lane, line, event) else {
             return Ok(None);
         };
-        Ok(Some(Work::of(Asked { line, file, chain }, lent)))
+        Ok(Some(Work::of(asked, lent)))
     }
 
     /// The user namespace whose root ids the event is decided by: that of its label's base. Only an
@@ -177,7 +178,7 @@ impl Book {
         let event = lent.event();
         match self.state.enter(cells, lent) {
             Ok(answer) => {
-                let line = asked.line;
+                let line = asked.line();
                 let cursor = cursor_after(&self.script, lane, course, &answer);
                 self.journal.push_reserved(Entry {
                     line,

@@ -17,11 +17,7 @@ use std::test::Fail;
 fn decided(alloc: Global, cells: &Cells, lent: Lent) -> Result<Lent, NoMemory>
     requires own { AreOf cells.now lent }
 {
-    let asked = Asked {
-        line: 1,
-        file: None,
-        chain: IdList::of(alloc, &[])?,
-    };
+    let asked = Asked::new(alloc, 1, None, IdList::of(alloc, &[])?)?;
     let mut work = Work::of(asked, lent);
     perform(alloc, cells, &mut work)?;
     let (_, lent) = work.apart();
@@ -77,21 +73,17 @@ fn tells_groups(decided: &Lent, cred: &Cred) -> bool {
     }
 }
 
-/// Whether a credential was put with the filesystem user id `now`, where it was `was` before.
-fn puts_fs(decided: &Lent, was: Id, now: Id) -> bool {
-    match decided {
-        Lent::Altering {
-            made: Some(
-                Ok(
-                    Made {
-                        answer: Answer::Was { previous },
-                        cred,
-                        ..
-                    },
-                ),
-            ),
-            ..
-        } => *previous == was && cred.uid.fs == now,
+/// Whether a credential was made with the filesystem user id `now`, where it was `was` before.
+fn makes_fs(decided: Lent, was: Id, now: Id) -> bool {
+    let Lent::Altering { made, .. } = decided else {
+        return false;
+    };
+    let Some(Ok(made)) = made else {
+        return false;
+    };
+    let Made { answer, cred, .. } = made.into_made();
+    match answer {
+        Answer::Was { previous } => previous == was && cred.uid.fs == now,
         _ => false,
     }
 }
@@ -111,6 +103,6 @@ fn a_change_is_decided(rt: HostRuntime) -> Result<(), Fail> {
     let (cells, mut master) = make(rt.alloc())?;
     let change = Change::SetFs(Kind::User, Arg::Set(id(5)?));
     let decided = altered(rt.alloc(), &cells, &mut master, &cred, change)?;
-    assert!(rt; puts_fs(&decided, id(0)?, id(5)?));
+    assert!(rt; makes_fs(decided, id(0)?, id(5)?));
     Ok(())
 }

@@ -1,19 +1,21 @@
 //! Events are entered as they were decided on what was lent for them.
 ghost use Rattle.std.specs.Prelude.{◌≡◌, ◌∷◌, [], List, ℕ, Result, Some, None, IfOk, IfErr, IfSome};
-ghost use Rattle.std.specs.Prelude.{if◌then◌else◌, OnOk};
+ghost use Rattle.std.specs.Prelude.{false, if◌then◌else◌, OnErr, OnOk};
 ghost use Rattle.cred_event.specs.declared.answer.Answer.{Answer as Answered};
 ghost use Rattle.cred_event.specs.declared.answer.Answer.TheVariants.{Done, Eacces};
-ghost use Rattle.cred_model.specs.Answers.{checked};
+ghost use Rattle.cred_event.specs.declared.event.Query.{Query as Asked};
+ghost use Rattle.cred_model.specs.Answers.{checked, reply};
 ghost use Rattle.cred_model.specs.Change as model;
 ghost use Rattle.cred_model.specs.Script.{Script as Declared};
 ghost use Rattle.cred_model.specs.Like.{Gives, GivesLike};
 ghost use Rattle.cred_model.specs.Script.{info_of};
 ghost use Rattle.cred_model.specs.Slots.{kept};
 ghost use Rattle.cred_model.specs.State.{held_by};
-ghost use Rattle.cred_model.specs.Named.{event_files};
-ghost use Rattle.cred_model.specs.Step.{by_alter, by_open, done};
+ghost use Rattle.cred_model.specs.Named.{event_files, query_files};
+ghost use Rattle.cred_model.specs.Step.{by_alter, by_ask, by_open, by_signal, done};
 ghost use Rattle.cred_record.specs.Credential.{Credential};
 ghost use Rattle.cred_record.specs.declared.want.Want.{Want as Wanted};
+ghost use Rattle.cred_rules.specs.Access.{may_signal};
 ghost use Rattle.cred_sound.specs.Sound.{IsSound};
 ghost use Rattle.cred_words.specs.Lists.{IsTaken};
 ghost use Rattle.cred_hold.specs.Tokens.{entry};
@@ -28,7 +30,7 @@ use cred_event::{Answer, Change};
 use cred_hold::{Cells, Hold, Writer};
 use cred_ids::NoMemory;
 use cred_tables::Changed;
-use cred_work::Lent;
+use cred_work::{BoxedMade, Lent};
 
 impl State {
     /// Enters an event as it was decided, and takes back what was lent for it. A change that is
@@ -128,13 +130,13 @@ impl State {
     /// refused. Both tokens come back.
     // No call, since what it takes or gives is large, and would be moved.
     #[inline(always)]
-    fn altered(
+    pub(super) fn altered(
         &mut self,
         cells: &Cells,
         base: Hold,
         writer: Writer,
         change: Change,
-        made: Result<Made, Answer>,
+        made: Result<BoxedMade, Answer>,
     ) -> Answer
         requires own { (self.old.words.id ≡ cells.now) × (base.id ≡ cells.now)
             × (writer.id ≡ cells.now) }
@@ -164,7 +166,7 @@ impl State {
         label: u32,
         change: Change,
         writer: Writer,
-        made: Result<Made, Answer>,
+        made: Result<BoxedMade, Answer>,
     ) -> Answer
         requires own { (self.old.words.id ≡ cells.now) × (writer.id ≡ cells.now) }
         requires label { writer.label ≡ label }
@@ -182,13 +184,12 @@ impl State {
         ensures kept { kept self.new.state ≡ kept self.old.state }
     {
         match made {
-            Ok(
-                Made {
+            Ok(made) => {
+                let Made {
                     answer,
                     cred,
                     gains,
-                },
-            ) => {
+                } = made.into_made();
                 let to = Changed {
                     change,
                     cred,
@@ -204,7 +205,7 @@ impl State {
         }
     }
 
-    /// The file is opened under the descriptor, if it was decided so (open(2)).
+    /// The file is opened, if it was decided so. Its hold comes back.
     ///
     /// # Errors
     ///
@@ -234,19 +235,86 @@ impl State {
         let Some(may) = may else {
             return Err(hold);
         };
-        let opener = match self.may_open(hold.label(), fd, may) {
-            Ok(opener) => opener,
-            Err(answer) => {
+        match self.open_as(hold.label(), file, fd, may) {
+            Ok(answer) => {
                 self.give_back(cells, hold);
-                return Ok(answer);
-            }
-        };
-        match self.open_by(fd, opener, file) {
-            Ok(()) => {
-                self.give_back(cells, hold);
-                Ok(Answer::Done)
+                Ok(answer)
             }
             Err(NoMemory) => Err(hold),
         }
+    }
+
+    /// What a question is answered, where this was told of the credential that its label holds.
+    pub(crate) fn asked(&self, label: u32, told: Answer) -> Answer
+        ensures { (script : Declared) (query : Asked)
+            → IfSome (held_by self.now.state label) (λ held.
+            told ≡ reply (info_of script (query_files query)) held.cred query)
+            → Gives self.now.state (by_ask script self.now.state label query) result
+            self.now.state }
+    {
+        let Some(_) = self.held(label) else {
+            return Answer::NoHold(label);
+        };
+        told
+    }
+
+    /// May a task signal another (kill(2)), where one label holds the sender's credential and
+    /// another the target's? `may` says whether it may where they are of two processes.
+    pub(crate) fn signalled(&self, from: u32, hold: u32, to: u32, target: u32, may: bool) -> Answer
+        ensures { IfSome (held_by self.now.state hold) (λ own.
+            IfSome (held_by self.now.state target) (λ other.
+            may ≡ may_signal own.cred other.cred false))
+            → Gives self.now.state (by_signal self.now.state from hold to target) result
+            self.now.state }
+    {
+        let Some(sender) = self.tasks.process_of(from) else {
+            return Answer::NoTask(from);
+        };
+        let Some(receiver) = self.tasks.process_of(to) else {
+            return Answer::NoTask(to);
+        };
+        let Some(_) = self.held(hold) else {
+            return Answer::NoHold(hold);
+        };
+        let Some(_) = self.held(target) else {
+            return Answer::NoHold(target);
+        };
+        if may || sender == receiver {
+            Answer::Done
+        } else {
+            Answer::Eperm
+        }
+    }
+
+    /// The file is opened under the descriptor, where that may be and nothing else refuses it
+    /// (open(2)).
+    ///
+    /// # Errors
+    ///
+    /// `NoMemory` if an allocation of room for the file or for its reference fails: the state is as
+    /// it was.
+    pub(crate) fn open_as(
+        &mut self,
+        label: u32,
+        file: u32,
+        fd: u32,
+        may: bool,
+    ) -> Result<Answer, NoMemory>
+        ensures ok { IfOk result (λ answer. (script : Declared) (want : Wanted)
+            → IfSome (held_by self.old.state label) (λ held.
+            checked held.cred (info_of script (file ∷ [])) want
+            ≡ (if may then Done else Eacces))
+            → Gives self.old.state (by_open script self.old.state label file want fd) answer
+            self.new.state) }
+        ensures kept { kept self.new.state ≡ kept self.old.state }
+        ensures words { (self.new.words ≡ self.old.words) × (self.new.places ≡ self.old.places) }
+        ensures err { OnErr result (self.new ≡ self.old) }
+    {
+        let opener = match self.may_open(label, fd, may) {
+            Ok(opener) => opener,
+            Err(answer) => return Ok(answer),
+        };
+        self.open_by(fd, opener, file)?;
+        Ok(Answer::Done)
     }
 }

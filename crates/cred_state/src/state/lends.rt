@@ -7,7 +7,7 @@ ghost use Rattle.cred_work.specs.Decisions.{bare, event_of, AreOf};
 ghost use Rattle.cred_tables.specs.Kept.{cred_under, seen_in, IsInUse};
 ghost use Rattle.cred_tables.specs.Out.{AreHome, AreOut, hold_token, tokens_in, waits_in};
 ghost use Rattle.cred_state.specs.Lending.{entries_of, held_entry, with_hold, with_kept};
-ghost use Rattle.cred_state.specs.Lending.{is_decided, with_lent, IsHome, IsKeptBy, IsNs, IsStanding, WereLent};
+ghost use Rattle.cred_state.specs.Lending.{is_decided, with_lent, IsHome, IsKeptBy, IsNs, IsStanding};
 
 use crate::state::State;
 use cred_event::{Change, Event};
@@ -17,7 +17,7 @@ use cred_work::Lent;
 
 /// The namespace of an event that is decided by none. No script declares it, so that its root ids,
 /// of which there are none, take no memory where they are copied.
-pub(super) const NO_NS: u32 = u32::MAX;
+const NO_NS: u32 = u32::MAX;
 
 impl State {
     /// Lends what the event is decided on, under the labels that it names: nothing where it isn't
@@ -34,7 +34,6 @@ impl State {
         ensures tokens { IfSome result (λ lent. entries_of lent
             ≡ tokens_in self.old.state event.now) }
         ensures bare { IfSome result (λ lent. bare lent ≡ lent) }
-        ensures were { IfSome result (WereLent self.old) }
         ensures lent { IfSome result (λ lent. self.new ≡ with_lent self.old lent) }
         ensures none { IfNone result (self.new ≡ self.old) }
     {
@@ -97,8 +96,8 @@ impl State {
         Some(self.look_ns(cells, base))
     }
 
-    /// The user namespace whose root ids an event is decided by: for an execve that of the base, and
-    /// for others none that a script declares. `None` where it isn't decided on credentials.
+    /// The user namespace whose root ids an event is decided by: for a change that of `change_ns`,
+    /// and for others none that a script declares. `None` where it isn't decided on credentials.
     pub fn deciding_ns(&mut self, cells: &Cells, event: &Event) -> Option<u32>
         requires own { self.old.words.id ≡ cells.now }
         ensures decided { is_some result ≡ is_decided event.now }
@@ -106,15 +105,22 @@ impl State {
         ensures same { self.new ≡ self.old }
     {
         match event {
-            Event::Alter {
-                label,
-                change: Change::Exec { .. },
-            } => Some(self.base_ns(cells, *label).unwrap_or(0)),
-            Event::Ask { .. }
-            | Event::Signal { .. }
-            | Event::Alter { .. }
-            | Event::OpenFile { .. } => Some(NO_NS),
+            Event::Alter { label, change } => Some(self.change_ns(cells, *label, *change)),
+            Event::Ask { .. } | Event::Signal { .. } | Event::OpenFile { .. } => Some(NO_NS),
             _ => None,
+        }
+    }
+
+    /// The user namespace whose root ids a change of the label is decided by: for an execve that of
+    /// the base, and for others none that a script declares.
+    pub(super) fn change_ns(&mut self, cells: &Cells, label: u32, change: Change) -> u32
+        requires own { self.old.words.id ≡ cells.now }
+        ensures ns { IsNs self.old.state (Event.Alter label change) result }
+        ensures same { self.new ≡ self.old }
+    {
+        match change {
+            Change::Exec { .. } => self.base_ns(cells, label).unwrap_or(0),
+            _ => NO_NS,
         }
     }
 
@@ -168,7 +174,7 @@ impl State {
     /// `None` where it prepares nothing.
     // No call, since what it takes or gives is large, and would be moved.
     #[inline(always)]
-    fn lend_kept(&mut self, cells: &Cells, label: u32) -> Option<(Hold, Writer)>
+    pub(super) fn lend_kept(&mut self, cells: &Cells, label: u32) -> Option<(Hold, Writer)>
         requires own { self.old.words.id ≡ cells.now }
         requires sound { IsSound self.old.state }
         requires out { AreOut self.old.state self.old.words.out }

@@ -1,13 +1,11 @@
-use Rattle.std.proofs.Common.{◌≡◌, ◌∷◌, [], None, Some, sym, ap, ◌∙◌, subst}
+use Rattle.std.proofs.Common.{◌≡◌, ◌∷◌, [], None, ap, subst, sym}
 use Rattle.std.specs.Prelude.{Contains}
 use Rattle.std.proofs.lemmas.List.Elements.{Contains-push}
 use Rattle.cred_event.specs.declared.event.Event.TheVariants.{Ask}
-use Rattle.cred_hold.specs.Tokens.{Held, entry}
+use Rattle.cred_hold.specs.Tokens.{Held}
 use Rattle.cred_work.specs.declared.lent.Lent.TheVariants.{Asking}
-use Rattle.cred_tables.specs.Kept.{seen_in}
-use Rattle.cred_tables.proofs.Outs.{hold_token_is}
 use Rattle.cred_state.specs.Lending.{with_lent}
-use Rattle.cred_state.proofs.Asking.{were_of}
+use Rattle.cred_state.proofs.Asking.{were_asked}
 use Rattle.cred_state.proofs.Deciding.{back_one, lent_are, lent_sound}
 use Rattle.cred_state.proofs.Returns.{holds_apart}
 use Rattle.cred_state.proofs.Standing.{held-in_use}
@@ -21,11 +19,8 @@ give_back-requires-clause-apart c =
     let s = c.args.self.now in
     let hold = c.lend_found-hold.result in
     let lent = c.lend_found-hold.ensures in
-    let its : hold.label ≡ c.args.label = ap (λ (h : Held). h.label) lent.hold in
-    let were = were_of s c.args.cells.now (Asking hold c.args.query None) (Ask c.args.label c.args.query) (ap (λ l. Ask l c.args.query) its)
-    (ap (λ (h : Held). h.id) lent.hold)
-    (ap (λ (h : Held). entry h.label h.slot (Some h.cred) ∷ []) lent.hold ∙ sym (hold_token_is s.state c.args.label _ (sym c.in-Some.ensures)))
-    c.requires.sound c.requires.out c.requires.home lent.standing in
+    let were = were_asked s c.args.cells.now c.args.label _ hold (sym c.in-Some.ensures) lent.hold c.requires.sound c.requires.out lent.standing
+    c.args.query c.requires.home in
     let now = with_lent s (Asking hold c.args.query None) in
     rw lent.lent (holds_apart now.state now.words.out (lent_sound were) (lent_are were))
 

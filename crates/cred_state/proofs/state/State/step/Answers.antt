@@ -29,3 +29,12 @@ returns-in-Act-clause-ok c = rw c.in-Act.is c.act.ensures.ok
 
 pub returns-in-TakeFile-clause-ok : goal.returns-in-TakeFile-clause-ok
 returns-in-TakeFile-clause-ok c = c.step_label.ensures.ok c.args.script.now c.args.line
+
+pub signal-requires-clause-home : goal.signal-requires-clause-home
+signal-requires-clause-home c = rw c.in-Signal.is at c.requires.home
+
+pub alter-requires-clause-home : goal.alter-requires-clause-home
+alter-requires-clause-home c = rw c.in-Alter.is at c.requires.home
+
+pub open-requires-clause-home : goal.open-requires-clause-home
+open-requires-clause-home c = rw c.in-OpenFile.is at c.requires.home
