@@ -7,16 +7,8 @@ use Rattle.std.specs.declared.option.Option.{Option}
 use Rattle.std.specs.Option.{option_and_then, option_map}
 use Rattle.atomic_table.specs.Seated.{TableId}
 use Rattle.cred_record.specs.Credential.{Credential}
-use Rattle.cred_record.specs.declared.refusal.Denial.{Denial}
-use Rattle.cred_record.specs.declared.refusal.Denial.TheVariants as denial
-use Rattle.cred_record.specs.declared.refusal.Refusal.{Refusal}
-use Rattle.cred_record.specs.declared.refusal.Refusal.TheVariants as refusal
 use Rattle.cred_event.specs.declared.event.Event.{Event}
 use Rattle.cred_event.specs.declared.event.Event.TheVariants.{Ask, Signal, Alter, OpenFile}
-use Rattle.cred_event.specs.declared.event.Event.TheVariants.{Init, Begin, Act, Spawn, Fork, Exit}
-use Rattle.cred_event.specs.declared.event.Event.TheVariants.{Take, TakeFile, Release, Prepare}
-use Rattle.cred_event.specs.declared.event.Event.TheVariants.{Commit, Abort, Override, Revert}
-use Rattle.cred_event.specs.declared.event.Event.TheVariants.{CloseFile, Sweep}
 use Rattle.cred_event.specs.declared.event.Change.TheVariants.{Exec}
 use Rattle.cred_event.specs.declared.event.Change.{Change}
 use Rattle.cred_model.specs.Change.{Made, by_change}
@@ -143,25 +135,6 @@ is_decided (Signal from label to target) = true
 is_decided (Alter label change) = true
 is_decided (OpenFile label file want fd) = true
 is_decided event = false
-
--- a task is created by the event, ends by it, or makes an id call or a step of one
-abbrev pub is_of_task : Event → Bool
-is_of_task (Init task process user group ns) = true
-is_of_task (Spawn task child) = true
-is_of_task (Fork task child process) = true
-is_of_task (Exit task) = true
-is_of_task event = false
-
--- the event is on a label, on what a task acts with or on a descriptor, or is a sweep, and is
--- decided on nothing that is lent
-abbrev pub is_of_label : Event → Bool
-is_of_label (TakeFile label fd) = true
-is_of_label (Abort label) = true
-is_of_label (Override task label) = true
-is_of_label (Revert task) = true
-is_of_label (CloseFile fd) = true
-is_of_label Sweep = true
-is_of_label event = false
 
 -- The label holds the credential of this number, which may open the file, and the descriptor is
 -- new.

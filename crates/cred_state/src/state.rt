@@ -1,8 +1,10 @@
 //! The state of a run: the tasks, the open broadcasts, the open files, the holds, the prepared
 //! labels, the master of the shared words that the credentials stand in, and a table of slots that
 //! counts the references to them.
-ghost use Rattle.std.specs.Prelude.{◌≡◌, ◌||◌, [], Some, is_some, length, IfOk, OnErr};
+ghost use Rattle.std.specs.Prelude.{◌≡◌, ◌||◌, ℕ, [], Some, is_some, length, IfOk, OnErr};
 ghost use Rattle.std.specs.Option.{option_map};
+ghost use Rattle.cred_event.specs.declared.event.Event.TheVariants.{Sweep};
+ghost use Rattle.cred_model.specs.Script.{Script as Declared};
 ghost use Rattle.cred_model.specs.State.{opening, hold_of, prepared_of, current_of, credential_of};
 ghost use Rattle.cred_model.specs.State.{held_by, numbered};
 ghost use Rattle.cred_model.specs.Slots as model;
@@ -21,10 +23,10 @@ mod lends;
 mod overrides;
 mod prepare;
 mod returns;
-mod steps;
 mod tasks;
 
 use cred_cast::Casts;
+use cred_declared::root_of;
 use cred_event::{Answer, Counted, Event, Named, Side};
 use cred_files::Files;
 use cred_hold::{Cells, Master, make};
@@ -176,14 +178,29 @@ impl State {
             Event::Commit { label } => self.commit(*label),
             Event::Begin { task, call } => self.begin(cells, line, *task, call),
             Event::Act { cast } => self.act(cells, *cast),
-            Event::Init { .. } | Event::Spawn { .. } | Event::Fork { .. } | Event::Exit { .. } =>
-                self.step_task(cells, script, line, event),
-            Event::TakeFile { .. }
-            | Event::Abort { .. }
-            | Event::Override { .. }
-            | Event::Revert { .. }
-            | Event::CloseFile { .. }
-            | Event::Sweep => self.step_label(cells, event),
+            Event::Init {
+                task,
+                process,
+                user,
+                group,
+                ns,
+            } => {
+                let root = root_of(script, *ns);
+                self.init(cells, *task, *process, *user, *group, *ns, root)
+            }
+            Event::Spawn { task, child } => self.spawn(*task, *child),
+            Event::Fork {
+                task,
+                child,
+                process,
+            } => self.fork(*task, *child, *process),
+            Event::Exit { task } => self.exit(*task),
+            Event::TakeFile { label, fd } => self.take_file(*label, *fd),
+            Event::Abort { label } => Ok(self.abort(*label)),
+            Event::Override { task, label } => self.override_with(*task, *label),
+            Event::Revert { task } => Ok(self.revert(*task)),
+            Event::CloseFile { fd } => Ok(self.close_file(*fd)),
+            Event::Sweep => Ok(self.sweep()),
         }
     }
 
@@ -318,6 +335,16 @@ impl State {
             return Answer::NoHold(label);
         };
         self.slots.drop_later(number);
+        Answer::Done
+    }
+
+    /// All references that were given up since the last sweep are let go.
+    fn sweep(&mut self) -> Answer
+        ensures made { (script : Declared) (line : ℕ)
+            → Gives self.old.state (done script self.old.state line Sweep) result self.new.state }
+        ensures words { self.new.words ≡ self.old.words }
+    {
+        self.slots.sweep();
         Answer::Done
     }
 }
