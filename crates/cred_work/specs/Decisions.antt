@@ -54,6 +54,12 @@ abbrev pub IsPut : Lent → Type 0
 IsPut (Altering base writer change (Some (Ok made))) = writer.put ≡ Some made.cred
 IsPut lent = ⊤
 
+-- where the change was refused, the writer has put what it had put before
+abbrev pub PutStays : Lent → Lent → Type 0
+PutStays (Altering base before change last) (Altering kept after asked (Some (Err answer))) =
+    after.put ≡ before.put
+PutStays before after = ⊤
+
 -- what was decided, if anything was, is as the rules have it, on the credentials of the holds
 abbrev pub IsRight : Option File → List ℕ → Lent → Type 0
 IsRight file chain (Asking hold query told) =

@@ -2,6 +2,7 @@
 ghost use Rattle.std.specs.Prelude.{◌≡◌, true, OnOk, OnErr};
 ghost use Rattle.std.specs.Option.{option_map};
 ghost use Rattle.cred_work.specs.Decisions.{bare, event_of, is_decided, AreOf, IsPut, IsRight};
+ghost use Rattle.cred_work.specs.Decisions.{PutStays};
 
 use crate::changes::alter;
 use crate::made::BoxedMade;
@@ -113,6 +114,7 @@ impl Lent {
         ensures right { OnOk result (IsRight (option_map (λ file. file.now) file.entry) chain.now
             self.new) }
         ensures put { OnOk result (IsPut self.new) }
+        ensures refused { OnOk result (PutStays self.old self.new) }
         ensures stays { bare self.new ≡ bare self.old }
         ensures same { OnErr result (self.new ≡ self.old) }
     {

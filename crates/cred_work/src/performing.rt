@@ -1,6 +1,6 @@
 //! A work is decided.
 ghost use Rattle.std.specs.Prelude.{◌≡◌, OnOk, OnErr};
-ghost use Rattle.cred_work.specs.Decisions.{AreOf};
+ghost use Rattle.cred_work.specs.Decisions.{AreOf, PutStays};
 ghost use Rattle.cred_work.specs.Works.{Stays, IsDecided};
 
 use crate::work::{Parts, Work};
@@ -18,6 +18,7 @@ pub fn perform(alloc: Global, cells: &Cells, work: &mut Work) -> Result<(), NoMe
     requires own { AreOf cells.now work.old.lent }
     ensures decided { OnOk result (IsDecided work.new) }
     ensures stays { Stays work.old work.new }
+    ensures refused { OnOk result (PutStays work.old.lent work.new.lent) }
     ensures same { OnErr result (work.new ≡ work.old) }
 {
     let Work { parts } = work;
