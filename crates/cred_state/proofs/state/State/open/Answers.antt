@@ -1,6 +1,7 @@
 use Rattle.std.proofs.Common.{◌≡◌, ◌∷◌, [], None, ap, subst, sym, ◌∙◌}
 use Rattle.std.specs.Prelude.{Contains}
 use Rattle.std.proofs.lemmas.List.Elements.{Contains-push}
+use Rattle.std.proofs.lemmas.Result.{err_from_is_err_and}
 use Rattle.cred_event.specs.declared.event.Event.TheVariants.{OpenFile}
 use Rattle.cred_hold.specs.Tokens.{Held}
 use Rattle.cred_work.specs.declared.lent.Lent.TheVariants.{Opening}
@@ -36,7 +37,8 @@ returns-in_err-may-clause-err c =
     (OpenFile label c.args.file c.args.want c.args.fd) c.requires.home
     (subst (λ n. Contains (label ∷ []) n) (sym its) (Contains-push [] label)) lent.lent
     back.state back.places back.id (rw c.may_open-may.ensures.same at back.taken) in
-    rw c.from_residual.ensures same
+    let p = err_from_is_err_and c.from_residual.result c.from_residual.ensures.1 in
+    rw p.1 same
 
 pub returns-in_err-may-clause-words : goal.returns-in_err-may-clause-words
 returns-in_err-may-clause-words c =
