@@ -7,8 +7,8 @@ use cred_record::Cred;
 use std::alloc::Global;
 use std::marker::Model;
 
-/// What a change makes, in memory of its own: it is large, and what is lent is moved often. Contracts
-/// see what the change makes.
+/// What a change makes, in memory of its own: it is large, and what is lent is moved often.
+/// Contracts see what the change makes.
 pub struct BoxedMade {
     made: Box<Made>,
 }

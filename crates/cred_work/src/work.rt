@@ -94,8 +94,8 @@ impl Asked {
 }
 
 /// An event that waits for its decision: the tokens that are lent for it, with the decision once it
-/// is made, and what it is decided by. Contracts see the record `Work` of `specs/Work.antt`. To move
-/// one is cheap: it stands in memory of its own.
+/// is made, and what it is decided by. Contracts see the record `Work` of `specs/Work.antt`. To
+/// move one is cheap: it stands in memory of its own.
 pub struct Work {
     pub(crate) parts: Box<Parts>,
 }

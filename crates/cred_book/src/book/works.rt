@@ -166,8 +166,8 @@ impl Book {
         ensures entered { OnOk result (IsEntered self.old self.new work) }
         ensures passes { IfOk result (λ cursor. IfSome (line_at self.old.script course.line)
             (λ line. MovesOnTo self.old.script lane
-            (course_model.after line.content course (answer_of self.old course.line (event_of work.lent)))
-            cursor)) }
+            (course_model.after line.content course
+            (answer_of self.old course.line (event_of work.lent))) cursor)) }
         ensures err { IfErr result (λ unfinished. (unfinished.work ≡ work)
             × (self.new ≡ self.old)) }
     {

@@ -209,8 +209,8 @@ impl State {
     ///
     /// # Errors
     ///
-    /// The hold, which is still lent, where nothing was decided, or where there is no memory for the
-    /// file. The state is as it was.
+    /// The hold, which is still lent, where nothing was decided, or where there is no memory for
+    /// the file. The state is as it was.
     fn opened(
         &mut self,
         cells: &Cells,

@@ -7,7 +7,8 @@ ghost use Rattle.cred_work.specs.Decisions.{bare, event_of, AreOf};
 ghost use Rattle.cred_tables.specs.Kept.{cred_under, seen_in, IsInUse};
 ghost use Rattle.cred_tables.specs.Out.{AreHome, AreOut, hold_token, tokens_in, waits_in};
 ghost use Rattle.cred_state.specs.Lending.{entries_of, held_entry, with_hold, with_kept};
-ghost use Rattle.cred_state.specs.Lending.{is_decided, with_lent, IsHome, IsKeptBy, IsNs, IsStanding};
+ghost use Rattle.cred_state.specs.Lending.{is_decided, with_lent, IsHome, IsKeptBy, IsNs};
+ghost use Rattle.cred_state.specs.Lending.{IsStanding};
 
 use crate::state::State;
 use cred_event::{Change, Event};
