@@ -159,6 +159,43 @@ impl State {
     {
         match event {
             Event::Ask { label, query } => self.ask(cells, script, *label, *query),
+            Event::Take { label, task, side } => self.take(*label, *task, *side),
+            Event::Release { label } => Ok(self.release(*label)),
+            Event::Prepare { label, task, hold } => self.prepare(cells, *label, *task, *hold),
+            Event::Commit { label } => self.commit(*label),
+            Event::Begin { task, call } => self.begin(cells, line, *task, call),
+            Event::Act { cast } => self.act(cells, *cast),
+            _ => self.step_any(cells, script, line, event),
+        }
+    }
+
+    /// Makes any event, as `step` does, which makes those of calls and questions by itself.
+    ///
+    /// # Errors
+    ///
+    /// As `step` has them.
+    // No part of `step`: what an arm makes and passes has room there, cleared at each event.
+    #[inline(never)]
+    fn step_any(
+        &mut self,
+        cells: &Cells,
+        script: &Script,
+        line: u32,
+        event: &Event,
+    ) -> Result<Answer, NoMemory>
+        requires own { self.old.words.id ≡ cells.now }
+        requires out { AreOut self.old.state self.old.words.out }
+        requires home { AreHome event.now self.old.words.out }
+        requires kind { IsEventOf (length script.now.files) script.now.namespaces event.now }
+        requires sound { IsSound self.old.state }
+        ensures ok { IfOk result (λ answer.
+            GivesLike self.old.state (done script.now self.old.state line event.now) answer
+            self.new.state) }
+        ensures err { OnErr result (self.new ≡ self.old) }
+        ensures words { self.new.words ≡ self.old.words }
+    {
+        match event {
+            Event::Ask { label, query } => self.ask(cells, script, *label, *query),
             Event::Signal {
                 from,
                 hold,
