@@ -5,7 +5,7 @@ ghost use Rattle.cred_model.specs.Change.{by_change};
 ghost use Rattle.cred_work.specs.Decisions.{put_by};
 
 use crate::made::BoxedMade;
-use cred_decide::change as change_of;
+use cred_decide::{Made, change as change_of};
 use cred_event::{Answer, Change};
 use cred_hold::{Cells, Hold, Writer, put, read};
 use cred_ids::{Id, NoMemory};
@@ -28,6 +28,35 @@ pub fn alter(
     file: Option<&FileInfo>,
     chain: &[Id],
     writer: &mut Writer,
+) -> Result<Result<Made, Answer>, NoMemory>
+    requires own { (base.old.id ≡ cells.now) × (writer.old.id ≡ cells.now) }
+    ensures made { IfOk result (λ made. made ≡ by_change
+        (option_map (λ file. file.now) file.entry) chain.now base.old.cred change.now) }
+    ensures put { IfOk result (λ made. writer.new ≡ put_by made writer.old) }
+    ensures base { base.new ≡ base.old }
+    ensures same { OnErr result (writer.new ≡ writer.old) }
+{
+    let made = make(alloc, cells, base, change, file, chain)?;
+    if let Ok(new) = &made {
+        put(cells, writer, &new.cred);
+    }
+    Ok(made)
+}
+
+/// The same, for a decision that is kept: what the change makes gets memory of its own, before it
+/// is put.
+///
+/// # Errors
+///
+/// `NoMemory` if an allocation fails.
+pub(crate) fn alter_boxed(
+    alloc: Global,
+    cells: &Cells,
+    base: &mut Hold,
+    change: &Change,
+    file: Option<&FileInfo>,
+    chain: &[Id],
+    writer: &mut Writer,
 ) -> Result<Result<BoxedMade, Answer>, NoMemory>
     requires own { (base.old.id ≡ cells.now) × (writer.old.id ≡ cells.now) }
     ensures made { IfOk result (λ made. made ≡ by_change
@@ -36,8 +65,7 @@ pub fn alter(
     ensures base { base.new ≡ base.old }
     ensures same { OnErr result (writer.new ≡ writer.old) }
 {
-    let old = read(alloc, cells, base)?;
-    match change_of(&old, file, chain, change)? {
+    match make(alloc, cells, base, change, file, chain)? {
         Ok(new) => {
             let new = BoxedMade::new(alloc, new)?;
             put(cells, writer, new.cred());
@@ -45,4 +73,23 @@ pub fn alter(
         }
         Err(answer) => Ok(Err(answer)),
     }
+}
+
+/// What the change makes of the credential that is held. The hold stays as it was.
+#[inline(always)]
+fn make(
+    alloc: Global,
+    cells: &Cells,
+    base: &mut Hold,
+    change: &Change,
+    file: Option<&FileInfo>,
+    chain: &[Id],
+) -> Result<Result<Made, Answer>, NoMemory>
+    requires own { base.old.id ≡ cells.now }
+    ensures made { IfOk result (λ made. made ≡ by_change
+        (option_map (λ file. file.now) file.entry) chain.now base.old.cred change.now) }
+    ensures base { base.new ≡ base.old }
+{
+    let old = read(alloc, cells, base)?;
+    change_of(&old, file, chain, change)
 }

@@ -4,7 +4,7 @@ ghost use Rattle.std.specs.Option.{option_map};
 ghost use Rattle.cred_work.specs.Decisions.{bare, event_of, is_decided, AreOf, IsPut, IsRight};
 ghost use Rattle.cred_work.specs.Decisions.{PutStays};
 
-use crate::changes::alter;
+use crate::changes::alter_boxed;
 use crate::made::BoxedMade;
 use crate::questions::{decide, may_open};
 use crate::signals::decide_signal;
@@ -144,7 +144,7 @@ impl Lent {
                 change,
                 made,
             } => {
-                *made = Some(alter(alloc, cells, base, change, file, chain, writer)?);
+                *made = Some(alter_boxed(alloc, cells, base, change, file, chain, writer)?);
             }
         }
         Ok(())

@@ -2,6 +2,7 @@
 ghost use Rattle.std.specs.Prelude.{◌≡◌, IfOk};
 
 use cred_decide::Made;
+use cred_event::Answer;
 use cred_ids::NoMemory;
 use cred_record::Cred;
 use std::alloc::Global;
@@ -57,5 +58,15 @@ impl BoxedMade {
     {
         let BoxedMade { made } = self;
         Box::into_inner(made)
+    }
+}
+
+/// What was decided of a change, out of its memory.
+pub fn unboxed(made: Result<BoxedMade, Answer>) -> Result<Made, Answer>
+    ensures { result ≡ made }
+{
+    match made {
+        Ok(made) => Ok(made.into_made()),
+        Err(answer) => Err(answer),
     }
 }

@@ -30,7 +30,7 @@ use cred_event::{Answer, Change};
 use cred_hold::{Cells, Hold, Writer};
 use cred_ids::NoMemory;
 use cred_tables::Changed;
-use cred_work::{BoxedMade, Lent};
+use cred_work::{Lent, unboxed};
 
 impl State {
     /// Enters an event as it was decided, and takes back what was lent for it. A change that is
@@ -115,7 +115,10 @@ impl State {
                 change,
                 made,
             } => match made {
-                Some(made) => Ok(self.altered(cells, base, writer, change, made)),
+                Some(made) => {
+                    let made = unboxed(made);
+                    Ok(self.altered(cells, base, writer, change, made))
+                }
                 None => Err(Lent::Altering {
                     base,
                     writer,
@@ -136,7 +139,7 @@ impl State {
         base: Hold,
         writer: Writer,
         change: Change,
-        made: Result<BoxedMade, Answer>,
+        made: Result<Made, Answer>,
     ) -> Answer
         requires own { (self.old.words.id ≡ cells.now) × (base.id ≡ cells.now)
             × (writer.id ≡ cells.now) }
@@ -166,7 +169,7 @@ impl State {
         label: u32,
         change: Change,
         writer: Writer,
-        made: Result<BoxedMade, Answer>,
+        made: Result<Made, Answer>,
     ) -> Answer
         requires own { (self.old.words.id ≡ cells.now) × (writer.id ≡ cells.now) }
         requires label { writer.label ≡ label }
@@ -184,12 +187,11 @@ impl State {
         ensures kept { kept self.new.state ≡ kept self.old.state }
     {
         match made {
-            Ok(made) => {
-                let Made {
-                    answer,
-                    cred,
-                    gains,
-                } = made.into_made();
+            Ok(Made {
+                answer,
+                cred,
+                gains,
+            }) => {
                 let to = Changed {
                     change,
                     cred,
