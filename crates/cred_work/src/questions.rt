@@ -113,6 +113,7 @@ fn checked(
 
 /// Whether the file may be opened so, by the parts of the credential that this asks of. What is
 /// no file may not.
+#[inline(always)]
 pub fn may_open(
     alloc: Global,
     cells: &Cells,

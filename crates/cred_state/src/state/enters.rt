@@ -187,11 +187,12 @@ impl State {
         ensures kept { kept self.new.state ≡ kept self.old.state }
     {
         match made {
-            Ok(Made {
-                answer,
-                cred,
-                gains,
-            }) => {
+            Ok(made) => {
+                let Made {
+                    answer,
+                    cred,
+                    gains,
+                } = made;
                 let to = Changed {
                     change,
                     cred,

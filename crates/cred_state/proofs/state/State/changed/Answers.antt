@@ -14,7 +14,7 @@ returns-in-Ok-clause-made c = λ script chain base right own.
     let s = c.args.self.now.state in
     let out = c.args.self.now.words.out in
     let slot = c.args.writer.slot in
-    let r = rw (c.in-Ok.is, ← c.into_made.ensures, ← c.answer.view_is) at right in
+    let r = rw (c.in-Ok.is, ← c.made.view_is) at right in
     let has = subst (λ (n : ℕ). Has out (entry n slot None)) c.requires.label (has_taken out _ c.change_to.new.self.words.out c.change_to.ensures.taken) in
     let w = writer_is s out c.args.label slot c.requires.out has in
     does_made (alter_made script s c.args.label c.args.change w.preparation w.base w.prepared w.sealed base own chain _ r)
