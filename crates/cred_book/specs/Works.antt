@@ -1,6 +1,6 @@
 -- The works of a book's lanes: which are out, what is lent for them, and what is true of one.
 use Rattle.std.specs.Prelude.{◌≡◌, ◌≢◌, ℕ, true, List, [], ◌++◌, length, set, Some, None, IfSome}
-use Rattle.std.specs.Prelude.{◌≤◌, All, Bool, false, is_some, if◌then◌else◌}
+use Rattle.std.specs.Prelude.{◌≤◌, All, false, is_some, if◌then◌else◌}
 use Rattle.std.specs.declared.option.Option.{Option}
 use Rattle.std.specs.List.{AllPairs, flat_map, range_with_len}
 use Rattle.std.specs.Option.{option_map_or}

@@ -10,7 +10,7 @@ use Rattle.cred_work.specs.Work.{Work}
 use Rattle.cred_work.specs.Works.{IsUndecided}
 use Rattle.cred_book.specs.Book.{Recorded}
 use Rattle.cred_book.specs.Counts as counts
-use Rattle.cred_book.specs.Counts.{Counts, IsOutNow, IsSetUp, decided_of, ended_of, entered_of, lines_in}
+use Rattle.cred_book.specs.Counts.{Counts, IsOutNow, IsSetUp, decided_of, ended_of, entered_of}
 use Rattle.cred_book.specs.Cursor.{Makes}
 use Rattle.cred_book.specs.Works.{IsLanes}
 use Rattle.cred_book.specs.declared.step.Step.{Step}

@@ -1,12 +1,10 @@
 -- A state of which tokens are lent, and decisions that hang on less than they are given.
-use Rattle.std.proofs.Common.{◌≡◌, ℕ, ◌||◌, Bool, true, false, List, [], ◌∷◌, ◌++◌, Option, None, Some, refl, sym, ap, ◌∙◌, subst}
+use Rattle.std.proofs.Common.{◌≡◌, ℕ, ◌||◌, Bool, true, false, List, [], ◌∷◌, Option, None, Some, refl, sym, ap, ◌∙◌, subst}
 use Rattle.std.specs.Option.{option_map_or}
-use Rattle.std.proofs.lemmas.List.{append-nil}
 use Rattle.cred_record.specs.Credential.{Credential}
-use Rattle.cred_record.specs.File.{File}
 use Rattle.cred_rules.specs.Access.{may_signal}
 use Rattle.cred_model.specs.Like.{IsLike}
-use Rattle.cred_model.specs.State.{State, Prepared, Numbered, numbered, held_by, prepared_of}
+use Rattle.cred_model.specs.State.{State, Prepared, Numbered, numbered, prepared_of}
 use Rattle.cred_model.proofs.Likes.{like_self}
 use Rattle.cred_sound.specs.Sound.{IsSound}
 use Rattle.cred_hold.specs.Tokens.{Entry, Held, Written, entry}
@@ -14,7 +12,7 @@ use Rattle.cred_work.specs.Decisions.{AreOf, bare, event_of}
 use Rattle.cred_work.specs.declared.lent.Lent.{Lent}
 use Rattle.cred_work.specs.declared.lent.Lent.TheVariants.{Asking, Opening, Signalling, Altering}
 use Rattle.cred_tables.specs.Kept.{Standing}
-use Rattle.cred_tables.specs.Out.{cleared, hold_token, tokens_in}
+use Rattle.cred_tables.specs.Out.{cleared, tokens_in}
 use Rattle.cred_tables.proofs.Outs.{cleared_like}
 use Rattle.cred_state.specs.Lending.{IsChain, entries_of, held_entry, with_lent}
 use Rattle.cred_model.specs.Script.{Script}

@@ -1,6 +1,6 @@
 //! What a work has: what is lent for an event, with the event's line and all else that its decision
 //! needs.
-ghost use Rattle.std.specs.Prelude.{◌≡◌, IfOk, IfErr};
+ghost use Rattle.std.specs.Prelude.{◌≡◌, IfOk};
 ghost use Rattle.cred_work.specs.Work.{work_of};
 
 use crate::lent::Lent;

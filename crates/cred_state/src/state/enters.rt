@@ -1,7 +1,6 @@
 //! Events are entered as they were decided on what was lent for them.
 ghost use Rattle.std.specs.Prelude.{◌≡◌, ◌∷◌, [], List, ℕ, Result, Some, None, IfOk, IfErr, IfSome};
 ghost use Rattle.std.specs.Prelude.{false, if◌then◌else◌, OnErr, OnOk};
-ghost use Rattle.cred_event.specs.declared.answer.Answer.{Answer as Answered};
 ghost use Rattle.cred_event.specs.declared.answer.Answer.TheVariants.{Done, Eacces};
 ghost use Rattle.cred_event.specs.declared.event.Query.{Query as Asked};
 ghost use Rattle.cred_model.specs.Answers.{checked, reply};

@@ -35,7 +35,7 @@ invariant_of-self-in-Ok-enter c =
     let b = c.self.inside in
     let w : Work = c.args.work in
     let apart = c.apart-asked.ensures in
-    let line : c.apart-asked.result.0.line ≡ w.line = ap (λ (x : Work). x.line) (sym apart) in
+    let line : c.line-line.result ≡ w.line = c.line-line.ensures ∙ ap (λ (x : Work). x.line) (sym apart) in
     let entered : c.event-event.result ≡ event_of w.lent = c.event-event.ensures ∙ ap (λ (x : Work). event_of x.lent) (sym apart) in
     let lent : c.apart-asked.result.1 ≡ w.lent = ap (λ (x : Work). x.lent) (sym apart) in
     let taken : AreTaken (entries_of w.lent) b.state.words.out c.enter.new.self.words.out
@@ -50,7 +50,7 @@ invariant_of-self-in-Ok-enter c =
     (c.in-Ok-enter.ensures.ok b.script w.line w.chain chain right) in
     let entry : ℕ → Event → Answer → Entry = λ line event answer. record { line = line; event = event; answer = answer } in
     let longer = c.push_reserved.ensures.items
-    ∙ ap (λ (js : List Entry). js ++ entry c.apart-asked.result.0.line c.event-event.result c.in-Ok-enter.answer ∷ []) c.reserve.ensures.items
+    ∙ ap (λ (js : List Entry). js ++ entry c.line-line.result c.event-event.result c.in-Ok-enter.answer ∷ []) c.reserve.ensures.items
     ∙ ap (λ (n : ℕ). b.journal.items ++ entry n c.event-event.result c.in-Ok-enter.answer ∷ []) line
     ∙ ap (λ (e : Event). b.journal.items ++ entry w.line e c.in-Ok-enter.answer ∷ []) entered in (
       enters b.script b.state.state c.enter.new.self.state b.journal.items c.push_reserved.new.self.items (entry w.line (event_of w.lent) c.in-Ok-enter.answer)
@@ -65,7 +65,7 @@ returns-in-Ok-enter-clause-entered c =
     let b = c.self.inside in
     let w : Work = c.args.work in
     let apart = c.apart-asked.ensures in
-    let line : c.apart-asked.result.0.line ≡ w.line = ap (λ (x : Work). x.line) (sym apart) in
+    let line : c.line-line.result ≡ w.line = c.line-line.ensures ∙ ap (λ (x : Work). x.line) (sym apart) in
     let entered : c.event-event.result ≡ event_of w.lent = c.event-event.ensures ∙ ap (λ (x : Work). event_of x.lent) (sym apart) in
     let lent : c.apart-asked.result.1 ≡ w.lent = ap (λ (x : Work). x.lent) (sym apart) in
     let taken : AreTaken (entries_of w.lent) b.state.words.out c.enter.new.self.words.out
@@ -82,7 +82,7 @@ returns-in-Ok-enter-clause-entered c =
     (c.in-Ok-enter.ensures.ok b.script w.line w.chain chain right) in
     let entry : ℕ → Event → Answer → Entry = λ line event answer. record { line = line; event = event; answer = answer } in
     let longer = c.push_reserved.ensures.items
-    ∙ ap (λ (js : List Entry). js ++ entry c.apart-asked.result.0.line c.event-event.result c.in-Ok-enter.answer ∷ []) c.reserve.ensures.items
+    ∙ ap (λ (js : List Entry). js ++ entry c.line-line.result c.event-event.result c.in-Ok-enter.answer ∷ []) c.reserve.ensures.items
     ∙ ap (λ (n : ℕ). b.journal.items ++ entry n c.event-event.result c.in-Ok-enter.answer ∷ []) line
     ∙ ap (λ (e : Event). b.journal.items ++ entry w.line e c.in-Ok-enter.answer ∷ []) entered in
     let made = replays b.script b.state.state c.enter.new.self.state b.journal.items (entry w.line (event_of w.lent) c.in-Ok-enter.answer) c.self.invariant.0 ok in
@@ -106,7 +106,6 @@ returns-in-Ok-enter-clause-passes c =
     let b = c.self.inside in
     let w : Work = c.args.work in
     let apart = c.apart-asked.ensures in
-    let line : c.apart-asked.result.0.line ≡ w.line = ap (λ (x : Work). x.line) (sym apart) in
     let lent : c.apart-asked.result.1 ≡ w.lent = ap (λ (x : Work). x.lent) (sym apart) in
     let its : event_of c.apart-asked.result.1 ≡ event_of w.lent = ap event_of lent in
     let chain = subst (λ (l : Lent). IsChain b.script l w.chain) (sym lent) (subst (λ (r : Recorded). IsChain r.script w.lent w.chain) (sym c.self.view_is) c.requires.of.chain) in

@@ -1,11 +1,10 @@
-use Rattle.std.proofs.Common.{◌≡◌, ◌∷◌, [], ℕ, List, None, sym, ap, ◌∙◌, subst}
+use Rattle.std.proofs.Common.{◌≡◌, ◌∷◌, [], List, None, sym, ap, ◌∙◌, subst}
 use Rattle.std.proofs.lemmas.List.Elements.{Contains-push}
 use Rattle.cred_event.specs.declared.event.Event.TheVariants.{Alter}
 use Rattle.cred_model.specs.Slots.{kept}
 use Rattle.cred_model.proofs.Likes.{does_like}
 use Rattle.cred_sound.specs.Sound.{IsSound}
 use Rattle.cred_hold.specs.Tokens.{Entry, Held, Written, entry}
-use Rattle.cred_work.specs.declared.lent.Lent.TheVariants.{Altering}
 use Rattle.cred_tables.specs.Kept.{Standing}
 use Rattle.cred_tables.specs.Out.{AreOut}
 use Rattle.cred_state.specs.Lending.{AreTaken, held_entry, with_kept}

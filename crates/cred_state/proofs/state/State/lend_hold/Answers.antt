@@ -1,4 +1,4 @@
-use Rattle.std.proofs.Common.{◌∷◌, [], is_some, Some, sym, ap, ◌∙◌}
+use Rattle.std.proofs.Common.{◌∷◌, [], is_some, sym, ap, ◌∙◌}
 use Rattle.cred_hold.specs.Tokens.{Held}
 use Rattle.cred_state.specs.Lending.{held_entry}
 use Rattle.cred_tables.proofs.Outs.{hold_token_is}

@@ -1,9 +1,9 @@
-use Rattle.std.proofs.Common.{◌≡◌, ◌∷◌, [], None, ap, subst, sym, ◌∙◌}
+use Rattle.std.proofs.Common.{[], None, sym}
 use Rattle.cred_model.specs.Slots.{kept}
 use Rattle.cred_sound.specs.Sound.{IsSound}
 use Rattle.cred_work.specs.declared.lent.Lent.TheVariants.{Signalling}
 use Rattle.cred_tables.specs.Out.{AreOut}
-use Rattle.cred_state.specs.Lending.{held_entry, with_lent}
+use Rattle.cred_state.specs.Lending.{with_lent}
 use Rattle.cred_state.proofs.Asking.{were_signalled}
 use Rattle.cred_state.proofs.Deciding.{back_two, lent_are, lent_sound}
 use Rattle.cred_state.proofs.Returns.{apart_taken, holds_apart}
