@@ -29,6 +29,7 @@ use cred_hold::Cells;
 use cred_ids::NoMemory;
 use cred_script::Script;
 use cred_state::State;
+use cred_work::Asked;
 use std::alloc::Global;
 use std::marker::Model;
 
@@ -39,6 +40,8 @@ use std::marker::Model;
 /// Every entry has the answer that its event gets in the state after the entries before it. The
 /// credentials stand in the shared words alone. Each token of them that is out is that of its label
 /// in this state.
+///
+/// The memory of the work that came back last is kept for the next one that goes out.
 pub struct Book {
     script: Script,
     state: State,
@@ -46,6 +49,7 @@ pub struct Book {
     cursors: Cursors,
     ended: Vec<u32>,
     outs: Vec<Option<u32>>,
+    spare: Option<Asked>,
     alloc: Global,
 }
 
@@ -83,6 +87,7 @@ impl Drop for Book {
             cursors,
             ended,
             outs,
+            spare,
             alloc: _,
         } = self;
         drop(script);
@@ -91,6 +96,7 @@ impl Drop for Book {
         drop(cursors);
         drop(ended);
         drop(outs);
+        drop(spare);
     }
 }
 
@@ -129,6 +135,7 @@ impl Book {
             cursors,
             ended,
             outs,
+            spare: None,
             alloc,
         };
         Ok((book, cells))
@@ -160,12 +167,14 @@ impl Book {
             cursors,
             ended,
             outs,
+            spare,
             alloc: _,
         } = self;
         drop(state);
         drop(cursors);
         drop(ended);
         drop(outs);
+        drop(spare);
         Journal {
             script,
             entries: journal,

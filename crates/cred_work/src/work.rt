@@ -76,6 +76,25 @@ impl Asked {
         })
     }
 
+    /// The same for another line, in the memory of this one, whose file and root ids are let go of.
+    /// No memory is taken.
+    // No call, since what it takes is large, and would be moved.
+    #[inline(always)]
+    pub fn again(self, line: u32, file: Option<FileInfo>, chain: IdList) -> Asked
+        ensures { result ≡ record {
+          line = line;
+          file = file;
+          chain = chain;
+        } }
+    {
+        let Asked { mut parts } = self;
+        let its = parts.as_mut();
+        its.line = line;
+        its.file = file;
+        its.chain = chain;
+        Asked { parts }
+    }
+
     /// The line whose event it is.
     pub fn line(&self) -> u32
         ensures { result ≡ self.now.line }

@@ -86,11 +86,37 @@ impl Book {
             return Ok(None);
         };
         let (file, chain) = self.copies(event, ns)?;
-        let asked = Asked::new(self.alloc, line, file, chain)?;
+        let asked = self.ask(line, file, chain)?;
         let Some(lent) = self.lend(cells, lane, line, event) else {
             return Ok(None);
         };
         Ok(Some(Work::of(asked, lent)))
+    }
+
+    /// What is asked for this line, with this file and these root ids: in the memory of the work that
+    /// came back last, where one did. A work goes out at every other line, and comes back before
+    /// the next one of its lane does.
+    ///
+    /// # Errors
+    ///
+    /// `NoMemory` if an allocation of new memory fails.
+    fn ask(
+        &mut self,
+        line: u32,
+        file: Option<FileInfo>,
+        chain: IdList,
+    ) -> Result<Asked, NoMemory>
+        ensures asked { IfOk result (λ asked. asked ≡ record {
+          line = line;
+          file = file;
+          chain = chain;
+        }) }
+        ensures same { self.new ≡ self.old }
+    {
+        match self.spare.take() {
+            Some(spare) => Ok(spare.again(line, file, chain)),
+            None => Asked::new(self.alloc, line, file, chain),
+        }
     }
 
     /// The user namespace whose root ids the event is decided by: that of its label's base. Only an
@@ -185,6 +211,7 @@ impl Book {
                     event,
                     answer,
                 });
+                self.spare = Some(asked);
                 Ok(cursor)
             }
             Err(lent) => Err(Unfinished {
