@@ -6,7 +6,6 @@ use Rattle.std.proofs.lemmas.Bool.{cases_eq, eq-eqb}
 use Rattle.std.proofs.lemmas.List.Elements.{Contains-push}
 use Rattle.cred_event.specs.declared.content.Stage.{Stage}
 use Rattle.cred_event.specs.declared.event.Event.{Event}
-use Rattle.cred_event.specs.declared.event.Event.TheVariants.{Ask, Signal, Alter, OpenFile}
 use Rattle.cred_model.specs.Script.{Script, Line}
 use Rattle.cred_model.specs.State.{State, Hold, Numbered, Prepared, hold_of, held_by, prepared_of}
 use Rattle.cred_model.specs.Course.{event_in}
@@ -17,9 +16,10 @@ use Rattle.cred_script.specs.Lines.{line_at}
 use Rattle.cred_cursor.proofs.Courses.{line_at-place}
 use Rattle.cred_words.specs.Lists.{Has}
 use Rattle.cred_hold.specs.Tokens.{Entry, Held, Written, entry}
-use Rattle.cred_lent.specs.Decisions.{AreFor}
-use Rattle.cred_lent.specs.declared.lent.Lent.{Lent}
-use Rattle.cred_lent.specs.declared.lent.Lent.TheVariants.{One, Two, Kept}
+use Rattle.atomic_table.specs.Seated.{TableId}
+use Rattle.cred_work.specs.Decisions.{AreOf, event_of}
+use Rattle.cred_work.specs.declared.lent.Lent.{Lent}
+use Rattle.cred_work.specs.declared.lent.Lent.TheVariants.{Asking, Opening, Signalling, Altering}
 use Rattle.cred_work.specs.Work.{Work}
 use Rattle.cred_tables.specs.Out.{AreOut, hold_token, kept_tokens, tokens_in, waits_in}
 use Rattle.cred_tables.proofs.Back.{has_taken, taken_has}
@@ -85,49 +85,40 @@ module _ (s : State) (sound : IsSound s) (out : List Entry) (are : AreOut s out)
           (λ k. entry (its k) (sym slot k) None ∷ entry (own k) (sym same.0 k) (Some (sym same.1 k)) ∷ [])
           ∙ sym (kept_tokens_are s label p c.0 at c.1)
 
-  pub tokens_back : (event : Event) (lent : Lent) → waits_in s event ≡ true → AreFor event lent → ((e : Entry) → Has (entries_of lent) e → Has out e)
-      → entries_of lent ≡ tokens_in s event
-  tokens_back (Ask label query) (One hold) waits own has = hold_back label hold own waits (has (held_entry hold) (inl refl))
-  tokens_back (OpenFile label file want fd) (One hold) waits own has = hold_back label hold own waits (has (held_entry hold) (inl refl))
-  tokens_back (Signal from label to target) (Two sender receiver) waits (own, its) has =
-      let both = both_true (is_some (hold_of s label)) (is_some (hold_of s target)) waits in
-      λ k. hold_back target receiver its both.1 (has (held_entry receiver) (inl refl)) k
-      ++ hold_back label sender own both.0 (has (held_entry sender) (inr (inl refl))) k
-  tokens_back (Alter label change) (Kept base writer) waits (own, its) has =
-      kept_back label base writer own its waits (has (entry writer.label writer.slot None) (inl refl)) (has (held_entry base) (inr (inl refl)))
-  tokens_back event lent waits own has = absurd own
+  pub tokens_back : (cells : TableId) (lent : Lent) → waits_in s (event_of lent) ≡ true → AreOf cells lent
+      → ((e : Entry) → Has (entries_of lent) e → Has out e) → entries_of lent ≡ tokens_in s (event_of lent)
+  tokens_back cells (Asking hold query told) waits of has = hold_back hold.label hold refl waits (has (held_entry hold) (inl refl))
+  tokens_back cells (Opening hold file want fd may) waits of has = hold_back hold.label hold refl waits (has (held_entry hold) (inl refl))
+  tokens_back cells (Signalling from hold to target may) waits of has =
+      let both = both_true (is_some (hold_of s hold.label)) (is_some (hold_of s target.label)) waits in
+      λ k. hold_back target.label target refl both.1 (has (held_entry target) (inl refl)) k
+      ++ hold_back hold.label hold refl both.0 (has (held_entry hold) (inr (inl refl))) k
+  tokens_back cells (Altering base writer change made) waits (own, its, same) has =
+      kept_back base.label base writer refl same waits (has (entry writer.label writer.slot None) (inl refl)) (has (held_entry base) (inr (inl refl)))
 
 -- ---- its event is the lane's next one
 
 -- one of its tokens
-pub record HasToken (event : Event) (lent : Lent) : Type 0 where
+pub record HasToken (lent : Lent) : Type 0 where
   pub it : Entry
   pub is : Has (entries_of lent) it
-  pub named : Contains (event_labels event) it.label
+  pub named : Contains (event_labels (event_of lent)) it.label
 
-only : (label other : ℕ) → other ≡ label → Contains (label ∷ []) other
-only label other is = subst (λ n. Contains (label ∷ []) n) (sym is) (Contains-push [] label)
+one_token : (cells : TableId) (lent : Lent) → AreOf cells lent → HasToken lent
+one_token cells (Asking hold query told) of =
+    record { it = entry hold.label hold.slot (Some hold.cred); is = inl refl; named = Contains-push [] hold.label }
+one_token cells (Opening hold file want fd may) of =
+    record { it = entry hold.label hold.slot (Some hold.cred); is = inl refl; named = Contains-push [] hold.label }
+one_token cells (Signalling from hold to target may) of =
+    record { it = entry target.label target.slot (Some target.cred); is = inl refl; named = Contains-push (hold.label ∷ []) target.label }
+one_token cells (Altering base writer change made) (own, its, same) =
+    record { it = entry base.label base.slot (Some base.cred); is = inr (inl refl); named = Contains-push [] base.label }
 
-one_token : (event : Event) (lent : Lent) → AreFor event lent → HasToken event lent
-one_token (Ask label query) (One hold) own =
-    record { it = entry hold.label hold.slot (Some hold.cred); is = inl refl; named = only label hold.label own }
-one_token (OpenFile label file want fd) (One hold) own =
-    record { it = entry hold.label hold.slot (Some hold.cred); is = inl refl; named = only label hold.label own }
-one_token (Signal from label to target) (Two sender receiver) (own, its) = record {
-  it = entry receiver.label receiver.slot (Some receiver.cred);
-  is = inl refl;
-  named = subst (λ n. Contains (label ∷ target ∷ []) n) (sym its) (Contains-push (label ∷ []) target);
-}
-one_token (Alter label change) (Kept base writer) (own, its) =
-    record { it = entry writer.label writer.slot None; is = inl refl; named = only label writer.label its }
-one_token event lent own = absurd own
-
-pub lent_waits : (event : Event) (lent : Lent) → AreFor event lent → may_wait event ≡ true
-lent_waits (Ask label query) lent own = refl
-lent_waits (OpenFile label file want fd) lent own = refl
-lent_waits (Signal from label to target) lent own = refl
-lent_waits (Alter label change) lent own = refl
-lent_waits event lent own = absurd own
+pub lent_waits : (lent : Lent) → may_wait (event_of lent) ≡ true
+lent_waits (Asking hold query told) = refl
+lent_waits (Opening hold file want fd may) = refl
+lent_waits (Signalling from hold to target may) = refl
+lent_waits (Altering base writer change made) = refl
 
 -- what the line of the work may make
 made_by : (script : Script) (number : ℕ) (event : Event) (o : Option Line) (line : Line) → o ≡ Some line
@@ -140,11 +131,11 @@ abbrev due_of_line : ℕ → Event → Due
 due_of_line line event = record { line = line; event = event }
 
 pub event_is : (book : Recorded) (lane : ℕ) (work : Work) → Stands book → IsLanes book lane work → (out : IsOutOf book lane work.line)
-    → ((e : Entry) → Has (entries_of work.lent) e → Has book.words.out e) → work.event ≡ out.event
+    → ((e : Entry) → Has (entries_of work.lent) e → Has book.words.out e) → event_of work.lent ≡ out.event
 event_is book lane work stands is out has = by (cases_eq at.lane lane)
   where
-    token : HasToken work.event work.lent
-    token = one_token work.event work.lent is.of.labels
+    token : HasToken work.lent
+    token = one_token book.words.id work.lent is.of.own
 
     at : HasLent book (under token.it.label)
     at = lent_by book (under token.it.label) stands
@@ -156,18 +147,18 @@ event_is book lane work stands is out has = by (cases_eq at.lane lane)
     line_is : line_at book.script work.line ≡ Some place.line
     line_is = ap (line_at book.script) place.number ∙ line_at-place book.script place.place ∙ place.here
 
-    made : (stage : Stage) × (event_in work.line place.line.content stage ≡ Some work.event)
-    made = made_by book.script work.line work.event (line_at book.script work.line) place.line line_is is.of.made
+    made : (stage : Stage) × (event_in work.line place.line.content stage ≡ Some (event_of work.lent))
+    made = made_by book.script work.line (event_of work.lent) (line_at book.script work.line) place.line line_is is.of.made
 
-    by : (at.lane ≡ lane) ⊎ (at.lane ≢ lane) → work.event ≡ out.event
+    by : (at.lane ≡ lane) ⊎ (at.lane ≢ lane) → event_of work.lent ≡ out.event
     by (inl same) =
         let one : Some (due_of_line at.line at.work.event) ≡ Some (due_of_line work.line out.event)
         = sym at.work.due ∙ ap (due_in book.script book.journal) same ∙ out.due in
         let due_same : due_of_line at.line at.work.event ≡ due_of_line work.line out.event = cc in
         let event_same : at.work.event ≡ out.event = ap (λ (d : Due). d.event) due_same in
         let stage = next_made book.journal work.line place.line.content out.event place.next in
-        same_event work.line place.line.content made.0 stage.stage work.event out.event made.1 stage.made
-        (lent_waits work.event work.lent is.of.labels) (waiting_may (replay book.script book.journal) out.event out.waits)
+        same_event work.line place.line.content made.0 stage.stage (event_of work.lent) out.event made.1 stage.made
+        (lent_waits work.lent) (waiting_may (replay book.script book.journal) out.event out.waits)
         token.it.label token.named (subst (λ (e : Event). Contains (event_labels e) token.it.label) event_same (lent_under book token.it.label at))
     by (inr other) =
         let due : Due = due_of_line work.line out.event in
@@ -181,5 +172,5 @@ event_is book lane work stands is out has = by (cases_eq at.lane lane)
         (never_setup book.script book.journal at.lane lane its due theirs mine other)
         differ place there
         (subst (λ n. IsLines n place.line.content token.it.label) place.number
-        (names_own work.line place.line.content made.0 work.event made.1 token.it.label token.named))
+        (names_own work.line place.line.content made.0 (event_of work.lent) made.1 token.it.label token.named))
         (names_at book.journal at.lane book.script.lines its there token.it.label (lent_under book token.it.label at)))

@@ -22,18 +22,19 @@ use Rattle.cred_cursor.proofs.Turns.{next_some}
 use Rattle.cred_sound.proofs.Sound.{sound_after}
 use Rattle.cred_words.specs.Lists.{Has}
 use Rattle.cred_hold.specs.Tokens.{Entry, entry}
-use Rattle.cred_lent.specs.Decisions.{AreFor, AreOf}
-use Rattle.cred_lent.specs.declared.lent.Lent.{Lent}
-use Rattle.cred_lent.specs.declared.lent.Lent.TheVariants.{Kept}
+use Rattle.cred_work.specs.Decisions.{AreOf, event_of as its_event}
+use Rattle.cred_work.specs.declared.lent.Lent.{Lent}
+use Rattle.cred_work.specs.declared.lent.Lent.TheVariants.{Altering}
 use Rattle.cred_work.specs.Work.{Work}
+use Rattle.cred_work.specs.Works.{IsUndecided}
 use Rattle.cred_tables.specs.Kept.{Words}
 use Rattle.cred_tables.specs.Out.{AreBack, AreOut, tokens_in, waits_in}
 use Rattle.cred_tables.proofs.Outs.{tokens_like}
-use Rattle.cred_state.specs.Lending.{IsChain, IsNs, entries_of}
+use Rattle.cred_state.specs.Lending.{IsChain, IsNs, entries_of, is_decided}
 use Rattle.cred_book.specs.Book.{Recorded, answer_of, out_of, with_event}
 use Rattle.cred_book.specs.Counts.{Counts, HasEntered, count_of}
 use Rattle.cred_book.specs.Cursor.{Finishes, Makes, Stands, left, moved_on}
-use Rattle.cred_book.specs.Works.{IsChainFor, IsEntered, IsLanes, IsOutOf, MayMake, lane_tokens, may_wait, with_work}
+use Rattle.cred_book.specs.Works.{IsChainFor, IsEntered, IsLanes, IsOutOf, MayMake, lane_tokens, with_work}
 use Rattle.cred_book.specs.declared.step.Step.TheVariants as step
 use Rattle.cred_book.proofs.Apart.{IsNext}
 use Rattle.cred_book.proofs.Cursors.{Moves, due_left, lane_has_out, makes_more, moves}
@@ -45,31 +46,40 @@ use Rattle.cred_book.proofs.Works.{GoesOn, IsNowOut, after, lends, lends_now, ou
 
 -- ---- out
 
--- the namespace that a state decides an event by has the root ids of what is lent for it
-pub ns_chain : (script : Script) (s t : State) (like : IsLike s t) (event : Event) (ns : ℕ) → IsNs s event ns
-    → (lent : Lent) → entries_of lent ≡ tokens_in t event → IsChain script event lent (chain_of script ns)
-ns_chain script s t like (Alter label (Exec file)) ns is (Kept base writer) tokens =
-    by (prepared_of s label) is (tokens ∙ sym (tokens_like s t like (Alter label (Exec file))))
+lent_chain : (script : Script) (s t : State) (like : IsLike s t) (ns : ℕ) (lent : Lent) → IsNs s (its_event lent) ns
+    → entries_of lent ≡ tokens_in t (its_event lent) → IsChain script lent (chain_of script ns)
+lent_chain script s t like ns (Altering base writer (Exec file) made) is tokens =
+    by (prepared_of s base.label) is (tokens ∙ sym (tokens_like s t like (Alter base.label (Exec file))))
   where
     of_base : (p : Prepared) (o : Option Numbered) → IfSome o (λ (found : Numbered). ns ≡ found.cred.ns)
         → entry writer.label writer.slot None ∷ entry base.label base.slot (Some base.cred) ∷ []
-        ≡ option_map_or (λ (found : Numbered). entry label p.slot None ∷ entry label found.slot (Some found.cred) ∷ []) o []
+        ≡ option_map_or (λ (found : Numbered). entry base.label p.slot None ∷ entry base.label found.slot (Some found.cred) ∷ []) o []
         → chain_of script ns ≡ chain_of script base.cred.ns
     of_base p None is tokens = cc
     of_base p (Some found) is tokens =
-        let second : entry base.label base.slot (Some base.cred) ≡ entry label found.slot (Some found.cred) = cc in
+        let second : entry base.label base.slot (Some base.cred) ≡ entry base.label found.slot (Some found.cred) = cc in
         let creds : Some base.cred ≡ Some found.cred = ap (λ (e : Entry). e.held) second in
         let same : base.cred ≡ found.cred = cc in
         ap (chain_of script) (is ∙ ap (λ (c : Credential). c.ns) (sym same))
 
     by : (o : Option Prepared) → IfSome o (λ (p : Prepared). IfSome (numbered s.creds p.base) (λ (found : Numbered). ns ≡ found.cred.ns))
         → entry writer.label writer.slot None ∷ entry base.label base.slot (Some base.cred) ∷ []
-        ≡ option_map_or (λ (p : Prepared). option_map_or (λ (found : Numbered). entry label p.slot None ∷ entry label found.slot (Some found.cred) ∷ [])
+        ≡ option_map_or (λ (p : Prepared). option_map_or (λ (found : Numbered). entry base.label p.slot None ∷ entry base.label found.slot (Some found.cred) ∷ [])
         (numbered s.creds p.base) []) o []
         → chain_of script ns ≡ chain_of script base.cred.ns
     by None is tokens = cc
     by (Some p) is tokens = of_base p (numbered s.creds p.base) is tokens
-ns_chain script s t like event ns is lent tokens = tt
+lent_chain script s t like ns lent is tokens = tt
+
+-- the namespace that a state decides an event by has the root ids of what is lent for it
+pub ns_chain : (script : Script) (s t : State) (like : IsLike s t) (event : Event) (ns : ℕ) → IsNs s event ns
+    → (lent : Lent) → its_event lent ≡ event → entries_of lent ≡ tokens_in t event → IsChain script lent (chain_of script ns)
+ns_chain script s t like event ns is lent named tokens =
+    lent_chain script s t like ns lent (subst (λ e. IsNs s e ns) (sym named) is) (tokens ∙ ap (tokens_in t) (sym named))
+
+pub some_each : {A : Type 0} (P Q : A → Type 0) (o : Option A) → ((x : A) → P x → Q x) → IfSome o P → IfSome o Q
+some_each P Q None each has = tt
+some_each P Q (Some x) each has = each x has
 
 -- the event of a course is one that its line may make
 pub may_make : (script : Script) (course : Course) (event : Event) → event_of script course ≡ Some event → MayMake script course.line event
@@ -86,7 +96,7 @@ may_make script course event has = by (line_at script course.line) has
     by (Some line) has = of line course.stage has
 
 -- an event of another kind never waits
-pub never_waits : (s : State) (event : Event) → may_wait event ≡ false → waits_in s event ≡ false
+pub never_waits : (s : State) (event : Event) → is_decided event ≡ false → waits_in s event ≡ false
 never_waits s (Ask label query) other = cc
 never_waits s (OpenFile hold file want fd) other = cc
 never_waits s (Signal from hold to target) other = cc
@@ -96,15 +106,14 @@ never_waits s event other = refl
 -- the work of the lane's next event, before it is decided
 pub record IsDueWork (book : Recorded) (lane : ℕ) (course : Course) (work : Work) : Type 0 where
   pub due : due_of book.cursors lane ≡ Some course
-  pub has : event_of book.script course ≡ Some work.event
+  pub has : event_of book.script course ≡ Some (its_event work.lent)
   pub line : course.line ≡ work.line
-  pub undecided : work.decided ≡ None
-  pub waits : waits_in (replay book.script book.journal) work.event ≡ true
+  pub undecided : IsUndecided work
+  pub waits : waits_in (replay book.script book.journal) (its_event work.lent) ≡ true
   pub own : AreOf book.words.id work.lent
-  pub labels : AreFor work.event work.lent
-  pub tokens : entries_of work.lent ≡ tokens_in (replay book.script book.journal) work.event
-  pub file : work.file ≡ info_of book.script (event_files work.event)
-  pub chain : IsChainFor book work.event work.chain
+  pub tokens : entries_of work.lent ≡ tokens_in (replay book.script book.journal) (its_event work.lent)
+  pub file : work.file ≡ info_of book.script (event_files (its_event work.lent))
+  pub chain : IsChainFor book (its_event work.lent) work.chain
 
 pub record HandsOut (before after : Recorded) (lane : ℕ) (work : Work) : Type 0 where
   pub stands : Stands after
@@ -112,7 +121,7 @@ pub record HandsOut (before after : Recorded) (lane : ℕ) (work : Work) : Type 
   pub counts : Counts before after lane (step.Work work)
 
 makes_work : (before after : Recorded) (lane : ℕ) (comes : Option logged.Entry) (made : logged.Entry) (work : Work) → comes ≡ Some made
-    → waits_in (replay before.script before.journal) made.event ≡ true → work.line ≡ made.line → work.event ≡ made.event → work.decided ≡ None
+    → waits_in (replay before.script before.journal) made.event ≡ true → work.line ≡ made.line → its_event work.lent ≡ made.event → IsUndecided work
     → IsLanes after lane work → after ≡ with_work before lane work → Makes before after lane comes (step.Work work)
 makes_work before after lane comes made work is waits line event undecided lanes same = rw is (waits, line, event, undecided, lanes, same)
 
@@ -120,21 +129,20 @@ pub hands_out : (book : Recorded) (lane : ℕ) (course : Course) (work : Work) �
     → HandsOut book (with_work book lane work) lane work
 hands_out book lane course work stands home is =
     let within = lane_has_out book lane course stands is.due in
-    let comes = next_some book.script book.journal book.cursors lane course work.event stands.cursors is.due is.has in
-    let due = subst (λ n. IsNext book.script book.journal lane (record { line = n; event = work.event })) is.line
-    (next_is book.script book.journal book.cursors lane course work.event stands.cursors is.due is.has) in
+    let comes = next_some book.script book.journal book.cursors lane course (its_event work.lent) stands.cursors is.due is.has in
+    let due = subst (λ n. IsNext book.script book.journal lane (record { line = n; event = (its_event work.lent) })) is.line
+    (next_is book.script book.journal book.cursors lane course (its_event work.lent) stands.cursors is.due is.has) in
     let now = out_set book.outs lane (Some work.line) within in
     record {
-      stands = lends book lane work.line work.event work.lent stands home due is.waits is.tokens within;
+      stands = lends book lane work.line (its_event work.lent) work.lent stands home due is.waits is.tokens within;
       made = makes_work book (with_work book lane work) lane (next book.script book.journal lane)
-          (entry_of book.script book.journal (record { line = course.line; event = work.event })) work comes is.waits (sym is.line) refl is.undecided
+          (entry_of book.script book.journal (record { line = course.line; event = (its_event work.lent) })) work comes is.waits (sym is.line) refl is.undecided
           (record {
             of = record {
               own = is.own;
-              labels = is.labels;
-              made = subst (λ n. MayMake book.script n work.event) is.line (may_make book.script course work.event is.has);
+              made = subst (λ n. MayMake book.script n (its_event work.lent)) is.line (may_make book.script course (its_event work.lent) is.has);
               file = is.file;
-              chain = is.chain work.lent is.tokens;
+              chain = is.chain work.lent refl is.tokens;
             };
             out = now.own;
           })
@@ -142,7 +150,7 @@ hands_out book lane course work stands home is =
       counts = (
         due_left book lane course stands is.due,
         refl,
-        lends_now book lane work.line work.event work.lent stands home due is.waits is.tokens within,
+        lends_now book lane work.line (its_event work.lent) work.lent stands home due is.waits is.tokens within,
       );
     }
 
@@ -206,7 +214,7 @@ pub record ComesBack (before after : Recorded) (lane : ℕ) (work : Work) : Type
   pub counts : HasEntered before after lane 1
 
 makes_back : (before after : Recorded) (lane : ℕ) (comes : Option logged.Entry) (made : logged.Entry) (work : Work) → comes ≡ Some made
-    → made.line ≡ work.line → made.event ≡ work.event → after.journal ≡ before.journal ++ made ∷ []
+    → made.line ≡ work.line → made.event ≡ (its_event work.lent) → after.journal ≡ before.journal ++ made ∷ []
     → after.outs ≡ set before.outs lane None → AreBack (entries_of work.lent) before.words after.words
     → Finishes before after lane work comes
 makes_back before after lane comes made work is line event grown outs words =
@@ -223,7 +231,7 @@ at_home book lane = record book { outs = set book.outs lane None }
 pub comes_back : (book entered : Recorded) (lane : ℕ) (course : Course) (to : Option Course) (work : Work) → Stands book
     → AreOut (replay book.script book.journal) book.words.out → IsLanes book lane work → due_of book.cursors lane ≡ Some course
     → IsEntered book entered work
-    → IfSome (line_at book.script course.line) (λ line. MovesOnTo book.script lane (model.after line.content course (answer_of book course.line work.event)) to)
+    → IfSome (line_at book.script course.line) (λ line. MovesOnTo book.script lane (model.after line.content course (answer_of book course.line (its_event work.lent))) to)
     → ComesBack book (moved_on (at_home entered lane) lane course.line to) lane work
 comes_back book entered lane course to work stands are is due back passes =
     subst (λ b. ComesBack book (moved_on (at_home b lane) lane course.line to) lane work) (sym entered_is) made
@@ -240,13 +248,13 @@ comes_back book entered lane course to work stands are is due back passes =
     has_taken : (e : Entry) → Has (entries_of work.lent) e → Has book.words.out e
     has_taken = all_taken (entries_of work.lent) book.words.out entered.words.out back.taken
 
-    event : work.event ≡ out.event
+    event : (its_event work.lent) ≡ out.event
     event = event_is book lane work stands is out has_taken
 
-    waits : waits_in (replay book.script book.journal) work.event ≡ true
+    waits : waits_in (replay book.script book.journal) (its_event work.lent) ≡ true
     waits = ap (waits_in (replay book.script book.journal)) event ∙ out.waits
 
-    goes : GoesOn book lane course work.event to
+    goes : GoesOn book lane course (its_event work.lent) to
     goes =
         let same : at.course ≡ course = let both : Some at.course ≡ Some course = sym at.is ∙ due in cc in
         record {
@@ -258,8 +266,8 @@ comes_back book entered lane course to work stands are is due back passes =
 
     tokens : entries_of work.lent ≡ lane_tokens book lane
     tokens =
-        tokens_back (replay book.script book.journal) (sound_after book.script book.journal) book.words.out are work.event work.lent
-        waits is.of.labels has_taken
+        tokens_back (replay book.script book.journal) (sound_after book.script book.journal) book.words.out are book.words.id work.lent
+        waits is.of.own has_taken
         ∙ ap (tokens_in (replay book.script book.journal)) event
         ∙ sym (lane_tokens_are book lane work.line is.out out)
 
@@ -271,20 +279,20 @@ comes_back book entered lane course to work stands are is due back passes =
     now : IsNowOut book.outs (set book.outs lane None) lane None
     now = out_set book.outs lane None (lane_has_out book lane course stands due)
 
-    m : Moves book (after book lane course work.event to (set book.outs lane None) entered.words) lane (count_of (waits_in (replay book.script book.journal) work.event))
+    m : Moves book (after book lane course (its_event work.lent) to (set book.outs lane None) entered.words) lane (count_of (waits_in (replay book.script book.journal) (its_event work.lent)))
     m = moves goes (set book.outs lane None) entered.words now returned
 
-    entered_is : entered ≡ back_in book course.line work.event entered.words
-    entered_is = back.same ∙ ap (λ n. back_in book n work.event entered.words) (sym line)
+    entered_is : entered ≡ back_in book course.line (its_event work.lent) entered.words
+    entered_is = back.same ∙ ap (λ n. back_in book n (its_event work.lent) entered.words) (sym line)
 
-    made : ComesBack book (moved_on (at_home (back_in book course.line work.event entered.words) lane) lane course.line to) lane work
+    made : ComesBack book (moved_on (at_home (back_in book course.line (its_event work.lent) entered.words) lane) lane course.line to) lane work
     made = record {
       script = refl;
       cells = back.words.id;
       stands = m.stands;
-      made = makes_back book (moved_on (at_home (back_in book course.line work.event entered.words) lane) lane course.line to) lane (next book.script book.journal lane)
-          (entry_of book.script book.journal (record { line = course.line; event = work.event })) work
-          (next_some book.script book.journal book.cursors lane course work.event stands.cursors due goes.has) line refl refl refl back.words;
+      made = makes_back book (moved_on (at_home (back_in book course.line (its_event work.lent) entered.words) lane) lane course.line to) lane (next book.script book.journal lane)
+          (entry_of book.script book.journal (record { line = course.line; event = (its_event work.lent) })) work
+          (next_some book.script book.journal book.cursors lane course (its_event work.lent) stands.cursors due goes.has) line refl refl refl back.words;
       falls = m.falls;
-      counts = subst (λ b. HasEntered book (moved_on (at_home (back_in book course.line work.event entered.words) lane) lane course.line to) lane (count_of b)) waits m.counts;
+      counts = subst (λ b. HasEntered book (moved_on (at_home (back_in book course.line (its_event work.lent) entered.words) lane) lane course.line to) lane (count_of b)) waits m.counts;
     }

@@ -12,8 +12,8 @@ use Rattle.cred_model.specs.Journal.{Due, due_in, replay}
 use Rattle.cred_names.specs.Labels.{event_labels}
 use Rattle.cred_words.specs.Lists.{Has}
 use Rattle.cred_hold.specs.Tokens.{Entry}
-use Rattle.cred_lent.specs.declared.lent.Lent.{Lent}
-use Rattle.cred_lent.specs.declared.lent.Lent.TheVariants.{One, Two, Kept}
+use Rattle.cred_work.specs.declared.lent.Lent.{Lent}
+use Rattle.cred_work.specs.declared.lent.Lent.TheVariants.{Asking, Opening, Signalling, Altering}
 use Rattle.cred_tables.specs.Kept.{Standing}
 use Rattle.cred_tables.specs.Out.{AreHome, AreOut, hold_token, kept_tokens, tokens_in}
 use Rattle.cred_tables.proofs.Outs.{IsToken, has_first, has_last, has_out, held_token, kept_token, out_has}
@@ -82,9 +82,10 @@ out_lent s event lent out tokens are = has_out s (entries_of lent ++ out) (λ e 
     by e (inr has) = out_has s out e are has
 
 pub words_lent : (before : Standing) (lent : Lent) → (with_lent before lent).words.out ≡ entries_of lent ++ before.words.out
-words_lent before (One hold) = refl
-words_lent before (Two from to) = refl
-words_lent before (Kept base writer) = refl
+words_lent before (Asking hold query told) = refl
+words_lent before (Opening hold file want fd may) = refl
+words_lent before (Signalling from hold to target may) = refl
+words_lent before (Altering base writer change made) = refl
 
 -- ---- what a lane's work has
 

@@ -19,7 +19,7 @@ use Rattle.cred_cursor.specs.Cursor.{MovesOnTo}
 use Rattle.cred_cursor.specs.Cursors.{AreCursors, due_of}
 use Rattle.cred_cursor.proofs.Turns.{lanes_go_on}
 use Rattle.cred_hold.specs.Tokens.{Entry}
-use Rattle.cred_lent.specs.declared.lent.Lent.{Lent}
+use Rattle.cred_work.specs.declared.lent.Lent.{Lent}
 use Rattle.cred_tables.specs.Kept.{Words}
 use Rattle.cred_tables.specs.Out.{AreSameTokens, tokens_in, waits_in}
 use Rattle.cred_state.specs.Lending.{entries_of}

@@ -14,7 +14,9 @@ use Rattle.cred_cursor.specs.Cursor.{left_at}
 use Rattle.cred_cursor.specs.Cursors.{AreCursors}
 use Rattle.cred_left.specs.Waiting.{waiting}
 use Rattle.cred_tables.specs.Out.{AreSameTokens, waits_in}
+use Rattle.cred_work.specs.Decisions.{event_of}
 use Rattle.cred_work.specs.Work.{Work}
+use Rattle.cred_work.specs.Works.{IsUndecided}
 use Rattle.cred_book.specs.Book.{Recorded, out_of}
 use Rattle.cred_book.specs.Counts.{AreEnded, count_of}
 use Rattle.cred_book.specs.Works.{AreNamedApart, IsBack, IsLanes, IsOutOf, tokens_out}
@@ -69,8 +71,8 @@ Makes before after lane (Some entry) More =
 Makes before after lane (Some entry) (step.Work work) =
     (waits_in (replay before.script before.journal) entry.event ≡ true)
     × (work.line ≡ entry.line)
-    × (work.event ≡ entry.event)
-    × (work.decided ≡ None)
+    × (event_of work.lent ≡ entry.event)
+    × IsUndecided work
     × IsLanes after lane work
     × (after ≡ with_work before lane work)
 Makes before after lane None Ended = after ≡ before
@@ -81,7 +83,7 @@ Makes before after lane next step = ⊥
 abbrev pub Finishes : Recorded → Recorded → ℕ → Work → Option Entry → Type 0
 Finishes before after lane work (Some entry) =
     (entry.line ≡ work.line)
-    × (entry.event ≡ work.event)
+    × (entry.event ≡ event_of work.lent)
     × (after.journal ≡ before.journal ++ entry ∷ [])
     × IsBack before after lane work
 Finishes before after lane work None = ⊥

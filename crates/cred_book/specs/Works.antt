@@ -1,13 +1,13 @@
 -- The works of a book's lanes: which are out, what is lent for them, and what is true of one.
 use Rattle.std.specs.Prelude.{◌≡◌, ◌≢◌, ℕ, true, List, [], ◌++◌, length, set, Some, None, IfSome}
-use Rattle.std.specs.Prelude.{◌≤◌, All, Bool, false, is_some, if◌then◌else◌}
+use Rattle.std.specs.Prelude.{◌≤◌, All, false, is_some, if◌then◌else◌}
+use Rattle.std.specs.declared.option.Option.{Option}
 use Rattle.std.specs.List.{AllPairs, flat_map, range_with_len}
 use Rattle.std.specs.Option.{option_map_or}
 use Rattle.atomic_table.specs.Seated.{TableId}
 use Rattle.cred_ids.specs.Limits.{LAST_NUMBER}
 use Rattle.cred_event.specs.declared.content.Stage.{Stage}
 use Rattle.cred_event.specs.declared.event.Event.{Event}
-use Rattle.cred_event.specs.declared.event.Event.TheVariants.{Ask, Signal, Alter, OpenFile}
 use Rattle.cred_model.specs.Script.{Script, Line, info_of}
 use Rattle.cred_model.specs.Course.{event_in}
 use Rattle.cred_model.specs.Named.{event_files}
@@ -16,14 +16,13 @@ use Rattle.cred_names.specs.Labels.{labels}
 use Rattle.cred_script.specs.Lines.{line_at}
 use Rattle.cred_script.specs.Sound.{AreApart}
 use Rattle.cred_hold.specs.Tokens.{Entry}
-use Rattle.cred_lent.specs.Decisions.{AreOf, AreFor}
-use Rattle.cred_lent.specs.declared.lent.Lent.{Lent}
+use Rattle.cred_work.specs.Decisions.{AreOf, event_of}
+use Rattle.cred_work.specs.declared.lent.Lent.{Lent}
 use Rattle.cred_work.specs.Work.{Work}
+use Rattle.cred_work.specs.Works.{IsUndecided}
 use Rattle.cred_tables.specs.Out.{AreBack, tokens_in, waits_in}
 use Rattle.cred_state.specs.Lending.{AreTaken, IsChain, entries_of}
 use Rattle.cred_book.specs.Book.{Recorded, out_of, with_event}
-use Rattle.cred_book.specs.declared.step.Handed.{Handed}
-use Rattle.cred_book.specs.declared.step.Handed.TheVariants.{Out, Back}
 
 -- No label stands in the words of lines of two lanes, neither of which is the setup. And none of
 -- them is one that a line takes for itself.
@@ -57,15 +56,13 @@ MayMake script number event =
     IfSome (line_at script number) (λ line.
     (stage : Stage) × (event_in number line.content stage ≡ Some event))
 
--- A work of some line of the script: its tokens are of these cells and have the labels that its
--- event names, its line may make its event, and its file and its root ids are those that the event
--- is decided by.
+-- A work of some line of the script: its tokens are of these cells, its line may make its event,
+-- and its file and its root ids are those that the event is decided by.
 pub record IsWorkOf (script : Script) (cells : TableId) (work : Work) : Type 0 where
   pub own : AreOf cells work.lent
-  pub labels : AreFor work.event work.lent
-  pub made : MayMake script work.line work.event
-  pub file : work.file ≡ info_of script (event_files work.event)
-  pub chain : IsChain script work.event work.lent work.chain
+  pub made : MayMake script work.line (event_of work.lent)
+  pub file : work.file ≡ info_of script (event_files (event_of work.lent))
+  pub chain : IsChain script work.lent work.chain
 
 -- The work is the lane's: it is one of the book's script and cells, and its line is the one whose
 -- work is out.
@@ -87,40 +84,30 @@ with_work book lane work = with_out book lane work.line work.lent
 -- the root ids that the event is decided by, on what is lent for it after the book's journal
 abbrev pub IsChainFor : Recorded → Event → List ℕ → Type 0
 IsChainFor book event chain =
-    (lent : Lent) → entries_of lent ≡ tokens_in (replay book.script book.journal) event
-    → IsChain book.script event lent chain
-
--- an event of this kind waits for a decision where its labels are there
-abbrev pub may_wait : Event → Bool
-may_wait (Ask label query) = true
-may_wait (OpenFile hold file want fd) = true
-may_wait (Signal from hold to target) = true
-may_wait (Alter label change) = true
-may_wait event = false
+    (lent : Lent) → event_of lent ≡ event
+    → entries_of lent ≡ tokens_in (replay book.script book.journal) event
+    → IsChain book.script lent chain
 
 -- The lane's event, which is of this line, goes out as this work. It waits for a decision, and the
 -- work has what that needs. Nothing else is lent.
 pub record GoesOut (before after : Recorded) (lane n : ℕ) (asked : Event) (work : Work) : Type 0
   where
     pub line : work.line ≡ n
-    pub event : work.event ≡ asked
-    pub undecided : work.decided ≡ None
-    pub waits : waits_in (replay before.script before.journal) work.event ≡ true
+    pub event : event_of work.lent ≡ asked
+    pub undecided : IsUndecided work
+    pub waits : waits_in (replay before.script before.journal) asked ≡ true
     pub own : AreOf before.words.id work.lent
-    pub labels : AreFor work.event work.lent
-    pub tokens : entries_of work.lent ≡ tokens_in (replay before.script before.journal) work.event
-    pub file : work.file ≡ info_of before.script (event_files work.event)
-    pub chain : IsChainFor before work.event work.chain
+    pub tokens : entries_of work.lent ≡ tokens_in (replay before.script before.journal) asked
+    pub file : work.file ≡ info_of before.script (event_files asked)
+    pub chain : IsChainFor before asked work.chain
     pub lent : after ≡ with_work before lane work
 
--- What becomes of the lane's event of this line: it goes out where it waits for a decision. Else it
--- comes back, and the book is as it was.
-abbrev pub IsHanded : Recorded → Recorded → ℕ → ℕ → Event → Handed → Type 0
-IsHanded before after lane line event (Out work) = GoesOut before after lane line event work
-IsHanded before after lane line event (Back back) =
-    (back ≡ event)
-    × (waits_in (replay before.script before.journal) event ≡ false)
-    × (after ≡ before)
+-- What becomes of the lane's event of this line: it goes out where it waits for a decision. Else
+-- the book is as it was.
+abbrev pub IsHanded : Recorded → Recorded → ℕ → ℕ → Event → Option Work → Type 0
+IsHanded before after lane line event (Some work) = GoesOut before after lane line event work
+IsHanded before after lane line event None =
+    (waits_in (replay before.script before.journal) event ≡ false) × (after ≡ before)
 
 -- the lane's work has come back: nothing else was lent or taken back
 pub record IsBack (before after : Recorded) (lane : ℕ) (work : Work) : Type 0 where
@@ -130,6 +117,6 @@ pub record IsBack (before after : Recorded) (lane : ℕ) (work : Work) : Type 0 
 -- The work's event was entered, and its tokens have come back. All else stays.
 pub record IsEntered (before after : Recorded) (work : Work) : Type 0 where
   pub same :
-      after ≡ record (with_event before work.line work.event) { words = after.words }
+      after ≡ record (with_event before work.line (event_of work.lent)) { words = after.words }
   pub words : AreBack (entries_of work.lent) before.words after.words
   pub taken : AreTaken (entries_of work.lent) before.words.out after.words.out

@@ -20,7 +20,7 @@ mod works;
 
 use crate::beginning::{Beginning, begin};
 use crate::journal::Journal;
-use crate::step::{Handed, Step};
+use crate::step::Step;
 use cred_copies::copy_answer;
 use cred_course::Course;
 use cred_cursor::{Cursors, cursor_after, next_event};
@@ -29,6 +29,7 @@ use cred_hold::Cells;
 use cred_ids::NoMemory;
 use cred_script::Script;
 use cred_state::State;
+use cred_work::Asked;
 use std::alloc::Global;
 use std::marker::Model;
 
@@ -39,6 +40,8 @@ use std::marker::Model;
 /// Every entry has the answer that its event gets in the state after the entries before it. The
 /// credentials stand in the shared words alone. Each token of them that is out is that of its label
 /// in this state.
+///
+/// The memory of the work that came back last is kept for the next one that goes out.
 pub struct Book {
     script: Script,
     state: State,
@@ -46,6 +49,7 @@ pub struct Book {
     cursors: Cursors,
     ended: Vec<u32>,
     outs: Vec<Option<u32>>,
+    spare: Option<Asked>,
     alloc: Global,
 }
 
@@ -83,6 +87,7 @@ impl Drop for Book {
             cursors,
             ended,
             outs,
+            spare,
             alloc: _,
         } = self;
         drop(script);
@@ -91,6 +96,7 @@ impl Drop for Book {
         drop(cursors);
         drop(ended);
         drop(outs);
+        drop(spare);
     }
 }
 
@@ -129,6 +135,7 @@ impl Book {
             cursors,
             ended,
             outs,
+            spare: None,
             alloc,
         };
         Ok((book, cells))
@@ -160,12 +167,14 @@ impl Book {
             cursors,
             ended,
             outs,
+            spare,
             alloc: _,
         } = self;
         drop(state);
         drop(cursors);
         drop(ended);
         drop(outs);
+        drop(spare);
         Journal {
             script,
             entries: journal,
@@ -256,10 +265,9 @@ impl Book {
             return Ok(Step::Ended);
         };
         let line = course.line();
-        let event = match self.hand_out(cells, lane, line, event)? {
-            Handed::Out(work) => return Ok(Step::Work(work)),
-            Handed::Back(event) => event,
-        };
+        if let Some(work) = self.hand_out(cells, lane, line, &event)? {
+            return Ok(Step::Work(work));
+        }
         let cursor = self.enter(cells, lane, course, event)?;
         self.move_on(lane, line, cursor);
         Ok(Step::More)
@@ -276,6 +284,8 @@ impl Book {
 
     /// Enters the next event of a lane's course, and answers the lane's cursor after it; the book's
     /// own stay. The answer moves into the entry, where `event` makes a copy of it.
+    // Called for each event of a lane, from one place of it.
+    #[inline(always)]
     fn enter(
         &mut self,
         cells: &Cells,

@@ -1,6 +1,5 @@
 //! What a step of a run comes to.
 
-use cred_event::Event;
 use cred_work::Work;
 
 /// What a step of a lane came to.
@@ -13,15 +12,6 @@ pub enum Step {
     Work(Work),
     /// The lane has no line left, or waits for the setup.
     Ended,
-}
-
-/// What became of an event that was made.
-#[derive(Drop)]
-pub(crate) enum Handed {
-    /// It waits for a decision, and goes out as this work.
-    Out(Work),
-    /// It waits for none, and is handed back.
-    Back(Event),
 }
 
 /// Want of memory while a work's event was entered. The work is handed back as it was.

@@ -26,6 +26,8 @@ pub fn first_cursor(script: &Script, lane: u32) -> Option<Course>
 /// # Errors
 ///
 /// `NoMemory` where the list of a `setgroups` could not be copied; no other event takes memory.
+// Called for each event of a lane, from one place of it.
+#[inline(always)]
 pub fn next_event(script: &Script, course: Course) -> Result<Option<Event>, NoMemory>
     requires line { IsOfLine script.now course }
     ensures event { IfOk result (λ event. event
@@ -44,6 +46,8 @@ pub fn next_event(script: &Script, course: Course) -> Result<Option<Event>, NoMe
 }
 
 /// The cursor of the lane after an answer to the course's line, which is one of the lane.
+// Called for each event of a lane: the line that was found for the event is known then.
+#[inline(always)]
 pub fn cursor_after(script: &Script, lane: u32, course: Course, answer: &Answer) -> Option<Course>
     requires line { IsOfLine script.now course }
     requires going { is_some course.stage ≡ true }
@@ -58,6 +62,7 @@ pub fn cursor_after(script: &Script, lane: u32, course: Course, answer: &Answer)
 
 /// The cursor of the lane from a course on: that course, or, where its line has ended, that of the
 /// lane's first later line that has not.
+#[inline(always)]
 fn first_left(script: &Script, lane: u32, course: Course) -> Option<Course>
     ensures { MovesOnTo script.now lane course result }
 {
@@ -70,6 +75,8 @@ fn first_left(script: &Script, lane: u32, course: Course) -> Option<Course>
 
 /// The cursor of the lane, where its lines up to this number have ended and no later one has begun:
 /// the course of its first later line that makes events.
+// Called for each line.
+#[inline(never)]
 fn first_after(script: &Script, lane: u32, line: u32) -> Option<Course>
     requires { line ≤ LINE_LIMIT }
     ensures { MovesOnFrom script.now lane line result }

@@ -71,6 +71,7 @@ impl Master {
     {
         Hold {
             inner: self.inner.lend_hold(cells, label, slot),
+            label,
             slot,
         }
     }
@@ -83,7 +84,11 @@ impl Master {
         ensures cred { slice_get self.old.slots hold.slot ≡ Some (Some hold.cred) }
         ensures rest { (self.new.id ≡ self.old.id) × (self.new.slots ≡ self.old.slots) }
     {
-        let Hold { inner, slot: _ } = hold;
+        let Hold {
+            inner,
+            label: _,
+            slot: _,
+        } = hold;
         self.inner.return_hold(cells, inner);
         self.inner.load_after_return(cells, false);
     }

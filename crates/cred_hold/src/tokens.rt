@@ -17,6 +17,7 @@ use std::marker::Model;
 #[derive(Drop)]
 pub struct Hold {
     pub(crate) inner: cells::Hold,
+    pub(crate) label: u32,
     pub(crate) slot: u32,
 }
 
@@ -39,7 +40,17 @@ impl Model for Hold {
     ghost invariant = { λ h. (h.slot ≡ h.inner.token.slot)
         × (h.inner.token.writes ≡ false)
         × (length h.inner.token.words ≡ width)
-        × (are_words h.inner.token.words ≡ true) };
+        × (are_words h.inner.token.words ≡ true)
+        × (h.label ≡ h.inner.token.label) };
+}
+
+impl Hold {
+    /// The label that it is lent under.
+    pub fn label(&self) -> u32
+        ensures { result ≡ self.now.label }
+    {
+        self.label
+    }
 }
 
 /// A slot that is lent to be written. Contracts see the identity of its cells, its label, its slot,

@@ -7,9 +7,10 @@ use Rattle.cred_model.specs.Script.{Script}
 use Rattle.cred_model.specs.Journal.{due_in}
 use Rattle.cred_turn.specs.declared.numbers.Numbers.{Numbers}
 use Rattle.cred_work.specs.Work.{Work}
+use Rattle.cred_work.specs.Works.{IsUndecided}
 use Rattle.cred_book.specs.Book.{Recorded}
 use Rattle.cred_book.specs.Counts as counts
-use Rattle.cred_book.specs.Counts.{Counts, IsOutNow, IsSetUp, decided_of, ended_of, entered_of, lines_in}
+use Rattle.cred_book.specs.Counts.{Counts, IsOutNow, IsSetUp, decided_of, ended_of, entered_of}
 use Rattle.cred_book.specs.Cursor.{Makes}
 use Rattle.cred_book.specs.Works.{IsLanes}
 use Rattle.cred_book.specs.declared.step.Step.{Step}
@@ -76,7 +77,7 @@ as_it_was before after lane None made = made
 as_it_was before after lane (Some entry) made = absurd made
 
 work_of : (before after : Recorded) (lane : ℕ) (entry : Option Entry) (work : Work) → Makes before after lane entry (step.Work work)
-    → (work.decided ≡ None) × IsLanes after lane work
+    → IsUndecided work × IsLanes after lane work
 work_of before after lane None work made = absurd made
 work_of before after lane (Some entry) work made = (made.3, made.4)
 

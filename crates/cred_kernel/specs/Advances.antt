@@ -4,6 +4,7 @@ use Rattle.atomic_table.specs.Seated.{TableId}
 use Rattle.cred_model.specs.Script.{Script}
 use Rattle.cred_turn.specs.declared.numbers.Numbers.{Numbers}
 use Rattle.cred_work.specs.Work.{Work}
+use Rattle.cred_work.specs.Works.{IsUndecided}
 use Rattle.cred_book.specs.Counts.{IsSameOrNext, lines_in}
 use Rattle.cred_book.specs.Works.{IsWorkOf}
 use Rattle.cred_book.specs.declared.step.Step.{Step}
@@ -31,7 +32,7 @@ pub record HasGiven (script : Script) (cells : TableId) (old new : Seen) (work :
     }
     pub left : old.numbers.ended < lines_in script old.lane
     pub work_is : IsWorkOf script cells work
-    pub waits : work.decided ≡ None
+    pub waits : IsUndecided work
 
 -- What a step made of the turn. It was Ended exactly if no line of the lane was left, and what was
 -- entered was no work's.

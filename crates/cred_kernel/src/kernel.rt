@@ -97,17 +97,32 @@ impl<K: Name> Kernel<K> {
     }
 
     /// Gets the lock, for which it may wait.
+    // Mostly the lock is free, and then there is nothing to nap on.
+    #[inline(always)]
     pub fn lock<R: Wait>(&self, rt: &R) -> KernelGuard<'_, K> {
+        match self.lock.try_lock() {
+            Some(locked) => KernelGuard {
+                kernel: self,
+                locked,
+            },
+            None => self.nap(rt),
+        }
+    }
+
+    /// Gets the lock once it is free, for which it waits: it naps, and later asks to be woken.
+    #[cold]
+    #[inline(never)]
+    fn nap<R: Wait>(&self, rt: &R) -> KernelGuard<'_, K> {
         // Nobody unparks this one: to park on it is to nap.
         let parker = Parker::new();
         for _ in 0..NAPS {
+            parker.park_timeout(rt, Duration::from_micros(NAP));
             if let Some(locked) = self.lock.try_lock() {
                 return KernelGuard {
                     kernel: self,
                     locked,
                 };
             }
-            parker.park_timeout(rt, Duration::from_micros(NAP));
         }
         KernelGuard {
             kernel: self,

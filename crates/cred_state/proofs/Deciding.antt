@@ -1,40 +1,42 @@
 -- An event is decided on what is lent for it in the same call.
-use Rattle.std.proofs.Common.{◌≡◌, ◌≢◌, ◌==◌, ◌⊎◌, inl, inr, ℕ, List, [], ◌∷◌, ◌++◌, map, slice_get, slice_set, Option, None, Some, refl, sym, ap, ◌∙◌, subst}
+use Rattle.std.proofs.Common.{◌≡◌, ◌≢◌, ◌==◌, ◌⊎◌, inl, inr, ℕ, List, [], ◌∷◌, ◌++◌, map, slice_get, slice_set, Bool, Option, None, Some, Result, Ok, Err, refl, sym, ap, ◌∙◌, subst}
 use Rattle.std.specs.List.{All}
 use Rattle.std.specs.Prelude.{Contains}
-use Rattle.std.specs.Option.{IfSome, option_and_then, option_map, option_map_or}
+use Rattle.std.specs.Option.{IfSome, option_and_then, option_map}
 use Rattle.std.proofs.lemmas.List.Elements.{All-append, All-head, All-nil}
-use Rattle.std.proofs.lemmas.Option.{same_Some}
+use Rattle.atomic_table.specs.Seated.{TableId}
 use Rattle.cred_record.specs.Credential.{Credential}
+use Rattle.cred_event.specs.declared.answer.Answer.{Answer}
+use Rattle.cred_event.specs.declared.event.Change.{Change}
 use Rattle.cred_event.specs.declared.event.Change.TheVariants as change
+use Rattle.cred_model.specs.Change.{Made}
 use Rattle.cred_event.specs.declared.event.Event.{Event}
 use Rattle.cred_event.specs.declared.event.Event.TheVariants.{Ask, Signal, Alter, OpenFile}
 use Rattle.cred_model.specs.Script.{Script, chain_of}
 use Rattle.cred_model.specs.State.{State, Prepared, Changed, Numbered, SealedCred, numbered, prepared_of}
 use Rattle.cred_model.specs.Like.{IsLike}
 use Rattle.cred_model.proofs.Lists.{All-at}
-use Rattle.cred_model.proofs.Places.{place-of_found}
+use Rattle.cred_model.proofs.Places.{if_some, place-of_found}
 use Rattle.cred_names.specs.Labels.{event_labels}
 use Rattle.cred_sound.specs.Ledger.{ledger}
 use Rattle.cred_sound.specs.Sound.{IsSound}
 use Rattle.cred_sound.proofs.Sound.{like_sound}
 use Rattle.cred_words.specs.Lists.{Has, IsTaken}
 use Rattle.cred_hold.specs.Tokens.{Entry, Held, Written, entry, IsAlone}
-use Rattle.cred_lent.specs.Decisions.{left_by}
-use Rattle.cred_lent.specs.declared.lent.Decided.{Decided}
-use Rattle.cred_lent.specs.declared.lent.Decided.TheVariants.{Told, May, Put}
-use Rattle.cred_lent.specs.declared.lent.Lent.{Lent}
-use Rattle.cred_lent.specs.declared.lent.Lent.TheVariants.{One, Two, Kept}
+use Rattle.cred_work.specs.Decisions.{event_of, put_by}
+use Rattle.cred_work.specs.declared.lent.Lent.{Lent}
+use Rattle.cred_work.specs.declared.lent.Lent.TheVariants.{Asking, Opening, Signalling, Altering}
 use Rattle.cred_tables.specs.Kept.{Standing, creds_in}
-use Rattle.cred_tables.specs.Out.{AreOut, cleared, hold_token, kept_tokens, tokens_in}
-use Rattle.cred_tables.proofs.Back.{has_taken, set_again}
+use Rattle.cred_tables.specs.Out.{AreHome, AreOut, cleared, hold_token, kept_tokens, tokens_in}
+use Rattle.cred_tables.proofs.Back.{back_new, has_taken, set_again}
 use Rattle.cred_tables.proofs.Outs.{IsToken, has_first, has_last, has_out, held_token, kept_alone, kept_token, out_like}
 use Rattle.cred_tables.proofs.Puts.{was_put}
 use Rattle.cred_tables.proofs.Stored.{slots-creds_in}
-use Rattle.cred_state.specs.Lending.{AreTaken, IsChain, IsNs, WereLent, earlier_of, entries_of, with_lent}
+use Rattle.cred_state.specs.Lending.{AreTaken, IsChainOf, IsKeptBy, IsNs, earlier_of, entries_of, held_entry, with_hold, with_kept, with_lent}
+use Rattle.cred_state.proofs.Asking.{WereLent}
 use Rattle.cred_state.proofs.Keeping.{home_is}
 use Rattle.cred_state.proofs.Lending.{like_lent}
-use Rattle.cred_state.proofs.Returns.{all_back, named_for, writer_is}
+use Rattle.cred_state.proofs.Returns.{all_back, fresh, named_for, writer_is}
 
 -- ---- the tokens of an event are out
 
@@ -65,9 +67,10 @@ tokens_out s event = All-nil (λ e. IsToken s e)
 -- ---- while tokens are lent
 
 pub lent_words : (before : Standing) (lent : Lent) → (with_lent before lent).words ≡ record before.words { out = entries_of lent ++ before.words.out }
-lent_words before (One hold) = refl
-lent_words before (Two from to) = refl
-lent_words before (Kept base writer) = refl
+lent_words before (Asking hold query told) = refl
+lent_words before (Opening hold file want fd may) = refl
+lent_words before (Signalling from hold to target may) = refl
+lent_words before (Altering base writer change made) = refl
 
 pub lent_out : (before : Standing) (lent : Lent) → (with_lent before lent).words.out ≡ entries_of lent ++ before.words.out
 lent_out before lent = ap (λ w. w.out) (lent_words before lent)
@@ -77,14 +80,14 @@ module _ {before : Standing} {lent : Lent} (were : WereLent before lent) where
   now = with_lent before lent
 
   pub lent_like : IsLike now.state before.state
-  lent_like = like_lent before lent were.event were.sound were.tokens
+  lent_like = like_lent before lent were.sound were.tokens
 
   pub lent_sound : IsSound now.state
   lent_sound = like_sound now.state before.state lent_like were.sound
 
   pub lent_are : AreOut now.state now.words.out
   lent_are =
-      let own : AreOut before.state (entries_of lent) = subst (λ es. AreOut before.state es) (sym were.tokens) (tokens_out before.state were.event) in
+      let own : AreOut before.state (entries_of lent) = subst (λ es. AreOut before.state es) (sym were.tokens) (tokens_out before.state (event_of lent)) in
       out_like now.state before.state lent_like now.words.out
       (subst (λ es. AreOut before.state es) (sym (lent_out before lent))
       (All-append (λ e. IsToken before.state e) (entries_of lent) before.words.out own were.out))
@@ -92,55 +95,44 @@ module _ {before : Standing} {lent : Lent} (were : WereLent before lent) where
   -- all comes back
   pub lent_back : (new : List Entry) → AreTaken (entries_of lent) now.words.out new → new ≡ before.words.out
   lent_back new taken =
-      all_back were.event lent before.words.out new were.labels were.home
+      all_back were.cells lent before.words.out new were.of were.home
       (subst (λ es. AreTaken (entries_of lent) es new) (lent_out before lent) taken)
 
--- a decision leaves the entries
-pub entries_left : (decided : Decided) (lent : Lent) → entries_of (left_by decided lent) ≡ entries_of lent
-entries_left decided (One hold) = refl
-entries_left decided (Two from to) = refl
-entries_left (Told answer) (Kept base writer) = refl
-entries_left (May may) (Kept base writer) = refl
-entries_left (Put built cred) (Kept base writer) = refl
+-- ---- a writer that was used
 
--- ---- the root ids that an event is decided by
+pub put_label : (made : Result Made Answer) (writer : Written) → (put_by made writer).label ≡ writer.label
+put_label (Ok made) writer = refl
+put_label (Err answer) writer = refl
 
-base_ns_is : (script : Script) (s : State) (label ns : ℕ) (base : Held) (writer : Written)
-    → IfSome (prepared_of s label) (λ p. IfSome (numbered s.creds p.base) (λ c. ns ≡ c.cred.ns))
-    → entries_of (Kept base writer) ≡ kept_tokens s label → ns ≡ base.cred.ns
-base_ns_is script s label ns base writer right is = by (prepared_of s label) right is
-  where
-    sealed : (p : Prepared) → (o : Option Numbered) → IfSome o (λ c. ns ≡ c.cred.ns)
-        → entries_of (Kept base writer) ≡ option_map_or (λ (c : Numbered). entry label p.slot None ∷ entry label c.slot (Some c.cred) ∷ []) o [] → ns ≡ base.cred.ns
-    sealed p None right is = cc
-    sealed p (Some c) right is =
-        let last : entry base.label base.slot (Some base.cred) ≡ entry label c.slot (Some c.cred) = cc in
-        let same : base.cred ≡ c.cred = same_Some _ _ (ap (λ (e : Entry). e.held) last) in
-        right ∙ sym (ap (λ (x : Credential). x.ns) same)
+pub put_slot : (made : Result Made Answer) (writer : Written) → (put_by made writer).slot ≡ writer.slot
+put_slot (Ok made) writer = refl
+put_slot (Err answer) writer = refl
 
-    by : (o : Option Prepared) → IfSome o (λ p. IfSome (numbered s.creds p.base) (λ c. ns ≡ c.cred.ns))
-        → entries_of (Kept base writer) ≡ option_map_or (λ p. option_map_or (λ (c : Numbered). entry label p.slot None ∷ entry label c.slot (Some c.cred) ∷ []) (numbered s.creds p.base) []) o []
-        → ns ≡ base.cred.ns
-    by None right is = cc
-    by (Some p) right is = sealed p (numbered s.creds p.base) right is
+-- ---- the root ids that a change is decided by
 
-pub chain_is : (script : Script) (s : State) (event : Event) (ns : ℕ) (lent : Lent) (decided : Decided) → IsNs s event ns → entries_of lent ≡ tokens_in s event
-    → IsChain script event (left_by decided lent) (chain_of script ns)
-chain_is script s (Alter label (change.Exec file)) ns (Kept base writer) decided right is =
-    ap (chain_of script) (base_ns_is script s label ns base writer right is)
-chain_is script s event ns lent decided right is = tt
+pub chain_is : (cells : TableId) (script : Script) (s : State) (label : ℕ) (ch : Change) (base : Held) (writer : Written) (ns : ℕ)
+    → IsKeptBy cells s label base writer → IsNs s (Alter label ch) ns → IsChainOf script ch base.cred.ns (chain_of script ns)
+chain_is cells script s label (change.SetFs kind id) base writer ns kept right = tt
+chain_is cells script s label (change.Adjust call) base writer ns kept right = tt
+chain_is cells script s label (change.Exec file) base writer ns kept right =
+    let of = if_some (λ (p : Prepared). IfSome (numbered s.creds p.base) (λ c. ns ≡ c.cred.ns)) (prepared_of s label) kept.preparation kept.prepared right in
+    let found = if_some (λ (c : Numbered). ns ≡ c.cred.ns) (numbered s.creds kept.preparation.base) kept.found kept.sealed of in
+    ap (chain_of script) (found ∙ sym (ap (λ (h : Held). h.cred.ns) kept.base_is))
+chain_is cells script s label change.Access base writer ns kept right = tt
 
 -- ---- a writer comes back unput
 
 -- what the words of the slot are again
-module _ (before : Standing) (base : Held) (writer : Written) (were : WereLent before (Kept base writer)) (label : ℕ) (for : writer.label ≡ label)
+module _ (before : Standing) (base : Held) (writer : Written) (ch : Change) (made : Option (Result Made Answer))
+    (were : WereLent before (Altering base writer ch made)) (label : ℕ) (for : writer.label ≡ label)
     (p : Prepared) (prepared : prepared_of before.state label ≡ Some p) (slot : p.slot ≡ writer.slot) where
   home : All (λ (e : Entry). e.label ≢ label) before.words.out
   home =
-      let own = named_for were.event (Kept base writer) were.labels in
-      let P : Entry → Type 0 = λ e. Contains (event_labels were.event) e.label in
-      home_is were.event label before.words.out were.home
-      (subst (λ n. Contains (event_labels were.event) n) for
+      let event = event_of (Altering base writer ch made) in
+      let own = named_for were.cells (Altering base writer ch made) were.of in
+      let P : Entry → Type 0 = λ e. Contains (event_labels event) e.label in
+      home_is event label before.words.out were.home
+      (subst (λ n. Contains (event_labels event) n) for
       (All-head P (entry writer.label writer.slot None) (entry base.label base.slot (Some base.cred) ∷ []) own))
 
   was_there : slice_get before.places writer.slot ≡ Some (was_put p)
@@ -153,7 +145,7 @@ module _ (before : Standing) (base : Held) (writer : Written) (were : WereLent b
   earlier_was : earlier_of before.state label ≡ was_put p
   earlier_was = ap (λ (o : Option Prepared). option_and_then (λ (q : Prepared). option_map (λ (last : Changed). last.cred) q.changed) o) prepared
 
-  pub places_again : (places : List (Option Credential)) → places ≡ slice_set (with_lent before (Kept base writer)).places writer.slot (earlier_of before.state label)
+  pub places_again : (places : List (Option Credential)) → places ≡ slice_set (with_kept before base writer).places writer.slot (earlier_of before.state label)
       → places ≡ before.places
   places_again places is =
       is ∙ ap (λ o. slice_set (slice_set before.places writer.slot None) writer.slot o) earlier_was
@@ -166,7 +158,7 @@ module _ (before : Standing) (base : Held) (writer : Written) (were : WereLent b
       ∙ slots-creds_in before.places were.slots
 
   pub creds_again : (places : List (Option Credential)) → places ≡ before.places
-      → creds_in places (ledger (with_lent before (Kept base writer)).state).slots ≡ before.state.creds
+      → creds_in places (ledger (with_kept before base writer).state).slots ≡ before.state.creds
   creds_again places same =
       (λ k. creds_in (same k) (slots_again k)) ∙ sym were.creds
 
@@ -176,46 +168,53 @@ standing_is : {a b : Standing} → a.state ≡ b.state → a.words.id ≡ b.word
 standing_is state id out places = λ k. record { state = state k; words = record { id = id k; out = out k }; places = places k }
 
 module _ (before old mid new : Standing) where
-  pub back_one : (hold : Held) → WereLent before (One hold) → old ≡ with_lent before (One hold)
+  pub back_one : (hold : Held) (event : Event) → AreHome event before.words.out → Contains (event_labels event) hold.label
+      → old ≡ with_hold before hold
       → new.state ≡ old.state → new.places ≡ old.places → new.words.id ≡ old.words.id
-      → IsTaken old.words.out (entry hold.label hold.slot (Some hold.cred)) new.words.out → new ≡ before
-  back_one hold were is state places id taken =
-      let on : AreTaken (entries_of (One hold)) (with_lent before (One hold)).words.out new.words.out
-      = subst (λ (x : Standing). AreTaken (entries_of (One hold)) x.words.out new.words.out) is (new.words.out, taken, refl) in
-      standing_is (state ∙ ap (λ (x : Standing). x.state) is) (id ∙ ap (λ (x : Standing). x.words.id) is) (lent_back were new.words.out on)
+      → IsTaken old.words.out (held_entry hold) new.words.out → new ≡ before
+  back_one hold event home named is state places id taken =
+      let on : IsTaken (held_entry hold ∷ before.words.out) (held_entry hold) new.words.out
+      = subst (λ (x : Standing). IsTaken x.words.out (held_entry hold) new.words.out) is taken in
+      standing_is (state ∙ ap (λ (x : Standing). x.state) is) (id ∙ ap (λ (x : Standing). x.words.id) is)
+      (back_new (held_entry hold) before.words.out new.words.out on (fresh event before.words.out (held_entry hold) home named))
       (places ∙ ap (λ (x : Standing). x.places) is)
 
-  pub back_two : (from to : Held) → WereLent before (Two from to) → old ≡ with_lent before (Two from to)
+  pub back_two : (from to : ℕ) (hold target : Held) (may : Option Bool) → WereLent before (Signalling from hold to target may)
+      → old ≡ with_lent before (Signalling from hold to target may)
       → mid.state ≡ old.state → mid.places ≡ old.places → mid.words.id ≡ old.words.id
-      → IsTaken old.words.out (entry to.label to.slot (Some to.cred)) mid.words.out
+      → IsTaken old.words.out (held_entry target) mid.words.out
       → new.state ≡ mid.state → new.places ≡ mid.places → new.words.id ≡ mid.words.id
-      → IsTaken mid.words.out (entry from.label from.slot (Some from.cred)) new.words.out → new ≡ before
-  back_two from to were is state places id taken state' places' id' taken' =
-      let on : AreTaken (entries_of (Two from to)) (with_lent before (Two from to)).words.out new.words.out
-      = subst (λ (x : Standing). AreTaken (entries_of (Two from to)) x.words.out new.words.out) is (mid.words.out, taken, (new.words.out, taken', refl)) in
+      → IsTaken mid.words.out (held_entry hold) new.words.out → new ≡ before
+  back_two from to hold target may were is state places id taken state' places' id' taken' =
+      let lent : Lent = Signalling from hold to target may in
+      let on : AreTaken (entries_of lent) (with_lent before lent).words.out new.words.out
+      = subst (λ (x : Standing). AreTaken (entries_of lent) x.words.out new.words.out) is (mid.words.out, taken, (new.words.out, taken', refl)) in
       standing_is (state' ∙ state ∙ ap (λ (x : Standing). x.state) is) (id' ∙ id ∙ ap (λ (x : Standing). x.words.id) is) (lent_back were new.words.out on)
       (places' ∙ places ∙ ap (λ (x : Standing). x.places) is)
 
-  pub back_kept : (base : Held) (writer : Written) (label : ℕ) → writer.label ≡ label → WereLent before (Kept base writer) → old ≡ with_lent before (Kept base writer)
+  pub back_kept : (base : Held) (writer : Written) (ch : Change) (made : Option (Result Made Answer)) → writer.label ≡ base.label
+      → WereLent before (Altering base writer ch made) → old ≡ with_kept before base writer
       → AreOut old.state old.words.out
       → mid.state ≡ record old.state { creds = creds_in mid.places (ledger old.state).slots }
-      → mid.places ≡ slice_set old.places writer.slot (earlier_of old.state label) → mid.words.id ≡ old.words.id
+      → mid.places ≡ slice_set old.places writer.slot (earlier_of old.state base.label) → mid.words.id ≡ old.words.id
       → IsTaken old.words.out (entry writer.label writer.slot None) mid.words.out
       → new.state ≡ mid.state → new.places ≡ mid.places → new.words.id ≡ mid.words.id
-      → IsTaken mid.words.out (entry base.label base.slot (Some base.cred)) new.words.out → new ≡ before
-  back_kept base writer label for were is are state places id taken state' places' id' taken' =
-      let lent = with_lent before (Kept base writer) in
-      let on : AreTaken (entries_of (Kept base writer)) lent.words.out new.words.out
-      = subst (λ (x : Standing). AreTaken (entries_of (Kept base writer)) x.words.out new.words.out) is (mid.words.out, taken, (new.words.out, taken', refl)) in
+      → IsTaken mid.words.out (held_entry base) new.words.out → new ≡ before
+  back_kept base writer ch done for were is are state places id taken state' places' id' taken' =
+      let label = base.label in
+      let lent = with_kept before base writer in
+      let on : AreTaken (entries_of (Altering base writer ch done)) lent.words.out new.words.out
+      = subst (λ (x : Standing). AreTaken (entries_of (Altering base writer ch done)) x.words.out new.words.out) is
+      (mid.words.out, taken, (new.words.out, taken', refl)) in
       let has : Has lent.words.out (entry label writer.slot None)
       = subst (λ (x : Standing). Has x.words.out (entry label writer.slot None)) is
       (subst (λ n. Has old.words.out (entry n writer.slot None)) for (has_taken old.words.out _ mid.words.out taken)) in
       let w = writer_is lent.state lent.words.out label writer.slot (subst (λ (x : Standing). AreOut x.state x.words.out) is are) has in
       let again : mid.places ≡ before.places
-      = places_again before base writer were label for w.preparation w.prepared w.is mid.places
+      = places_again before base writer ch done were label for w.preparation w.prepared w.is mid.places
       (places ∙ ap (λ (x : Standing). slice_set x.places writer.slot (earlier_of x.state label)) is) in
       let creds : creds_in mid.places (ledger lent.state).slots ≡ before.state.creds
-      = creds_again before base writer were label for w.preparation w.prepared w.is mid.places again in
+      = creds_again before base writer ch done were label for w.preparation w.prepared w.is mid.places again in
       let made : mid.state ≡ before.state
       = state ∙ ap (λ (x : Standing). record x.state { creds = creds_in mid.places (ledger x.state).slots }) is
       ∙ ap (λ (cs : List SealedCred). record before.state { creds = cs }) creds in

@@ -1,45 +1,32 @@
 -- Events that were decided are entered.
-use Rattle.std.proofs.Common.{◌≡◌, ◌<◌, ◌⊎◌, inl, inr, ℕ, Bool, true, false, List, [], ◌∷◌, ◌++◌, length, nat_lt, Option, None, Some, Result, Ok, Err, IfOk, OnOk, count_by, is_some, refl, sym, ap, ◌∙◌, arith}
+use Rattle.std.proofs.Common.{if◌then◌else◌, ◌≡◌, ◌<◌, ℕ, Bool, true, false, List, [], ◌∷◌, ◌++◌, length, nat_lt, Option, None, Some, Result, Ok, Err, IfOk, OnOk, count_by, is_some, refl, sym, ap, ◌∙◌, subst, arith}
 use Rattle.std.specs.Option.{IfSome}
 use Rattle.std.proofs.lemmas.Bool.Decides.{nat_tests}
 use Rattle.cred_ids.specs.Limits.{OPEN_FILES}
 use Rattle.cred_record.specs.Credential.{Credential}
 use Rattle.cred_record.specs.File.{File}
 use Rattle.cred_record.specs.declared.want.Want.{Want}
-use Rattle.cred_rules.specs.Access.{may, may_signal}
+use Rattle.cred_rules.specs.Access.{may_signal}
 use Rattle.cred_event.specs.declared.answer.Answer.{Answer}
 use Rattle.cred_event.specs.declared.answer.Answer.TheVariants.{Done, Eacces, Exists, NoHold, TooMany}
 use Rattle.cred_event.specs.declared.answer.Counted.TheVariants as counted
 use Rattle.cred_event.specs.declared.answer.Named.TheVariants as named
 use Rattle.cred_event.specs.declared.event.Change.{Change}
 use Rattle.cred_event.specs.declared.event.Change.TheVariants as change
-use Rattle.cred_event.specs.declared.event.Event.TheVariants.{Alter}
 use Rattle.cred_model.specs.Answers.{checked}
-use Rattle.cred_model.specs.Change.{by_change}
+use Rattle.cred_model.specs.Change.{Made, by_change}
 use Rattle.cred_model.specs.Moves.{altered}
 use Rattle.cred_model.specs.Named.{change_files}
 use Rattle.cred_model.specs.Script.{Script, chain_of, info_of}
 use Rattle.cred_model.specs.State.{State, Prepared, Numbered, held_by, numbered, open_of, prepared_of}
 use Rattle.cred_model.specs.Step.{by_alter, by_open, outcome}
 use Rattle.cred_model.proofs.Places.{if_some}
-use Rattle.cred_hold.specs.Tokens.{Entry, Held, Written}
-use Rattle.cred_lent.specs.Changes.{made_as}
-use Rattle.cred_lent.specs.declared.changes.Built.{Built}
-use Rattle.cred_lent.specs.declared.changes.Built.TheVariants.{Plain, Was, Exec}
-use Rattle.cred_lent.specs.declared.lent.Lent.TheVariants.{Kept}
+use Rattle.cred_hold.specs.Tokens.{Entry}
 use Rattle.cred_tables.specs.Out.{AreSameTokens}
 use Rattle.cred_tables.proofs.Back.{count_one, taken_count}
-use Rattle.cred_state.specs.Lending.{AreTaken, IsBase, IsChain}
+use Rattle.cred_state.specs.Lending.{AreTaken, IsBase, IsChainOf, IsMadeOf}
 
 -- ---- a file
-
-checked_is : (c : Credential) (file : Option File) (want : Want) → (checked c file want ≡ Done) ⊎ (checked c file want ≡ Eacces)
-checked_is c None want = inr refl
-checked_is c (Some file) want = by (may c file want) refl
-  where
-    by : (test : Bool) → may c file want ≡ test → (checked c (Some file) want ≡ Done) ⊎ (checked c (Some file) want ≡ Eacces)
-    by true is = inl (rw is refl)
-    by false is = inr (rw is refl)
 
 few_files : (n : ℕ) → n < OPEN_FILES → nat_lt n OPEN_FILES ≡ true
 few_files n few = grind (arith, nat_tests)
@@ -52,24 +39,20 @@ module _ (script : Script) (s : State) (label file : ℕ) (want : Want) (fd : �
     pub open_exists : is_some (open_of s fd) ≡ true → outcome s (by_open script s label file want fd) ≡ (Exists named.File fd, s)
     open_exists there = rw (at, there) refl
 
-    module _ (told : Answer) (right : IfSome (held_by s label) (λ held. told ≡ checked held.cred (info_of script (file ∷ [])) want)) (new : open_of s fd ≡ None) where
-      told_is : told ≡ checked held.cred (info_of script (file ∷ [])) want
-      told_is = if_some (λ (h : Numbered). told ≡ checked h.cred (info_of script (file ∷ [])) want) (held_by s label) held at right
+    module _ (may : Bool) (right : IfSome (held_by s label) (λ held. checked held.cred (info_of script (file ∷ [])) want ≡ (if may then Done else Eacces)))
+        (new : open_of s fd ≡ None) where
+      checks : checked held.cred (info_of script (file ∷ [])) want ≡ (if may then Done else Eacces)
+      checks =
+          if_some (λ (h : Numbered). checked h.cred (info_of script (file ∷ [])) want ≡ (if may then Done else Eacces)) (held_by s label) held at right
 
-      refused : checked held.cred (info_of script (file ∷ [])) want ≡ Eacces → outcome s (by_open script s label file want fd) ≡ (Eacces, s)
-      refused is = rw (at, new, is) refl
+      pub open_refused : may ≡ false → outcome s (by_open script s label file want fd) ≡ (Eacces, s)
+      open_refused is =
+          let refused : checked held.cred (info_of script (file ∷ [])) want ≡ Eacces = checks ∙ ap (λ (b : Bool). if b then Done else Eacces) is in
+          rw (at, new, refused) refl
 
-      pub open_refused : (told ≡ Done → ⊥) → outcome s (by_open script s label file want fd) ≡ (Eacces, s)
-      open_refused other = by (checked_is held.cred (info_of script (file ∷ [])) want)
-        where
-          by : (checked held.cred (info_of script (file ∷ [])) want ≡ Done) ⊎ (checked held.cred (info_of script (file ∷ [])) want ≡ Eacces)
-              → outcome s (by_open script s label file want fd) ≡ (Eacces, s)
-          by (inl done) = absurd (other (told_is ∙ done))
-          by (inr denied) = refused denied
-
-      module _ (done : told ≡ Done) where
+      module _ (allowed : may ≡ true) where
         may_be : checked held.cred (info_of script (file ∷ [])) want ≡ Done
-        may_be = sym told_is ∙ done
+        may_be = checks ∙ ap (λ (b : Bool). if b then Done else Eacces) allowed
 
         pub open_full : nat_lt (length s.files) OPEN_FILES ≡ false → outcome s (by_open script s label file want fd) ≡ (TooMany counted.Files, s)
         open_full many = rw (at, new, may_be, many) refl
@@ -82,45 +65,32 @@ module _ (script : Script) (s : State) (label file : ℕ) (want : Want) (fd : �
 -- ---- a change
 
 -- the root ids are those that the script has of the base's namespace, where they matter
-chain_right : (script : Script) (label : ℕ) (ch : Change) (base : Held) (writer : Written) (chain : List ℕ) (file : Option File) (c : Credential)
-    → IsChain script (Alter label ch) (Kept base writer) chain
-    → by_change file chain c ch ≡ by_change file (chain_of script base.cred.ns) c ch
-chain_right script label (change.SetFs kind id) base writer chain file c is = refl
-chain_right script label (change.Adjust call) base writer chain file c is = refl
-chain_right script label (change.Exec place) base writer chain file c is = ap (λ (ids : List ℕ). by_change file ids c (change.Exec place)) is
-chain_right script label change.Access base writer chain file c is = refl
-
-pub made_cred : (built : Built) (c : Credential) → (made_as built c).cred ≡ c
-made_cred Plain c = refl
-made_cred (Was previous) c = refl
-made_cred (Exec gains) c = refl
+chain_right : (script : Script) (ch : Change) (ns : ℕ) (chain : List ℕ) (file : Option File) (c : Credential)
+    → IsChainOf script ch ns chain → by_change file chain c ch ≡ by_change file (chain_of script ns) c ch
+chain_right script (change.SetFs kind id) ns chain file c is = refl
+chain_right script (change.Adjust call) ns chain file c is = refl
+chain_right script (change.Exec place) ns chain file c is = ap (λ (ids : List ℕ). by_change file ids c (change.Exec place)) is
+chain_right script change.Access ns chain file c is = refl
 
 module _ (script : Script) (s : State) (label : ℕ) (ch : Change) (p : Prepared) (base : Numbered) (prepared : prepared_of s label ≡ Some p)
-    (sealed : numbered s.creds p.base ≡ Some base) (hold : Held) (writer : Written) (own : IsBase s label hold.cred)
-    (chain : List ℕ) (of : IsChain script (Alter label ch) (Kept hold writer) chain) where
-  base_is : base.cred ≡ hold.cred
+    (sealed : numbered s.creds p.base ≡ Some base) (own : Credential) (of : IsBase s label own) (chain : List ℕ) where
+  base_is : base.cred ≡ own
   base_is =
-      if_some (λ (b : Numbered). b.cred ≡ hold.cred) (numbered s.creds p.base) base sealed
-      (if_some (λ (q : Prepared). IfSome (numbered s.creds q.base) (λ b. b.cred ≡ hold.cred)) (prepared_of s label) p prepared own)
+      if_some (λ (b : Numbered). b.cred ≡ own) (numbered s.creds p.base) base sealed
+      (if_some (λ (q : Prepared). IfSome (numbered s.creds q.base) (λ b. b.cred ≡ own)) (prepared_of s label) p prepared of)
 
-  by_same : by_change (info_of script (change_files ch)) (chain_of script base.cred.ns) base.cred ch ≡ by_change (info_of script (change_files ch)) chain hold.cred ch
-  by_same =
+  by_same : IsChainOf script ch own.ns chain
+      → by_change (info_of script (change_files ch)) (chain_of script base.cred.ns) base.cred ch ≡ by_change (info_of script (change_files ch)) chain own ch
+  by_same is =
       ap (λ (c : Credential). by_change (info_of script (change_files ch)) (chain_of script c.ns) c ch) base_is
-      ∙ sym (chain_right script label ch hold writer chain (info_of script (change_files ch)) hold.cred of)
+      ∙ sym (chain_right script ch own.ns chain (info_of script (change_files ch)) own is)
 
-  pub alter_refused : (answer : Answer) → by_change (info_of script (change_files ch)) chain hold.cred ch ≡ Err answer
-      → outcome s (by_alter script s label ch) ≡ (answer, s)
-  alter_refused answer refused = rw (prepared, sealed, by_same ∙ refused) refl
+  pub alter_refused : (answer : Answer) → IsMadeOf script chain own ch (Err answer) → outcome s (by_alter script s label ch) ≡ (answer, s)
+  alter_refused answer (is, refused) = rw (prepared, sealed, by_same is ∙ sym refused) refl
 
-  pub alter_made : (built : Built) (cred : Credential) → by_change (info_of script (change_files ch)) chain hold.cred ch ≡ Ok (made_as built cred)
-      → outcome s (by_alter script s label ch)
-      ≡ ((made_as built cred).answer, altered s label (record { change = ch; cred = cred; gains = (made_as built cred).gains }))
-  alter_made built cred made =
-      let found : outcome s (by_alter script s label ch)
-      ≡ ((made_as built cred).answer, altered s label (record { change = ch; cred = (made_as built cred).cred; gains = (made_as built cred).gains }))
-      = rw (prepared, sealed, by_same ∙ made) refl in
-      found
-      ∙ ap (λ (c : Credential). ((made_as built cred).answer, altered s label (record { change = ch; cred = c; gains = (made_as built cred).gains }))) (made_cred built cred)
+  pub alter_made : (made : Made) → IsMadeOf script chain own ch (Ok made)
+      → outcome s (by_alter script s label ch) ≡ (made.answer, altered s label (record { change = ch; cred = made.cred; gains = made.gains }))
+  alter_made made (is, done) = rw (prepared, sealed, by_same is ∙ sym done) refl
 
 -- ---- what the holds have
 
@@ -136,6 +106,13 @@ pub one_right : {X : Type 0} (f : Credential → X) (told : X) (o : Option Numbe
     → IfSome o (λ held. told ≡ f held.cred)
 one_right f told None x own is = tt
 one_right f told (Some c) x own is = is ∙ sym (ap f own)
+
+-- what is true of the credential that a label holds, if it holds any
+pub held_right : {X : Type 0} (P : X → Credential → Type 0) (o : Option X) (held : Option Numbered) (c : Credential)
+    → IfSome o (λ x. P x c) → IfSome held (λ h. h.cred ≡ c) → IfSome o (λ x. IfSome held (λ h. P x h.cred))
+held_right P None held c right own = tt
+held_right P (Some x) None c right own = tt
+held_right P (Some x) (Some h) c right own = subst (P x) (sym own) right
 
 pub with_ok : {A E : Type 0} (r : Result A E) (T : Type 0) (P Q : A → Type 0) → OnOk r T → IfOk r P → (T → (x : A) → P x → Q x) → IfOk r Q
 with_ok (Ok x) T P Q on is f = f on x is

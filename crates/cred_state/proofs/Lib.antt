@@ -20,6 +20,6 @@ pub mod Lines
 pub mod Keeping
 pub mod Returns
 pub mod Entering
-pub mod Deciding
 pub mod Lends
 pub mod Asking
+pub mod Deciding

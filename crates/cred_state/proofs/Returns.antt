@@ -9,7 +9,6 @@ use Rattle.std.proofs.lemmas.List.Elements.{All-cons, All-head, All-map, All-nil
 use Rattle.std.proofs.lemmas.Option.{slice_get_within}
 use Rattle.cred_record.specs.Credential.{Credential}
 use Rattle.cred_event.specs.declared.event.Event.{Event}
-use Rattle.cred_event.specs.declared.event.Event.TheVariants.{Ask, Signal, Alter, OpenFile}
 use Rattle.cred_model.specs.State.{State, Prepared, Changed, Numbered, numbered, held_by, prepared_of}
 use Rattle.cred_model.specs.Slots.{kept}
 use Rattle.cred_model.specs.Moves.{changed, with_change, altered}
@@ -21,9 +20,10 @@ use Rattle.cred_names.specs.Labels.{event_labels}
 use Rattle.cred_sound.specs.Sound.{IsSound}
 use Rattle.cred_words.specs.Lists.{Has, IsTaken}
 use Rattle.cred_hold.specs.Tokens.{Entry, entry, IsAlone}
-use Rattle.cred_lent.specs.Decisions.{AreFor}
-use Rattle.cred_lent.specs.declared.lent.Lent.{Lent}
-use Rattle.cred_lent.specs.declared.lent.Lent.TheVariants.{One, Two, Kept}
+use Rattle.atomic_table.specs.Seated.{TableId}
+use Rattle.cred_work.specs.Decisions.{AreOf, event_of}
+use Rattle.cred_work.specs.declared.lent.Lent.{Lent}
+use Rattle.cred_work.specs.declared.lent.Lent.TheVariants.{Asking, Opening, Signalling, Altering}
 use Rattle.cred_slots.specs.Table.{Table}
 use Rattle.cred_tables.specs.Kept.{Parts, state_of, IsKept}
 use Rattle.cred_tables.specs.Out.{AreHome, AreOut, ArePut}
@@ -31,7 +31,7 @@ use Rattle.cred_tables.proofs.Back.{has_taken, taken_has, back_new, back_newer}
 use Rattle.cred_tables.proofs.Outs.{IsHeld, IsPrepared, base_out, hold_apart, hold_out, kept_alone_by, kept_spare, kept_none, out_has, token_is}
 use Rattle.cred_tables.proofs.Puts.{put_back, put_changed, put_held, was_put}
 use Rattle.cred_tables.proofs.Stored.{spare_like}
-use Rattle.cred_state.specs.Lending.{AreApart, AreTaken, IsBase, earlier_of, entries_of}
+use Rattle.cred_state.specs.Lending.{AreApart, AreTaken, IsBase, earlier_of, entries_of, held_entry}
 use Rattle.cred_state.proofs.Labelling.{alter_kept}
 
 -- ---- lists
@@ -192,28 +192,24 @@ set_within xs ys n x is at =
 -- ---- all that was lent comes back
 
 -- the event names the labels of what is lent for it
-pub named_for : (event : Event) (lent : Lent) → AreFor event lent → All (λ e. Contains (event_labels event) e.label) (entries_of lent)
-named_for (Ask label query) (One hold) is =
-    let P : Entry → Type 0 = λ e. Contains (label ∷ []) e.label in
-    All-cons P (entry hold.label hold.slot (Some hold.cred)) [] (subst (λ n. Contains (label ∷ []) n) (sym is) (Contains-push [] label)) (All-nil P)
-named_for (OpenFile label file want fd) (One hold) is =
-    let P : Entry → Type 0 = λ e. Contains (label ∷ []) e.label in
-    All-cons P (entry hold.label hold.slot (Some hold.cred)) [] (subst (λ n. Contains (label ∷ []) n) (sym is) (Contains-push [] label)) (All-nil P)
-named_for (Signal from label to target) (Two sender receiver) is =
-    let P : Entry → Type 0 = λ e. Contains (label ∷ target ∷ []) e.label in
-    let own : Entry = entry sender.label sender.slot (Some sender.cred) in
-    All-cons P (entry receiver.label receiver.slot (Some receiver.cred)) (own ∷ [])
-    (subst (λ n. Contains (label ∷ target ∷ []) n) (sym is.1) (Contains-push (label ∷ []) target))
-    (All-cons P own [] (subst (λ n. Contains (label ∷ target ∷ []) n) (sym is.0) (Contains-append_left (label ∷ []) (target ∷ []) label (Contains-push [] label))) (All-nil P))
-named_for (Alter label change) (Kept base writer) is =
-    let P : Entry → Type 0 = λ e. Contains (label ∷ []) e.label in
-    let own : Entry = entry base.label base.slot (Some base.cred) in
-    All-cons P (entry writer.label writer.slot None) (own ∷ []) (subst (λ n. Contains (label ∷ []) n) (sym is.1) (Contains-push [] label))
-    (All-cons P own [] (subst (λ n. Contains (label ∷ []) n) (sym is.0) (Contains-push [] label)) (All-nil P))
-named_for event lent is = absurd is
+pub named_for : (cells : TableId) (lent : Lent) → AreOf cells lent → All (λ e. Contains (event_labels (event_of lent)) e.label) (entries_of lent)
+named_for cells (Asking hold query told) of =
+    let P : Entry → Type 0 = λ e. Contains (hold.label ∷ []) e.label in
+    All-cons P (held_entry hold) [] (Contains-push [] hold.label) (All-nil P)
+named_for cells (Opening hold file want fd may) of =
+    let P : Entry → Type 0 = λ e. Contains (hold.label ∷ []) e.label in
+    All-cons P (held_entry hold) [] (Contains-push [] hold.label) (All-nil P)
+named_for cells (Signalling from hold to target may) of =
+    let P : Entry → Type 0 = λ e. Contains (hold.label ∷ target.label ∷ []) e.label in
+    All-cons P (held_entry target) (held_entry hold ∷ []) (Contains-push (hold.label ∷ []) target.label)
+    (All-cons P (held_entry hold) [] (Contains-append_left (hold.label ∷ []) (target.label ∷ []) hold.label (Contains-push [] hold.label)) (All-nil P))
+named_for cells (Altering base writer change made) (own, its, same) =
+    let P : Entry → Type 0 = λ e. Contains (base.label ∷ []) e.label in
+    All-cons P (entry writer.label writer.slot None) (held_entry base ∷ []) (subst (λ n. Contains (base.label ∷ []) n) (sym same) (Contains-push [] base.label))
+    (All-cons P (held_entry base) [] (Contains-push [] base.label) (All-nil P))
 
 -- nothing that is out has one of them
-fresh : (event : Event) (out : List Entry) (e : Entry) → AreHome event out → Contains (event_labels event) e.label → Has out e → ⊥
+pub fresh : (event : Event) (out : List Entry) (e : Entry) → AreHome event out → Contains (event_labels event) e.label → Has out e → ⊥
 fresh event out e home named has = all_has (λ (x : Entry). Contains (event_labels event) x.label → ⊥) out e home has named
 
 pair_back : (event : Event) (y x : Entry) (out mid later new : List Entry) → AreHome event out → All (λ e. Contains (event_labels event) e.label) (y ∷ x ∷ [])
@@ -223,17 +219,28 @@ pair_back event y x out mid later new home own first second rest =
     let one = back_newer y x out mid first (fresh event out y home (All-head Named y (x ∷ []) own)) in
     rest ∙ back_new x out later (subst (λ es. IsTaken es x later) one second) (fresh event out x home (All-head Named x [] (All-tail Named y (x ∷ []) own)))
 
-pub all_back : (event : Event) (lent : Lent) (out new : List Entry) → AreFor event lent → AreHome event out
+pub all_back : (cells : TableId) (lent : Lent) (out new : List Entry) → AreOf cells lent → AreHome (event_of lent) out
     → AreTaken (entries_of lent) (entries_of lent ++ out) new → new ≡ out
-all_back event (One hold) out new for home (mid, taken, rest) =
-    let own = named_for event (One hold) for in
-    let Named : Entry → Type 0 = λ e. Contains (event_labels event) e.label in
-    let e : Entry = entry hold.label hold.slot (Some hold.cred) in
-    rest ∙ back_new e out mid taken (fresh event out e home (All-head Named e [] own))
-all_back event (Two from to) out new for home (mid, first, (later, second, rest)) =
-    pair_back event (entry to.label to.slot (Some to.cred)) (entry from.label from.slot (Some from.cred)) out mid later new home (named_for event (Two from to) for) first second rest
-all_back event (Kept base writer) out new for home (mid, first, (later, second, rest)) =
-    pair_back event (entry writer.label writer.slot None) (entry base.label base.slot (Some base.cred)) out mid later new home (named_for event (Kept base writer) for) first second rest
+all_back cells lent out new of home taken = by lent (named_for cells lent of) home taken
+  where
+    one : (event : Event) (e : Entry) → AreHome event out → All (λ e. Contains (event_labels event) e.label) (e ∷ [])
+        → AreTaken (e ∷ []) (e ∷ out) new → new ≡ out
+    one event e home own (mid, taken, rest) =
+        let Named : Entry → Type 0 = λ e. Contains (event_labels event) e.label in
+        rest ∙ back_new e out mid taken (fresh event out e home (All-head Named e [] own))
+
+    two : (event : Event) (y x : Entry) → AreHome event out → All (λ e. Contains (event_labels event) e.label) (y ∷ x ∷ [])
+        → AreTaken (y ∷ x ∷ []) (y ∷ x ∷ out) new → new ≡ out
+    two event y x home own (mid, first, (later, second, rest)) = pair_back event y x out mid later new home own first second rest
+
+    by : (lent : Lent) → All (λ e. Contains (event_labels (event_of lent)) e.label) (entries_of lent) → AreHome (event_of lent) out
+        → AreTaken (entries_of lent) (entries_of lent ++ out) new → new ≡ out
+    by (Asking hold query told) own home taken = one (event_of (Asking hold query told)) (held_entry hold) home own taken
+    by (Opening hold file want fd may) own home taken = one (event_of (Opening hold file want fd may)) (held_entry hold) home own taken
+    by (Signalling from hold to target may) own home taken =
+        two (event_of (Signalling from hold to target may)) (held_entry target) (held_entry hold) home own taken
+    by (Altering base writer change made) own home taken =
+        two (event_of (Altering base writer change made)) (entry writer.label writer.slot None) (held_entry base) home own taken
 
 -- ---- what a label has is what is lent under it
 

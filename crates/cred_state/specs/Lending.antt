@@ -3,79 +3,70 @@ use Rattle.std.specs.Prelude.{◌≡◌, ◌≢◌, ℕ, List, [], ◌∷◌, �
 use Rattle.std.specs.Prelude.{IfSome, IsSome, Bool, true, false, ◌<◌, length, Result, Ok, Err}
 use Rattle.cred_ids.specs.Limits.{OPEN_FILES}
 use Rattle.cred_event.specs.declared.answer.Answer.{Answer}
-use Rattle.cred_event.specs.declared.answer.Answer.TheVariants.{Done}
 use Rattle.std.specs.declared.option.Option.{Option}
 use Rattle.std.specs.Option.{option_and_then, option_map}
 use Rattle.atomic_table.specs.Seated.{TableId}
 use Rattle.cred_record.specs.Credential.{Credential}
-use Rattle.cred_record.specs.declared.refusal.Denial.{Denial}
-use Rattle.cred_record.specs.declared.refusal.Denial.TheVariants as denial
-use Rattle.cred_record.specs.declared.refusal.Refusal.{Refusal}
-use Rattle.cred_record.specs.declared.refusal.Refusal.TheVariants as refusal
 use Rattle.cred_event.specs.declared.event.Event.{Event}
 use Rattle.cred_event.specs.declared.event.Event.TheVariants.{Ask, Signal, Alter, OpenFile}
-use Rattle.cred_event.specs.declared.event.Event.TheVariants.{Init, Begin, Act, Spawn, Fork, Exit}
-use Rattle.cred_event.specs.declared.event.Event.TheVariants.{Take, TakeFile, Release, Prepare}
-use Rattle.cred_event.specs.declared.event.Event.TheVariants.{Commit, Abort, Override, Revert}
-use Rattle.cred_event.specs.declared.event.Event.TheVariants.{CloseFile, Sweep}
 use Rattle.cred_event.specs.declared.event.Change.TheVariants.{Exec}
 use Rattle.cred_event.specs.declared.event.Change.{Change}
+use Rattle.cred_model.specs.Change.{Made, by_change}
 use Rattle.cred_model.specs.Named.{change_files}
 use Rattle.cred_model.specs.Script.{Script, chain_of, info_of}
 use Rattle.cred_model.specs.State.{State, Prepared, Numbered, numbered, prepared_of, held_by}
 use Rattle.cred_model.specs.State.{open_of}
-use Rattle.cred_sound.specs.Sound.{IsSound}
 use Rattle.cred_words.specs.Lists.{IsTaken}
 use Rattle.cred_hold.specs.Tokens.{Entry, Held, Written, entry}
-use Rattle.cred_lent.specs.Decisions.{AreFor, IsRightChange}
-use Rattle.cred_lent.specs.declared.lent.Decided.{Decided}
-use Rattle.cred_lent.specs.declared.lent.Lent.{Lent}
-use Rattle.cred_lent.specs.declared.lent.Lent.TheVariants.{One, Two, Kept}
+use Rattle.cred_work.specs.declared.lent.Lent.{Lent}
+use Rattle.cred_work.specs.declared.lent.Lent.TheVariants.{Asking, Opening, Signalling, Altering}
 use Rattle.cred_tables.specs.Kept.{Standing, creds_in}
-use Rattle.cred_tables.specs.Out.{AreHome, AreOut, ArePut, cleared, tokens_in}
+use Rattle.cred_tables.specs.Out.{ArePut, cleared}
+
+-- the entry of a hold that is lent
+abbrev pub held_entry : Held → Entry
+held_entry hold = entry hold.label hold.slot (Some hold.cred)
 
 -- The entries of tokens that are lent, the newest first. A writer's is that of none, whatever it
 -- has put.
 abbrev pub entries_of : Lent → List Entry
-entries_of (One hold) = entry hold.label hold.slot (Some hold.cred) ∷ []
-entries_of (Two from to) =
-    entry to.label to.slot (Some to.cred) ∷ entry from.label from.slot (Some from.cred) ∷ []
-entries_of (Kept base writer) =
-    entry writer.label writer.slot None ∷ entry base.label base.slot (Some base.cred) ∷ []
+entries_of (Asking hold query told) = held_entry hold ∷ []
+entries_of (Opening hold file want fd may) = held_entry hold ∷ []
+entries_of (Signalling from hold to target may) = held_entry target ∷ held_entry hold ∷ []
+entries_of (Altering base writer change made) =
+    entry writer.label writer.slot None ∷ held_entry base ∷ []
 
--- the state of which these tokens are lent: a slot that is lent to be written is not sealed
-abbrev pub with_lent : Standing → Lent → Standing
-with_lent before (Kept base writer) = record {
+-- the state of which this hold is lent
+abbrev pub with_hold : Standing → Held → Standing
+with_hold before hold =
+    record before { words = record before.words { out = held_entry hold ∷ before.words.out } }
+
+-- the state of which a base is lent, and a writer, whose slot is not sealed
+abbrev pub with_kept : Standing → Held → Written → Standing
+with_kept before base writer = record {
   state = record before.state { creds = cleared writer.slot before.state.creds };
-  words = record before.words { out = entries_of (Kept base writer) ++ before.words.out };
+  words = record before.words {
+    out = entry writer.label writer.slot None ∷ held_entry base ∷ before.words.out;
+  };
   places = slice_set before.places writer.slot None;
 }
+
+-- the state of which these tokens are lent
+abbrev pub with_lent : Standing → Lent → Standing
+with_lent before (Altering base writer change made) = with_kept before base writer
 with_lent before lent =
     record before { words = record before.words { out = entries_of lent ++ before.words.out } }
 
--- the root ids are those of the base's user namespace and of that one's ancestors, if the event is
--- an execve
-abbrev pub IsChain : Script → Event → Lent → List ℕ → Type 0
-IsChain script (Alter label (Exec file)) (Kept base writer) chain =
-    chain ≡ chain_of script base.cred.ns
-IsChain script event lent chain = ⊤
+-- the root ids are those of the user namespace and of its ancestors, if the change is an execve
+abbrev pub IsChainOf : Script → Change → ℕ → List ℕ → Type 0
+IsChainOf script (Exec file) ns chain = chain ≡ chain_of script ns
+IsChainOf script change ns chain = ⊤
 
--- a writer among the tokens has put nothing
-abbrev pub IsUnput : Lent → Type 0
-IsUnput (Kept base writer) = writer.put ≡ None
-IsUnput lent = ⊤
-
--- The tokens were lent of this state for an event, under labels that nothing else was lent under.
-pub record WereLent (before : Standing) (lent : Lent) : Type 0 where
-  pub event : Event
-  pub labels : AreFor event lent
-  pub tokens : entries_of lent ≡ tokens_in before.state event
-  pub sound : IsSound before.state
-  pub out : AreOut before.state before.words.out
-  pub home : AreHome event before.words.out
-  pub put : ArePut before.state.prepared before.words.out before.places
-  pub slots : List ℕ
-  pub creds : before.state.creds ≡ creds_in before.places slots
+-- the root ids are those that the event is decided by: of the base's user namespace
+abbrev pub IsChain : Script → Lent → List ℕ → Type 0
+IsChain script (Altering base writer change made) chain =
+    IsChainOf script change base.cred.ns chain
+IsChain script lent chain = ⊤
 
 -- what stands in the words of kept slots was prepared, and what is seen is what stands in the words
 pub record IsStanding (s : Standing) : Type 0 where
@@ -120,13 +111,17 @@ AreTaken (e ∷ back) old new = (mid : List Entry) × IsTaken old e mid × AreTa
 abbrev pub AreApart : List ℕ → List Entry → Type 0
 AreApart slots out = All (λ e. IsSome e.held → All (λ slot. e.slot ≢ slot) slots) out
 
--- the change was decided on the base, as the script has its file and its root ids
-abbrev pub IsRightAlter : Script → ℕ → Change → Held → Written → Decided → Type 0
-IsRightAlter script label change base writer decided =
-    (chain : List ℕ)
-    × IsChain script (Alter label change) (Kept base writer) chain
-    × IsRightChange change (info_of script (change_files change)) chain base.cred writer.put
-    decided
+-- a change made this of the base, as the script has its file and its root ids
+abbrev pub IsMadeOf :
+    Script → List ℕ → Credential → Change → Result Made Answer → Type 0
+IsMadeOf script chain base change made =
+    IsChainOf script change base.ns chain
+    × (made ≡ by_change (info_of script (change_files change)) chain base change)
+
+-- what a change made was put
+abbrev pub IsMadePut : Written → Result Made Answer → Type 0
+IsMadePut writer (Ok made) = writer.put ≡ Some made.cred
+IsMadePut writer (Err answer) = ⊤
 
 -- what the label prepares is based on this credential, if it prepares anything
 abbrev pub IsBase : State → ℕ → Credential → Type 0
@@ -141,31 +136,12 @@ is_decided (Alter label change) = true
 is_decided (OpenFile label file want fd) = true
 is_decided event = false
 
--- a task is created by the event, ends by it, or makes an id call or a step of one
-abbrev pub is_of_task : Event → Bool
-is_of_task (Init task process user group ns) = true
-is_of_task (Spawn task child) = true
-is_of_task (Fork task child process) = true
-is_of_task (Exit task) = true
-is_of_task event = false
-
--- the event is on a label, on what a task acts with or on a descriptor, or is a sweep, and is
--- decided on nothing that is lent
-abbrev pub is_of_label : Event → Bool
-is_of_label (TakeFile label fd) = true
-is_of_label (Abort label) = true
-is_of_label (Override task label) = true
-is_of_label (Revert task) = true
-is_of_label (CloseFile fd) = true
-is_of_label Sweep = true
-is_of_label event = false
-
 -- The label holds the credential of this number, which may open the file, and the descriptor is
 -- new.
-pub record MayOpen (s : State) (label fd opener : ℕ) (told : Answer) : Type 0 where
+pub record MayOpen (s : State) (label fd opener : ℕ) (may : Bool) : Type 0 where
   pub held : Numbered
   pub is : held_by s label ≡ Some held
   pub number : held.number ≡ opener
   pub new : open_of s fd ≡ None
   pub room : length s.files < OPEN_FILES
-  pub done : told ≡ Done
+  pub allowed : may ≡ true

@@ -5,4 +5,4 @@
 
 pub mod state;
 
-pub use state::{State, Unentered};
+pub use state::State;

@@ -1,8 +1,10 @@
 //! The state of a run: the tasks, the open broadcasts, the open files, the holds, the prepared
 //! labels, the master of the shared words that the credentials stand in, and a table of slots that
 //! counts the references to them.
-ghost use Rattle.std.specs.Prelude.{◌≡◌, ◌||◌, [], Some, is_some, length, IfOk, OnErr};
+ghost use Rattle.std.specs.Prelude.{◌≡◌, ◌||◌, ℕ, [], Some, is_some, length, IfOk, OnErr};
 ghost use Rattle.std.specs.Option.{option_map};
+ghost use Rattle.cred_event.specs.declared.event.Event.TheVariants.{Sweep};
+ghost use Rattle.cred_model.specs.Script.{Script as Declared};
 ghost use Rattle.cred_model.specs.State.{opening, hold_of, prepared_of, current_of, credential_of};
 ghost use Rattle.cred_model.specs.State.{held_by, numbered};
 ghost use Rattle.cred_model.specs.Slots as model;
@@ -21,10 +23,10 @@ mod lends;
 mod overrides;
 mod prepare;
 mod returns;
-mod steps;
 mod tasks;
 
 use cred_cast::Casts;
+use cred_declared::root_of;
 use cred_event::{Answer, Counted, Event, Named, Side};
 use cred_files::Files;
 use cred_hold::{Cells, Master, make};
@@ -34,7 +36,6 @@ use cred_record::Cred;
 use cred_script::Script;
 use cred_slots::Slots;
 use cred_tables::{Holds, Numbered, Preparing, sealed_at};
-pub use enters::Unentered;
 use std::alloc::Global;
 use std::marker::Model;
 
@@ -158,23 +159,85 @@ impl State {
     {
         match event {
             Event::Ask { label, query } => self.ask(cells, script, *label, *query),
-            Event::Signal { .. } | Event::Alter { .. } | Event::OpenFile { .. } => self.decide(
-                cells, script, line, event,
-            ),
             Event::Take { label, task, side } => self.take(*label, *task, *side),
             Event::Release { label } => Ok(self.release(*label)),
             Event::Prepare { label, task, hold } => self.prepare(cells, *label, *task, *hold),
             Event::Commit { label } => self.commit(*label),
             Event::Begin { task, call } => self.begin(cells, line, *task, call),
             Event::Act { cast } => self.act(cells, *cast),
-            Event::Init { .. } | Event::Spawn { .. } | Event::Fork { .. } | Event::Exit { .. } =>
-                self.step_task(cells, script, line, event),
-            Event::TakeFile { .. }
-            | Event::Abort { .. }
-            | Event::Override { .. }
-            | Event::Revert { .. }
-            | Event::CloseFile { .. }
-            | Event::Sweep => self.step_label(cells, event),
+            _ => self.step_any(cells, script, line, event),
+        }
+    }
+
+    /// Makes any event, as `step` does, which makes those of calls and questions by itself.
+    ///
+    /// # Errors
+    ///
+    /// As `step` has them.
+    // No part of `step`: what an arm makes and passes has room there, cleared at each event.
+    #[inline(never)]
+    fn step_any(
+        &mut self,
+        cells: &Cells,
+        script: &Script,
+        line: u32,
+        event: &Event,
+    ) -> Result<Answer, NoMemory>
+        requires own { self.old.words.id ≡ cells.now }
+        requires out { AreOut self.old.state self.old.words.out }
+        requires home { AreHome event.now self.old.words.out }
+        requires kind { IsEventOf (length script.now.files) script.now.namespaces event.now }
+        requires sound { IsSound self.old.state }
+        ensures ok { IfOk result (λ answer.
+            GivesLike self.old.state (done script.now self.old.state line event.now) answer
+            self.new.state) }
+        ensures err { OnErr result (self.new ≡ self.old) }
+        ensures words { self.new.words ≡ self.old.words }
+    {
+        match event {
+            Event::Ask { label, query } => self.ask(cells, script, *label, *query),
+            Event::Signal {
+                from,
+                hold,
+                to,
+                target,
+            } => Ok(self.signal(cells, *from, *hold, *to, *target)),
+            Event::Alter { label, change } => self.alter(cells, script, *label, *change),
+            Event::OpenFile {
+                hold,
+                file,
+                want,
+                fd,
+            } => self.open(cells, script, *hold, *file, *want, *fd),
+            Event::Take { label, task, side } => self.take(*label, *task, *side),
+            Event::Release { label } => Ok(self.release(*label)),
+            Event::Prepare { label, task, hold } => self.prepare(cells, *label, *task, *hold),
+            Event::Commit { label } => self.commit(*label),
+            Event::Begin { task, call } => self.begin(cells, line, *task, call),
+            Event::Act { cast } => self.act(cells, *cast),
+            Event::Init {
+                task,
+                process,
+                user,
+                group,
+                ns,
+            } => {
+                let root = root_of(script, *ns);
+                self.init(cells, *task, *process, *user, *group, *ns, root)
+            }
+            Event::Spawn { task, child } => self.spawn(*task, *child),
+            Event::Fork {
+                task,
+                child,
+                process,
+            } => self.fork(*task, *child, *process),
+            Event::Exit { task } => self.exit(*task),
+            Event::TakeFile { label, fd } => self.take_file(*label, *fd),
+            Event::Abort { label } => Ok(self.abort(*label)),
+            Event::Override { task, label } => self.override_with(*task, *label),
+            Event::Revert { task } => Ok(self.revert(*task)),
+            Event::CloseFile { fd } => Ok(self.close_file(*fd)),
+            Event::Sweep => Ok(self.sweep()),
         }
     }
 
@@ -309,6 +372,16 @@ impl State {
             return Answer::NoHold(label);
         };
         self.slots.drop_later(number);
+        Answer::Done
+    }
+
+    /// All references that were given up since the last sweep are let go.
+    fn sweep(&mut self) -> Answer
+        ensures made { (script : Declared) (line : ℕ)
+            → Gives self.old.state (done script self.old.state line Sweep) result self.new.state }
+        ensures words { self.new.words ≡ self.old.words }
+    {
+        self.slots.sweep();
         Answer::Done
     }
 }

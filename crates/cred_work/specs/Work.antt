@@ -1,35 +1,51 @@
 -- What a work has, as contracts see it.
-use Rattle.std.specs.Prelude.{ℕ, List}
+use Rattle.std.specs.Prelude.{ℕ, List, [], None, Some}
 use Rattle.std.specs.declared.option.Option.{Option}
+use Rattle.cred_record.specs.Credential.{first_credential}
 use Rattle.cred_record.specs.File.{File}
-use Rattle.cred_event.specs.declared.event.Event.{Event}
-use Rattle.cred_lent.specs.declared.lent.Decided.{Decided}
-use Rattle.cred_lent.specs.declared.lent.Lent.{Lent}
+use Rattle.cred_event.specs.declared.event.Query.TheVariants.{Ids}
+use Rattle.cred_hold.specs.Tokens.{Held}
+use Rattle.cred_work.specs.declared.lent.Lent.{Lent}
+use Rattle.cred_work.specs.declared.lent.Lent.TheVariants.{Asking}
 
--- an event that needs a decision, with its line, the file that it names, if it names one, and the
--- root ids of the base's user namespace and of that one's ancestors, the nearest first
+-- what an event is decided by besides credentials, with its line: the file that it names, if it
+-- names one, and the root ids of the base's user namespace and of that one's ancestors, the nearest
+-- first
 pub record Asked : Type 0 where
   pub line : ℕ
-  pub event : Event
   pub file : Option File
   pub chain : List ℕ
 
--- the same with the tokens that are lent for it, and its decision, once it is made
+-- the same with what is lent for the event, and its decision, once it is made
 pub record Work : Type 0 where
   pub line : ℕ
-  pub event : Event
   pub file : Option File
   pub chain : List ℕ
   pub lent : Lent
-  pub decided : Option Decided
 
--- the work of an event for which these tokens are lent, with this decision or none
-abbrev pub work_of : Asked → Lent → Option Decided → Work
-work_of asked lent decided = record {
-  line = asked.line;
-  event = asked.event;
-  file = asked.file;
-  chain = asked.chain;
-  lent = lent;
-  decided = decided;
+-- the work of the event for which these tokens are lent
+abbrev pub work_of : Asked → Lent → Work
+work_of asked lent =
+    record { line = asked.line; file = asked.file; chain = asked.chain; lent = lent }
+
+-- a hold that nothing is read by
+unfoldable pub no_hold : Held
+no_hold = record {
+  id = record {
+    words = 0;
+    slots = 0;
+    views_name = 0;
+    atom = 0;
+    block = 0;
+    offset = 0;
+    slot_names = [];
+  };
+  label = 0;
+  slot = 0;
+  cred = first_credential 0 0 0 0;
 }
+
+-- what is lent for a work, for which something always is
+abbrev pub some_lent : Option Lent → Lent
+some_lent (Some lent) = lent
+some_lent None = Asking no_hold Ids None

@@ -1,9 +1,24 @@
+//! Decisions on credentials that are lent: what a question is answered, whether a task may signal
+//! another, what a change makes, and so what an event that waits for one of these is decided.
+//! Whoever has the tokens decides, at whatever moments other tokens read and put, and waits for
+//! nobody.
+//!
 //! Works: events that wait for a decision on lent credentials, each with all that the decision
 //! needs, so that it can be made where no lock is held.
 #![tactic(auto)]
 
+mod changes;
+mod lent;
+mod made;
 mod performing;
+mod questions;
+mod signals;
 mod work;
 
+pub use changes::alter;
+pub use lent::Lent;
+pub use made::{BoxedMade, unboxed};
 pub use performing::perform;
+pub use questions::{decide, may_open};
+pub use signals::decide_signal;
 pub use work::{Asked, Work};

@@ -1,12 +1,11 @@
 //! A work is decided.
 ghost use Rattle.std.specs.Prelude.{◌≡◌, OnOk, OnErr};
-ghost use Rattle.cred_lent.specs.Decisions.{AreOf, AreFor};
+ghost use Rattle.cred_work.specs.Decisions.{AreOf, PutStays};
 ghost use Rattle.cred_work.specs.Works.{Stays, IsDecided};
 
-use crate::work::Work;
+use crate::work::{Parts, Work};
 use cred_hold::Cells;
 use cred_ids::NoMemory;
-use cred_lent::decide_event;
 use std::alloc::Global;
 
 /// Decides a work. Its line, event, file and chain stay, and so do its tokens, but for the new
@@ -17,21 +16,21 @@ use std::alloc::Global;
 /// `NoMemory` if an allocation fails. The work stays as it was.
 pub fn perform(alloc: Global, cells: &Cells, work: &mut Work) -> Result<(), NoMemory>
     requires own { AreOf cells.now work.old.lent }
-    requires labels { AreFor work.old.event work.old.lent }
     ensures decided { OnOk result (IsDecided work.new) }
-    ensures stays { OnOk result (Stays work.old work.new) }
+    ensures stays { Stays work.old work.new }
+    ensures refused { OnOk result (PutStays work.old.lent work.new.lent) }
     ensures same { OnErr result (work.new ≡ work.old) }
 {
-    let Work { parts, lent } = work;
-    let parts = parts.as_mut();
-    let decided = decide_event(
-        alloc,
-        cells,
-        &parts.event,
-        parts.file.as_ref(),
-        parts.chain.items(),
+    let Work { parts } = work;
+    let Parts {
+        file,
+        chain,
         lent,
-    )?;
-    parts.decided = Some(decided);
-    Ok(())
+        ..
+    } = parts.as_mut();
+    match lent {
+        Some(lent) => lent.decide(alloc, cells, file.as_ref(), chain.items()),
+        // Something is lent for each work.
+        None => Ok(()),
+    }
 }

@@ -1,28 +1,27 @@
-//! What a work has: an event with its line, the tokens that are lent for it, and its decision.
+//! What a work has: what is lent for an event, with the event's line and all else that its decision
+//! needs.
 ghost use Rattle.std.specs.Prelude.{◌≡◌, IfOk};
 ghost use Rattle.cred_work.specs.Work.{work_of};
 
-use cred_event::Event;
+use crate::lent::Lent;
 use cred_ids::NoMemory;
-use cred_lent::{Decided, Lent};
 use cred_record::{FileInfo, IdList};
 use std::alloc::Global;
 use std::marker::Model;
 
-/// All of a work but its tokens, which is large.
+/// All of a work, which is large, or of what is asked for, for which nothing is lent.
 #[derive(Drop)]
 pub(crate) struct Parts {
     pub(crate) line: u32,
-    pub(crate) event: Event,
     pub(crate) file: Option<FileInfo>,
     pub(crate) chain: IdList,
-    pub(crate) decided: Option<Decided>,
+    pub(crate) lent: Option<Lent>,
 }
 
-/// An event for whose decision no token is lent yet, with its line, and copies of the file that it
+/// What an event is decided by besides credentials, with its line: copies of the file that it
 /// names, if it names one, and of the root ids of the base's user namespace and of that one's
-/// ancestors, the nearest first. It stands in memory of its own, in which there is room for the
-/// decision. Contracts see the record `Asked` of `specs/Work.antt`.
+/// ancestors, the nearest first. It stands in memory of its own, in which there is room for what is
+/// lent. Contracts see the record `Asked` of `specs/Work.antt`.
 pub struct Asked {
     parts: Box<Parts>,
 }
@@ -34,7 +33,6 @@ impl Model for Asked {
 
     ghost view = { λ a. record {
       line = a.parts.value.line;
-      event = a.parts.value.event;
       file = a.parts.value.file;
       chain = a.parts.value.chain;
     } };
@@ -50,7 +48,7 @@ impl Drop for Asked {
 }
 
 impl Asked {
-    /// The event of this line, with its file and its root ids.
+    /// What is asked for this line, with its file and its root ids.
     ///
     /// # Errors
     ///
@@ -58,27 +56,43 @@ impl Asked {
     pub fn new(
         alloc: Global,
         line: u32,
-        event: Event,
         file: Option<FileInfo>,
         chain: IdList,
     ) -> Result<Asked, NoMemory>
         ensures { IfOk result (λ asked. asked ≡ record {
           line = line;
-          event = event;
           file = file;
           chain = chain;
         }) }
     {
         let parts = Parts {
             line,
-            event,
             file,
             chain,
-            decided: None,
+            lent: None,
         };
         Ok(Asked {
             parts: Box::new(alloc, parts)?,
         })
+    }
+
+    /// The same for another line, in the memory of this one, whose file and root ids are let go of.
+    /// No memory is taken.
+    // No call, since what it takes is large, and would be moved.
+    #[inline(always)]
+    pub fn again(self, line: u32, file: Option<FileInfo>, chain: IdList) -> Asked
+        ensures { result ≡ record {
+          line = line;
+          file = file;
+          chain = chain;
+        } }
+    {
+        let Asked { mut parts } = self;
+        let its = parts.as_mut();
+        its.line = line;
+        its.file = file;
+        its.chain = chain;
+        Asked { parts }
     }
 
     /// The line whose event it is.
@@ -88,40 +102,21 @@ impl Asked {
         self.parts.line
     }
 
-    /// The event.
-    pub fn event(&self) -> &Event
-        ensures { result.now ≡ self.now.event }
-    {
-        &self.parts.event
-    }
-
-    /// The event, where nothing else is needed any more. No memory is taken.
-    pub fn into_event(self) -> Event
-        ensures { result ≡ self.event }
-    {
-        let Asked { parts } = self;
-        let Parts { event, .. } = Box::into_inner(parts);
-        event
-    }
-
     /// Its memory.
     fn into_parts(self) -> Box<Parts>
-        ensures { (result.value.line ≡ self.line) × (result.value.event ≡ self.event)
-            × (result.value.file ≡ self.file) × (result.value.chain ≡ self.chain) }
+        ensures { (result.value.line ≡ self.line) × (result.value.file ≡ self.file)
+            × (result.value.chain ≡ self.chain) }
     {
         let Asked { parts } = self;
         parts
     }
 }
 
-/// An event that waits for its decision, with its line, the tokens that are lent for it, copies of
-/// the file that it names, if it names one, and of the root ids of the base's user namespace and of
-/// that one's ancestors, the nearest first, and the decision once it is made. Contracts see the
-/// record `Work` of `specs/Work.antt`. To move one is cheap: all but its tokens stands in
-/// memory of its own.
+/// An event that waits for its decision: the tokens that are lent for it, with the decision once it
+/// is made, and what it is decided by. Contracts see the record `Work` of `specs/Work.antt`. To
+/// move one is cheap: it stands in memory of its own.
 pub struct Work {
     pub(crate) parts: Box<Parts>,
-    pub(crate) lent: Lent,
 }
 
 impl Model for Work {
@@ -131,41 +126,47 @@ impl Model for Work {
 
     ghost view = { λ w. record {
       line = w.parts.value.line;
-      event = w.parts.value.event;
       file = w.parts.value.file;
       chain = w.parts.value.chain;
-      lent = w.lent;
-      decided = w.parts.value.decided;
+      lent = spec.some_lent w.parts.value.lent;
     } };
+
+    ghost use Rattle.std.specs.Prelude.{IsSome};
+
+    ghost invariant = { λ w. IsSome w.parts.value.lent };
 }
 
 /// Written out, as that of `Asked`.
 impl Drop for Work {
     fn drop(self) {
-        let Work { parts, lent } = self;
+        let Work { parts } = self;
         drop(parts);
-        drop(lent);
     }
 }
 
 impl Work {
-    /// The work of an event for which these tokens are lent, decided so, or not yet. No memory is
-    /// taken.
-    pub fn of(asked: Asked, lent: Lent, decided: Option<Decided>) -> Work
-        ensures { result ≡ work_of asked lent decided }
+    /// The work of the event for which these tokens are lent. No memory is taken.
+    // No call, since what it takes or gives is large, and would be moved.
+    #[inline(always)]
+    pub fn of(asked: Asked, lent: Lent) -> Work
+        ensures { result ≡ work_of asked lent }
     {
         let mut parts = asked.into_parts();
-        parts.as_mut().decided = decided;
-        Work { parts, lent }
+        parts.as_mut().lent = Some(lent);
+        Work { parts }
     }
 
-    /// The event, the tokens that are lent for it, and what was decided. No memory is taken.
-    pub fn apart(self) -> (Asked, Lent, Option<Decided>)
-        ensures { self ≡ work_of result.0 result.1 result.2 }
+    /// What it was made of. No memory is taken.
+    // No call, since what it takes or gives is large, and would be moved.
+    #[inline(always)]
+    pub fn apart(self) -> (Asked, Lent)
+        ensures { self ≡ work_of result.0 result.1 }
     {
-        let Work { mut parts, lent } = self;
-        let decided = parts.as_mut().decided.take();
-        (Asked { parts }, lent, decided)
+        let Work { mut parts } = self;
+        let Some(lent) = parts.as_mut().lent.take() else {
+            unreachable!()
+        };
+        (Asked { parts }, lent)
     }
 
     /// The line whose event waits.

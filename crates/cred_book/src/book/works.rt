@@ -8,30 +8,28 @@ ghost use Rattle.cred_model.specs.Named.{event_files};
 ghost use Rattle.cred_model.specs.Script.{chain_of, info_of};
 ghost use Rattle.cred_script.specs.Lines.{line_at};
 ghost use Rattle.cred_cursor.specs.Cursor.{IsOfLine, MovesOnTo};
-ghost use Rattle.cred_lent.specs.Decisions.{AreFor, AreOf};
+ghost use Rattle.cred_work.specs.Decisions.{bare, event_of, AreOf};
 ghost use Rattle.cred_work.specs.Works.{IsDecided};
 ghost use Rattle.cred_tables.specs.Out.{AreHome, tokens_in, waits_in};
-ghost use Rattle.cred_state.specs.Lending.{entries_of};
+ghost use Rattle.cred_state.specs.Lending.{entries_of, is_decided};
 ghost use Rattle.cred_book.specs.Book.{answer_of};
 ghost use Rattle.cred_book.specs.Counts.{HasEntered};
 ghost use Rattle.cred_book.specs.Cursor.{Finishes, Stands, left};
 ghost use Rattle.cred_book.specs.Works.{IsChainFor, IsEntered, IsHanded, IsLanes, IsWorkOf};
-ghost use Rattle.cred_book.specs.Works.{may_wait, with_out};
+ghost use Rattle.cred_book.specs.Works.{with_out};
 ghost use Rattle.cred_book.specs.declared.step.Step.TheVariants.{More};
 
 use crate::book::Book;
 use crate::outs::copy_file;
-use crate::step::{Handed, Step, Unfinished};
+use crate::step::{Step, Unfinished};
 use cred_course::Course;
 use cred_cursor::cursor_after;
 use cred_declared::{chain_of as declared_chain, event_file};
 use cred_event::{Entry, Event};
 use cred_hold::Cells;
 use cred_ids::NoMemory;
-use cred_lent::{Decided, Lent};
 use cred_record::{FileInfo, IdList};
-use cred_state::Unentered;
-use cred_work::{Asked, Work};
+use cred_work::{Asked, Lent, Work};
 
 impl Book {
     /// Takes a work of the lane back, which is decided, and enters its event, the lane's next one.
@@ -65,7 +63,7 @@ impl Book {
     }
 
     /// Hands the event of the lane's line out as a work, with its tokens, where it waits for a
-    /// decision. Else it is handed back, and the book is as it was.
+    /// decision. `None` where it doesn't: the book is as it was.
     ///
     /// # Errors
     ///
@@ -76,31 +74,58 @@ impl Book {
         cells: &Cells,
         lane: u32,
         line: u32,
-        event: Event,
-    ) -> Result<Handed, NoMemory>
+        event: &Event,
+    ) -> Result<Option<Work>, NoMemory>
         requires own { self.old.words.id ≡ cells.now }
-        requires home { AreHome event self.old.words.out }
+        requires home { AreHome event.now self.old.words.out }
         requires place { lane < length self.old.outs }
-        ensures handed { IfOk result (IsHanded self.old self.new lane line event) }
+        ensures handed { IfOk result (IsHanded self.old self.new lane line event.now) }
         ensures err { OnErr result (self.new ≡ self.old) }
     {
-        if !may_wait(&event) {
-            return Ok(Handed::Back(event));
-        }
-        let ns = self.deciding_ns(cells, &event);
-        let (file, chain) = self.copies(&event, ns)?;
-        let asked = Asked::new(self.alloc, line, event, file, chain)?;
-        match self.lend(cells, lane, line, asked.event()) {
-            Some(lent) => Ok(Handed::Out(Work::of(asked, lent, None))),
-            None => Ok(Handed::Back(asked.into_event())),
+        let Some(ns) = self.deciding_ns(cells, event) else {
+            return Ok(None);
+        };
+        let (file, chain) = self.copies(event, ns)?;
+        let asked = self.ask(line, file, chain)?;
+        let Some(lent) = self.lend(cells, lane, line, event) else {
+            return Ok(None);
+        };
+        Ok(Some(Work::of(asked, lent)))
+    }
+
+    /// What is asked for this line, with this file and these root ids: in the memory of the work that
+    /// came back last, where one did. A work goes out at every other line, and comes back before
+    /// the next one of its lane does.
+    ///
+    /// # Errors
+    ///
+    /// `NoMemory` if an allocation of new memory fails.
+    fn ask(
+        &mut self,
+        line: u32,
+        file: Option<FileInfo>,
+        chain: IdList,
+    ) -> Result<Asked, NoMemory>
+        ensures asked { IfOk result (λ asked. asked ≡ record {
+          line = line;
+          file = file;
+          chain = chain;
+        }) }
+        ensures same { self.new ≡ self.old }
+    {
+        match self.spare.take() {
+            Some(spare) => Ok(spare.again(line, file, chain)),
+            None => Asked::new(self.alloc, line, file, chain),
         }
     }
 
     /// The user namespace whose root ids the event is decided by: that of its label's base. Only an
-    /// execve is decided by any.
-    fn deciding_ns(&mut self, cells: &Cells, event: &Event) -> u32
+    /// execve is decided by any. `None` where the event waits for no decision.
+    fn deciding_ns(&mut self, cells: &Cells, event: &Event) -> Option<u32>
         requires own { self.old.words.id ≡ cells.now }
-        ensures chain { IsChainFor self.old event.now (chain_of self.old.script result) }
+        ensures decided { is_some result ≡ is_decided event.now }
+        ensures chain { IfSome result (λ ns.
+            IsChainFor self.old event.now (chain_of self.old.script ns)) }
         ensures same { self.new ≡ self.old }
     {
         self.state.deciding_ns(cells, event)
@@ -133,7 +158,8 @@ impl Book {
         requires place { lane < length self.old.outs }
         ensures waits { is_some result
             ≡ waits_in (replay self.old.script self.old.journal) event.now }
-        ensures of { IfSome result (λ lent. AreOf cells.now lent × AreFor event.now lent) }
+        ensures of { IfSome result (λ lent. AreOf cells.now lent × (event_of lent ≡ event.now)) }
+        ensures bare { IfSome result (λ lent. bare lent ≡ lent) }
         ensures tokens { IfSome result (λ lent. entries_of lent
             ≡ tokens_in (replay self.old.script self.old.journal) event.now) }
         ensures lent { IfSome result (λ lent. self.new ≡ with_out self.old lane line lent) }
@@ -166,35 +192,30 @@ impl Book {
         ensures entered { OnOk result (IsEntered self.old self.new work) }
         ensures passes { IfOk result (λ cursor. IfSome (line_at self.old.script course.line)
             (λ line. MovesOnTo self.old.script lane
-            (course_model.after line.content course (answer_of self.old course.line work.event))
-            cursor)) }
+            (course_model.after line.content course
+            (answer_of self.old course.line (event_of work.lent))) cursor)) }
         ensures err { IfErr result (λ unfinished. (unfinished.work ≡ work)
             × (self.new ≡ self.old)) }
     {
         let Ok(()) = self.journal.reserve(1) else {
             return Err(Unfinished { work });
         };
-        let (asked, lent, decided) = work.apart();
-        let Some(decided) = decided else {
-            unreachable!()
-        };
-        let line = asked.line();
-        match self
-            .state
-            .enter(cells, &self.script, line, asked.event(), lent, decided)
-        {
+        let (asked, lent) = work.apart();
+        let event = lent.event();
+        match self.state.enter(cells, lent) {
             Ok(answer) => {
-                let event = asked.into_event();
+                let line = asked.line();
                 let cursor = cursor_after(&self.script, lane, course, &answer);
                 self.journal.push_reserved(Entry {
                     line,
                     event,
                     answer,
                 });
+                self.spare = Some(asked);
                 Ok(cursor)
             }
-            Err(Unentered { hold, answer }) => Err(Unfinished {
-                work: Work::of(asked, Lent::One(hold), Some(Decided::Told(answer))),
+            Err(lent) => Err(Unfinished {
+                work: Work::of(asked, lent),
             }),
         }
     }
@@ -206,14 +227,4 @@ impl Book {
     {
         self.outs[lane as usize] = None;
     }
-}
-
-/// Whether an event of this kind waits for a decision where its labels are there.
-fn may_wait(event: &Event) -> bool
-    ensures { result ≡ may_wait event.now }
-{
-    matches!(
-        event,
-        Event::Ask { .. } | Event::OpenFile { .. } | Event::Signal { .. } | Event::Alter { .. }
-    )
 }

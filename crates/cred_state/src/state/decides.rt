@@ -1,72 +1,20 @@
-//! Events that are decided on credentials: on what is lent for them in the same call, or where a
-//! label isn't there, on that alone.
-ghost use Rattle.std.specs.Prelude.{◌≡◌, ℕ, false, true, IfOk, IfSome, OnErr};
-ghost use Rattle.cred_model.specs.Answers.{reply};
+//! Events that are decided on credentials: on what is lent for them in the same call.
+ghost use Rattle.std.specs.Prelude.{◌≡◌, IfOk, OnErr};
 ghost use Rattle.cred_model.specs.Like.{Gives, GivesLike};
-ghost use Rattle.cred_model.specs.Named.{query_files};
-ghost use Rattle.cred_model.specs.Script.{info_of, Script as Declared};
-ghost use Rattle.cred_model.specs.State.{held_by};
-ghost use Rattle.cred_model.specs.Step.{by_ask, by_signal, done};
-ghost use Rattle.cred_event.specs.declared.event.Query.{Query as Asked};
-ghost use Rattle.cred_rules.specs.Access.{may_signal};
+ghost use Rattle.cred_model.specs.Step.{by_alter, by_ask, by_open, by_signal};
 ghost use Rattle.cred_sound.specs.Sound.{IsSound};
-ghost use Rattle.cred_tables.specs.Out.{AreHome, AreOut, waits_in};
-ghost use Rattle.cred_state.specs.Lending.{is_decided};
+ghost use Rattle.cred_tables.specs.Out.{AreHome, AreOut};
 
 use crate::state::State;
-use cred_declared::{asked_file, chain_of, event_file};
-use cred_event::{Answer, Event, Query};
+use cred_declared::{asked_file, chain_of, executed_file};
+use cred_event::{Answer, Change, Event, Query};
 use cred_hold::Cells;
 use cred_ids::NoMemory;
-use cred_lent::{Lent, decide, decide_event};
+use cred_record::Want;
 use cred_script::Script;
+use cred_work::{alter, decide, decide_signal, may_open};
 
 impl State {
-    /// Decides an event on what is lent for it in this call, and enters it.
-    ///
-    /// # Errors
-    ///
-    /// `NoMemory` if an allocation of a copy, of a credential or of room for what is entered fails:
-    /// the state is as it was.
-    pub(crate) fn decide(
-        &mut self,
-        cells: &Cells,
-        script: &Script,
-        line: u32,
-        event: &Event,
-    ) -> Result<Answer, NoMemory>
-        requires own { self.old.words.id ≡ cells.now }
-        requires out { AreOut self.old.state self.old.words.out }
-        requires home { AreHome event.now self.old.words.out }
-        requires sound { IsSound self.old.state }
-        requires decided { is_decided event.now ≡ true }
-        ensures ok { IfOk result (λ answer.
-            GivesLike self.old.state (done script.now self.old.state line event.now) answer
-            self.new.state) }
-        ensures err { OnErr result (self.new ≡ self.old) }
-        ensures words { self.new.words ≡ self.old.words }
-    {
-        let ns = self.deciding_ns(cells, event);
-        let Some(mut lent) = self.lend(cells, event) else {
-            return Ok(self.missing(event));
-        };
-        let file = event_file(script, event);
-        let chain = chain_of(script, ns);
-        match decide_event(self.alloc, cells, event, file, chain, &mut lent) {
-            Ok(decided) => match self.enter(cells, script, line, event, lent, decided) {
-                Ok(answer) => Ok(answer),
-                Err(left) => {
-                    self.take_back(cells, event, Lent::One(left.hold));
-                    Err(NoMemory)
-                }
-            },
-            Err(NoMemory) => {
-                self.take_back(cells, event, lent);
-                Err(NoMemory)
-            }
-        }
-    }
-
     /// Answers a question on the hold that is lent for it in this call. Questions are many, so
     /// nothing is made for one that only other decisions need.
     ///
@@ -104,68 +52,116 @@ impl State {
         told
     }
 
-    /// What an event is answered for which a label isn't there, or a task.
-    fn missing(&self, event: &Event) -> Answer
-        requires decided { is_decided event.now ≡ true }
-        requires none { waits_in self.now.state event.now ≡ false }
-        ensures { (script : Declared) (line : ℕ)
-            → Gives self.now.state (done script self.now.state line event.now) result
-            self.now.state }
+    /// May a task signal another? That is decided on the holds that are lent for it in this call.
+    pub(crate) fn signal(
+        &mut self,
+        cells: &Cells,
+        from: u32,
+        hold: u32,
+        to: u32,
+        target: u32,
+    ) -> Answer
+        requires own { self.old.words.id ≡ cells.now }
+        requires out { AreOut self.old.state self.old.words.out }
+        requires home { AreHome (Event.Signal from hold to target) self.old.words.out }
+        requires sound { IsSound self.old.state }
+        ensures made { Gives self.old.state (by_signal self.old.state from hold to target) result
+            self.new.state }
+        ensures same { self.new ≡ self.old }
     {
-        match event {
-            Event::Ask { label, .. } | Event::OpenFile { hold: label, .. } => {
-                Answer::NoHold(*label)
+        let Some(own) = self.held(hold) else {
+            return self.signalled(from, hold, to, target, false);
+        };
+        let Some(other) = self.held(target) else {
+            return self.signalled(from, hold, to, target, false);
+        };
+        let mut sender = self.lend_found(cells, hold, own);
+        let mut receiver = self.lend_found(cells, target, other);
+        let may = decide_signal(cells, &mut sender, &mut receiver);
+        self.give_back(cells, receiver);
+        self.give_back(cells, sender);
+        self.signalled(from, hold, to, target, may)
+    }
+
+    /// Opens a file (open(2)). Whether it may be opened so is decided on the hold that is lent for
+    /// it in this call.
+    ///
+    /// # Errors
+    ///
+    /// `NoMemory` if an allocation of groups, or of room for the file or for its reference, fails:
+    /// the state is as it was.
+    pub(crate) fn open(
+        &mut self,
+        cells: &Cells,
+        script: &Script,
+        label: u32,
+        file: u32,
+        want: Want,
+        fd: u32,
+    ) -> Result<Answer, NoMemory>
+        requires own { self.old.words.id ≡ cells.now }
+        requires out { AreOut self.old.state self.old.words.out }
+        requires home { AreHome (Event.OpenFile label file want fd) self.old.words.out }
+        requires sound { IsSound self.old.state }
+        ensures ok { IfOk result (λ answer.
+            Gives self.old.state (by_open script.now self.old.state label file want fd) answer
+            self.new.state) }
+        ensures err { OnErr result (self.new ≡ self.old) }
+        ensures words { self.new.words ≡ self.old.words }
+    {
+        let Some(found) = self.held(label) else {
+            return Ok(Answer::NoHold(label));
+        };
+        let mut hold = self.lend_found(cells, label, found);
+        let may = may_open(self.alloc, cells, &mut hold, script.file(file), want);
+        self.give_back(cells, hold);
+        self.open_as(label, file, fd, may?)
+    }
+
+    /// Changes what a label prepares. What the change makes is decided on the base, and put by the
+    /// writer of the slot that the label keeps, which are lent for it in this call.
+    ///
+    /// # Errors
+    ///
+    /// `NoMemory` if an allocation of a credential fails: the state is as it was.
+    pub(crate) fn alter(
+        &mut self,
+        cells: &Cells,
+        script: &Script,
+        label: u32,
+        change: Change,
+    ) -> Result<Answer, NoMemory>
+        requires own { self.old.words.id ≡ cells.now }
+        requires out { AreOut self.old.state self.old.words.out }
+        requires home { AreHome (Event.Alter label change) self.old.words.out }
+        requires sound { IsSound self.old.state }
+        ensures ok { IfOk result (λ answer.
+            GivesLike self.old.state (by_alter script.now self.old.state label change) answer
+            self.new.state) }
+        ensures err { OnErr result (self.new ≡ self.old) }
+        ensures words { self.new.words ≡ self.old.words }
+    {
+        let ns = self.change_ns(cells, label, change);
+        let Some((mut base, mut writer)) = self.lend_kept(cells, label) else {
+            return Ok(Answer::NoPrepared(label));
+        };
+        let file = executed_file(script, change);
+        let chain = chain_of(script, ns);
+        match alter(
+            self.alloc,
+            cells,
+            &mut base,
+            &change,
+            file,
+            chain,
+            &mut writer,
+        ) {
+            Ok(made) => Ok(self.altered(cells, base, writer, change, made)),
+            Err(NoMemory) => {
+                self.put_earlier(cells, label, writer);
+                self.give_back(cells, base);
+                Err(NoMemory)
             }
-            Event::Signal {
-                from,
-                hold,
-                to,
-                target,
-            } => self.signalled(*from, *hold, *to, *target, false),
-            Event::Alter { label, .. } => Answer::NoPrepared(*label),
-            _ => unreachable!(),
-        }
-    }
-
-    /// What a question is answered, where this was told of the credential that its label holds.
-    pub(crate) fn asked(&self, label: u32, told: Answer) -> Answer
-        ensures { (script : Declared) (query : Asked)
-            → IfSome (held_by self.now.state label) (λ held.
-            told ≡ reply (info_of script (query_files query)) held.cred query)
-            → Gives self.now.state (by_ask script self.now.state label query) result
-            self.now.state }
-    {
-        let Some(_) = self.held(label) else {
-            return Answer::NoHold(label);
-        };
-        told
-    }
-
-    /// May a task signal another (kill(2)), where one label holds the sender's credential and
-    /// another the target's? `may` says whether it may where they are of two processes.
-    pub(crate) fn signalled(&self, from: u32, hold: u32, to: u32, target: u32, may: bool) -> Answer
-        ensures { IfSome (held_by self.now.state hold) (λ own.
-            IfSome (held_by self.now.state target) (λ other.
-            may ≡ may_signal own.cred other.cred false))
-            → Gives self.now.state (by_signal self.now.state from hold to target) result
-            self.now.state }
-    {
-        let Some(sender) = self.tasks.process_of(from) else {
-            return Answer::NoTask(from);
-        };
-        let Some(receiver) = self.tasks.process_of(to) else {
-            return Answer::NoTask(to);
-        };
-        let Some(_) = self.held(hold) else {
-            return Answer::NoHold(hold);
-        };
-        let Some(_) = self.held(target) else {
-            return Answer::NoHold(target);
-        };
-        if may || sender == receiver {
-            Answer::Done
-        } else {
-            Answer::Eperm
         }
     }
 }

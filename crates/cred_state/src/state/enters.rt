@@ -1,43 +1,35 @@
 //! Events are entered as they were decided on what was lent for them.
-ghost use Rattle.std.specs.Prelude.{◌≡◌, ◌∷◌, [], List, ℕ, Some, None, IfOk, IfErr, IfSome, OnOk};
+ghost use Rattle.std.specs.Prelude.{◌≡◌, ◌∷◌, [], List, ℕ, Result, Some, None, IfOk, IfErr, IfSome};
+ghost use Rattle.std.specs.Prelude.{false, if◌then◌else◌, OnErr, OnOk};
+ghost use Rattle.cred_event.specs.declared.answer.Answer.TheVariants.{Done, Eacces};
+ghost use Rattle.cred_event.specs.declared.event.Query.{Query as Asked};
+ghost use Rattle.cred_model.specs.Answers.{checked, reply};
+ghost use Rattle.cred_model.specs.Change as model;
 ghost use Rattle.cred_model.specs.Script.{Script as Declared};
 ghost use Rattle.cred_model.specs.Like.{Gives, GivesLike};
 ghost use Rattle.cred_model.specs.Script.{info_of};
 ghost use Rattle.cred_model.specs.Slots.{kept};
 ghost use Rattle.cred_model.specs.State.{held_by};
-ghost use Rattle.cred_model.specs.Named.{event_files};
-ghost use Rattle.cred_model.specs.Answers.{checked};
-ghost use Rattle.cred_model.specs.Step.{by_alter, by_open, done};
+ghost use Rattle.cred_model.specs.Named.{event_files, query_files};
+ghost use Rattle.cred_model.specs.Step.{by_alter, by_ask, by_open, by_signal, done};
+ghost use Rattle.cred_record.specs.Credential.{Credential};
 ghost use Rattle.cred_record.specs.declared.want.Want.{Want as Wanted};
+ghost use Rattle.cred_rules.specs.Access.{may_signal};
 ghost use Rattle.cred_sound.specs.Sound.{IsSound};
 ghost use Rattle.cred_words.specs.Lists.{IsTaken};
 ghost use Rattle.cred_hold.specs.Tokens.{entry};
-ghost use Rattle.cred_record.specs.Credential.{Credential};
-ghost use Rattle.cred_lent.specs.Changes.{made_as};
-ghost use Rattle.cred_lent.specs.Decisions.{AreFor, AreOf, IsRight};
-ghost use Rattle.cred_lent.specs.declared.lent.Lent.TheVariants as token;
-ghost use Rattle.cred_lent.specs.declared.lent.Decided.TheVariants as decision;
+ghost use Rattle.cred_work.specs.Decisions.{event_of, AreOf, IsPut, IsRight};
 ghost use Rattle.cred_tables.specs.Out.{AreBack, AreOut};
-ghost use Rattle.cred_state.specs.Lending.{entries_of, AreApart, AreTaken, IsChain};
-ghost use Rattle.cred_state.specs.Lending.{IsBase, IsRightAlter};
+ghost use Rattle.cred_state.specs.Lending.{entries_of, held_entry, AreApart, AreTaken, IsChain};
+ghost use Rattle.cred_state.specs.Lending.{IsBase, IsMadeOf, IsMadePut};
 
 use crate::state::State;
-use cred_caps::CapSet;
-use cred_event::{Answer, Change, Event};
+use cred_decide::Made;
+use cred_event::{Answer, Change};
 use cred_hold::{Cells, Hold, Writer};
 use cred_ids::NoMemory;
-use cred_lent::{Built, Decided, Lent};
-use cred_record::Gains;
-use cred_script::Script;
 use cred_tables::Changed;
-
-/// The opening of a file for which there was no memory: the hold that it was decided on, which is
-/// still lent, and what was decided.
-#[derive(Drop)]
-pub struct Unentered {
-    pub hold: Hold,
-    pub answer: Answer,
-}
+use cred_work::{Lent, unboxed};
 
 impl State {
     /// Enters an event as it was decided, and takes back what was lent for it. A change that is
@@ -45,77 +37,94 @@ impl State {
     ///
     /// # Errors
     ///
-    /// Want of memory, of the opening of a file alone: with its hold, which is still lent, and its
-    /// decision. The state is as it was.
+    /// What was lent, which still is, where nothing was decided, or where there is no memory for a
+    /// file that is opened. The state is as it was.
     // No call, since what it takes or gives is large, and would be moved.
     #[inline(always)]
-    pub fn enter(
-        &mut self,
-        cells: &Cells,
-        script: &Script,
-        line: u32,
-        event: &Event,
-        lent: Lent,
-        decided: Decided,
-    ) -> Result<Answer, Unentered>
+    pub fn enter(&mut self, cells: &Cells, lent: Lent) -> Result<Answer, Lent>
         requires own { (self.old.words.id ≡ cells.now) × AreOf cells.now lent }
-        requires labels { AreFor event.now lent }
-        requires right { (chain : List ℕ) × IsChain script.now event.now lent chain
-            × IsRight event.now (info_of script.now (event_files event.now)) chain lent decided }
+        requires put { IsPut lent }
         requires sound { IsSound self.old.state }
         requires out { AreOut self.old.state self.old.words.out }
-        ensures ok { IfOk result (λ answer.
-            GivesLike self.old.state (done script.now self.old.state line event.now) answer
+        ensures ok { (script : Declared) (line : ℕ) (chain : List ℕ)
+            → IsChain script lent chain
+            → IsRight (info_of script (event_files (event_of lent))) chain lent
+            → IfOk result (λ answer.
+            GivesLike self.old.state (done script self.old.state line (event_of lent)) answer
             self.new.state) }
         ensures back { OnOk result (AreBack (entries_of lent) self.old.words self.new.words) }
         ensures taken { OnOk result
             (AreTaken (entries_of lent) self.old.words.out self.new.words.out) }
-        ensures err { IfErr result (λ left. (self.new ≡ self.old) × (lent ≡ token.One left.hold)
-            × (decided ≡ decision.Told left.answer)) }
+        ensures err { IfErr result (λ left. (self.new ≡ self.old) × (left ≡ lent)) }
     {
-        let _ = script;
-        let _ = line;
-        match event {
-            Event::Ask { label, .. } => {
-                let Lent::One(hold) = lent else {
-                    unreachable!()
-                };
-                let Decided::Told(told) = decided else {
-                    unreachable!()
-                };
-                self.give_back(cells, hold);
-                Ok(self.asked(*label, told))
-            }
-            Event::Signal {
+        match lent {
+            Lent::Asking { hold, query, told } => match told {
+                Some(told) => {
+                    let label = hold.label();
+                    self.give_back(cells, hold);
+                    Ok(self.asked(label, told))
+                }
+                None => Err(Lent::Asking {
+                    hold,
+                    query,
+                    told: None,
+                }),
+            },
+            Lent::Opening {
+                hold,
+                file,
+                want,
+                fd,
+                may,
+            } => match self.opened(cells, hold, file, fd, may) {
+                Ok(answer) => Ok(answer),
+                Err(hold) => Err(Lent::Opening {
+                    hold,
+                    file,
+                    want,
+                    fd,
+                    may,
+                }),
+            },
+            Lent::Signalling {
                 from,
                 hold,
                 to,
                 target,
-            } => {
-                let Lent::Two(sender, receiver) = lent else {
-                    unreachable!()
-                };
-                let Decided::May(may) = decided else {
-                    unreachable!()
-                };
-                self.give_back(cells, receiver);
-                self.give_back(cells, sender);
-                Ok(self.signalled(*from, *hold, *to, *target, may))
-            }
-            Event::Alter { label, change } => {
-                let Lent::Kept(base, writer) = lent else {
-                    unreachable!()
-                };
-                Ok(self.altered(cells, *label, *change, base, writer, decided))
-            }
-            Event::OpenFile { hold, file, fd, .. } => {
-                let Lent::One(own) = lent else { unreachable!() };
-                let Decided::Told(told) = decided else {
-                    unreachable!()
-                };
-                self.opened(cells, *hold, *file, *fd, own, told)
-            }
-            _ => unreachable!(),
+                may,
+            } => match may {
+                Some(may) => {
+                    let own = hold.label();
+                    let other = target.label();
+                    self.give_back(cells, target);
+                    self.give_back(cells, hold);
+                    Ok(self.signalled(from, own, to, other, may))
+                }
+                None => Err(Lent::Signalling {
+                    from,
+                    hold,
+                    to,
+                    target,
+                    may: None,
+                }),
+            },
+            Lent::Altering {
+                base,
+                writer,
+                change,
+                made,
+            } => match made {
+                Some(made) => {
+                    let made = unboxed(made);
+                    Ok(self.altered(cells, base, writer, change, made))
+                }
+                None => Err(Lent::Altering {
+                    base,
+                    writer,
+                    change,
+                    made: None,
+                }),
+            },
         }
     }
 
@@ -123,31 +132,29 @@ impl State {
     /// refused. Both tokens come back.
     // No call, since what it takes or gives is large, and would be moved.
     #[inline(always)]
-    fn altered(
+    pub(super) fn altered(
         &mut self,
         cells: &Cells,
-        label: u32,
-        change: Change,
         base: Hold,
         writer: Writer,
-        decided: Decided,
+        change: Change,
+        made: Result<Made, Answer>,
     ) -> Answer
         requires own { (self.old.words.id ≡ cells.now) × (base.id ≡ cells.now)
             × (writer.id ≡ cells.now) }
-        requires labels { (base.label ≡ label) × (writer.label ≡ label) }
-        requires right { (script : Declared)
-            × IsRightAlter script label change base writer decided }
+        requires label { writer.label ≡ base.label }
+        requires put { IsMadePut writer made }
         requires sound { IsSound self.old.state }
         requires out { AreOut self.old.state self.old.words.out }
-        ensures made { (script : Declared)
-            → IsRightAlter script label change base writer decided
-            → GivesLike self.old.state (by_alter script self.old.state label change) result
+        ensures made { (script : Declared) (chain : List ℕ)
+            → IsMadeOf script chain base.cred change made
+            → GivesLike self.old.state (by_alter script self.old.state base.label change) result
             self.new.state }
-        ensures taken { AreTaken (entries_of (token.Kept base writer)) self.old.words.out
-            self.new.words.out }
+        ensures taken { AreTaken (entry writer.label writer.slot None ∷ held_entry base ∷ [])
+            self.old.words.out self.new.words.out }
         ensures id { self.new.words.id ≡ self.old.words.id }
     {
-        let answer = self.changed(cells, label, change, &base, writer, decided);
+        let answer = self.changed(cells, base.label(), change, writer, made);
         self.give_back(cells, base);
         answer
     }
@@ -160,19 +167,17 @@ impl State {
         cells: &Cells,
         label: u32,
         change: Change,
-        base: &Hold,
         writer: Writer,
-        decided: Decided,
+        made: Result<Made, Answer>,
     ) -> Answer
         requires own { (self.old.words.id ≡ cells.now) × (writer.id ≡ cells.now) }
         requires label { writer.label ≡ label }
-        requires right { (script : Declared)
-            × IsRightAlter script label change base.now writer decided }
+        requires put { IsMadePut writer made }
         requires sound { IsSound self.old.state }
         requires out { AreOut self.old.state self.old.words.out }
-        ensures made { (script : Declared)
-            → IsRightAlter script label change base.now writer decided
-            → IsBase self.old.state label base.now.cred
+        ensures made { (script : Declared) (chain : List ℕ) (base : Credential)
+            → IsMadeOf script chain base change made
+            → IsBase self.old.state label base
             → GivesLike self.old.state (by_alter script self.old.state label change) result
             self.new.state }
         ensures taken { IsTaken self.old.words.out (entry writer.label writer.slot None)
@@ -180,88 +185,138 @@ impl State {
         ensures id { self.new.words.id ≡ self.old.words.id }
         ensures kept { kept self.new.state ≡ kept self.old.state }
     {
-        let _ = base;
-        match decided {
-            Decided::Put(built, cred) => {
-                let gains = gains_of(&built);
+        match made {
+            Ok(made) => {
+                let Made {
+                    answer,
+                    cred,
+                    gains,
+                } = made;
                 let to = Changed {
                     change,
                     cred,
                     gains,
                 };
                 self.change_to(cells, label, to, writer);
-                answer_of(&built)
+                answer
             }
-            Decided::Told(answer) => {
+            Err(answer) => {
                 self.put_earlier(cells, label, writer);
                 answer
             }
-            Decided::May(_) => unreachable!(),
         }
     }
 
-    /// The file is opened under the descriptor, if it was decided so (open(2)).
+    /// The file is opened, if it was decided so. Its hold comes back.
+    ///
+    /// # Errors
+    ///
+    /// The hold, which is still lent, where nothing was decided, or where there is no memory for
+    /// the file. The state is as it was.
     fn opened(
         &mut self,
         cells: &Cells,
-        label: u32,
+        hold: Hold,
         file: u32,
         fd: u32,
-        hold: Hold,
-        told: Answer,
-    ) -> Result<Answer, Unentered>
+        may: Option<bool>,
+    ) -> Result<Answer, Hold>
         requires own { (self.old.words.id ≡ cells.now) × (hold.id ≡ cells.now) }
         requires apart { AreApart (kept self.old.state) self.old.words.out }
         ensures ok { IfOk result (λ answer. (script : Declared) (want : Wanted)
-            → IfSome (held_by self.old.state label) (λ held.
-            told ≡ checked held.cred (info_of script (file ∷ [])) want)
-            → Gives self.old.state (by_open script self.old.state label file want fd) answer
+            → IfSome may (λ may. IfSome (held_by self.old.state hold.label) (λ held.
+            checked held.cred (info_of script (file ∷ [])) want
+            ≡ (if may then Done else Eacces)))
+            → Gives self.old.state (by_open script self.old.state hold.label file want fd) answer
             self.new.state) }
-        ensures taken { OnOk result (IsTaken self.old.words.out
-            (entry hold.label hold.slot (Some hold.cred)) self.new.words.out) }
+        ensures taken { OnOk result (IsTaken self.old.words.out (held_entry hold)
+            self.new.words.out) }
         ensures id { self.new.words.id ≡ self.old.words.id }
-        ensures err { IfErr result (λ left.
-            (self.new ≡ self.old) × (left.hold ≡ hold) × (left.answer ≡ told)) }
+        ensures err { IfErr result (λ left. (self.new ≡ self.old) × (left ≡ hold)) }
     {
-        let opener = match self.may_open(label, fd, &told) {
-            Ok(opener) => opener,
-            Err(answer) => {
-                self.give_back(cells, hold);
-                return Ok(answer);
-            }
+        let Some(may) = may else {
+            return Err(hold);
         };
-        match self.open_by(fd, opener, file) {
-            Ok(()) => {
+        match self.open_as(hold.label(), file, fd, may) {
+            Ok(answer) => {
                 self.give_back(cells, hold);
-                Ok(Answer::Done)
+                Ok(answer)
             }
-            Err(NoMemory) => Err(Unentered { hold, answer: told }),
+            Err(NoMemory) => Err(hold),
         }
     }
-}
 
-/// What a change is answered that has told this.
-fn answer_of(built: &Built) -> Answer
-    ensures { (c : Credential) → (made_as built.now c).answer ≡ result }
-{
-    match built {
-        Built::Was(previous) => Answer::Was {
-            previous: *previous,
-        },
-        Built::Plain | Built::Exec(_) => Answer::Done,
+    /// What a question is answered, where this was told of the credential that its label holds.
+    pub(crate) fn asked(&self, label: u32, told: Answer) -> Answer
+        ensures { (script : Declared) (query : Asked)
+            → IfSome (held_by self.now.state label) (λ held.
+            told ≡ reply (info_of script (query_files query)) held.cred query)
+            → Gives self.now.state (by_ask script self.now.state label query) result
+            self.now.state }
+    {
+        let Some(_) = self.held(label) else {
+            return Answer::NoHold(label);
+        };
+        told
     }
-}
 
-/// What the permitted set gained by a change that has told this.
-fn gains_of(built: &Built) -> Gains
-    ensures { (c : Credential) → (made_as built.now c).gains ≡ result }
-{
-    match built {
-        Built::Exec(gains) => *gains,
-        Built::Plain | Built::Was(_) => Gains {
-            file: CapSet::empty(),
-            inherit: CapSet::empty(),
-            root: CapSet::empty(),
-        },
+    /// May a task signal another (kill(2)), where one label holds the sender's credential and
+    /// another the target's? `may` says whether it may where they are of two processes.
+    pub(crate) fn signalled(&self, from: u32, hold: u32, to: u32, target: u32, may: bool) -> Answer
+        ensures { IfSome (held_by self.now.state hold) (λ own.
+            IfSome (held_by self.now.state target) (λ other.
+            may ≡ may_signal own.cred other.cred false))
+            → Gives self.now.state (by_signal self.now.state from hold to target) result
+            self.now.state }
+    {
+        let Some(sender) = self.tasks.process_of(from) else {
+            return Answer::NoTask(from);
+        };
+        let Some(receiver) = self.tasks.process_of(to) else {
+            return Answer::NoTask(to);
+        };
+        let Some(_) = self.held(hold) else {
+            return Answer::NoHold(hold);
+        };
+        let Some(_) = self.held(target) else {
+            return Answer::NoHold(target);
+        };
+        if may || sender == receiver {
+            Answer::Done
+        } else {
+            Answer::Eperm
+        }
+    }
+
+    /// The file is opened under the descriptor, where that may be and nothing else refuses it
+    /// (open(2)).
+    ///
+    /// # Errors
+    ///
+    /// `NoMemory` if an allocation of room for the file or for its reference fails: the state is as
+    /// it was.
+    pub(crate) fn open_as(
+        &mut self,
+        label: u32,
+        file: u32,
+        fd: u32,
+        may: bool,
+    ) -> Result<Answer, NoMemory>
+        ensures ok { IfOk result (λ answer. (script : Declared) (want : Wanted)
+            → IfSome (held_by self.old.state label) (λ held.
+            checked held.cred (info_of script (file ∷ [])) want
+            ≡ (if may then Done else Eacces))
+            → Gives self.old.state (by_open script self.old.state label file want fd) answer
+            self.new.state) }
+        ensures kept { kept self.new.state ≡ kept self.old.state }
+        ensures words { (self.new.words ≡ self.old.words) × (self.new.places ≡ self.old.places) }
+        ensures err { OnErr result (self.new ≡ self.old) }
+    {
+        let opener = match self.may_open(label, fd, may) {
+            Ok(opener) => opener,
+            Err(answer) => return Ok(answer),
+        };
+        self.open_by(fd, opener, file)?;
+        Ok(Answer::Done)
     }
 }

@@ -1,6 +1,7 @@
 //! The events on open files.
 ghost use Rattle.std.specs.Prelude.{◌≡◌, ◌<◌, ◌∷◌, ◌++◌, [], ℕ, None, length, IfOk, IfSome};
-ghost use Rattle.std.specs.Prelude.{MatchResult, OnErr, OnOk};
+ghost use Rattle.std.specs.Prelude.{if◌then◌else◌, MatchResult, OnErr, OnOk};
+ghost use Rattle.cred_event.specs.declared.answer.Answer.TheVariants.{Done, Eacces};
 ghost use Rattle.std.specs.Option.{option_map};
 ghost use Rattle.cred_ids.specs.Limits.{OPEN_FILES};
 ghost use Rattle.cred_record.specs.declared.want.Want.{Want as Wanted};
@@ -19,14 +20,15 @@ use cred_tables::Numbered;
 
 impl State {
     /// The number of the credential that a label holds, where the file may be opened under the
-    /// descriptor: it was decided so of that credential (`told`), and nothing else refuses it.
+    /// descriptor: it was decided so of that credential (`may`), and nothing else refuses it.
     /// `Err` with what refuses it.
-    pub(crate) fn may_open(&self, label: u32, fd: u32, told: &Answer) -> Result<u64, Answer>
+    pub(crate) fn may_open(&self, label: u32, fd: u32, may: bool) -> Result<u64, Answer>
         ensures { MatchResult result
-            (λ opener. MayOpen self.now.state label fd opener told.now)
+            (λ opener. MayOpen self.now.state label fd opener may)
             (λ answer. (script : Declared) (file : ℕ) (want : Wanted)
             → IfSome (held_by self.now.state label) (λ held.
-            told.now ≡ checked held.cred (info_of script (file ∷ [])) want)
+            checked held.cred (info_of script (file ∷ [])) want
+            ≡ (if may then Done else Eacces))
             → Gives self.now.state (by_open script self.now.state label file want fd) answer
             self.now.state) }
     {
@@ -39,9 +41,9 @@ impl State {
                 number: fd,
             });
         }
-        let Answer::Done = told else {
+        if !may {
             return Err(Answer::Eacces);
-        };
+        }
         if self.files.full() {
             return Err(Answer::TooMany(Counted::Files));
         }

@@ -1,20 +1,20 @@
 //! What is lent for an event that is decided on credentials.
-ghost use Rattle.std.specs.Prelude.{◌≡◌, is_some, None, IfSome, IfNone};
+ghost use Rattle.std.specs.Prelude.{◌≡◌, ◌∷◌, [], is_some, None, IfSome, IfNone};
 ghost use Rattle.std.specs.Option.{option_and_then, option_map};
 ghost use Rattle.cred_model.specs.State.{hold_of, numbered, prepared_of};
 ghost use Rattle.cred_sound.specs.Sound.{IsSound};
-ghost use Rattle.cred_lent.specs.Decisions.{AreFor, AreOf};
-ghost use Rattle.cred_lent.specs.declared.lent.Lent.TheVariants as token;
+ghost use Rattle.cred_work.specs.Decisions.{bare, event_of, AreOf};
 ghost use Rattle.cred_tables.specs.Kept.{cred_under, seen_in, IsInUse};
 ghost use Rattle.cred_tables.specs.Out.{AreHome, AreOut, hold_token, tokens_in, waits_in};
-ghost use Rattle.cred_state.specs.Lending.{entries_of, with_lent, IsHome, IsKeptBy, IsNs};
-ghost use Rattle.cred_state.specs.Lending.{IsStanding, IsUnput, WereLent};
+ghost use Rattle.cred_state.specs.Lending.{entries_of, held_entry, with_hold, with_kept};
+ghost use Rattle.cred_state.specs.Lending.{is_decided, with_lent, IsHome, IsKeptBy, IsNs};
+ghost use Rattle.cred_state.specs.Lending.{IsStanding};
 
 use crate::state::State;
 use cred_event::{Change, Event};
 use cred_hold::{Cells, Hold, Writer};
-use cred_lent::Lent;
 use cred_tables::Numbered;
+use cred_work::Lent;
 
 /// The namespace of an event that is decided by none. No script declares it, so that its root ids,
 /// of which there are none, take no memory where they are copied.
@@ -31,33 +31,55 @@ impl State {
         requires out { AreOut self.old.state self.old.words.out }
         requires home { AreHome event.now self.old.words.out }
         ensures waits { is_some result ≡ waits_in self.old.state event.now }
-        ensures of { IfSome result (λ lent. AreOf cells.now lent × AreFor event.now lent) }
+        ensures of { IfSome result (λ lent. AreOf cells.now lent × (event_of lent ≡ event.now)) }
         ensures tokens { IfSome result (λ lent. entries_of lent
             ≡ tokens_in self.old.state event.now) }
-        ensures unput { IfSome result IsUnput }
-        ensures were { IfSome result (WereLent self.old) }
+        ensures bare { IfSome result (λ lent. bare lent ≡ lent) }
         ensures lent { IfSome result (λ lent. self.new ≡ with_lent self.old lent) }
         ensures none { IfNone result (self.new ≡ self.old) }
     {
         match event {
-            Event::Ask { label, .. } => {
-                let hold = self.lend_hold(cells, *label)?;
-                Some(Lent::One(hold))
-            }
-            Event::OpenFile { hold, .. } => {
-                let hold = self.lend_hold(cells, *hold)?;
-                Some(Lent::One(hold))
-            }
-            Event::Signal { hold, target, .. } => {
+            Event::Ask { label, query } => Some(Lent::Asking {
+                hold: self.lend_hold(cells, *label)?,
+                query: *query,
+                told: None,
+            }),
+            Event::OpenFile {
+                hold,
+                file,
+                want,
+                fd,
+            } => Some(Lent::Opening {
+                hold: self.lend_hold(cells, *hold)?,
+                file: *file,
+                want: *want,
+                fd: *fd,
+                may: None,
+            }),
+            Event::Signal {
+                from,
+                hold,
+                to,
+                target,
+            } => {
                 let own = self.held(*hold)?;
                 let other = self.held(*target)?;
-                let from = self.lend_found(cells, *hold, own);
-                let to = self.lend_found(cells, *target, other);
-                Some(Lent::Two(from, to))
+                Some(Lent::Signalling {
+                    from: *from,
+                    hold: self.lend_found(cells, *hold, own),
+                    to: *to,
+                    target: self.lend_found(cells, *target, other),
+                    may: None,
+                })
             }
-            Event::Alter { label, .. } => {
+            Event::Alter { label, change } => {
                 let (base, writer) = self.lend_kept(cells, *label)?;
-                Some(Lent::Kept(base, writer))
+                Some(Lent::Altering {
+                    base,
+                    writer,
+                    change: *change,
+                    made: None,
+                })
             }
             _ => None,
         }
@@ -75,18 +97,30 @@ impl State {
         Some(self.look_ns(cells, base))
     }
 
-    /// The user namespace whose root ids an event is decided by: for an execve that of the base.
-    /// Other events are decided by none.
-    pub fn deciding_ns(&mut self, cells: &Cells, event: &Event) -> u32
+    /// The user namespace whose root ids an event is decided by: for a change that of `change_ns`,
+    /// and for others none that a script declares. `None` where it isn't decided on credentials.
+    pub fn deciding_ns(&mut self, cells: &Cells, event: &Event) -> Option<u32>
         requires own { self.old.words.id ≡ cells.now }
-        ensures ns { IsNs self.old.state event.now result }
+        ensures decided { is_some result ≡ is_decided event.now }
+        ensures ns { IfSome result (IsNs self.old.state event.now) }
         ensures same { self.new ≡ self.old }
     {
         match event {
-            Event::Alter {
-                label,
-                change: Change::Exec { .. },
-            } => self.base_ns(cells, *label).unwrap_or(0),
+            Event::Alter { label, change } => Some(self.change_ns(cells, *label, *change)),
+            Event::Ask { .. } | Event::Signal { .. } | Event::OpenFile { .. } => Some(NO_NS),
+            _ => None,
+        }
+    }
+
+    /// The user namespace whose root ids a change of the label is decided by: for an execve that of
+    /// the base, and for others none that a script declares.
+    pub(super) fn change_ns(&mut self, cells: &Cells, label: u32, change: Change) -> u32
+        requires own { self.old.words.id ≡ cells.now }
+        ensures ns { IsNs self.old.state (Event.Alter label change) result }
+        ensures same { self.new ≡ self.old }
+    {
+        match change {
+            Change::Exec { .. } => self.base_ns(cells, label).unwrap_or(0),
             _ => NO_NS,
         }
     }
@@ -110,8 +144,8 @@ impl State {
         ensures waits { is_some result ≡ is_some (hold_of self.old.state label) }
         ensures of { IfSome result (λ hold. (hold.id ≡ cells.now) × (hold.label ≡ label)) }
         ensures tokens { IfSome result (λ hold.
-            entries_of (token.One hold) ≡ hold_token self.old.state label) }
-        ensures lent { IfSome result (λ hold. self.new ≡ with_lent self.old (token.One hold)) }
+            held_entry hold ∷ [] ≡ hold_token self.old.state label) }
+        ensures lent { IfSome result (λ hold. self.new ≡ with_hold self.old hold) }
         ensures standing { IfSome result (λ _. IsStanding self.old) }
         ensures none { IfNone result (self.new ≡ self.old) }
     {
@@ -131,7 +165,7 @@ impl State {
           slot = found.slot;
           cred = cred_under self.old.state.creds found.number;
         } }
-        ensures lent { self.new ≡ with_lent self.old (token.One result) }
+        ensures lent { self.new ≡ with_hold self.old result }
         ensures standing { IsStanding self.old }
     {
         self.master.lend(cells, label, found.slot)
@@ -141,7 +175,7 @@ impl State {
     /// `None` where it prepares nothing.
     // No call, since what it takes or gives is large, and would be moved.
     #[inline(always)]
-    fn lend_kept(&mut self, cells: &Cells, label: u32) -> Option<(Hold, Writer)>
+    pub(super) fn lend_kept(&mut self, cells: &Cells, label: u32) -> Option<(Hold, Writer)>
         requires own { self.old.words.id ≡ cells.now }
         requires sound { IsSound self.old.state }
         requires out { AreOut self.old.state self.old.words.out }
@@ -149,7 +183,7 @@ impl State {
         ensures kept { IfSome result (λ kept.
             IsKeptBy cells.now self.old.state label kept.0 kept.1) }
         ensures lent { IfSome result (λ kept.
-            self.new ≡ with_lent self.old (token.Kept kept.0 kept.1)) }
+            self.new ≡ with_kept self.old kept.0 kept.1) }
         ensures standing { IfSome result (λ _. IsStanding self.old) }
         ensures none { IfNone result
             ((self.new ≡ self.old) × (prepared_of self.old.state label ≡ None)) }

@@ -7,43 +7,15 @@ ghost use Rattle.cred_sound.specs.Ledger.{ledger};
 ghost use Rattle.cred_sound.specs.Sound.{IsSound};
 ghost use Rattle.cred_words.specs.Lists.{IsTaken};
 ghost use Rattle.cred_hold.specs.Tokens.{entry};
-ghost use Rattle.cred_lent.specs.Decisions.{AreFor, AreOf};
-ghost use Rattle.cred_tables.specs.Kept.{creds_in, Standing};
+ghost use Rattle.cred_tables.specs.Kept.{creds_in};
 ghost use Rattle.cred_tables.specs.Out.{AreOut};
-ghost use Rattle.cred_state.specs.Lending.{earlier_of, with_lent, AreApart, WereLent};
+ghost use Rattle.cred_state.specs.Lending.{earlier_of, AreApart};
 
 use crate::state::State;
-use cred_event::Event;
 use cred_hold::{Cells, Hold, Writer, put, unput};
-use cred_lent::Lent;
 use cred_tables::{Changed, Preparation};
 
 impl State {
-    /// Takes back what was lent for an event that isn't entered: the state is as it was before.
-    pub(crate) fn take_back(&mut self, cells: &Cells, event: &Event, lent: Lent)
-        requires own { (self.old.words.id ≡ cells.now) × AreOf cells.now lent }
-        requires labels { AreFor event.now lent }
-        requires sound { IsSound self.old.state }
-        requires out { AreOut self.old.state self.old.words.out }
-        ensures { (before : Standing) → WereLent before lent
-            → self.old ≡ with_lent before lent → self.new ≡ before }
-    {
-        match lent {
-            Lent::One(hold) => self.give_back(cells, hold),
-            Lent::Two(from, to) => {
-                self.give_back(cells, to);
-                self.give_back(cells, from);
-            }
-            Lent::Kept(base, writer) => {
-                let Event::Alter { label, .. } = event else {
-                    unreachable!()
-                };
-                self.put_earlier(cells, *label, writer);
-                self.give_back(cells, base);
-            }
-        }
-    }
-
     /// Takes back a hold.
     pub(crate) fn give_back(&mut self, cells: &Cells, hold: Hold)
         requires own { (self.old.words.id ≡ cells.now) × (hold.id ≡ cells.now) }

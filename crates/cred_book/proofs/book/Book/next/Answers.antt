@@ -67,8 +67,8 @@ hand_out-requires-clause-place c =
     = due_found _ book c.args.lane _ _ c.self.view_is c.due.ensures c.in-Some.is in
     lane_has_out book c.args.lane course c.requires.stands here
 
-pub returns-in-Out : goal.returns-in-Out
-returns-in-Out c =
+pub returns-in-Some-3 : goal.returns-in-Some-3
+returns-in-Some-3 c =
     let book : Recorded = c.args.self.now in
     let course : Course = c.in-Some.course in
     let here : due_of book.cursors c.args.lane ≡ Some course
@@ -77,21 +77,20 @@ returns-in-Out c =
     = made_event _ book course _ _ c.self.view_is c.in_ok-event.ensures.event c.in-Some-2.is in
     let lane = c.args.lane in
     let after : Recorded = c.hand_out.new.self in
-    let work : Work = c.in-Out.work in
+    let work : Work = c.in-Some-3.work in
     let goes : GoesOut book after lane c.line-line.result c.in-Some-2.event work
-    = subst (IsHanded book after lane c.line-line.result c.in-Some-2.event) c.in-Out.is c.in_ok-work.ensures.handed in
+    = subst (IsHanded book after lane c.line-line.result c.in-Some-2.event) c.in-Some-3.is c.in_ok-work.ensures.handed in
     let h : HandsOut book (with_work book lane work) lane work
     = hands_out book lane course work c.requires.stands c.requires.home (record {
       due = here;
       has = has ∙ ap Some (sym goes.event);
       line = sym (goes.line ∙ c.line-line.ensures.value);
       undecided = goes.undecided;
-      waits = goes.waits;
+      waits = rw goes.event goes.waits;
       own = goes.own;
-      labels = goes.labels;
-      tokens = goes.tokens;
-      file = goes.file;
-      chain = goes.chain;
+      tokens = rw goes.event goes.tokens;
+      file = rw goes.event goes.file;
+      chain = rw goes.event goes.chain;
     }) in
     let r : HandsOut book after lane work = subst (λ b. HandsOut book b lane work) (sym goes.lent) h in
     record {
@@ -107,14 +106,13 @@ returns-in-Out c =
 pub enter-requires-clause-kind : goal.enter-requires-clause-kind
 enter-requires-clause-kind c =
     let book : Recorded = c.args.self.now in
-    let back = subst (IsHanded book c.hand_out.new.self c.args.lane c.line-line.result c.in-Some-2.event) c.in-Back.is c.in_ok-work.ensures.handed in
-    let none : c.hand_out.new.self ≡ book = back.2 in
+    let back = subst (IsHanded book c.hand_out.new.self c.args.lane c.line-line.result c.in-Some-2.event) c.in_default-3.is c.in_ok-work.ensures.handed in
+    let none : c.hand_out.new.self ≡ book = back.1 in
     let kind : IsEventOf (length book.script.files) book.script.namespaces c.in-Some-2.event
     = rw (← c.self.view_is)
     (subst (λ (o : Option Event). IfSome o (IsEventOf (length c.self.inside.script.files) c.self.inside.script.namespaces)) c.in-Some-2.is
     c.in_ok-event.ensures.named) in
-    subst (λ (b : Recorded). IsEventOf (length b.script.files) b.script.namespaces c.in-Back.event) (sym none)
-    (subst (IsEventOf (length book.script.files) book.script.namespaces) (sym back.0) kind)
+    subst (λ (b : Recorded). IsEventOf (length b.script.files) b.script.namespaces c.in-Some-2.event) (sym none) kind
 
 pub enter-requires-clause-line : goal.enter-requires-clause-line
 enter-requires-clause-line c =
@@ -122,8 +120,8 @@ enter-requires-clause-line c =
     let course : Course = c.in-Some.course in
     let here : due_of book.cursors c.args.lane ≡ Some course
     = due_found _ book c.args.lane _ _ c.self.view_is c.due.ensures c.in-Some.is in
-    let back = subst (IsHanded book c.hand_out.new.self c.args.lane c.line-line.result c.in-Some-2.event) c.in-Back.is c.in_ok-work.ensures.handed in
-    let none : c.hand_out.new.self ≡ book = back.2 in
+    let back = subst (IsHanded book c.hand_out.new.self c.args.lane c.line-line.result c.in-Some-2.event) c.in_default-3.is c.in_ok-work.ensures.handed in
+    let none : c.hand_out.new.self ≡ book = back.1 in
     subst (λ (b : Recorded). IsOfLine b.script course) (sym none) (due_of_line book c.args.lane course c.requires.stands here)
 
 pub enter-requires-clause-home : goal.enter-requires-clause-home
@@ -137,9 +135,9 @@ enter-requires-clause-home c =
     let home : AreHome c.in-Some-2.event book.words.out
     = next_home book c.args.lane (record { line = course.line; event = c.in-Some-2.event }) c.requires.stands c.requires.home
     (next_is book.script book.journal book.cursors c.args.lane course c.in-Some-2.event c.requires.stands.cursors here has) in
-    let back = subst (IsHanded book c.hand_out.new.self c.args.lane c.line-line.result c.in-Some-2.event) c.in-Back.is c.in_ok-work.ensures.handed in
-    let none : c.hand_out.new.self ≡ book = back.2 in
-    subst (λ (b : Recorded). AreHome c.in-Back.event b.words.out) (sym none) (subst (λ event. AreHome event book.words.out) (sym back.0) home)
+    let back = subst (IsHanded book c.hand_out.new.self c.args.lane c.line-line.result c.in-Some-2.event) c.in_default-3.is c.in_ok-work.ensures.handed in
+    let none : c.hand_out.new.self ≡ book = back.1 in
+    subst (λ (b : Recorded). AreHome c.in-Some-2.event b.words.out) (sym none) home
 
 pub enter-requires-clause-going : goal.enter-requires-clause-going
 enter-requires-clause-going c =
@@ -166,11 +164,11 @@ move_on-requires c =
     let course : Course = c.in-Some.course in
     let here : due_of book.cursors c.args.lane ≡ Some course
     = due_found _ book c.args.lane _ _ c.self.view_is c.due.ensures c.in-Some.is in
-    let back = subst (IsHanded book c.hand_out.new.self c.args.lane c.line-line.result c.in-Some-2.event) c.in-Back.is c.in_ok-work.ensures.handed in
-    let none : c.hand_out.new.self ≡ book = back.2 in
+    let back = subst (IsHanded book c.hand_out.new.self c.args.lane c.line-line.result c.in-Some-2.event) c.in_default-3.is c.in_ok-work.ensures.handed in
+    let none : c.hand_out.new.self ≡ book = back.1 in
     let may = due_counts book c.args.lane course c.requires.stands here in
-    let same : with_event book course.line c.in-Back.event ≡ c.enter.new.self
-    = ap (λ (b : Recorded). with_event b course.line c.in-Back.event) (sym none) ∙ sym c.in_ok-cursor.ensures.entered in
+    let same : with_event book course.line c.in-Some-2.event ≡ c.enter.new.self
+    = ap (λ (b : Recorded). with_event b course.line c.in-Some-2.event) (sym none) ∙ sym c.in_ok-cursor.ensures.entered in
     record {
       cursors = subst (λ (b : Recorded). c.args.lane < length b.cursors) same (lane_has_place book.cursors c.args.lane course here);
       counts = subst (λ (b : Recorded). c.args.lane < length b.ended) same may.0;
@@ -183,11 +181,11 @@ returns c =
     let course : Course = c.in-Some.course in
     let here : due_of book.cursors c.args.lane ≡ Some course
     = due_found _ book c.args.lane _ _ c.self.view_is c.due.ensures c.in-Some.is in
-    let back = subst (IsHanded book c.hand_out.new.self c.args.lane c.line-line.result c.in-Some-2.event) c.in-Back.is c.in_ok-work.ensures.handed in
-    let none : c.hand_out.new.self ≡ book = back.2 in
-    let event : Event = c.in-Back.event in
+    let back = subst (IsHanded book c.hand_out.new.self c.args.lane c.line-line.result c.in-Some-2.event) c.in_default-3.is c.in_ok-work.ensures.handed in
+    let none : c.hand_out.new.self ≡ book = back.1 in
+    let event : Event = c.in-Some-2.event in
     let has : event_of book.script course ≡ Some event
-    = made_event _ book course _ _ c.self.view_is c.in_ok-event.ensures.event c.in-Some-2.is ∙ ap Some (sym back.0) in
+    = made_event _ book course _ _ c.self.view_is c.in_ok-event.ensures.event c.in-Some-2.is in
     let lane = c.args.lane in
     let to : Option Course = c.in_ok-cursor.cursor in
     let after : Recorded = c.move_on.new.self in
@@ -196,7 +194,7 @@ returns c =
     ∙ ap (λ n. moved_on (with_event c.hand_out.new.self course.line event) lane n to) c.line-line.ensures.value
     ∙ ap (λ (b : Recorded). moved_on (with_event b course.line event) lane course.line to) none) in
     let free : waits_in (replay book.script book.journal) event ≡ false
-    = ap (waits_in (replay book.script book.journal)) back.0 ∙ back.1 in
+    = back.0 in
     let goes : GoesOn book lane course event to = record {
       stands = c.requires.stands;
       due = here;

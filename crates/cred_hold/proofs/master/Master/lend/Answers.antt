@@ -26,7 +26,7 @@ invariant_of-result c =
     let x = sealed-seen c.self.inside.inner.ledger.slots c.args.slot s.0 (ap (λ m. slice_get m.slots c.args.slot) c.self.view_is ∙ s.1) in
     let w = sealed_words c.self.inside.inner.ledger c.args.slot c.self.invariant.1 (x.0, x.1, x.2) in
     let words = ap (λ t. t.words) e.1 in
-    (sym (ap (λ t. t.slot) e.1), ap (λ t. t.writes) e.1, ap length words ∙ w.0, ap are_words words ∙ w.1)
+    (sym (ap (λ t. t.slot) e.1), ap (λ t. t.writes) e.1, ap length words ∙ w.0, ap are_words words ∙ w.1, sym (ap (λ t. t.label) e.1))
 
 pub returns-clause-cred : goal.returns-clause-cred
 returns-clause-cred c =

@@ -26,6 +26,3 @@ returns-in-Begin-clause-ok c = rw c.in-Begin.is c.begin.ensures.ok
 
 pub returns-in-Act-clause-ok : goal.returns-in-Act-clause-ok
 returns-in-Act-clause-ok c = rw c.in-Act.is c.act.ensures.ok
-
-pub returns-in-TakeFile-clause-ok : goal.returns-in-TakeFile-clause-ok
-returns-in-TakeFile-clause-ok c = c.step_label.ensures.ok c.args.script.now c.args.line

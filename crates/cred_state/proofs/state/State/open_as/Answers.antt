@@ -1,7 +1,7 @@
 use Rattle.std.proofs.Common.{ℕ, subst}
 use Rattle.cred_tables.specs.Kept.{IsInUse}
 use Rattle.cred_state.proofs.Standing.{held-in_use}
-use Rattle.cred_state.proofs.state.State.opened.Goals as goal
+use Rattle.cred_state.proofs.state.State.open_as.Goals as goal
 
 pub open_by-requires-clause-used : goal.open_by-requires-clause-used
 open_by-requires-clause-used c =

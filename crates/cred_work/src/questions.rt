@@ -1,9 +1,10 @@
 //! Questions about a credential that is held.
-ghost use Rattle.std.specs.Prelude.{◌≡◌, true, IfOk, OnErr};
+ghost use Rattle.std.specs.Prelude.{◌≡◌, true, if◌then◌else◌, IfOk, OnErr};
 ghost use Rattle.std.specs.Option.{option_map};
+ghost use Rattle.cred_event.specs.declared.answer.Answer.TheVariants.{Done, Eacces};
 ghost use Rattle.cred_rules.specs.Adjust.{read_in};
 ghost use Rattle.cred_model.specs.Answers.{checked, flag, reply};
-ghost use Rattle.cred_lent.specs.Questions.{is_on_whole};
+ghost use Rattle.cred_work.specs.Questions.{is_on_whole};
 
 use cred_access::may_by;
 use cred_caps::{Cap, CapSet};
@@ -103,17 +104,36 @@ fn checked(
         ≡ checked hold.old.cred (option_map (λ file. file.now) file.entry) want) }
     ensures same { hold.new ≡ hold.old }
 {
-    let Some(file) = file else {
-        return Ok(Answer::Eacces);
-    };
-    let (uid, gid) = read_ids(cells, hold);
-    let [_, _, effective, _, _] = read_caps(cells, hold);
-    let groups = read_groups(alloc, cells, hold)?;
-    if may_by(&uid, &gid, &groups, effective, file, want) {
+    if may_open(alloc, cells, hold, file, want)? {
         Ok(Answer::Done)
     } else {
         Ok(Answer::Eacces)
     }
+}
+
+/// Whether the file may be opened so, by the parts of the credential that this asks of. What is
+/// no file may not.
+#[inline(always)]
+pub fn may_open(
+    alloc: Global,
+    cells: &Cells,
+    hold: &mut Hold,
+    file: Option<&FileInfo>,
+    want: Want,
+) -> Result<bool, NoMemory>
+    requires own { hold.old.id ≡ cells.now }
+    ensures may { IfOk result (λ may.
+        checked hold.old.cred (option_map (λ file. file.now) file.entry) want
+        ≡ (if may then Done else Eacces)) }
+    ensures same { hold.new ≡ hold.old }
+{
+    let Some(file) = file else {
+        return Ok(false);
+    };
+    let (uid, gid) = read_ids(cells, hold);
+    let [_, _, effective, _, _] = read_caps(cells, hold);
+    let groups = read_groups(alloc, cells, hold)?;
+    Ok(may_by(&uid, &gid, &groups, effective, file, want))
 }
 
 /// The answer to the question whether capability n is in the set: a number of none is refused.

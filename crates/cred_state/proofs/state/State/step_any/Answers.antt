@@ -1,0 +1,67 @@
+use Rattle.cred_model.proofs.Likes.{does_same}
+use Rattle.cred_model.specs.Step.{by_exit, by_fork, by_spawn, by_take, by_take_file}
+use Rattle.cred_state.proofs.Acts.{gives_ok}
+use Rattle.cred_state.proofs.state.State.step_any.Goals as goal
+
+pub ask-requires-clause-home : goal.ask-requires-clause-home
+ask-requires-clause-home c = rw c.in-Ask.is at c.requires.home
+
+pub signal-requires-clause-home : goal.signal-requires-clause-home
+signal-requires-clause-home c = rw c.in-Signal.is at c.requires.home
+
+pub alter-requires-clause-home : goal.alter-requires-clause-home
+alter-requires-clause-home c = rw c.in-Alter.is at c.requires.home
+
+pub open-requires-clause-home : goal.open-requires-clause-home
+open-requires-clause-home c = rw c.in-OpenFile.is at c.requires.home
+
+pub commit-requires-clause-home : goal.commit-requires-clause-home
+commit-requires-clause-home c = rw c.in-Commit.is at c.requires.home
+
+pub override_with-requires-clause-home : goal.override_with-requires-clause-home
+override_with-requires-clause-home c = rw c.in-Override.is at c.requires.home
+
+pub returns-in-Take-clause-ok : goal.returns-in-Take-clause-ok
+returns-in-Take-clause-ok c = rw c.in-Take.is (gives_ok c.args.self.now.state c.take.new.self.state (by_take c.args.self.now.state c.in-Take.label c.in-Take.task c.in-Take.side) c.take.result c.take.ensures.ok)
+
+pub returns-in-Release-clause-ok : goal.returns-in-Release-clause-ok
+returns-in-Release-clause-ok c = rw c.in-Release.is (does_same _ _ _ c.release.ensures.made)
+
+pub returns-in-Prepare-clause-ok : goal.returns-in-Prepare-clause-ok
+returns-in-Prepare-clause-ok c = rw c.in-Prepare.is c.prepare.ensures.ok
+
+pub returns-in-Commit-clause-ok : goal.returns-in-Commit-clause-ok
+returns-in-Commit-clause-ok c = rw c.in-Commit.is c.commit.ensures.ok
+
+pub returns-in-Begin-clause-ok : goal.returns-in-Begin-clause-ok
+returns-in-Begin-clause-ok c = rw c.in-Begin.is c.begin.ensures.ok
+
+pub returns-in-Act-clause-ok : goal.returns-in-Act-clause-ok
+returns-in-Act-clause-ok c = rw c.in-Act.is c.act.ensures.ok
+
+pub returns-in-Spawn-clause-ok : goal.returns-in-Spawn-clause-ok
+returns-in-Spawn-clause-ok c = rw c.in-Spawn.is (gives_ok c.args.self.now.state c.spawn.new.self.state (by_spawn c.args.self.now.state c.in-Spawn.task c.in-Spawn.child) c.spawn.result c.spawn.ensures.ok)
+
+pub returns-in-Fork-clause-ok : goal.returns-in-Fork-clause-ok
+returns-in-Fork-clause-ok c = rw c.in-Fork.is (gives_ok c.args.self.now.state c.fork.new.self.state (by_fork c.args.self.now.state c.in-Fork.task c.in-Fork.child c.in-Fork.process) c.fork.result c.fork.ensures.ok)
+
+pub returns-in-Exit-clause-ok : goal.returns-in-Exit-clause-ok
+returns-in-Exit-clause-ok c = rw c.in-Exit.is (gives_ok c.args.self.now.state c.exit.new.self.state (by_exit c.args.self.now.state c.in-Exit.task) c.exit.result c.exit.ensures.ok)
+
+pub returns-in-TakeFile-clause-ok : goal.returns-in-TakeFile-clause-ok
+returns-in-TakeFile-clause-ok c = rw c.in-TakeFile.is (gives_ok c.args.self.now.state c.take_file.new.self.state (by_take_file c.args.self.now.state c.in-TakeFile.label c.in-TakeFile.fd) c.take_file.result c.take_file.ensures.ok)
+
+pub returns-in-Abort-clause-ok : goal.returns-in-Abort-clause-ok
+returns-in-Abort-clause-ok c = rw c.in-Abort.is (does_same _ _ _ c.abort.ensures.made)
+
+pub returns-in-Override-clause-ok : goal.returns-in-Override-clause-ok
+returns-in-Override-clause-ok c = rw c.in-Override.is c.override_with.ensures.ok
+
+pub returns-in-Revert-clause-ok : goal.returns-in-Revert-clause-ok
+returns-in-Revert-clause-ok c = rw c.in-Revert.is (does_same _ _ _ c.revert.ensures.made)
+
+pub returns-in-CloseFile-clause-ok : goal.returns-in-CloseFile-clause-ok
+returns-in-CloseFile-clause-ok c = rw c.in-CloseFile.is (does_same _ _ _ c.close_file.ensures.made)
+
+pub returns-in-Sweep-clause-ok : goal.returns-in-Sweep-clause-ok
+returns-in-Sweep-clause-ok c = rw c.in-Sweep.is (does_same _ _ _ (c.sweep.ensures.made c.args.script.now c.args.line))

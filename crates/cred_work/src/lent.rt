@@ -1,0 +1,152 @@
+//! What is lent for an event, and what was decided on it.
+ghost use Rattle.std.specs.Prelude.{◌≡◌, true, OnOk, OnErr};
+ghost use Rattle.std.specs.Option.{option_map};
+ghost use Rattle.cred_work.specs.Decisions.{bare, event_of, is_decided, AreOf, IsPut, IsRight};
+ghost use Rattle.cred_work.specs.Decisions.{PutStays};
+
+use crate::changes::alter_boxed;
+use crate::made::BoxedMade;
+use crate::questions::{decide, may_open};
+use crate::signals::decide_signal;
+use cred_event::{Answer, Change, Event, Query};
+use cred_hold::{Cells, Hold, Writer};
+use cred_ids::{Id, NoMemory};
+use cred_record::{FileInfo, Want};
+use std::alloc::Global;
+
+/// The tokens that an event is decided on, each under the label that the event names, with the rest
+/// of the event, and once it is made, the decision.
+#[derive(Drop)]
+pub enum Lent {
+    /// A question.
+    Asking {
+        hold: Hold,
+        query: Query,
+        told: Option<Answer>,
+    },
+    /// The opening of a file: whether it may be opened so.
+    Opening {
+        hold: Hold,
+        file: u32,
+        want: Want,
+        fd: u32,
+        may: Option<bool>,
+    },
+    /// A signal: whether it may be sent to a task of another process.
+    Signalling {
+        from: u32,
+        hold: Hold,
+        to: u32,
+        target: Hold,
+        may: Option<bool>,
+    },
+    /// A change of what is prepared, whose base is held. The writer is of the slot that is kept for
+    /// the new credential, and has put it where the change isn't refused.
+    Altering {
+        base: Hold,
+        writer: Writer,
+        change: Change,
+        made: Option<Result<BoxedMade, Answer>>,
+    },
+}
+
+impl Lent {
+    /// The event for which it is lent.
+    pub fn event(&self) -> Event
+        ensures { result ≡ event_of self.now }
+    {
+        match self {
+            Lent::Asking { hold, query, .. } => Event::Ask {
+                label: hold.label(),
+                query: *query,
+            },
+            Lent::Opening {
+                hold,
+                file,
+                want,
+                fd,
+                ..
+            } => Event::OpenFile {
+                hold: hold.label(),
+                file: *file,
+                want: *want,
+                fd: *fd,
+            },
+            Lent::Signalling {
+                from,
+                hold,
+                to,
+                target,
+                ..
+            } => Event::Signal {
+                from: *from,
+                hold: hold.label(),
+                to: *to,
+                target: target.label(),
+            },
+            Lent::Altering { base, change, .. } => Event::Alter {
+                label: base.label(),
+                change: *change,
+            },
+        }
+    }
+
+    /// Decides the event, as the rules have it. The tokens stay, but for the new credential, which
+    /// the writer has put where the change isn't refused. It waits for nobody.
+    ///
+    /// `file` is the file that the event names, if it names one, and `chain` has the root ids of
+    /// the base's user namespace and of that one's ancestors, the nearest first.
+    ///
+    /// # Errors
+    ///
+    /// `NoMemory` if an allocation fails. All stays as it was.
+    // No call, since what it takes or gives is large, and would be moved.
+    #[inline(always)]
+    pub fn decide(
+        &mut self,
+        alloc: Global,
+        cells: &Cells,
+        file: Option<&FileInfo>,
+        chain: &[Id],
+    ) -> Result<(), NoMemory>
+        requires own { AreOf cells.now self.old }
+        ensures decided { OnOk result (is_decided self.new ≡ true) }
+        ensures right { OnOk result (IsRight (option_map (λ file. file.now) file.entry) chain.now
+            self.new) }
+        ensures put { OnOk result (IsPut self.new) }
+        ensures refused { OnOk result (PutStays self.old self.new) }
+        ensures stays { bare self.new ≡ bare self.old }
+        ensures same { OnErr result (self.new ≡ self.old) }
+    {
+        match self {
+            Lent::Asking { hold, query, told } => {
+                *told = Some(decide(alloc, cells, hold, *query, file)?);
+            }
+            Lent::Opening {
+                hold,
+                want,
+                may,
+                ..
+            } => {
+                *may = Some(may_open(alloc, cells, hold, file, *want)?);
+            }
+            Lent::Signalling {
+                hold,
+                target,
+                may,
+                ..
+            } => {
+                *may = Some(decide_signal(cells, hold, target));
+            }
+            Lent::Altering {
+                base,
+                writer,
+                change,
+                made,
+            } => {
+                *made = Some(alter_boxed(alloc, cells, base, change, file, chain, writer)?);
+            }
+        }
+        Ok(())
+    }
+}
