@@ -100,12 +100,7 @@ impl Book {
     /// # Errors
     ///
     /// `NoMemory` if an allocation of new memory fails.
-    fn ask(
-        &mut self,
-        line: u32,
-        file: Option<FileInfo>,
-        chain: IdList,
-    ) -> Result<Asked, NoMemory>
+    fn ask(&mut self, line: u32, file: Option<FileInfo>, chain: IdList) -> Result<Asked, NoMemory>
         ensures asked { IfOk result (λ asked. asked ≡ record {
           line = line;
           file = file;

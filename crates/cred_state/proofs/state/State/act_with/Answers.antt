@@ -1,7 +1,7 @@
 use Rattle.std.proofs.Common.{◌≡◌, Ok, Some, slice_get, refl, sym}
 use Rattle.cred_rules.specs.SetId.{set_id}
 use Rattle.cred_event.specs.declared.answer.AbortCause.TheVariants.{Full}
-use Rattle.cred_model.specs.State.{Task, cast_of, task_of}
+use Rattle.cred_model.specs.State.{Task, task_of}
 use Rattle.cred_setid.specs.Parts.{changed}
 use Rattle.cred_tables.specs.Kept.{cred_under, parts_of, state_of}
 use Rattle.cred_state.proofs.Acts.{next_is, next-lives, cast_there, waits_there, place_within, set_there, aborts_so, same_spare, act_full, act_kept, act_sealed}

@@ -1,7 +1,4 @@
-use Rattle.cred_record.specs.declared.refusal.Denial.TheVariants as denial
 use Rattle.cred_model.specs.State.{Task, task_of}
-use Rattle.cred_model.proofs.Likes.{does_same}
-use Rattle.cred_state.proofs.Begins.{begin_refused}
 use Rattle.cred_state.proofs.Reading.{is_found}
 use Rattle.cred_state.proofs.Standing.{current-in_use}
 use Rattle.cred_state.proofs.state.State.begin.Goals as goal

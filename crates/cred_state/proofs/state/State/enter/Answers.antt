@@ -1,4 +1,4 @@
-use Rattle.std.proofs.Common.{if◌then◌else◌, ◌≡◌, ◌∷◌, [], None, Some, refl, ◌∙◌}
+use Rattle.std.proofs.Common.{if◌then◌else◌, ◌≡◌, ◌∷◌, [], None, refl, ◌∙◌}
 use Rattle.cred_event.specs.declared.answer.Answer.TheVariants.{Done, Eacces}
 use Rattle.cred_model.specs.Answers.{checked, reply}
 use Rattle.cred_model.specs.Named.{query_files}

@@ -1,4 +1,4 @@
-use Rattle.std.proofs.Common.{[], None, sym}
+use Rattle.std.proofs.Common.{None, sym}
 use Rattle.cred_model.specs.Slots.{kept}
 use Rattle.cred_sound.specs.Sound.{IsSound}
 use Rattle.cred_work.specs.declared.lent.Lent.TheVariants.{Signalling}
