@@ -7,8 +7,8 @@
 //! compared, and there is no answer for a mismatch. Once all turns have ended, the journal is a
 //! legal one.
 //!
-//! `Kernel::lock` and `Kernel::advance` may wait for the lock. Nothing else here waits: whoever has
-//! the lock may make several events, one step each.
+//! `Kernel::lock`, `advance` and `finish` may wait for the lock. Nothing else here waits: whoever
+//! has the lock may make several events, one step each.
 #![tactic(auto)]
 
 pub mod kernel;
