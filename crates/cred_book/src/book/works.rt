@@ -93,9 +93,9 @@ impl Book {
         Ok(Some(Work::of(asked, lent)))
     }
 
-    /// What is asked for this line, with this file and these root ids: in the memory of the work that
-    /// came back last, where one did. A work goes out at every other line, and comes back before
-    /// the next one of its lane does.
+    /// What is asked for this line, with this file and these root ids: in the memory of the work
+    /// that came back last, where one did. A work goes out at every other line, and comes back
+    /// before the next one of its lane does.
     ///
     /// # Errors
     ///
