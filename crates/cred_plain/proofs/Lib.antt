@@ -8,3 +8,5 @@ pub mod Busy
 pub mod Others
 pub mod Rising
 pub mod Least
+pub mod Stands
+pub mod Stepped

@@ -1,6 +1,8 @@
 -- Which tasks end, and what is said of one task.
-use Rattle.std.specs.Prelude.{◌≢◌, ℕ, ◌==◌, ◌&&◌, Bool, false, not, List, find, map, IfSome}
+use Rattle.std.specs.Prelude.{◌≡◌, ◌≢◌, ℕ, ◌==◌, ◌&&◌, Bool, false, not, List, find, map}
+use Rattle.std.specs.Prelude.{slice_get, IfSome, Some}
 use Rattle.std.specs.List.{AllPairs, filter}
+use Rattle.std.specs.Option.{option_map}
 use Rattle.cred_ids.specs.Ordered.{in_order}
 use Rattle.cred_event.specs.declared.event.Change.{Change}
 use Rattle.cred_event.specs.declared.event.Change.TheVariants.{Exec}
@@ -30,6 +32,10 @@ ending_of change process task = Nobody
 -- the other threads of a process, in rising order
 abbrev pub others_in : ℕ → ℕ → List Task → List ℕ
 others_in process task tasks = in_order (map (λ t. t.number) (filter (is_other process task) tasks))
+
+-- At the place stands a task of this number.
+abbrev pub IsTaskAt : List Task → ℕ → ℕ → Type 0
+IsTaskAt tasks number place = option_map (λ t. t.number) (slice_get tasks place) ≡ Some number
 
 -- Where no two tasks have one number: this holds of the task of that number, if it is alive.
 abbrev pub OfOneTask : List Task → ℕ → (Task → Type 0) → Type 0

@@ -1,13 +1,13 @@
 //! The open broadcasts (nptl(7)).
-ghost use Rattle.std.specs.Prelude.{◌≡◌, ◌<◌, ◌==◌, ◌+◌, ◌++◌, ◌∷◌, [], find, length, slice_get};
-ghost use Rattle.std.specs.Prelude.{Ok, Err, MatchOption, OnOk, OnErr};
+ghost use Rattle.std.specs.Prelude.{◌≡◌, ◌<◌, ◌==◌, ◌+◌, ◌++◌, ◌∷◌, [], drop, find, length};
+ghost use Rattle.std.specs.Prelude.{position, slice_get, Some, Ok, Err, MatchOption, OnOk, OnErr};
 ghost use Rattle.std.specs.List.{AllPairs};
-ghost use Rattle.std.specs.Option.{option_map};
+ghost use Rattle.std.specs.Option.{IsSomeAnd, option_map};
 ghost use Rattle.cred_event.specs.declared.answer.Answer.TheVariants.{Busy};
 ghost use Rattle.cred_ids.specs.Ordered.{in_order};
-ghost use Rattle.cred_model.specs.Casts.{not_busy, waits_in, waits_no_more, with_cast, without};
-ghost use Rattle.cred_model.specs.Casts.{joined, dropped};
-ghost use Rattle.cred_plain.specs.Casts.{SharesNone};
+ghost use Rattle.cred_model.specs.Casts.{is_open, not_busy, waits_in, waits_no_more, with_cast};
+ghost use Rattle.cred_model.specs.Casts.{dropped, joined, without};
+ghost use Rattle.cred_plain.specs.Casts.{AreCasts, SharesNone};
 
 use cred_ids::NoMemory;
 use cred_record::IdCall;
@@ -46,6 +46,13 @@ impl Cast {
         self.waiting.contains(&task)
     }
 
+    /// Whether somebody waits.
+    fn is_open(&self) -> bool
+        ensures { result ≡ is_open self.now }
+    {
+        !self.waiting.is_empty()
+    }
+
     /// The least of those that wait.
     pub fn least(&self) -> Option<u32>
         ensures { result ≡ slice_get self.now.waiting 0 }
@@ -76,6 +83,14 @@ impl Cast {
         Ok(())
     }
 
+    /// The least of those that wait has made the call, and waits no more.
+    fn step(&mut self)
+        requires { 0 < length self.old.waiting }
+        ensures { self.new ≡ record self.old { waiting = drop 1 self.old.waiting } }
+    {
+        self.waiting.remove(0);
+    }
+
     /// A task waits no more.
     fn leave(&mut self, task: u32)
         ensures { self.new ≡ without task self.old }
@@ -89,6 +104,13 @@ pub fn cast_of(casts: &[Cast], number: u32) -> Option<&Cast>
     ensures { option_map (λ b. b.now) result ≡ find (λ b. b.number == number) casts.now }
 {
     casts.iter().find(|cast| cast.number == number)
+}
+
+/// Where the broadcast of a number stands.
+pub fn cast_place(casts: &[Cast], number: u32) -> Option<usize>
+    ensures { result ≡ position (λ b. b.number == number) casts.now }
+{
+    casts.iter().position(|cast| cast.number == number)
 }
 
 /// The number of the broadcast that is open in a process.
@@ -153,6 +175,21 @@ pub fn join(casts: &mut Vec<Cast>, parent: u32, child: u32) -> Result<(), NoMemo
         return Ok(());
     };
     casts[place].join(child)
+}
+
+/// The least task that waits in the broadcast at a place has made its step there: it waits no more,
+/// and a broadcast that nobody waits in any more is closed.
+pub fn acted(casts: &mut Vec<Cast>, place: usize, task: u32)
+    requires casts { AreCasts casts.old.items }
+    requires least { IsSomeAnd (slice_get casts.old.items place)
+        (λ b. slice_get b.waiting 0 ≡ Some task) }
+    ensures { casts.new.items ≡ waits_no_more task casts.old.items }
+{
+    let cast = &mut casts[place];
+    cast.step();
+    if !cast.is_open() {
+        casts.remove(place);
+    }
 }
 
 /// A task waits no more, and the broadcasts that nobody waits in any more are closed.

@@ -145,9 +145,9 @@ impl Creds {
         ensures gone { (n : ℕ) → refer_to references.now n ≡ false
             → IfSome (slice_get self.new.list n) (λ sealed. sealed.cred ≡ gone) }
     {
-        let least = references.least_used();
+        let oldest = references.oldest();
         self.stored
-            .retain(|stored| references.refer_to(stored.number, least));
+            .retain(|stored| references.refer_to(stored.number, oldest));
     }
 }
 

@@ -1,5 +1,5 @@
 //! All that refers to credentials.
-ghost use Rattle.std.specs.Prelude.{◌≡◌, ◌≤◌, ◌==◌, ◌||◌, All};
+ghost use Rattle.std.specs.Prelude.{◌≡◌, ◌≤◌, ◌==◌, ◌||◌, true, All};
 ghost use Rattle.std.specs.List.{list_any};
 ghost use Rattle.cred_model.specs.Ends.{numbers_of};
 ghost use Rattle.cred_plain.specs.References.{is_among, is_named, is_used, refer_to, UsesNoneBelow};
@@ -19,28 +19,56 @@ pub struct References<'a> {
     pub deferred: &'a [u64],
 }
 
+/// The least number that a task refers to, or `u64::MAX` where there is no task; and where that
+/// task stands, if the number is its current credential's.
+#[derive(Clone, Copy)]
+pub(crate) struct Oldest {
+    number: u64,
+    place: usize,
+}
+
 impl References<'_> {
-    /// The least number that a task refers to, or `u64::MAX` where there is no task.
-    pub(crate) fn least_used(&self) -> u64
-        ensures { UsesNoneBelow self.now result }
+    /// What a task has referred to the longest.
+    pub(crate) fn oldest(&self) -> Oldest
+        ensures { UsesNoneBelow self.now result.number }
     {
-        least_in(self.tasks)
+        let number = least_in(self.tasks);
+        let found = self.tasks.iter().position(|task| task.current == number);
+        Oldest {
+            number,
+            place: found.unwrap_or(0),
+        }
     }
 
-    /// Whether something refers to this number, where no task refers to one below `least`.
-    pub(crate) fn refer_to(&self, number: u64, least: u64) -> bool
-        ensures { UsesNoneBelow self.now least → result ≡ refer_to self.now number }
+    /// Whether something refers to this number, where no task refers to one below the oldest.
+    pub(crate) fn refer_to(&self, number: u64, oldest: Oldest) -> bool
+        ensures { UsesNoneBelow self.now oldest.number → result ≡ refer_to self.now number }
     {
-        self.used_from(number, least) || self.named(number) || self.deferred.contains(&number)
+        self.used_from(number, oldest) || self.named(number) || self.deferred.contains(&number)
     }
 
     /// Whether a task does. This is asked of each stored credential after every sweep. Nearly all
     /// that nothing refers to are older than the oldest that a task refers to: for those the tasks
     /// are not gone through.
-    fn used_from(&self, number: u64, least: u64) -> bool
-        ensures { UsesNoneBelow self.now least → result ≡ is_used self.now number }
+    fn used_from(&self, number: u64, oldest: Oldest) -> bool
+        ensures { UsesNoneBelow self.now oldest.number → result ≡ is_used self.now number }
     {
-        number >= least && self.used(number)
+        number >= oldest.number && (self.used_in_turn(number, oldest) || self.used(number))
+    }
+
+    /// Whether a task does that is found without a search. The threads of a process make a call one
+    /// after another, and they mostly stand in that order: so their numbers mostly follow one
+    /// another, from the oldest on.
+    fn used_in_turn(&self, number: u64, oldest: Oldest) -> bool
+        requires { oldest.number ≤ number }
+        ensures { result ≡ true → is_used self.now number ≡ true }
+    {
+        let behind = oldest.place.wrapping_add((number - oldest.number) as usize);
+        let Some(place) = behind.checked_rem(self.tasks.len()) else {
+            return false;
+        };
+        let task = &self.tasks[place];
+        task.current == number
     }
 
     /// Whether a task does, by going through them once.

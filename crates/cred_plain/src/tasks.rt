@@ -1,14 +1,15 @@
 //! The tasks.
-ghost use Rattle.std.specs.Prelude.{◌≡◌, ◌-◌, ◌<◌, ◌≤◌, ◌==◌, ◌++◌, ◌∷◌, [], drop, filter, find};
-ghost use Rattle.std.specs.Prelude.{is_some, length, map, not, position, slice_get, take, count_by};
-ghost use Rattle.std.specs.Prelude.{nat_lt, All, IfOk, IfSome, OnOk, OnErr};
+ghost use Rattle.std.specs.Prelude.{◌≡◌, ◌≢◌, ◌-◌, ◌<◌, ◌≤◌, ◌==◌, ◌++◌, ◌∷◌, [], drop, filter};
+ghost use Rattle.std.specs.Prelude.{find, is_some, length, map, not, position, slice_get, take};
+ghost use Rattle.std.specs.Prelude.{count_by, nat_lt, All, IfOk, IfSome, OnOk, OnErr, Some};
+ghost use Rattle.std.specs.List.{AllPairs};
 ghost use Rattle.std.specs.Option.{option_map};
 ghost use Rattle.cred_ids.specs.Limits.{DEPTH, TASKS};
 ghost use Rattle.cred_model.specs.State.{acting};
 ghost use Rattle.cred_model.specs.Ends.{is_thread_of, left_by, numbers_of, survivors};
 ghost use Rattle.cred_model.specs.Moves.{first_task, updated, with_current};
 ghost use Rattle.cred_model.specs.Moves.{with_overrides};
-ghost use Rattle.cred_plain.specs.Tasks.{ends_by, others_in, OfOneTask};
+ghost use Rattle.cred_plain.specs.Tasks.{ends_by, others_in, IsTaskAt, OfOneTask};
 
 use cred_ids::{NoMemory, limits};
 use std::alloc::Global;
@@ -158,6 +159,9 @@ impl Task {
 #[derive(Drop)]
 pub struct Tasks {
     list: Vec<Task>,
+    /// Where the task stood that was given a credential last. Another may stand there by now, or
+    /// none: a task is taken from behind it only where its number is the one that is looked for.
+    recent: usize,
     alloc: Global,
 }
 
@@ -180,6 +184,7 @@ impl Tasks {
     {
         Tasks {
             list: Vec::new(alloc),
+            recent: 0,
             alloc,
         }
     }
@@ -205,11 +210,43 @@ impl Tasks {
         self.list.iter().find(|task| task.number == number)
     }
 
-    /// Where the task of a number stands.
-    fn place(&self, number: u32) -> Option<usize>
+    /// Where a task of a number stands. `None` where none is alive.
+    pub fn place(&self, number: u32) -> Option<usize>
+        ensures place { IfSome result (IsTaskAt self.now number) }
+        ensures alive { is_some result ≡ is_some (find (λ t. t.number == number) self.now) }
+    {
+        // A broadcast goes from one thread to the next, and they mostly stand in that order.
+        let next = self.recent.wrapping_add(1);
+        match self.list.get(next) {
+            Some(task) if task.number == number => Some(next),
+            _ => self.first_place(number),
+        }
+    }
+
+    /// Where the first task of a number stands.
+    fn first_place(&self, number: u32) -> Option<usize>
         ensures { result ≡ position (λ t. t.number == number) self.now }
     {
         self.list.iter().position(|task| task.number == number)
+    }
+
+    /// The task at a place.
+    pub fn at(&self, place: usize) -> &Task
+        requires { place < length self.now }
+        ensures { Some result.now ≡ slice_get self.now place }
+    {
+        &self.list[place]
+    }
+
+    /// The task at a place gets another current credential, where no two tasks have one number.
+    pub fn set_current_at(&mut self, place: usize, number: u64)
+        requires { place < length self.old }
+        ensures { AllPairs (λ a b. a.number ≢ b.number) self.old
+            → IfSome (slice_get self.old place) (λ t.
+            self.new ≡ with_current self.old t.number number) }
+    {
+        self.list[place].current = number;
+        self.recent = place;
     }
 
     /// Whether a task is alive.
@@ -276,7 +313,7 @@ impl Tasks {
             ≡ with_overrides self.old task (number ∷ owner.overrides))) }
         ensures err { OnErr result (self.new ≡ self.old) }
     {
-        let Some(place) = self.place(task) else {
+        let Some(place) = self.first_place(task) else {
             return Ok(());
         };
         self.list[place].push(number)
@@ -287,7 +324,7 @@ impl Tasks {
         ensures { OfOneTask self.old task (λ owner. self.new
             ≡ with_overrides self.old task (drop 1 owner.overrides)) }
     {
-        let Some(place) = self.place(task) else {
+        let Some(place) = self.first_place(task) else {
             return;
         };
         self.list[place].pop();

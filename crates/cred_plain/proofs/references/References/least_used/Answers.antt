@@ -1,5 +1,0 @@
-use Rattle.cred_plain.proofs.Least.{none_below}
-use Rattle.cred_plain.proofs.references.References.least_used.Goals as goal
-
-pub returns : goal.returns
-returns c = none_below c.args.self.now c.least_in.result c.least_in.ensures
