@@ -1,5 +1,7 @@
 -- A thread that waits makes its step in a broadcast, or its process ends.
-use Rattle.std.proofs.Common.{◌≡◌, ℕ, ◌+◌, ◌-◌, ◌==◌, not, Bool, true, false, List, find, length, is_some, slice_get, None, Some, Ok, Err, refl, sym, ap, ◌∙◌, arith}
+use Rattle.std.proofs.Common.{◌≡◌, ℕ, ◌+◌, ◌-◌, ◌<◌, ◌==◌, not, Bool, true, false, List, [], ◌∷◌, get_or, length, is_some, position, slice_get, Option, None, Some, Ok, Err, refl, sym, ap, ◌∙◌, subst, arith}
+use Rattle.std.specs.Option.{IsSomeAnd}
+use Rattle.std.proofs.lemmas.List.Quantifiers.{position-Some}
 use Rattle.cred_record.specs.Credential.{Credential}
 use Rattle.cred_record.specs.declared.refusal.Denial.{Denial}
 use Rattle.cred_rules.specs.SetId.{set_id}
@@ -11,33 +13,89 @@ use Rattle.cred_model.specs.Casts.{waits_no_more}
 use Rattle.cred_model.specs.Moves.{in_slot, replaced}
 use Rattle.cred_model.specs.Slots.{free, least_free, swept}
 use Rattle.cred_model.specs.Step.{aborted, by_act, outcome}
+use Rattle.cred_model.proofs.Places.{find-at}
+use Rattle.cred_sound.specs.Sound.{IsSound}
+use Rattle.cred_plain.specs.Tasks.{IsTaskAt}
+use Rattle.cred_plain.proofs.Places.{none_there}
+use Rattle.cred_plain.proofs.Stands.{the_task}
 use Rattle.cred_machine.specs.Room.{swept_if}
 use Rattle.cred_machine.proofs.Rooms.{in_free, in_none}
-use Rattle.cred_machine.proofs.Seen.{found_in}
+use Rattle.cred_machine.proofs.Seen.{placed}
 
 act_does : (task old : ℕ) (new : Credential) (cast : Broadcast) → State → ℕ → Answer × State
 act_does task old new cast s slot =
     (Acted task (length s.creds) slot (length cast.waiting - 1), record (replaced s task old new slot) { casts = waits_no_more task s.casts })
 
--- the least task that waits in the broadcast of this number, its credential, and where it is
-pub record IsNext (s : State) (number task : ℕ) (cast : Broadcast) (owner : Task) (old : Numbered) : Type 0 where
+-- the least task that waits in the broadcast of this number, and its credential; and where the
+-- broadcast stands
+pub record IsNext (s : State) (number task cast_at : ℕ) (cast : Broadcast) (owner : Task)
+    (old : Numbered) : Type 0 where
   pub found : cast_of s number ≡ Some cast
+  pub there : slice_get s.casts cast_at ≡ Some cast
   pub least : slice_get cast.waiting 0 ≡ Some task
   pub lives : task_of s task ≡ Some owner
   pub has : numbered s.creds owner.current ≡ Some old
 
--- by what was read of them
-pub next_is : (s : State) (number task : ℕ) (looked : List Broadcast) (cast seen : Broadcast) (owner whose : Task) (old : Numbered)
-    → looked ≡ s.casts → Some seen ≡ find (λ b. b.number == number) looked → cast ≡ seen → Some task ≡ slice_get seen.waiting 0
-    → Some whose ≡ task_of s task → owner ≡ whose → Some old ≡ numbered s.creds owner.current → IsNext s number task cast owner old
-next_is s number task looked cast seen owner whose old same found read least lives own has = record {
-  found = found_in (λ (b : Broadcast). b.number == number) s.casts looked cast seen same found read;
+-- there is no broadcast of this number
+pub no_cast : (s : State) (number : ℕ) (looked : List Broadcast) (place : Option ℕ)
+    → looked ≡ s.casts → place ≡ position (λ b. b.number == number) looked → place ≡ None
+    → cast_of s number ≡ None
+no_cast s number looked place same found none =
+    none_there (λ (b : Broadcast). b.number == number) s.casts
+    (ap (position (λ (b : Broadcast). b.number == number)) (sym same) ∙ sym found ∙ none)
+
+-- the place where one was found is one of the places
+pub cast_within : (number cast_at : ℕ) (casts looked : List Broadcast) → looked ≡ casts
+    → Some cast_at ≡ position (λ b. b.number == number) looked → cast_at < length casts
+cast_within number cast_at casts looked same found =
+    by casts (ap (position (λ (b : Broadcast). b.number == number)) (sym same) ∙ sym found)
+  where
+    by : (bs : List Broadcast) → position (λ (b : Broadcast). b.number == number) bs ≡ Some cast_at
+        → cast_at < length bs
+    by [] is = cc
+    by (b ∷ bs) is =
+        (position-Some (λ (c : Broadcast). c.number == number) (b ∷ bs) cast_at b is).0
+
+-- the broadcast of this number, by where it was found
+pub cast_found : (s : State) (number cast_at : ℕ) (looked : List Broadcast) (cast seen : Broadcast)
+    → looked ≡ s.casts → Some cast_at ≡ position (λ b. b.number == number) looked → cast ≡ seen
+    → seen ≡ get_or s.casts cast_at seen
+    → (cast_of s number ≡ Some cast) × (slice_get s.casts cast_at ≡ Some cast)
+cast_found s number cast_at looked cast seen same found read is =
+    let test = λ (b : Broadcast). b.number == number in
+    let at = placed test s.casts looked cast_at seen same found is in
+    let there : slice_get s.casts cast_at ≡ Some cast = at.1 ∙ ap Some (sym read) in
+    (find-at test s.casts cast_at cast at.0 there, there)
+
+-- a task that is alive, by where it stands
+pub task_is : (s : State) (task task_at : ℕ) (owner whose : Task) → IsSound s
+    → IsTaskAt s.tasks task task_at → Some whose ≡ slice_get s.tasks task_at → owner ≡ whose
+    → task_of s task ≡ Some owner
+task_is s task task_at owner whose sound stands there own =
+    sym (the_task task s.tasks task_at sound.tasks stands) ∙ sym there ∙ ap Some (sym own)
+
+-- the least that waits, by all that was read
+pub next_is : (s : State) (number task cast_at : ℕ) (cast seen : Broadcast) (owner : Task)
+    (old : Numbered) → (cast_of s number ≡ Some cast) × (slice_get s.casts cast_at ≡ Some cast)
+    → cast ≡ seen → Some task ≡ slice_get seen.waiting 0 → task_of s task ≡ Some owner
+    → Some old ≡ numbered s.creds owner.current → IsNext s number task cast_at cast owner old
+next_is s number task cast_at cast seen owner old is read least lives has = record {
+  found = is.0;
+  there = is.1;
   least = ap (λ (b : Broadcast). slice_get b.waiting 0) read ∙ sym least;
-  lives = sym lives ∙ ap Some (sym own);
+  lives = lives;
   has = sym has;
 }
 
-module _ (s : State) (number task : ℕ) (cast : Broadcast) (owner : Task) (old : Numbered) (next : IsNext s number task cast owner old) where
+module _ (s : State) (number task cast_at : ℕ) (cast : Broadcast) (owner : Task) (old : Numbered)
+    (next : IsNext s number task cast_at cast owner old) where
+  -- while the broadcasts stay, it is the least there
+  pub least_there : (casts : List Broadcast) → casts ≡ s.casts
+      → IsSomeAnd (slice_get casts cast_at) (λ b. slice_get b.waiting 0 ≡ Some task)
+  least_there casts same =
+      subst (λ (o : Option Broadcast). IsSomeAnd o (λ b. slice_get b.waiting 0 ≡ Some task))
+      (sym (ap (λ (cs : List Broadcast). slice_get cs cast_at) same ∙ next.there)) next.least
+
   pub act_refused : (denial : Denial) → set_id old.cred cast.call ≡ Err denial → outcome s (by_act s number) ≡ (Aborted task Perm, aborted cast s)
   act_refused denial rule = rw (next.found, next.least, next.lives, next.has, rule) refl
 

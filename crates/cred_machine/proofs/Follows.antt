@@ -23,18 +23,34 @@ aborts s after number task cause cast (Ok answer) gives is leads =
     gives ∙ ap (λ (r : State). (Aborted task cause, r)) (sym (leads cast refl)) ∙ ap (λ (a : Answer). (a, after)) (sym is)
 aborts s after number task cause cast (Err e) gives is leads = tt
 
-pub act_unsealed : (s : State) (number : ℕ) (cast : Broadcast) → cast_of s number ≡ Some cast → (task : ℕ) → slice_get cast.waiting 0 ≡ Some task
-    → (owner : Task) → task_of s task ≡ Some owner → numbered s.creds owner.current ≡ None → outcome s (by_act s number) ≡ (NoBroadcast number, s)
-act_unsealed s number cast found task least owner lives none = rw (found, least, lives, none) refl
+-- there is none that makes a step: no broadcast, nobody who waits in it, no task, or no credential
+module _ (s : State) (number : ℕ) where
+  pub act_none : cast_of s number ≡ None → outcome s (by_act s number) ≡ (NoBroadcast number, s)
+  act_none none = rw none refl
 
-module _ (s : State) (number task : ℕ) (cast : Broadcast) (owner : Task) (old : Numbered) (next : IsNext s number task cast owner old)
-    (made : Credential) (rule : set_id old.cred cast.call ≡ Ok made) where
+  module _ (cast : Broadcast) (found : cast_of s number ≡ Some cast) where
+    pub act_unawaited : slice_get cast.waiting 0 ≡ None
+        → outcome s (by_act s number) ≡ (NoBroadcast number, s)
+    act_unawaited none = rw (found, none) refl
+
+    module _ (task : ℕ) (least : slice_get cast.waiting 0 ≡ Some task) where
+      pub act_ended : task_of s task ≡ None → outcome s (by_act s number) ≡ (NoBroadcast number, s)
+      act_ended none = rw (found, least, none) refl
+
+      pub act_unsealed : (owner : Task) → task_of s task ≡ Some owner
+          → numbered s.creds owner.current ≡ None
+          → outcome s (by_act s number) ≡ (NoBroadcast number, s)
+      act_unsealed owner lives none = rw (found, least, lives, none) refl
+
+module _ (s : State) (number task cast_at : ℕ) (cast : Broadcast) (owner : Task) (old : Numbered)
+    (next : IsNext s number task cast_at cast owner old) (made : Credential)
+    (rule : set_id old.cred cast.call ≡ Ok made) where
   pub steps : (after : State) (casts : List Broadcast) (sweep : Bool) (slot left given : ℕ) → free s ≡ Some slot
       → sweep ≡ not (is_some (least_free s)) → left + 1 ≡ length cast.waiting → given ≡ length s.creds
       → after ≡ replaced (swept_if sweep s) task old.number made slot → casts ≡ waits_no_more task after.casts
       → outcome s (by_act s number) ≡ (Acted task given slot left, record after { casts = casts })
   steps after casts sweep slot left given is for many counted leads cs =
-      acts s number task cast owner old next made rule sweep slot left is for many
+      acts s number task cast_at cast owner old next made rule sweep slot left is for many
       ∙ rw (cs, leads, counted) (same sweep)
     where
       same : (b : Bool)

@@ -22,3 +22,4 @@ pub mod Threads
 pub mod Refusals
 pub mod Leads
 pub mod Live
+pub mod Steps

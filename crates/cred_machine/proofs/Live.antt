@@ -1,4 +1,4 @@
--- Which slots are live after a thread's step, by those that were before it.
+-- Which slots are live after an id call and after a thread's step, by those that were before it.
 use Rattle.std.proofs.Common.{◌≡◌, ◌≢◌, ℕ, zero, suc, ◌-◌, ◌<◌, ◌==◌, ◌||◌, not, Bool, true, false, cond, if◌then◌else◌, MatchBool, List, [], ◌∷◌, ◌++◌, find, length, map, is_some, slice_get, Option, Some, None, Result, Ok, Err, ok_or, refl, sym, ap, ◌∙◌, subst, arith}
 use Rattle.std.specs.List.{All, AllPairs, concat, flat_map, list_any}
 use Rattle.std.specs.Option.{IfSome, option_map, option_map_or}
@@ -21,7 +21,8 @@ use Rattle.cred_model.specs.Step.{aborted, by_act, follow, outcome}
 use Rattle.cred_model.proofs.Rising.{AllPairs-head, AllPairs-tail}
 use Rattle.cred_sound.specs.Sound.{IsSound}
 use Rattle.cred_plain.specs.Creds.{slots_of}
-use Rattle.cred_machine.specs.Slots.{AreLive, TakesSlot}
+use Rattle.cred_machine.specs.Slots.{AreLive, HasTaken, TakesSlot}
+use Rattle.cred_machine.specs.Room.{IsCurrentOf, swept_if}
 use Rattle.cred_machine.proofs.Free.{free_now}
 use Rattle.cred_plain.proofs.Places.{all_left}
 use Rattle.cred_machine.proofs.Rooms.{in_free}
@@ -184,7 +185,7 @@ abbrev slot_in : Answer → ℕ
 slot_in (Acted task cred slot left) = slot
 slot_in answer = 0
 
-number_is : (creds : List SealedCred) (n : ℕ) (c : Numbered) → numbered creds n ≡ Some c → c.number ≡ n
+pub number_is : (creds : List SealedCred) (n : ℕ) (c : Numbered) → numbered creds n ≡ Some c → c.number ≡ n
 number_is creds n c is = by (slice_get creds n) is
   where
     by : (o : Option SealedCred) → option_map (λ (x : SealedCred). record { number = n; cred = x.cred; slot = x.slot }) o ≡ Some c → c.number ≡ n
@@ -257,6 +258,32 @@ known_after s after sound number answer marks sweep (Some now) live is gives tak
     let step = acted s after number takes.1.task takes.1.cred slot takes.1.left some (gives ∙ ap (λ (a : Answer). (a, after)) takes.1.acted) in
     takes.1.marks k h ∙ ap (λ b. b || (slot == k)) (live k h) ∙ sym (live_acted s after sound takes.1.task slot step k)
 
+-- so it is after an id call
+pub known_opened : (s after : State) → IsSound s → (task old slot : ℕ) (made : Credential)
+    (marks : List Bool) (sweep : Bool) (casts : List Broadcast) (known : Option (List Bool))
+    → AreLive marks s → IsCurrentOf s task old
+    → after ≡ replaced (swept_if sweep (record s { casts = casts })) task old made slot
+    → IfSome known (λ now. (sweep ≡ false) × HasTaken marks slot now)
+    → IfSome known (λ now. AreLive now after)
+known_opened s after sound task old slot made marks sweep casts None live own leads takes = tt
+known_opened s after sound task old slot made marks sweep casts (Some now) live own leads takes =
+    at (task_of s task) refl own
+  where
+    at : (o : Option Task) → task_of s task ≡ o → option_map (λ t. t.current) o ≡ Some old
+        → AreLive now after
+    at None lives is = λ k h. cc
+    at (Some owner) lives is = λ k h.
+        let current : owner.current ≡ old = cc in
+        let to : after ≡ record (replaced s task owner.current made slot) { casts = casts }
+        = leads
+        ∙ ap (λ b. replaced (swept_if b (record s { casts = casts })) task old made slot) takes.0
+        ∙ ap (λ (n : ℕ). record (replaced s task n made slot) { casts = casts }) (sym current) in
+        takes.1 k h
+        ∙ ap (λ b. b || (slot == k)) (live k h)
+        ∙ sym
+        (ap (λ (t : State). is_live t k) to
+        ∙ live_replaced s sound task slot owner made lives casts k)
+
 -- where a credential stands, by the list of slots
 stands_by : (creds : List SealedCred) (slot n : ℕ) → stands_in creds slot n ≡ option_map_or (λ k. k == slot) (slice_get (slots_of creds) n) false
 stands_by [] slot n = refl
@@ -293,7 +320,7 @@ known_still false before now s after kept same live =
     subst (λ (o : Option (List Bool)). IfSome o (λ marks. AreLive marks after)) (sym kept)
     (subst (λ (t : State). IfSome before (λ marks. AreLive marks t)) (sym same) live)
 
--- where only a thread's step says it
+-- where only an id call and a thread's step say it
 pub known_kept : (acts : Bool) (before told now : Option (List Bool)) (s : State) → MatchBool acts (IfSome told (λ marks. AreLive marks s)) (told ≡ before)
     → now ≡ (if acts then told else None) → IfSome now (λ marks. AreLive marks s)
 known_kept true before told now s known is = subst (λ (o : Option (List Bool)). IfSome o (λ marks. AreLive marks s)) (sym is) known

@@ -1,14 +1,15 @@
 -- Sweeps that are made to find a slot.
-use Rattle.std.specs.Prelude.{ℕ, Bool, length, if◌then◌else◌}
+use Rattle.std.specs.Prelude.{◌≡◌, ℕ, Bool, [], ◌∷◌, ◌++◌, length, if◌then◌else◌, Some}
+use Rattle.std.specs.Option.{option_map}
 use Rattle.cred_record.specs.Credential.{Credential}
 use Rattle.cred_event.specs.declared.answer.AbortCause.{AbortCause}
 use Rattle.cred_event.specs.declared.answer.AbortCause.TheVariants.{Perm, Full}
 use Rattle.cred_event.specs.declared.answer.Answer.{Answer}
 use Rattle.cred_event.specs.declared.answer.Answer.TheVariants.{Began}
-use Rattle.cred_model.specs.State.{State, Broadcast}
+use Rattle.cred_model.specs.State.{State, Broadcast, task_of}
 use Rattle.cred_model.specs.Slots.{swept}
 use Rattle.cred_model.specs.Casts.{with_cast}
-use Rattle.cred_model.specs.Moves.{replaced}
+use Rattle.cred_model.specs.Moves.{replaced, sealed}
 
 -- the state after a sweep, if there was one
 abbrev pub swept_if : Bool → State → State
@@ -18,6 +19,15 @@ swept_if sweep s = if sweep then swept s else s
 abbrev pub at_abort : AbortCause → State → State
 at_abort Perm s = s
 at_abort Full s = swept s
+
+-- the credential of this number is the task's current one
+abbrev pub IsCurrentOf : State → ℕ → ℕ → Type 0
+IsCurrentOf s task number = option_map (λ t. t.current) (task_of s task) ≡ Some number
+
+-- One more credential is sealed, for the one of this number, which is given up.
+abbrev pub sealed_for : State → ℕ → Credential → ℕ → State
+sealed_for s old c slot =
+    let now = sealed s c slot in record now { deferred = s.deferred ++ old ∷ [] }
 
 -- what a call answers whose credential takes this slot, and the state after it
 abbrev pub begun : State → Broadcast → ℕ → Credential → ℕ → Answer × State

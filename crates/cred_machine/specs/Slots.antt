@@ -7,7 +7,7 @@ use Rattle.cred_ids.specs.Limits.{SLOTS}
 use Rattle.cred_event.specs.declared.answer.Answer.{Answer}
 use Rattle.cred_event.specs.declared.answer.Answer.TheVariants.{Acted}
 use Rattle.cred_event.specs.declared.event.Event.{Event}
-use Rattle.cred_event.specs.declared.event.Event.TheVariants.{Act}
+use Rattle.cred_event.specs.declared.event.Event.TheVariants.{Act, Begin}
 use Rattle.cred_model.specs.State.{State, SealedCred}
 use Rattle.cred_model.specs.Slots.{is_live, stands_in}
 use Rattle.cred_machine.specs.Kept.{KeepsReferred}
@@ -36,10 +36,16 @@ pub record IsTidy (live : Option (List Bool)) (s : State) : Type 0 where
   pub known : IfSome live (λ marks. AreLive marks s)
   pub kept : KeepsReferred s
 
--- the event is a thread's step
-abbrev pub is_act : Event → Bool
-is_act (Act cast) = true
-is_act event = false
+-- the event is an id call or a thread's step
+abbrev pub takes_slot : Event → Bool
+takes_slot (Begin task call) = true
+takes_slot (Act cast) = true
+takes_slot event = false
+
+-- The marks after it have this slot too.
+abbrev pub HasTaken : List Bool → ℕ → List Bool → Type 0
+HasTaken before taken after = (slot : ℕ) → slot < SLOTS
+    → is_marked after slot ≡ (is_marked before slot || (taken == slot))
 
 -- A step that answered so took its slot: the marks after it have that one too.
 pub record TakesSlot (before : List Bool) (answer : Answer) (after : List Bool) : Type 0 where
@@ -48,5 +54,4 @@ pub record TakesSlot (before : List Bool) (answer : Answer) (after : List Bool) 
   pub taken : ℕ
   pub left : ℕ
   pub acted : answer ≡ Acted task cred taken left
-  pub marks : (slot : ℕ) → slot < SLOTS
-      → is_marked after slot ≡ (is_marked before slot || (taken == slot))
+  pub marks : HasTaken before taken after

@@ -7,9 +7,9 @@ ghost use Rattle.cred_model.specs.State.{opening};
 ghost use Rattle.cred_model.specs.Step.{by_act, done};
 ghost use Rattle.cred_sound.specs.Sound.{IsSound};
 ghost use Rattle.cred_machine.specs.Kept.{KeepsReferred, may_have_swept};
-ghost use Rattle.cred_machine.specs.Slots.{AreLive, TakesSlot, is_act};
+ghost use Rattle.cred_machine.specs.Slots.{AreLive, TakesSlot, takes_slot};
 
-use crate::slots::Marks;
+use crate::slots::{Marks, live_slots};
 use crate::state::State;
 use cred_declared::root_of;
 use cred_event::{AbortCause, Answer, Event};
@@ -21,9 +21,9 @@ use std::marker::Model;
 /// A state, and which of its slots are live where that is known. Contracts see the state. A
 /// credential is kept as long as something refers to it, and no longer.
 ///
-/// A thread's step in a broadcast takes a slot, and gives none back unless there is a sweep. So the
-/// next step of a thread needs no look through all that refers, and only after another event, or
-/// after a sweep, there is one.
+/// An id call takes a slot, and so does each thread's step in a broadcast; neither gives one back
+/// unless there is a sweep. So the next one needs no look through all that refers, and only after
+/// another event, or after a sweep, there is one.
 #[derive(Drop)]
 pub struct CachedState {
     state: State,
@@ -72,7 +72,7 @@ impl CachedState {
     {
         let before = self.state.given_up();
         let answer = self.state.make(&mut self.live, script, line, event)?;
-        keep_after_act(&mut self.live, event);
+        keep_after_call(&mut self.live, event);
         let swept = may_have_swept(before, &answer, self.state.given_up());
         self.state.forget_if(swept);
         Ok(answer)
@@ -80,8 +80,8 @@ impl CachedState {
 }
 
 impl State {
-    /// Makes one event, and forgets nothing. Which slots are live may be known: a thread's step
-    /// says which are after it, and no other event does.
+    /// Makes one event, and forgets nothing. Which slots are live may be known: an id call and a
+    /// thread's step say which are after it, and no other event does.
     fn make(
         &mut self,
         live: &mut Option<Marks>,
@@ -93,7 +93,7 @@ impl State {
         requires known { IfSome live.old (λ marks. AreLive marks self.old) }
         ensures ok { IfOk result (λ answer.
             Gives self.old (done script.now self.old line event.now) answer self.new) }
-        ensures live { MatchBool (is_act event.now)
+        ensures live { MatchBool (takes_slot event.now)
             (IfSome live.new (λ marks. AreLive marks self.new)) (live.new ≡ live.old) }
         ensures err { OnErr result (self.new ≡ self.old) }
     {
@@ -121,7 +121,7 @@ impl State {
             Event::Abort { label } => self.abort(*label),
             Event::Override { task, label } => self.override_with(*task, *label),
             Event::Revert { task } => self.revert(*task),
-            Event::Begin { task, call } => self.begin(line, *task, call),
+            Event::Begin { task, call } => self.begin(live, line, *task, call),
             Event::Act { cast } => self.act_knowing(live, *cast),
             Event::OpenFile {
                 hold,
@@ -162,36 +162,22 @@ impl State {
     }
 }
 
-/// Only after a thread's step it is known which slots are live.
-fn keep_after_act(live: &mut Option<Marks>, event: &Event)
-    ensures { live.new ≡ (if is_act event.now then live.old else None) }
+/// Only after an id call or a thread's step it is known which slots are live.
+fn keep_after_call(live: &mut Option<Marks>, event: &Event)
+    ensures { live.new ≡ (if takes_slot event.now then live.old else None) }
 {
     match event {
-        Event::Act { .. } => {}
+        Event::Begin { .. } | Event::Act { .. } => {}
         _ => *live = None,
     }
 }
 
-/// Which slots are live: those of which that is known, or else by a look through all that refers.
-fn live_slots(state: &State, known: Option<Marks>) -> Result<Marks, NoMemory>
-    requires { IfSome known (λ marks. AreLive marks state.now) }
-    ensures { IfOk result (λ marks. AreLive marks state.now) }
-{
-    match known {
-        Some(marks) => Ok(marks),
-        None => state.look(),
-    }
-}
-
 /// Which slots are live after a step that answered so, where that is known from those before it.
-fn live_after(mut live: Marks, answer: &Answer, swept: bool) -> Option<Marks>
+fn live_after(live: Marks, answer: &Answer, swept: bool) -> Option<Marks>
     ensures { IfSome result (λ marks. (swept ≡ false) × TakesSlot live answer.now marks) }
 {
     match answer {
-        Answer::Acted { slot, .. } if !swept => {
-            live.put(*slot);
-            Some(live)
-        }
+        Answer::Acted { slot, .. } => live.after_call(*slot, swept),
         _ => None,
     }
 }

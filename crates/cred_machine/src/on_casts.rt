@@ -1,5 +1,5 @@
 //! The id calls, which every thread of a process makes, one after another (nptl(7)).
-ghost use Rattle.std.specs.Prelude.{◌≡◌, ◌≤◌, is_some, length, not, IfOk, OnOk, OnErr};
+ghost use Rattle.std.specs.Prelude.{◌≡◌, ◌≤◌, is_some, length, not, IfOk, IfSome, OnOk, OnErr};
 ghost use Rattle.cred_ids.specs.Limits.{TASKS};
 ghost use Rattle.cred_event.specs.declared.answer.Answer.TheVariants.{Aborted};
 ghost use Rattle.cred_rules.specs.SetId.{set_id};
@@ -10,13 +10,14 @@ ghost use Rattle.cred_model.specs.Slots.{free, least_free};
 ghost use Rattle.cred_model.specs.Moves.{in_slot, replaced, table_full};
 ghost use Rattle.cred_model.specs.Step.{aborted, by_act, by_begin};
 ghost use Rattle.cred_sound.specs.Sound.{IsSound};
-ghost use Rattle.cred_machine.specs.Room.{at_abort, begun, swept_if};
+ghost use Rattle.cred_machine.specs.Slots.{AreLive};
+ghost use Rattle.cred_machine.specs.Room.{IsCurrentOf, at_abort, begun, sealed_for, swept_if};
 
-use crate::slots::{Room, defer_left, make_room};
+use crate::slots::{Marks, Room, defer_left, live_slots, make_room};
 use crate::state::{State, overridden};
 use cred_event::{AbortCause, Answer, Named};
 use cred_ids::NoMemory;
-use cred_plain::casts::{cast_of, drop_cast, leave, open_cast, open_in};
+use cred_plain::casts::{acted, cast_of, cast_place, drop_cast, open_cast, open_in};
 use cred_plain::{Cast, Ending};
 use cred_record::{Cred, IdCall, Refusal, copy};
 use cred_setid::apply_to;
@@ -38,10 +39,19 @@ fn called(alloc: Global, cred: &Cred, call: &IdCall) -> Result<Cred, Refusal>
 impl State {
     /// A task makes an id call. The other threads of its process then wait for their step; where it
     /// has none, the broadcast is completed at once. `TableFull` leaves the state swept, and the
-    /// other refusals leave it.
-    pub(crate) fn begin(&mut self, line: u32, task: u32, call: &IdCall) -> Result<Answer, NoMemory>
+    /// other refusals leave it. Which slots are live may be known before it and after it.
+    pub(crate) fn begin(
+        &mut self,
+        live: &mut Option<Marks>,
+        line: u32,
+        task: u32,
+        call: &IdCall,
+    ) -> Result<Answer, NoMemory>
+        requires sound { IsSound self.old }
+        requires known { IfSome live.old (λ marks. AreLive marks self.old) }
         ensures ok { IfOk result (λ answer.
             Gives self.old (by_begin self.old line task call.now) answer self.new) }
+        ensures live { IfSome live.new (λ marks. AreLive marks self.new) }
         ensures err { OnErr result (self.new ≡ self.old) }
     {
         let Some(owner) = self.tasks.get(task) else {
@@ -77,18 +87,29 @@ impl State {
             call: call.copy()?,
             waiting,
         };
-        self.open(cast, number, cred)
+        self.open(live, cast, number, cred)
     }
 
     /// The caller of a broadcast has made this credential of its current one, of this number. That
     /// takes a slot, and the broadcast is open if anybody waits in it.
-    fn open(&mut self, cast: Cast, old: u64, cred: Cred) -> Result<Answer, NoMemory>
-        requires { length cast.waiting ≤ TASKS }
+    fn open(
+        &mut self,
+        live: &mut Option<Marks>,
+        cast: Cast,
+        old: u64,
+        cred: Cred,
+    ) -> Result<Answer, NoMemory>
+        requires waiting { length cast.waiting ≤ TASKS }
+        requires caller { IsCurrentOf self.old cast.caller old }
+        requires sound { IsSound self.old }
+        requires known { IfSome live.old (λ marks. AreLive marks self.old) }
+        ensures live { IfSome live.new (λ marks. AreLive marks self.new) }
         ensures ok { IfOk result (λ answer. in_slot self.old table_full
             (λ s slot. begun s cast old cred slot) ≡ (answer, self.new)) }
         ensures err { OnErr result (self.new ≡ self.old) }
     {
-        let Room { slot, swept } = self.room()?;
+        let mut marks = live_slots(self, live.take())?;
+        let Room { slot, swept } = self.room_in(&mut marks)?;
         let Some(slot) = slot else {
             return Ok(self.table_full());
         };
@@ -102,6 +123,7 @@ impl State {
                 return Err(err);
             }
         };
+        *live = marks.after_call(slot, swept);
         Ok(Answer::Began {
             cred: number,
             slot,
@@ -121,15 +143,17 @@ impl State {
             Gives self.old (by_act self.old line) answer self.new) }
         ensures err { OnErr result (self.new ≡ self.old) }
     {
-        let Some(cast) = cast_of(&self.casts, line) else {
+        let Some(cast_at) = cast_place(&self.casts, line) else {
             return Ok(Answer::NoBroadcast(line));
         };
+        let cast = &self.casts[cast_at];
         let Some(task) = cast.least() else {
             return Ok(Answer::NoBroadcast(line));
         };
-        let Some(owner) = self.tasks.get(task) else {
+        let Some(task_at) = self.tasks.place(task) else {
             return Ok(Answer::NoBroadcast(line));
         };
+        let owner = self.tasks.at(task_at);
         let Some(current) = self.creds.get(owner.current) else {
             return Ok(Answer::NoBroadcast(line));
         };
@@ -146,8 +170,9 @@ impl State {
         let Some(slot) = room.slot else {
             return self.end_process(process, task, AbortCause::Full);
         };
-        let cred = self.replace(task, number, cred, slot, room.swept)?;
-        leave(&mut self.casts, task);
+        let cred = self.seal(number, cred, slot, room.swept)?;
+        self.tasks.set_current_at(task_at, cred);
+        acted(&mut self.casts, cast_at, task);
         Ok(Answer::Acted {
             task,
             cred,
@@ -171,10 +196,21 @@ impl State {
             (self.new ≡ replaced (swept_if swept self.old) task old cred slot) }
         ensures err { OnErr result (self.new ≡ self.old) }
     {
-        make_room(&mut self.creds, &mut self.deferred, swept, &[old])?;
-        let number = self.creds.seal(cred, slot);
+        let number = self.seal(old, cred, slot, swept)?;
         self.tasks.set_current(task, number);
         Ok(number)
+    }
+
+    /// A credential is sealed in the slot, after a sweep if that needs one. The number of the one
+    /// whose place it takes is given up.
+    fn seal(&mut self, old: u64, cred: Cred, slot: u32, swept: bool) -> Result<u64, NoMemory>
+        ensures number { IfOk result (λ number. number ≡ length self.old.creds) }
+        ensures ok { OnOk result
+            (self.new ≡ sealed_for (swept_if swept self.old) old cred slot) }
+        ensures err { OnErr result (self.new ≡ self.old) }
+    {
+        make_room(&mut self.creds, &mut self.deferred, swept, &[old])?;
+        Ok(self.creds.seal(cred, slot))
     }
 
     /// A task that waits in the broadcast of its process can't follow: all threads of the process

@@ -1,7 +1,7 @@
 //! Which slot a new credential takes.
 ghost use Rattle.std.specs.Prelude.{◌≡◌, ℕ, ◌+◌, ◌<◌, ◌≤◌, ◌==◌, ◌||◌, ◌++◌, [], false, true};
 ghost use Rattle.std.specs.Prelude.{find, is_some, length, map, not, if◌then◌else◌};
-ghost use Rattle.std.specs.Prelude.{IfOk, IsOk, OnOk, OnErr, vec_capacity, vec_len};
+ghost use Rattle.std.specs.Prelude.{IfOk, IfSome, IsOk, OnOk, OnErr, vec_capacity, vec_len};
 ghost use Rattle.std.specs.List.{flat_map, list_any};
 ghost use Rattle.cred_ids.specs.Limits.{SLOTS};
 ghost use Rattle.cred_event.specs.declared.answer.Answer.TheVariants.{TableFull};
@@ -9,7 +9,7 @@ ghost use Rattle.cred_model.specs.Ends.{left_by};
 ghost use Rattle.cred_model.specs.Slots as model;
 ghost use Rattle.cred_model.specs.Slots.{least_free, free, in_use, stands_in};
 ghost use Rattle.cred_plain.specs.Tasks.{ends_by};
-ghost use Rattle.cred_machine.specs.Slots.{AreLive, is_live_by, is_marked};
+ghost use Rattle.cred_machine.specs.Slots.{AreLive, HasTaken, is_live_by, is_marked};
 
 use crate::state::State;
 use cred_event::Answer;
@@ -59,6 +59,18 @@ impl Marks {
         if slot < SLOTS {
             self.marks[slot as usize] = true;
         }
+    }
+
+    /// The marks after a call took this slot, where no sweep was made for it: a sweep gives slots
+    /// back, and which isn't known.
+    pub fn after_call(mut self, taken: u32, swept: bool) -> Option<Marks>
+        ensures { IfSome result (λ marks. (swept ≡ false) × HasTaken self taken marks) }
+    {
+        if swept {
+            return None;
+        }
+        self.put(taken);
+        Some(self)
     }
 
     /// Marks the slot that the credential of this number stands in.
@@ -217,6 +229,17 @@ impl State {
     {
         self.sweep();
         Answer::TableFull
+    }
+}
+
+/// Which slots are live: those of which that is known, or else by a look through all that refers.
+pub fn live_slots(state: &State, known: Option<Marks>) -> Result<Marks, NoMemory>
+    requires { IfSome known (λ marks. AreLive marks state.now) }
+    ensures { IfOk result (λ marks. AreLive marks state.now) }
+{
+    match known {
+        Some(marks) => Ok(marks),
+        None => state.look(),
     }
 }
 

@@ -3,13 +3,13 @@ use Rattle.cred_machine.specs.Kept.{KeepsReferred, may_have_swept}
 use Rattle.cred_machine.proofs.Forgetting.{gives_like, stays_kept}
 use Rattle.cred_machine.proofs.Keeping.{Keeps}
 use Rattle.cred_machine.proofs.Keeps.{keeps}
-use Rattle.cred_machine.specs.Slots.{is_act}
+use Rattle.cred_machine.specs.Slots.{takes_slot}
 use Rattle.cred_machine.proofs.Live.{known_kept, known_like, known_still}
 use Rattle.cred_machine.proofs.cached.CachedState.step.Goals as goal
 
 pub invariant_of-self : goal.invariant_of-self
 invariant_of-self c = record {
-  known = known_still (is_act c.args.event.now) c.self.inside.live c.make.new.live c.self.inside.state c.make.new.self
+  known = known_still (takes_slot c.args.event.now) c.self.inside.live c.make.new.live c.self.inside.state c.make.new.self
       c.in_err-answer.ensures.live c.in_err-answer.ensures.err c.self.invariant.known;
   kept = subst KeepsReferred (sym c.in_err-answer.ensures.err) c.self.invariant.kept;
 }
@@ -26,9 +26,9 @@ forget_if-requires c = λ unswept.
 
 pub invariant_of-self-2 : goal.invariant_of-self-2
 invariant_of-self-2 c = record {
-  known = known_like c.keep_after_act.new.live _ _ c.forget_if.ensures.like
-      (known_kept (is_act c.args.event.now) c.self.inside.live c.make.new.live c.keep_after_act.new.live c.make.new.self
-      c.in_ok-answer.ensures.live c.keep_after_act.ensures);
+  known = known_like c.keep_after_call.new.live _ _ c.forget_if.ensures.like
+      (known_kept (takes_slot c.args.event.now) c.self.inside.live c.make.new.live c.keep_after_call.new.live c.make.new.self
+      c.in_ok-answer.ensures.live c.keep_after_call.ensures);
   kept = c.forget_if.ensures.kept;
 }
 

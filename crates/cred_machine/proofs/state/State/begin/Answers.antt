@@ -4,6 +4,7 @@ use Rattle.cred_plain.specs.Creds.{seen_numbered}
 use Rattle.cred_machine.proofs.Begins.{begin_busy, begin_einval, begin_eperm, begins, can_begin, same_answer}
 use Rattle.cred_machine.proofs.Leads.{idle_in}
 use Rattle.cred_machine.proofs.Seen.{seen_state, seen_task}
+use Rattle.cred_machine.proofs.Steps.{current_of}
 use Rattle.cred_machine.proofs.state.State.begin.Goals as goal
 
 pub returns-in-Some-open_in-clause-ok : goal.returns-in-Some-open_in-clause-ok
@@ -50,3 +51,11 @@ returns-clause-ok c =
     (begins s c.args.line c.args.task c.args.call.now o old can c.in-Ok.cred c.in_ok-copy.field-0 c.in_ok-waiting.waiting.items
     c.in-Ok.ensures c.in_ok-copy.ensures.equal c.in_ok-waiting.ensures.others)
     (rw (← c.self.view_is) at c.open.ensures.ok))
+
+pub open-requires-clause-caller : goal.open-requires-clause-caller
+open-requires-clause-caller c =
+    let s = seen_state c.self.inside in
+    let o = seen_task c.owner.inside in
+    rw (← c.self.view_is)
+    (current_of s c.args.task o (seen_numbered c.in-Some-get.old)
+    (rw (← c.owner.view_is) at (sym c.in-Some.ensures)) (sym c.in-Some-get.ensures))

@@ -1,4 +1,4 @@
-use Rattle.std.proofs.Common.{List, arith, ap, sym, ◌∙◌}
+use Rattle.std.proofs.Common.{Bool, List, arith, ap, sym, ◌∙◌}
 use Rattle.cred_model.specs.Moves.{table_full}
 use Rattle.cred_model.specs.State.{Broadcast}
 use Rattle.cred_machine.specs.Room.{begun}
@@ -6,6 +6,8 @@ use Rattle.cred_machine.proofs.Begins.{opens}
 use Rattle.cred_machine.proofs.Rooms.{in_none}
 use Rattle.cred_machine.proofs.Seen.{seen_cast, seen_state}
 use Rattle.cred_machine.proofs.Unchanged.{on_err}
+use Rattle.cred_machine.specs.Slots.{is_marked}
+use Rattle.cred_machine.proofs.Live.{known_opened}
 use Rattle.cred_machine.proofs.state.State.open.Goals as goal
 
 pub returns-in_default-clause-ok : goal.returns-in_default-clause-ok
@@ -26,3 +28,15 @@ returns-clause-ok c =
     (rw (← c.self.view_is) at (sym c.in_ok-slot.ensures.slot ∙ c.in-Some.is)) (rw (← c.self.view_is) at c.in_ok-slot.ensures.swept)
     c.in-Ok.ensures.number (omega (arith, c.len.ensures, c.cast.inside.waiting.ok)) (rw (← c.cast.view_is) at c.in_ok-open_cast.ensures.ok)
     c.in-Ok.ensures.ok)
+
+pub returns-clause-live : goal.returns-clause-live
+returns-clause-live c =
+    known_opened (seen_state c.self.inside) c.replace.new.self
+    (rw (← c.self.view_is) at c.requires.sound) c.cast.inside.caller c.args.old c.in-Some.slot
+    c.args.cred c.room_in.new.live c.in_ok-slot.field-0.swept c.open_cast.new.casts.items
+    c.after_call.result
+    (λ k h.
+    ap (λ (marks : List Bool). is_marked marks k) c.room_in.ensures.marks
+    ∙ (rw (← c.self.view_is) at c.in_ok-marks.ensures) k h)
+    (rw (← c.self.view_is, ← c.cast.view_is) at c.requires.caller) c.in-Ok.ensures.ok
+    c.after_call.ensures

@@ -1,13 +1,11 @@
-use Rattle.std.proofs.Common.{ℕ, List, ap, ◌∙◌}
-use Rattle.cred_model.specs.State.{SealedCred}
+use Rattle.std.proofs.Common.{◌∙◌}
 use Rattle.cred_machine.proofs.Seen.{seen_state}
-use Rattle.cred_machine.proofs.Unchanged.{on_err}
+use Rattle.cred_machine.proofs.Steps.{replaces}
 use Rattle.cred_machine.proofs.state.State.replace.Goals as goal
 
-pub returns-in_err-make_room-clause-err : goal.returns-in_err-make_room-clause-err
-returns-in_err-make_room-clause-err c =
-    let s = seen_state c.self.inside in
-    rw (← c.self.view_is)
-    (on_err _
-    (ap (λ (l : List ℕ). record s { deferred = l; creds = c.make_room.new.creds.list }) c.in_err-make_room.ensures.err
-    ∙ ap (λ (l : List SealedCred). record s { creds = l }) c.in_err-make_room.ensures.list))
+pub returns-clause-ok : goal.returns-clause-ok
+returns-clause-ok c =
+    replaces c.args.self.now c.args.old c.args.cred c.args.slot c.args.swept
+    (seen_state c.self.inside) c.args.task c.in_ok-number.number c.set_current.new.self
+    (c.self.view_is ∙ c.in_ok-number.ensures.ok) c.in_ok-number.ensures.number
+    c.set_current.ensures
