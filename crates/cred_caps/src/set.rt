@@ -43,6 +43,15 @@ impl CapSet {
         Some(CapSet { bits: Bits(bits) })
     }
 
+    /// The set of bits that are known to be one, without a look at them.
+    #[inline(always)]
+    pub fn known(bits: u64) -> CapSet
+        requires { IsCaps bits }
+        ensures { result ≡ bits }
+    {
+        CapSet { bits: Bits(bits) }
+    }
+
     /// The set of the bits 0 to 40 that are set. Higher bits are dropped.
     pub fn cut(bits: u64) -> CapSet
         ensures { result ≡ meet bits full }

@@ -11,10 +11,11 @@ ghost use Rattle.cred_words.specs.Seen.{IsSealed};
 ghost use Rattle.cred_words.specs.Words.{put_words, words_at};
 ghost use Rattle.cred_hold.specs.Tokens.{IsAgain};
 
-use crate::parts::{known_id, known_ids, set};
+use crate::parts::known_ids;
 use crate::tokens;
 use crate::words::{clear, gather};
-use cred_ids::{Groups, Ids4};
+use cred_caps::CapSet;
+use cred_ids::{Groups, Id, Ids4};
 use cred_packed::{flags_with, group_count, group_word, id_words, secure_bits};
 use cred_record::WORDS;
 use cred_record::layout::{
@@ -33,11 +34,11 @@ fn parts_in(cells: &Cells, hold: &mut Hold, slot: u32) -> Parts
     ensures same { hold.new ≡ hold.old }
 {
     let (uid, gid) = known_ids(gather::<4>(cells, hold, slot, USER));
-    let perm = set(read_word(cells, hold, slot, PERMITTED));
-    let eff = set(read_word(cells, hold, slot, EFFECTIVE));
-    let amb = set(read_word(cells, hold, slot, AMBIENT));
+    let perm = CapSet::known(read_word(cells, hold, slot, PERMITTED));
+    let eff = CapSet::known(read_word(cells, hold, slot, EFFECTIVE));
+    let amb = CapSet::known(read_word(cells, hold, slot, AMBIENT));
     let bits = secure_bits(read_word(cells, hold, slot, FLAGS));
-    let root = known_id(read_word(cells, hold, slot, ROOT));
+    let root = Id::known(read_word(cells, hold, slot, ROOT) as u32);
     Parts {
         uid,
         gid,

@@ -1,13 +1,11 @@
 //! Parts of a credential, in words that are known to be one's.
 ghost use Rattle.std.specs.Prelude.{◌≡◌, ℕ, List, ◌∷◌, [], take, drop, true};
-ghost use Rattle.cred_ids.specs.Id.{IsId};
-ghost use Rattle.cred_caps.specs.Caps.{IsCaps};
 ghost use Rattle.cred_record.specs.Words.{are_words, credential_of};
 ghost use Rattle.cred_record.specs.declared.layout.TheConstants.{USER, PERMITTED, NAMESPACE};
 
 use cred_caps::CapSet;
-use cred_ids::{Id, Ids4};
-use cred_packed::ids_in;
+use cred_ids::Ids4;
+use cred_packed::known_ids_in;
 
 /// The user ids and the group ids in the four words from `USER` on.
 pub(crate) fn known_ids(words: [u64; 4]) -> (Ids4, Ids4)
@@ -16,12 +14,8 @@ pub(crate) fn known_ids(words: [u64; 4]) -> (Ids4, Ids4)
         (result.0 ≡ (credential_of ws).uid) × (result.1 ≡ (credential_of ws).gid) }
 {
     let [user, saved_user, group, saved_group] = words;
-    let Some(uid) = ids_in(user, saved_user) else {
-        unreachable!()
-    };
-    let Some(gid) = ids_in(group, saved_group) else {
-        unreachable!()
-    };
+    let uid = known_ids_in(user, saved_user);
+    let gid = known_ids_in(group, saved_group);
     (uid, gid)
 }
 
@@ -34,7 +28,13 @@ pub(crate) fn known_caps(words: [u64; 5]) -> [CapSet; 5]
         ∷ (credential_of ws).bound ∷ (credential_of ws).amb ∷ [] }
 {
     let [perm, inh, eff, bound, amb] = words;
-    [set(perm), set(inh), set(eff), set(bound), set(amb)]
+    [
+        CapSet::known(perm),
+        CapSet::known(inh),
+        CapSet::known(eff),
+        CapSet::known(bound),
+        CapSet::known(amb),
+    ]
 }
 
 /// The user namespace, in the one word at `NAMESPACE`.
@@ -45,26 +45,4 @@ pub(crate) fn known_ns(words: [u64; 1]) -> u32
 {
     let [ns] = words;
     ns as u32
-}
-
-/// The set of bits that are known to be one.
-pub(crate) fn set(bits: u64) -> CapSet
-    requires { IsCaps bits }
-    ensures { result ≡ bits }
-{
-    let Some(set) = CapSet::of_bits(bits) else {
-        unreachable!()
-    };
-    set
-}
-
-/// The id of a number that is known to be one.
-pub(crate) fn known_id(word: u64) -> Id
-    requires { IsId word }
-    ensures { result ≡ word }
-{
-    let Some(id) = Id::new(word as u32) else {
-        unreachable!()
-    };
-    id
 }

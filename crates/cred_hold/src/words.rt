@@ -9,7 +9,7 @@ ghost use Rattle.cred_words.specs.Words.{put_words, words_at};
 ghost use Rattle.cred_hold.specs.Tokens.{IsAgain, AreZeros};
 
 use cred_ids::{Groups, NoMemory};
-use cred_packed::{group_count, group_in, head, known_head, word_of_groups, words_of_groups};
+use cred_packed::{group_count, head, known_group, known_head, word_of_groups, words_of_groups};
 use cred_record::Cred;
 use cred_record::layout::{FLAGS, GROUPS};
 use cred_words::cells::{Cells, Hold, Master, Writer, read_word, see_word, settle_word};
@@ -56,10 +56,7 @@ pub(crate) fn groups_of(
     let mut ids = Vec::with_capacity(alloc, count)?;
     for place in 0..count {
         let word = read_word(cells, hold, slot, GROUPS + place / 2);
-        let Some(id) = group_in(word, place) else {
-            unreachable!()
-        };
-        ids.push(id)?;
+        ids.push(known_group(word, place))?;
     }
     Ok(Groups::from_sorted(ids))
 }

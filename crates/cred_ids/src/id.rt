@@ -35,6 +35,15 @@ impl Id {
         Some(Id(n))
     }
 
+    /// The id of a number that is known to be one, without a look at it.
+    #[inline(always)]
+    pub fn known(n: u32) -> Id
+        requires { n < Self.NONE }
+        ensures { result ≡ n }
+    {
+        Id(n)
+    }
+
     /// The id's number, which is below `NONE`.
     pub fn number(&self) -> u32
         ensures value { result ≡ self.now }

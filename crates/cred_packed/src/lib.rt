@@ -5,7 +5,9 @@
 mod reading;
 mod writing;
 
-pub use reading::{group_count, group_in, ids_in, known_head, of_words, secure_bits};
+pub use reading::{
+    group_count, group_in, ids_in, known_group, known_head, known_ids_in, of_words, secure_bits,
+};
 pub use writing::{
     flags_with, group_word, head, id_words, to_words, word_of_groups, words_of_groups,
 };

@@ -44,6 +44,20 @@ pub fn ids_in(first: u64, second: u64) -> Option<Ids4>
     })
 }
 
+/// The ids in two words that are known to have them, as `ids_in` reads them.
+#[inline(always)]
+pub fn known_ids_in(first: u64, second: u64) -> Ids4
+    requires { are_ids (ids_of first second) ≡ true }
+    ensures { result ≡ ids_of first second }
+{
+    Ids4 {
+        real: Id::known(low(first)),
+        effective: Id::known(high(first)),
+        saved: Id::known(low(second)),
+        fs: Id::known(high(second)),
+    }
+}
+
 /// How many groups there are, by the word of flags.
 pub fn group_count(flags: u64) -> usize
     ensures { result ≡ group_count flags }
@@ -68,6 +82,15 @@ pub fn group_in(word: u64, place: usize) -> Option<Id>
     ensures { SomeIff result (IsId (half word place)) (half word place) }
 {
     Id::new(half(word, place))
+}
+
+/// The group at a place that is known to have one, by the word where it stands with another.
+#[inline(always)]
+pub fn known_group(word: u64, place: usize) -> Id
+    requires { IsId (half word place) }
+    ensures { result ≡ half word place }
+{
+    Id::known(half(word, place))
 }
 
 /// So many ids from the first of the words of groups on. `None` where one of them is none.
@@ -241,8 +264,18 @@ pub fn known_head(head: &[u64; GROUPS], groups: Groups) -> Cred
     requires { IsCredential (credential_of head.now) }
     ensures { result ≡ record (credential_of head.now) { groups = groups } }
 {
-    let Some(cred) = cred_in(head, groups) else {
-        unreachable!()
-    };
-    cred
+    Cred {
+        uid: known_ids_in(head[USER], head[SAVED_USER]),
+        gid: known_ids_in(head[GROUP], head[SAVED_GROUP]),
+        groups,
+        perm: CapSet::known(head[PERMITTED]),
+        inh: CapSet::known(head[INHERITABLE]),
+        eff: CapSet::known(head[EFFECTIVE]),
+        bound: CapSet::known(head[BOUNDING]),
+        amb: CapSet::known(head[AMBIENT]),
+        bits: secure_bits(head[FLAGS]),
+        nnp: head[FLAGS] >> 8 & 1 == 1,
+        ns: head[NAMESPACE] as u32,
+        root: Id::known(head[ROOT] as u32),
+    }
 }

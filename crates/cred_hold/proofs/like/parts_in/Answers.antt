@@ -14,8 +14,8 @@ gather-requires c =
 pub read_word-requires-clause-within : goal.read_word-requires-clause-within
 read_word-requires-clause-within c = let w = width_is in omega arith
 
-pub set-perm-requires : goal.set-perm-requires
-set-perm-requires c =
+pub known-perm-requires : goal.known-perm-requires
+known-perm-requires c =
     let at = c.read_word.ensures.value ∙ ap (λ h. slice_index h.token.words PERMITTED) c.gather.ensures.same in
     let fact = (word-facts _ c.requires.known).perm in
     omega arith
@@ -23,8 +23,8 @@ set-perm-requires c =
 pub read_word-requires-2-clause-within : goal.read_word-requires-2-clause-within
 read_word-requires-2-clause-within c = let w = width_is in omega arith
 
-pub set-eff-requires : goal.set-eff-requires
-set-eff-requires c =
+pub known-eff-requires : goal.known-eff-requires
+known-eff-requires c =
     let same = c.read_word.ensures.same ∙ c.gather.ensures.same in
     let at = c.read_word-2.ensures.value ∙ ap (λ h. slice_index h.token.words EFFECTIVE) same in
     let fact = (word-facts _ c.requires.known).eff in
@@ -33,8 +33,8 @@ set-eff-requires c =
 pub read_word-requires-3-clause-within : goal.read_word-requires-3-clause-within
 read_word-requires-3-clause-within c = let w = width_is in omega arith
 
-pub set-amb-requires : goal.set-amb-requires
-set-amb-requires c =
+pub known-amb-requires : goal.known-amb-requires
+known-amb-requires c =
     let same = c.read_word-2.ensures.same ∙ c.read_word.ensures.same ∙ c.gather.ensures.same in
     let at = c.read_word-3.ensures.value ∙ ap (λ h. slice_index h.token.words AMBIENT) same in
     let fact = (word-facts _ c.requires.known).amb in
@@ -46,8 +46,8 @@ read_word-requires-4-clause-within c = let w = width_is in omega arith
 pub read_word-requires-5-clause-within : goal.read_word-requires-5-clause-within
 read_word-requires-5-clause-within c = let w = width_is in omega arith
 
-pub known_id-root-requires : goal.known_id-root-requires
-known_id-root-requires c =
+pub known-root-requires : goal.known-root-requires
+known-root-requires c =
     let same = c.read_word-4.ensures.same ∙ c.read_word-3.ensures.same ∙ c.read_word-2.ensures.same ∙ c.read_word.ensures.same ∙ c.gather.ensures.same in
     let at = c.read_word-5.ensures.value ∙ ap (λ h. slice_index h.token.words ROOT) same in
     let fact = (word-facts _ c.requires.known).root in
@@ -62,10 +62,10 @@ returns-clause-parts c =
     let four = c.read_word-3.ensures.same ∙ three in
     let five = c.read_word-4.ensures.same ∙ four in
     let ids = c.known_ids-uid.ensures c.args.hold.now.token.words c.requires.known c.gather.ensures.words in
-    let perm = c.set-perm.ensures ∙ c.read_word.ensures.value ∙ ap (λ h. slice_index h.token.words PERMITTED) one in
-    let eff = c.set-eff.ensures ∙ c.read_word-2.ensures.value ∙ ap (λ h. slice_index h.token.words EFFECTIVE) two in
-    let amb = c.set-amb.ensures ∙ c.read_word-3.ensures.value ∙ ap (λ h. slice_index h.token.words AMBIENT) three in
+    let perm = c.known-perm.ensures ∙ c.read_word.ensures.value ∙ ap (λ h. slice_index h.token.words PERMITTED) one in
+    let eff = c.known-eff.ensures ∙ c.read_word-2.ensures.value ∙ ap (λ h. slice_index h.token.words EFFECTIVE) two in
+    let amb = c.known-amb.ensures ∙ c.read_word-3.ensures.value ∙ ap (λ h. slice_index h.token.words AMBIENT) three in
     let flags = c.read_word-4.ensures.value ∙ ap (λ h. slice_index h.token.words FLAGS) four in
     let bits = c.secure_bits-bits.ensures ∙ ap (λ (x : ℕ). x % 2 ^ 8) flags in
-    let root = c.known_id-root.ensures ∙ c.read_word-5.ensures.value ∙ ap (λ h. slice_index h.token.words ROOT) five in
+    let root = c.known-root.ensures ∙ c.read_word-5.ensures.value ∙ ap (λ h. slice_index h.token.words ROOT) five in
     λ k. record { uid = ids.0 k; gid = ids.1 k; perm = perm k; eff = eff k; amb = amb k; bits = bits k; root = root k }

@@ -5,21 +5,21 @@ use Rattle.cred_record.proofs.WordLemmas.{word-facts}
 use Rattle.cred_hold.proofs.Slots.{part-at}
 use Rattle.cred_hold.proofs.parts.known_ids.Goals as goal
 
-pub unreachable-requires : goal.unreachable-requires
-unreachable-requires c =
+pub known_ids_in-uid-requires : goal.known_ids_in-uid-requires
+known_ids_in-uid-requires c =
     let ws = c.requires.0 in
     let part = c.requires.2 in
     let one = part-at ws c.args.words 4 USER 0 part (omega arith) in
     let other = part-at ws c.args.words 4 USER 1 part (omega arith) in
-    c.in_default.ensures ((λ k. are_ids (ids_of (one k) (other k))) ∙ (word-facts ws c.requires.1).uid)
+    ((λ k. are_ids (ids_of (one k) (other k))) ∙ (word-facts ws c.requires.1).uid)
 
-pub unreachable-requires-in_default-ids_in : goal.unreachable-requires-in_default-ids_in
-unreachable-requires-in_default-ids_in c =
+pub known_ids_in-gid-requires : goal.known_ids_in-gid-requires
+known_ids_in-gid-requires c =
     let ws = c.requires.0 in
     let part = c.requires.2 in
     let one = part-at ws c.args.words 4 USER 2 part (omega arith) in
     let other = part-at ws c.args.words 4 USER 3 part (omega arith) in
-    c.in_default-ids_in.ensures ((λ k. are_ids (ids_of (one k) (other k))) ∙ (word-facts ws c.requires.1).gid)
+    ((λ k. are_ids (ids_of (one k) (other k))) ∙ (word-facts ws c.requires.1).gid)
 
 pub returns : goal.returns
 unfolding credential_of
@@ -28,6 +28,6 @@ returns c ws is part =
     let saved_user = part-at ws c.args.words 4 USER 1 part (omega arith) in
     let group = part-at ws c.args.words 4 USER 2 part (omega arith) in
     let saved_group = part-at ws c.args.words 4 USER 3 part (omega arith) in (
-      c.in-Some.ensures.1 ∙ (λ k. ids_of (user k) (saved_user k)),
-      c.in-Some-ids_in.ensures.1 ∙ (λ k. ids_of (group k) (saved_group k)),
+      c.known_ids_in-uid.ensures ∙ (λ k. ids_of (user k) (saved_user k)),
+      c.known_ids_in-gid.ensures ∙ (λ k. ids_of (group k) (saved_group k)),
     )

@@ -19,8 +19,8 @@ read_word-word-requires-clause-within c =
     let w = width_is in
     omega arith
 
-pub unreachable-requires : goal.unreachable-requires
-unreachable-requires c =
+pub known_group-requires : goal.known_group-requires
+known_group-requires c =
     let ws = c.args.hold.now.token.words in
     let i = c.loop-place.invariant in
     let n = c.loop-place.place in
@@ -28,7 +28,7 @@ unreachable-requires c =
     let below = c.loop-place-test.true in
     let word = c.read_word-word.ensures.value ∙ ap (λ h. slice_index h.token.words (GROUPS + n / 2)) i.0 in
     let at = group-at ws n c.requires.known (omega arith) in
-    c.in_default.ensures (subst IsId (sym (ap (λ (x : ℕ). half x n) word ∙ half-at ws n)) at)
+    (subst IsId (sym (ap (λ (x : ℕ). half x n) word ∙ half-at ws n)) at)
 
 pub loop-place-preserved : goal.loop-place-preserved
 loop-place-preserved c =
@@ -45,8 +45,8 @@ loop-place-preserved c =
     let word = c.read_word-word.ensures.value ∙ ap (λ h. slice_index h.token.words (GROUPS + n / 2)) i.0 in
     let items =
     c.in_ok-push.ensures.items ∙
-    ap (λ xs. xs ++ c.in-Some.id ∷ []) i.1 ∙
-    ap (λ x. take n ns ++ x ∷ []) (c.in-Some.ensures.1 ∙ ap (λ (x : ℕ). half x n) word ∙ half-at ws n) ∙
+    ap (λ xs. xs ++ c.known_group.result ∷ []) i.1 ∙
+    ap (λ x. take n ns ++ x ∷ []) (c.known_group.ensures ∙ ap (λ (x : ℕ). half x n) word ∙ half-at ws n) ∙
     sym (take_more ns n 0 (omega arith)) in
     (c.read_word-word.ensures.same ∙ i.0, items)
 
