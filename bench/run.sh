@@ -72,11 +72,11 @@ row script entries 'proved s, KiB' 'plain s, KiB' 'mark, KiB' \
 for name in calls changes holds checks broadcast; do
   "$proved" run < "$dir/$name" > "$dir/report"
   case $name in
-    calls) mark=38.6 ;;
-    changes) mark=70.6 ;;
+    calls) mark=38.5 ;;
+    changes) mark=70.1 ;;
     holds) mark=20.6 ;;
     checks) mark=49 ;;
-    broadcast) mark=120.4 ;;
+    broadcast) mark=117.3 ;;
   esac
   ours=$(seconds "$proved" "$name")
   theirs=- a=0 b=0
@@ -119,7 +119,8 @@ row threads 1275968 "$ours" "$theirs" 10240 "$count"
 { cat "$dir/threads"; echo report; cat "$dir/report"; } > "$dir/audited"
 word=audit
 # As bin/credtrace has it.
-export GLIBC_TUNABLES="${GLIBC_TUNABLES-glibc.malloc.hugetlb=1}"
+tunables=glibc.malloc.hugetlb=1:glibc.malloc.mmap_threshold=1073741824:glibc.malloc.top_pad=33554432
+export GLIBC_TUNABLES="${GLIBC_TUNABLES-$tunables}"
 theirs=$ours
 ours=$(seconds "$proved" audited)
 if command -v valgrind > /dev/null; then
