@@ -154,6 +154,28 @@ PLACES = [
      " = 0\n", "0755"),
     ("a memfd", '7 memfd_create("kept", MFD_CLOEXEC) = 5\n'
      '7 execveat(5</memfd:kept>(deleted), "", [], 0x7 /* 9 vars */, AT_EMPTY_PATH) = 0\n', "0777"),
+    ("a descriptor by a message", '7 openat(AT_FDCWD, "FOLDER/usr/bin/tool", O_PATH) = 3\n'
+     "7 recvmsg(5, {msg_name=NULL, msg_control=[{cmsg_len=24, cmsg_level=SOL_SOCKET, "
+     "cmsg_type=SCM_RIGHTS, cmsg_data=[4<socket:[9]>, 3]}], msg_flags=0}, 0) = 1\n"
+     '7 execveat(3, "", [], 0x7 /* 9 vars */, AT_EMPTY_PATH) = 0\n', NO_DESCRIPTOR),
+    ("a descriptor of another process's", '7 openat(AT_FDCWD, "FOLDER/usr/bin/tool", O_PATH) = 3\n'
+     '7 pidfd_getfd(5, 9, 0) = 3\n7 execveat(3, "", [], 0x7 /* 9 vars */, AT_EMPTY_PATH) = 0\n',
+     NO_DESCRIPTOR),
+    ("a root for openat2", '7 openat(AT_FDCWD, "FOLDER/jail", O_PATH) = 3\n'
+     '7 openat2(3, "/../bin/tool", {flags=O_PATH, resolve=RESOLVE_IN_ROOT}, 24) = 4\n'
+     '7 execveat(4, "", [], 0x7 /* 9 vars */, AT_EMPTY_PATH) = 0\n', "4755"),
+    ("a file that is written", TOOL.format("FOLDER/usr/bin/tool")
+     + '7 openat(AT_FDCWD, "FOLDER/usr/bin/tool", O_WRONLY|O_TRUNC) = 3\n',
+     "line 2 changes FOLDER/usr/bin/tool"),
+    ("a file that was written before", '7 openat(AT_FDCWD, "FOLDER/usr/bin/tool", O_WRONLY) = 3\n'
+     + TOOL.format("FOLDER/usr/bin/tool"), "0755"),
+    ("a folder that is renamed", TOOL.format("FOLDER/usr/bin/tool")
+     + '7 renameat(AT_FDCWD, "FOLDER/usr", AT_FDCWD, "FOLDER/old") = 0\n',
+     "line 2 changes FOLDER/usr/bin/tool"),
+    ("a link that is removed", '7 chroot("FOLDER/jail") = 0\n' + TOOL.format("/bin/tool")
+     + '7 unlink("/bin") = 0\n', "line 3 changes FOLDER/jail/bin/tool"),
+    ("another link that is removed", TOOL.format("FOLDER/usr/bin/tool")
+     + '7 unlink("FOLDER/jail/bin") = 0\n', "0755"),
     ("an id without a map", "7 unshare(CLONE_NEWUSER) = 0\n7 setuid(0) = 0\n", saying.NO_MAP),
 ]
 
@@ -236,8 +258,19 @@ DIFFERENCES = [
      ["line 2: prctl: its constants are numbers: record without -X raw or -X verbose"], []),
     ("an early end", ROOT, BEGINS + "7 setns(5, 0) = 0\n7 getuid() = 0\n", 3,
      ["left: 2 of 3 lines of the log, with 1 calls"], []),
+    ("a result that strace made up", ROOT, BEGINS + "7 setuid(5) = 0 (INJECTED)\n7 getuid() = 0\n",
+     0, ["agree: 2"], []),
+    ("pid 1 without a PID namespace", ROOT, BEGINS + "7 fork() = 8\n8 setuid(5) = 0\n"
+     "8 kill(1, SIGTERM) = -1 EPERM (Operation not permitted)\n", 0, ["agree: 3"], []),
+    ("pid 1 of a PID namespace", ROOT, BEGINS + "7 clone(flags=CLONE_NEWPID|SIGCHLD) = 8\n"
+     "8 fork() = 9\n9 setuid(5) = 0\n9 kill(1, SIGTERM) = -1 EPERM (Operation not permitted)\n"
+     "9 kill(7, SIGTERM) = -1 ESRCH (No such process)\n", 0, ["agree: 5"], []),
+    ("pids of a PID namespace that is entered", ROOT, BEGINS + "7 setns(3, CLONE_NEWPID) = 0\n"
+     "7 fork() = 8\n8 setuid(5) = 0\n8 kill(7, SIGTERM) = 0\n", 0, ["agree: 3"], []),
     ("tasks that nobody made", ROOT, BEGINS + "8 getuid() = 0\n", 3,
      ["left: the calls of 1 tasks that no call made"], []),
+    ("the status of who wrote it down", "Pid:\t5\n" + ROOT, BEGINS + "7 getuid() = 0\n", 0,
+     ["agree: 2"], []),
     ("a thread that goes on before the last", ROOT, BEGINS
      + "7 clone(child_stack=NULL, flags=CLONE_VM|CLONE_FS|CLONE_FILES|CLONE_THREAD) = 8\n"
      "8 setuid(5) = 0\n8 getuid() = 5\n7 setuid(5) = 0\n", 0, ["agree: 4"], []),

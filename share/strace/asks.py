@@ -58,6 +58,7 @@ class Asks:
         """A file that the list of files names, or that was executed before."""
         try:
             path, base = self._paths.named(task, call, place, place - 1 if place else None)
+            task = self._paths.rooted(task, call)
             # Most paths of a long log are of other files: their last names say so.
             last = path.rpartition("/")[2]
             plain = path and not path.startswith(("/proc/", "/dev/"))
@@ -69,7 +70,7 @@ class Asks:
             found = self._paths.find(task, path, base)
         except (Unheld, Missing):
             return None
-        self._changes.uses(found.place, call.first)
+        self._changes.uses(found, call.first, False)
         return found
 
     def lines(self, task: Task, call: Call) -> list[Line] | None:

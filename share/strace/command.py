@@ -130,6 +130,10 @@ def items_of(
     name = shown(options.logs[0])
     try:
         items = read(reader, options.logs)
+        # The status may be that of the program which wrote it down, and which the log doesn't have.
+        begun = [pid for pid in start.threads[:1] if any(item.pid == pid for item in items)]
+        if len(start.threads) == 1:
+            start.threads = begun
         first = start.threads[0] if start.threads else reader.first_pid or 0
         if options.task is not None:
             first, items = family(items, options.task, options.start is not None)

@@ -9,7 +9,7 @@ from .calls import ID_CALLS, OWN_CALLS, SET_CALLS, Said, Unheld, answer
 from .changes import Changes
 from .enters import Entries, is_map
 from .files import Files, Found, Missing
-from .lines import fields, pid
+from .lines import fields
 from .log import EXECUTIONS, Call, Gone, Item, Renamed
 from .moves import Moves, argument, clone_flags
 from .opened import FILE, told
@@ -210,9 +210,9 @@ class Converter(Sayer):
 
     def fork(self, task: Task, call: Call, made: int, flags: frozenset[str]) -> None:
         """A new process, which may be in a user namespace of its own."""
-        child = self.tasks.fork(made, task, flags)
         if call.inner is not None:
-            task.process.pids[call.inner] = made
+            self.tasks.tells(task.process, call.inner, made)
+        child = self.tasks.fork(made, task, flags)
         if "CLONE_NEWNS" in flags:
             self._moves.new_mounts(child)
         if "CLONE_NEWUSER" in flags:
@@ -255,7 +255,7 @@ class Converter(Sayer):
             self.passed.call(call)
             return
         for found in (*scripts, program):
-            self.changes.uses(found.place, call.first)
+            self.changes.uses(found, call.first, True)
         # A script file has to be executable too. What is refused by EACCES is asked about alone:
         # the reason may be one that the program doesn't know, which would execute the file.
         asked = [*scripts, program][:1] if said == "eacces" else scripts
@@ -288,8 +288,7 @@ class Converter(Sayer):
 
     def kill(self, task: Task, call: Call) -> None:
         """kill(2), tkill(2), tgkill(2), where the target is a task of the log."""
-        target = pid(argument(call, 1 if call.name == "tgkill" else 0))
-        other = self.tasks.find(target, task) if target is not None else None
+        other = self.tasks.find(argument(call, 1 if call.name == "tgkill" else 0), task)
         said = answer(call.result)
         if other is None or said not in ("ok", "eperm"):
             self.passed.call(call)
@@ -312,6 +311,8 @@ class Converter(Sayer):
             self._follow[call.name](task, call)
         if call.context:
             return
+        if succeeds and call.name in moves.OPENS:
+            self.changes.opens(task, call)
         found = self._asks.lines(task, call) if call.name in moves.OPENS else None
         if found:
             self.script.add(call.first, *found)
@@ -351,6 +352,7 @@ class Converter(Sayer):
             enters, mounts = self.entries.mounts(task, call)
             if enters:
                 self._moves.enter_mounts(task, mounts, call.first)
+            task.process.below = self.entries.pids(task, call) or task.process.below
         else:
             self._moves.unshare(task, flags)
             if "CLONE_NEWUSER" in flags:

@@ -8,6 +8,7 @@ capabilities.
 
 from __future__ import annotations
 
+import re
 from dataclasses import dataclass
 
 from . import lines
@@ -15,6 +16,7 @@ from .calls import Unheld
 from .log import Call
 from .moves import argument, clone_flags
 from .opened import NAMESPACE, PIDFD
+from .pids import Pids, foreign
 from .places import Located, Mounts
 from .spaces import SPACES, Ids, Space
 from .start import NO_SETUID_FIXUP
@@ -88,9 +90,8 @@ class Entries:
         found = task.descriptors.get(text, NAMESPACE)
         if isinstance(found, Space):
             return found
-        pid = task.descriptors.get(text, PIDFD)
-        if isinstance(pid, int):
-            owner = self._tasks.find(pid, task)
+        is_process, owner = self.owner(task, text)
+        if is_process:
             if "CLONE_NEWUSER" not in flags:
                 return None
             if owner is None:
@@ -103,12 +104,30 @@ class Entries:
             raise Unheld(UNKNOWN)
         return None
 
+    def owner(self, task: Task, text: str) -> tuple[bool, Task | None]:
+        """Whether a descriptor is a pidfd, and of whom, by what the log or -yy tells."""
+        pid = task.descriptors.get(text, PIDFD)
+        if isinstance(pid, int):
+            return True, self._tasks.by_pid.get(pid)
+        shown = re.fullmatch(r"\d+<pid:(\d{1,9})>", text)
+        return shown is not None, self._tasks.find(f"@{shown[1]}", task) if shown else None
+
+    def pids(self, task: Task, call: Call) -> Pids | None:
+        """The PID namespace that setns(2) enters for children, if it enters one."""
+        text = argument(call, 0)
+        found = task.descriptors.get(text, NAMESPACE)
+        if isinstance(found, Pids):
+            return found
+        _, owner = self.owner(task, text)
+        if "CLONE_NEWPID" in clone_flags(argument(call, 1)):
+            return owner.process.pids if owner else foreign()
+        return foreign() if found == "pid" or "<pid:[" in text else None
+
     def mounts(self, task: Task, call: Call) -> tuple[bool, Mounts | None]:
         """Whether setns(2) enters a mount namespace, and which one, where the log tells it."""
         text = argument(call, 0)
         found = task.descriptors.get(text, NAMESPACE)
-        pid = task.descriptors.get(text, PIDFD)
-        owner = self._tasks.find(pid, task) if isinstance(pid, int) else None
+        _, owner = self.owner(task, text)
         enters = "CLONE_NEWNS" in clone_flags(argument(call, 1)) or isinstance(found, Mounts)
         enters = enters or "<mnt:" in text
         if isinstance(found, Mounts):
@@ -118,7 +137,7 @@ class Entries:
     def map_written(self, task: Task, call: Call, place: Located) -> None:
         """write(2) into uid_map, gid_map or setgroups of a process."""
         _, _, pid, name = (place.place.split("/") + ["", "", ""])[:4]
-        owner = self._tasks.find(int(pid), task) if pid.isdigit() else None
+        owner = self._tasks.find(pid, task)
         if owner is None or owner.process.space.parent is None:
             return
         text = lines.string(argument(call, 1))

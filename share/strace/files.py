@@ -42,11 +42,12 @@ class File:
 
 @dataclass(frozen=True)
 class Found:
-    """A file, the path that names it, and the place where it lies."""
+    """A file, its path in the script, where it lies, and where the path leads that names it."""
 
     path: str
     file: File
     place: str
+    named: str
 
 
 # An id has no leading zero, and is smaller than this (docs/FORMATS.md).
@@ -113,14 +114,14 @@ class Files:
         file = self._get(named.place, named.real or named.place)
         mount, place = named.mount, named.real or named.place
         if mount is None:
-            return Found(named.place, file, place)
+            return Found(named.place, file, place, named.place)
         noexec = file.noexec if mount.noexec is None else mount.noexec
         words = file.words
         if mount.nosuid and " nosuid" not in words:
             words = " ".join([*words.split()[:4], "nosuid", *words.split()[4:]])
         apart = words != file.words
         name = named.place + " through a nosuid mount" if apart else named.place
-        return Found(name, File(words, file.interpreter, noexec), place)
+        return Found(name, File(words, file.interpreter, noexec), place, named.place)
 
     def folder(self, place: str) -> str | None:
         """The words of a folder, where it is known."""

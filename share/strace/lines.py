@@ -45,12 +45,18 @@ ATTACHED = re.compile(r"strace: Process (\d{1,9}) attached(?: with \d+ threads)?
 
 UNFINISHED = "<unfinished ...>"
 
-# Calls of which only some are read: write(2) where it may be of a map of ids, fcntl(2) where it
-# makes a descriptor.
+# Calls of which only some are read: write(2) where it may be of a map of ids, the others where they
+# make a descriptor.
 ASKED = {
     "write": re.compile(r'\d+(?:<[^>]*>)?, "(?:(?:[0-9 ]|\\[nt])+"|deny|allow)'),
     "fcntl": re.compile(r"\d+(?:<.*>)?, F_DUPFD"),
+    "ioctl": re.compile(r"\d+(?:<.*>)?, NS_GET_"),
+    "recvmsg": re.compile(r".*(?:SCM_RIGHTS|<unfinished \.\.\.>$)"),
+    "recvmmsg": re.compile(r".*(?:SCM_RIGHTS|<unfinished \.\.\.>$)"),
 }
+
+# A result that strace made up (-e inject): the kernel never saw the call.
+INJECTED = " (INJECTED)"
 
 # Calls of which there are many in a long log, and of which those that failed otherwise say nothing.
 PATH_CALLS = frozenset("open openat openat2 creat access faccessat faccessat2".split())

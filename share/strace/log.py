@@ -277,6 +277,9 @@ class Reader:
 
     def ends(self, pid: int, begun: Begun, rest: str) -> None:
         """A call has ended: its arguments and its result are known."""
+        if rest.endswith(lines.INJECTED):
+            self.passed[f"{begun.name} injected by strace"] += 1
+            return
         parts = parsed(begun.text + rest)
         if parts is None:
             raise BadLog(self.count, f"the arguments or the result of {begun.name} can't be read")

@@ -12,7 +12,7 @@ from .calls import Unheld
 from .files import SCRIPTS, Files, Found, Missing
 from .log import Call
 from .opened import FILE, told
-from .places import Located, no_link
+from .places import Located, Where, no_link
 from .tasks import Task
 
 NO_DESCRIPTOR = "what its descriptor is of isn't known: strace writes it with -y"
@@ -43,7 +43,7 @@ def link_of(place: str) -> str | None:
 class Paths:
     """Where the paths of calls lead."""
 
-    def __init__(self, files: Files, known: bool, find: Callable[[int, Task], Task | None]) -> None:
+    def __init__(self, files: Files, known: bool, find: Callable[[str, Task], Task | None]) -> None:
         self.files = files
         # Whether the folder where the log begins is known.
         self.known = known
@@ -61,7 +61,18 @@ class Paths:
         if shown is None or shown[1] or shown[0] == "/" or shown[0].startswith("/memfd:"):
             return followed or (task.where.within("/") if shown == ("/", False) else None)
         seen = task.where.within(shown[0])
-        return followed if followed and followed.place == seen.place else seen
+        # A process's own folder of /proc has a number that not every mount of /proc has for it.
+        both_proc = followed and followed.place.startswith("/proc/@") and seen.place[:6] == "/proc/"
+        return followed if followed and (both_proc or followed.place == seen.place) else seen
+
+    def rooted(self, task: Task, call: Call) -> Task:
+        """The task as openat2(2) sees its paths, where it is told to stay below a folder."""
+        if call.name != "openat2" or "RESOLVE_IN_ROOT" not in call.args[-2]:
+            return task
+        root = self.base(task, call.args[0]) or task.where.folder
+        if root is None:
+            raise Unheld(NO_DESCRIPTOR)
+        return replace(task, where=Where(task.where.mounts, root, root))
 
     def named(
         self, task: Task, call: Call, place: int, at: int | None
@@ -113,7 +124,7 @@ class Paths:
     def special(self, task: Task, path: str) -> Located | None:
         """The place of a path that /proc or /dev/fd has of a process."""
         if match := OWN_DESCRIPTOR.match(path):
-            owner = self.of_pid(int(match["pid"]), task) if match["pid"] else task
+            owner = self.of_pid(match["pid"], task) if match["pid"] else task
             found = owner.descriptors.get(match["fd"], FILE) if owner else None
             if isinstance(found, Located):
                 return found
@@ -121,7 +132,7 @@ class Paths:
         match = PROCESS.match(path)
         if match is None or match["what"] is None:
             return None
-        owner = self.of_pid(int(match["pid"]), task) if match["pid"] else task
+        owner = self.of_pid(match["pid"], task) if match["pid"] else task
         if owner is None:
             raise Unheld(f"{path} is of a process that the log doesn't have")
         known = {
