@@ -46,6 +46,14 @@ def opened(call: Call) -> tuple[int, str, str | None]:
     return place, "open", None if "O_PATH" in flags else want
 
 
+def facts_of(task: Task, found: Found) -> Facts:
+    """What is known of a file besides."""
+    words, space = found.file.words.split(), task.process.space
+    unmapped = not (space.inside(int(words[1]), False) and space.inside(int(words[2]), True))
+    filtered = task.process.filtered
+    return Facts(found.place, found.file.noexec, filtered, unmapped, words=found.file.words)
+
+
 class Asks:
     """Writes the lines of such calls."""
 
@@ -83,7 +91,7 @@ class Asks:
         if found is None:
             return None
         name = self._script.file(call.first, found)
-        facts = Facts(found.place, filtered=task.process.filtered)
+        facts = facts_of(task, found)
         if form == "open":
             opens = Line(f"{task.name} open {name} {want} {DESCRIPTOR}", call, said, facts)
             return [opens, Line(f"{task.name} close {DESCRIPTOR}")]

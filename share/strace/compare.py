@@ -138,7 +138,10 @@ def compare(script: Script, report: str) -> Comparison:
     probe = Probe(lines, differing(lines, found), report_of, script.known)
     explainer = Explainer(probe, script.tracer)
     before: Call | None = None
+    renamed = script.renames()
     for number, line in enumerate(lines, 1):
+        for names in renamed.get(number, ()):
+            explainer.goes_on_as(*names)
         if line.call is not None and line.answer is not None:
             report = found.get(number, "nothing")
             if agrees(line.answer, report):

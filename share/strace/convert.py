@@ -112,7 +112,7 @@ class Converter(Sayer):
             self.stopped = stop
             rest = items[self.at :]
             self.left = sum(isinstance(item, Call) and item.name in SAYING for item in rest)
-        self.script.head(*self.entries.head())
+        self.script.head(*self.entries.head(self.script))
 
     def is_part(self) -> bool:
         """Whether the script isn't the whole log: it ends before, or lacks tasks."""
@@ -216,7 +216,8 @@ class Converter(Sayer):
         if "CLONE_NEWNS" in flags:
             self._moves.new_mounts(child)
         if "CLONE_NEWUSER" in flags:
-            self.entries.sits(child, self.entries.made(task.process.space))
+            self.entries.sits(child, self.entries.made(task))
+            self.script.goes_on_as(task.name, child.name)
             self.room(call.first, 0)
         else:
             self.say(task, call, Said(f"fork {child.name} p{child.process.number}", "ok"))
@@ -261,25 +262,23 @@ class Converter(Sayer):
         asked = [*scripts, program][:1] if said == "eacces" else scripts
         for found in asked:
             name = self.script.file(call.first, found)
-            facts = self.facts(task, found)
+            facts = asks.facts_of(task, found)
             answered = said if said == "eacces" else "ok"
             self.say(task, call, Said(f"check {name} x", answered), facts)
         if said != "eacces":
             name = self.script.file(call.first, program)
-            self.say(task, call, Said(f"exec {name}", said), self.facts(task, program))
+            self.say(task, call, Said(f"exec {name}", said), asks.facts_of(task, program))
         if said == "ok":
-            self.executed(task, Located(program.path) if scripts else named, program.file.words)
+            where = Located(program.path) if scripts else named
+            self.executed(task, where, program.file.words, call.first)
 
-    def facts(self, task: Task, found: Found) -> Facts:
-        """What is known of an executed file besides."""
-        words, space = found.file.words.split(), task.process.space
-        unmapped = not (space.inside(int(words[1]), False) and space.inside(int(words[2]), True))
-        return Facts(found.place, found.file.noexec, unmapped=unmapped)
-
-    def executed(self, task: Task, program: Located, words: str) -> None:
+    def executed(self, task: Task, program: Located, words: str, line: int) -> None:
         """The task has executed a program: it is the only one of its process."""
-        task.process.program = program
-        task.process.ids.executes(words.split())
+        process = task.process
+        process.program = program
+        process.ids.executes(words.split())
+        if process.space.parent is not None and process.space.uids is None:
+            process.space.early.append((line, *process.ids.users[:2]))
         task.descriptors = task.descriptors.copy()
         if task.process.making:
             self.apart(task.process)
@@ -293,8 +292,14 @@ class Converter(Sayer):
         if other is None or said not in ("ok", "eperm"):
             self.passed.call(call)
         else:
-            apart = task.process.session != other.process.session
-            self.say(task, call, Said(f"signal {other.name}", said), Facts(apart=apart))
+            sender, target = task.process, other.process
+            facts = Facts(
+                apart=sender.session != target.session,
+                outside=not target.space.is_within(sender.space),
+                maker=target.space.parent is sender.space
+                and target.space.owner == sender.ids.users[1],
+            )
+            self.say(task, call, Said(f"signal {other.name}", said), facts)
 
     def mark(self, task: Task, call: Call) -> None:
         """setsid(2) and seccomp(2): what they do shows in results of other calls."""
@@ -356,8 +361,9 @@ class Converter(Sayer):
         else:
             self._moves.unshare(task, flags)
             if "CLONE_NEWUSER" in flags:
-                space = self.entries.made(task.process.space)
+                space = self.entries.made(task)
         if space is not None:
             before = self.entries.enter(task, space)
             self.script.add(call.first, Line(f"{before} exit"))
+            self.script.goes_on_as(before, task.name)
             self.room(call.first, 0)

@@ -18,7 +18,8 @@ from .moves import argument, clone_flags
 from .opened import NAMESPACE, PIDFD
 from .pids import Pids, foreign
 from .places import Located, Mounts
-from .spaces import SPACES, Ids, Space
+from .script import Script
+from .spaces import GREATEST, SPACES, Ids, Space
 from .start import NO_SETUID_FIXUP
 from .tasks import Task, Tasks
 
@@ -35,9 +36,9 @@ class Seat:
     ids: Ids
 
 
-def lead(seat: Seat) -> tuple[str, list[str]]:
-    """The line that creates the first task, and those that lead it to its ids."""
-    root, ids = seat.space.root(), seat.ids
+def lead(seat: Seat, root: int) -> tuple[str, list[str]]:
+    """The line that creates the first task of this root, and those that lead it to its ids."""
+    ids = seat.ids
     init = f"init {seat.task} p{seat.process} {root} {ids.groups[1]} n{seat.space.number}"
     is_root = ids.users == [root] * 4 and ids.groups == [ids.groups[1]] * 4
     calls = [] if is_root else [f"securebits {NO_SETUID_FIXUP}"]
@@ -62,11 +63,13 @@ class Entries:
         self.spaces: list[Space] = []
         self.seats: list[Seat] = []
 
-    def made(self, parent: Space) -> Space:
-        """A namespace more."""
+    def made(self, task: Task) -> Space:
+        """A namespace more, of a task's making."""
         if len(self.spaces) + 1 == SPACES:
             raise Unheld(f"a script declares {SPACES - 1} user namespaces")
-        self.spaces.append(Space(len(self.spaces) + 1, parent))
+        process = task.process
+        space = Space(len(self.spaces) + 1, process.space, owner=process.ids.users[1])
+        self.spaces.append(space)
         return self.spaces[-1]
 
     def sits(self, task: Task, space: Space) -> None:
@@ -145,13 +148,21 @@ class Entries:
             raise Unheld(f"what is written into {name} is shortened: strace writes it with -s 4096")
         owner.process.space.write(name, text)
 
-    def head(self) -> tuple[list[str], list[str], list[str]]:
+    def head(self, script: Script) -> tuple[list[str], list[str], list[str]]:
         """The lines that declare the namespaces, create the first tasks, and lead these."""
+        if not self.spaces:
+            return [], [], []
+        # Where nobody is root a user is named whom nothing else names.
+        used = {word for line in script.body for word in line.text.split()}
+        used |= {str(value) for seat in self.seats for value in seat.ids.users}
+        nobody = next(value for value in range(GREATEST, 0, -1) if str(value) not in used)
+        roots = {space.number: space.root() for space in self.spaces}
+        known = {number: nobody if root is None else root for number, root in roots.items()}
         declared = [
-            f"ns {space.number} {space.root()} {space.parent.number if space.parent else 0}"
+            f"ns {space.number} {known[space.number]} {space.parent.number if space.parent else 0}"
             for space in self.spaces
         ]
-        led = [lead(seat) for seat in self.seats]
+        led = [lead(seat, known[seat.space.number]) for seat in self.seats]
         return declared, [init for init, _ in led], [line for _, calls in led for line in calls]
 
 

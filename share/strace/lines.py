@@ -29,8 +29,8 @@ class Result:
 HEAD = re.compile(
     r" *(?:\[pid +(?P<shown>\d+)(?:<[^<>]*>)?\] +|(?P<pid>\d+)(?:<[^<>]*>)? +)?"
     r"(?:\d\d:\d\d:\d\d(?:\.\d+)? +|\d+\.\d+ +)?(?:\(\+ +\d+\.\d+\) +)?(?:\[[ 0-9a-f?]+\] +)?"
-    r"(?:(?P<call>[a-z_][a-z_0-9]*|\?\?\?\?)\("
-    r"|<\.\.\. (?P<resumed>[a-z_][a-z_0-9]*|\?\?\?\?) resumed>"
+    r"(?:(?P<call>[a-z_][a-z_0-9]*|\?{3,4})\("
+    r"|<\.\.\. (?P<resumed>[a-z_][a-z_0-9]*|\?{3,4}) resumed>"
     r"|\+\+\+ (?P<ended>[^+]*) \+\+\+$"
     r"|(?P<signal>---) .* ---$)"
 )
@@ -43,7 +43,10 @@ MESSAGE = re.compile(r"strace: .*|\[ Process PID=\d+ runs in .* mode\. \]| > .*"
 
 ATTACHED = re.compile(r"strace: Process (\d{1,9}) attached(?: with \d+ threads)?$")
 
+# A call that isn't ended on its line; of an execve in another thread than the first -ff writes which
+# pid it has from then on.
 UNFINISHED = "<unfinished ...>"
+PID_CHANGED = re.compile(r"<pid changed to \d{1,9} \.\.\.>$")
 
 # Calls of which only some are read: write(2) where it may be of a map of ids, the others where they
 # make a descriptor.

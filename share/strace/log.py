@@ -187,6 +187,7 @@ class Reader:
         kind = match.lastgroup
         rest = text[match.end() :]
         if kind == "call":
+            rest = lines.PID_CHANGED.sub(lines.UNFINISHED, rest)
             if not lines.has_result(rest):
                 self.cut_by_message(text)
                 return
