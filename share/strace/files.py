@@ -88,6 +88,16 @@ def read_list(text: str) -> dict[str, File]:
     return found
 
 
+def listing(files: dict[str, File]) -> str:
+    """A list of files."""
+    found = []
+    for path, file in files.items():
+        noexec = " noexec" if file.noexec else ""
+        interpreter = f" #! {file.interpreter}" if file.interpreter else ""
+        found.append(f"{quoted(path)} {file.words}{noexec}{interpreter}\n")
+    return "".join(found)
+
+
 class Files:
     """What is known of files: a list, or the file system as it is now."""
 

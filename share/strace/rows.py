@@ -203,7 +203,7 @@ class Explainer:
         own = self.own(number, line, kernel, told)
         if own is not None:
             begins, text = own
-            if begins:
+            if begins and kernel == "ok":
                 parts = CHANGED.get(words[1], ())
                 known.keep(*(Kept(begins, part, number, line.text) for part in parts))
             return text
@@ -211,11 +211,13 @@ class Explainer:
         more = has_more(words[1], line.answer or "", report)
         for kept in known.kept:
             if kept.part in depends and (more is None or kept.more in (None, more)):
-                if kernel != told:
+                if kernel == "ok" and told != "ok":
                     parts = CHANGED.get(words[1], ())
                     known.keep(*(Kept(kept.row, part, kept.number, kept.text) for part in parts))
                 return self.text(kept.row, kept.sure, f"line {kept.number}: {kept.text}")
-        return None
+        # A log that was recorded inside a user namespace doesn't tell what that denies.
+        denied = words[1] == "setgroups" and (kernel, told) == ("eperm", "ok")
+        return self.text(DENIED_GROUPS, sure=False) if denied else None
 
     def own(self, number: int, line: Line, kernel: str, told: str) -> tuple[str, str] | None:
         """The row that explains an answer by itself, with its text; the log may explain it too."""
@@ -226,8 +228,8 @@ class Explainer:
             return where, f"{where}, which can refuse so (seccomp(2))"
         if form == "securebits" and int(words[2]) > 255:
             return SECUREBITS, self.text(SECUREBITS)
-        if form == "setgroups" and pair == ("eperm", "ok"):
-            return DENIED_GROUPS, self.text(DENIED_GROUPS, facts.denied)
+        if form == "setgroups" and pair == ("eperm", "ok") and facts.denied:
+            return DENIED_GROUPS, self.text(DENIED_GROUPS)
         if form in ID_CALLS and pair == ("einval", "ok"):
             return UNMAPPED, self.text(UNMAPPED)
         if form == "signal":

@@ -34,6 +34,9 @@
 static _Thread_local uint64_t state;
 static pid_t child;
 
+// Whether this process keeps its sets, and leaves root for a while only.
+static int gentle;
+
 // The next number below a limit (xorshift64*).
 unsigned pick(unsigned limit) {
   state ^= state >> 12;
@@ -59,6 +62,18 @@ static void id_call(void) {
     case 6: (void)!setgroups(pick(5), groups); break;
     case 7: setfsuid(id()); break;
     default: setfsgid(id());
+  }
+}
+
+// Changes that can be taken back.
+static void gentle_call(void) {
+  switch (pick(6)) {
+    case 0: (void)!setresuid(-1, id(), -1); break;
+    case 1: (void)!setresgid(-1, id(), -1); break;
+    case 2: setfsuid(id()); break;
+    case 3: (void)!seteuid(getuid()); break;
+    case 4: (void)!setreuid(-1, 0); break;
+    default: (void)!setresuid(-1, 0, -1);
   }
 }
 
@@ -193,6 +208,7 @@ static void forked(unsigned steps) {
   if (made == 0) {
     state = seed;
     child = 0;
+    gentle = pick(2);
     run(steps / 2);
     _exit(0);
   }
@@ -204,10 +220,22 @@ static void forked(unsigned steps) {
   }
 }
 
+// A program that vfork(2) starts, as posix_spawn(3) does.
+static void vforked(void) {
+  pid_t made = vfork();
+  if (made == 0) {
+    execute(1);
+    _exit(0);
+  }
+  if (made > 0) waitpid(made, NULL, 0);
+}
+
 // One step; the rarer ones are in places.c.
 static void step(unsigned left) {
   unsigned which = pick(100);
-  if (which < 22) id_call();
+  if (which < 22 && gentle) gentle_call();
+  else if (which < 22) id_call();
+  else if (which < 32 && gentle) rare_step();
   else if (which < 32) sets();
   else if (which < 48) option();
   else if (which < 58) question();
@@ -218,6 +246,7 @@ static void step(unsigned left) {
   else if (which < 90) execute(left);
   else if (which < 91) filter();
   else if (which < 92) setsid();
+  else if (which < 93) vforked();
   else rare_step();
 }
 
@@ -228,7 +257,10 @@ void run(unsigned steps) {
 
 int main(int count, char **words) {
   alarm(20);
+  // A script file's interpreter has the path of that as its first word.
+  if (count > 3) words++;
   state = count > 1 ? strtoull(words[1], NULL, 10) * 2654435761u + 1 : 1;
+  gentle = pick(2);
   run(count > 2 ? atoi(words[2]) : 30);
   return 0;
 }

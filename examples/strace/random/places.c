@@ -25,9 +25,10 @@ static int copied(int from) {
 }
 
 void execute(unsigned steps) {
-  static const char *const ways[] = {"tool%u", "./tool%u", "/tool%u", "jail/../tool%u", "again/tool%u"};
+  static const char *const ways[] = {"tool%u", "./tool%u", "/tool%u", "jail/../tool%u", "again/tool%u",
+                                     "tool%u", "link/tool%u", "script%u", "to-tool%u"};
   char name[64], seed[16], count[16];
-  snprintf(name, sizeof name, ways[pick(5)], pick(FILES));
+  snprintf(name, sizeof name, ways[pick(9)], pick(FILES));
   snprintf(seed, sizeof seed, "%u", pick(1u << 30));
   snprintf(count, sizeof count, "%u", steps);
   char *const words[] = {"actor", seed, count, NULL};
@@ -106,7 +107,9 @@ static void mounts(void) {
 static void change(void) {
   char name[32];
   snprintf(name, sizeof name, "tool%u", pick(FILES));
-  switch (pick(5)) {
+  switch (pick(7)) {
+    case 5: unlink("link"); (void)!symlink("jail", "link"); break;
+    case 6: close(open(name, O_RDWR)); break;
     case 0: chmod(name, 0755 | pick(8) << 9); break;
     case 1: (void)!chown(name, pick(2) ? 1000 : 0, pick(2) ? 1000 : 0); break;
     case 2: removexattr(name, "security.capability"); break;
@@ -116,7 +119,7 @@ static void change(void) {
 }
 
 void rare_step(void) {
-  switch (pick(12)) {
+  switch (pick(13)) {
     case 0: new_user_namespace(); break;
     case 1: case 2: child_namespace(); break;
     case 3: if (chroot("jail") == 0 && pick(2)) (void)!chdir("/"); break;
@@ -124,6 +127,7 @@ void rare_step(void) {
     case 5: case 6: mounts(); break;
     case 7: if (!pick(3)) change(); break;
     case 8: unshare(CLONE_NEWPID); break;
+    case 10: (void)!fchdir(open(pick(2) ? "jail" : "/", O_RDONLY | O_DIRECTORY)); break;
     case 9: unshare(CLONE_FS | CLONE_FILES); break;
     default: execute(3);
   }
