@@ -176,6 +176,12 @@ PLACES = [
      + '7 unlink("/bin") = 0\n', "line 3 changes FOLDER/jail/bin/tool"),
     ("another link that is removed", TOOL.format("FOLDER/usr/bin/tool")
      + '7 unlink("FOLDER/jail/bin") = 0\n', "0755"),
+    ("a script in a memfd", '7 memfd_create("kept", 0) = 5\n'
+     '7 write(5, "#! FOLDER/jail/usr/bin/tool\\necho\\n", 40) = 40\n'
+     '7 execveat(5, "", [], 0x7 /* 9 vars */, AT_EMPTY_PATH) = 0\n', "4755"),
+    ("a script in a memfd that is shortened", '7 memfd_create("kept", 0) = 5\n'
+     '7 write(5, "#! FOLDER/jail/us"..., 40) = 40\n'
+     '7 execveat(5, "", [], 0x7 /* 9 vars */, AT_EMPTY_PATH) = 0\n', "first line is shortened"),
     ("an id without a map", "7 unshare(CLONE_NEWUSER) = 0\n7 setuid(0) = 0\n", saying.NO_MAP),
 ]
 

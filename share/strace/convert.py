@@ -343,8 +343,10 @@ class Converter(Sayer):
         found = task.descriptors.get(argument(call, 0), FILE) or self.paths.base(task, call.args[0])
         if isinstance(found, Located) and is_map(found) and (call.result.value or 0) > 0:
             self.entries.map_written(task, call, found)
-        else:
-            self.passed.call(call)
+            return
+        if isinstance(found, Located) and argument(call, 1).startswith('"#!'):
+            self.files.begins(found.place, argument(call, 1))
+        self.passed.call(call)
 
     def change_namespace(self, task: Task, call: Call) -> None:
         """unshare(2), setns(2)."""

@@ -22,6 +22,9 @@ SCRIPTS = 4
 
 ATTRIBUTE = "security.capability"
 
+# The interpreter of a script file whose first line strace has shortened.
+CUT = "..."
+
 
 class BadList(Exception):
     """The list of files isn't one."""
@@ -118,6 +121,16 @@ class Files:
     def make(self, place: str, words: str) -> None:
         """A file that the log itself makes, as memfd_create(2) does."""
         self._made[place] = File(words)
+
+    def begins(self, place: str, text: str) -> None:
+        """What a script file that the log makes begins with, as strace writes it."""
+        if place in self._made:
+            whole = lines.string(text) or lines.string(text.removesuffix("...")) or ""
+            first = whole[2:].split("\n")[0].split()
+            interpreter = first[0] if first else None
+            if text.endswith("...") and "\n" not in whole:
+                interpreter = CUT
+            self._made[place] = File(self._made[place].words, interpreter)
 
     def found(self, named: Located) -> Found:
         """The file that lies there."""

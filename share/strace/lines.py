@@ -48,10 +48,10 @@ ATTACHED = re.compile(r"strace: Process (\d{1,9}) attached(?: with \d+ threads)?
 UNFINISHED = "<unfinished ...>"
 PID_CHANGED = re.compile(r"<pid changed to \d{1,9} \.\.\.>$")
 
-# Calls of which only some are read: write(2) where it may be of a map of ids, the others where they
-# make a descriptor.
+# Calls of which only some are read: write(2) where it may be of a map of ids or the beginning of a
+# script file, the others where they make a descriptor.
 ASKED = {
-    "write": re.compile(r'\d+(?:<[^>]*>)?, "(?:(?:[0-9 ]|\\[nt])+"|deny|allow)'),
+    "write": re.compile(r'\d+(?:<[^>]*>(?:\(deleted\))?)?, "(?:(?:[0-9 ]|\\[nt])+"|deny|allow|#!)'),
     "fcntl": re.compile(r"\d+(?:<.*>)?, F_DUPFD"),
     "ioctl": re.compile(r"\d+(?:<.*>)?, NS_GET_"),
     "recvmsg": re.compile(r".*(?:SCM_RIGHTS|<unfinished \.\.\.>$)"),

@@ -9,7 +9,7 @@ from dataclasses import replace
 
 from . import lines
 from .calls import Unheld
-from .files import SCRIPTS, Files, Found, Missing
+from .files import CUT, SCRIPTS, Files, Found, Missing
 from .log import Call
 from .opened import FILE, told
 from .places import Located, Where, no_link
@@ -161,5 +161,7 @@ class Paths:
             interpreter = found[-1].file.interpreter
             if interpreter is None:
                 return found
+            if interpreter == CUT:
+                raise Missing("its first line is shortened: strace writes the whole with -s 4096")
             path, base = interpreter, None
         raise Missing(f"{path} is one script file more than execve(2) follows")
