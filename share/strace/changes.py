@@ -123,6 +123,13 @@ class Changes:
         if self._executes and writes(call):
             self.changes(task, call)
 
+    def elsewhere(self, task: Task, call: Call) -> None:
+        """The same by a process of which nothing else is known."""
+        if call.name in OPENS:
+            self.opens(task, call)
+        else:
+            self.changes(task, call)
+
     def changes(self, task: Task, call: Call) -> None:
         """A file is changed, removed or renamed, or a folder above it."""
         moved = call.name in MOVED

@@ -14,11 +14,11 @@ from .log import EXECUTIONS, Call, Gone, Item, Renamed
 from .moves import Moves, argument, clone_flags
 from .opened import FILE, told
 from .paths import Paths
-from .places import BEGIN, Located
+from .places import BEGIN, Located, Where
 from .saying import Sayer
 from .script import TASKS, Facts, Line, Stop
 from .start import Start
-from .tasks import Task
+from .tasks import Process, Task
 from .together import Together
 
 CREATIONS = ("fork", "vfork", "clone", "clone3")
@@ -156,6 +156,11 @@ class Converter(Sayer):
         if isinstance(item, Gone):
             if task:
                 self.gone([task], item.last)
+            return
+        if task is None and item.context:
+            # Another process of the log than those that are converted: it may change a file of theirs.
+            nobody = Task(0, item.pid, Process(0), Where(folder=None))
+            self.changes.elsewhere(nobody, item)
             return
         if task is None:
             self.stranger(item)
@@ -334,7 +339,8 @@ class Converter(Sayer):
 
     def change(self, task: Task, call: Call) -> None:
         """chmod(2) and what else changes a file."""
-        self.passed.call(call)
+        if not call.context:
+            self.passed.call(call)
         if call.result.value == 0:
             self.changes.changes(task, call)
 
