@@ -176,6 +176,13 @@ PLACES = [
      + '7 unlink("/bin") = 0\n', "line 3 changes FOLDER/jail/bin/tool"),
     ("another link that is removed", TOOL.format("FOLDER/usr/bin/tool")
      + '7 unlink("FOLDER/jail/bin") = 0\n', "0755"),
+    ("a descriptor of another mount namespace", '7 openat(AT_FDCWD, "FOLDER/jail/usr/bin/tool", '
+     "O_PATH) = 3\n7 unshare(CLONE_NEWNS) = 0\n"
+     '7 execveat(3, "", [], 0x7 /* 9 vars */, AT_EMPTY_PATH) = 0\n', "4755 nosuid"),
+    ("a program of another mount namespace", TOOL.format("FOLDER/jail/usr/bin/tool")
+     + "7 unshare(CLONE_NEWNS) = 0\n" + TOOL.format("/proc/self/exe"), "4755 nosuid"),
+    ("a folder in another mount namespace", '7 chdir("FOLDER/jail/usr") = 0\n'
+     "7 unshare(CLONE_NEWNS) = 0\n" + TOOL.format("bin/tool"), "4755"),
     ("a script in a memfd", '7 memfd_create("kept", 0) = 5\n'
      '7 write(5, "#! FOLDER/jail/usr/bin/tool\\necho\\n", 40) = 40\n'
      '7 execveat(5, "", [], 0x7 /* 9 vars */, AT_EMPTY_PATH) = 0\n', "4755"),

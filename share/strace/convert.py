@@ -180,7 +180,8 @@ class Converter(Sayer):
             self.notes.append(
                 f"line {call.first}: no call of this log made pid {call.pid}, so its calls are "
                 "passed over: was it a thread of the first process, --start names a folder with "
-                "the status of each (docs/A-REAL-PROCESS.md)"
+                "the status of each; a process of its own is taken by --task "
+                "(docs/A-REAL-PROCESS.md)"
             )
 
     def create(self, task: Task, call: Call) -> None:

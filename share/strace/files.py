@@ -15,7 +15,7 @@ import stat
 from dataclasses import dataclass
 
 from . import lines
-from .places import Located
+from .places import Located, Mount
 
 # How many script files may stand one behind the other (execve(2), "Interpreter scripts").
 SCRIPTS = 4
@@ -91,6 +91,11 @@ def read_list(text: str) -> dict[str, File]:
     return found
 
 
+def is_privileged(words: str) -> bool:
+    """Whether a file has set-id bits or an attribute."""
+    return bool(int(words.split()[3], 8) & 0o6000) or " caps " in words
+
+
 def listing(files: dict[str, File]) -> str:
     """A list of files."""
     found = []
@@ -132,18 +137,22 @@ class Files:
                 interpreter = CUT
             self._made[place] = File(self._made[place].words, interpreter)
 
-    def found(self, named: Located) -> Found:
-        """The file that lies there."""
+    def found(self, named: Located, apart: bool = False) -> Found:
+        """The file that lies there; `apart` where the mount is of another mount namespace.
+
+        There set-id bits and attribute have no effect, as where it has nosuid (`mnt_may_suid`,
+        fs/namespace.c).
+        """
         file = self._get(named.place, named.real or named.place)
-        mount, place = named.mount, named.real or named.place
-        if mount is None:
-            return Found(named.place, file, place, named.place)
+        mount, place = named.mount or Mount(""), named.real or named.place
         noexec = file.noexec if mount.noexec is None else mount.noexec
         words = file.words
-        if mount.nosuid and " nosuid" not in words:
+        apart = apart and is_privileged(words)
+        if (mount.nosuid or apart) and " nosuid" not in words:
             words = " ".join([*words.split()[:4], "nosuid", *words.split()[4:]])
-        apart = words != file.words
-        name = named.place + " through a nosuid mount" if apart else named.place
+        name = named.place
+        if words != file.words:
+            name += " of another mount namespace" if apart else " through a nosuid mount"
         return Found(name, File(words, file.interpreter, noexec), place, named.place)
 
     def folder(self, place: str) -> str | None:

@@ -17,6 +17,9 @@ from .tasks import Task
 
 Handler = Callable[[Task, Call], None]
 
+# The mount of a memfd is in no namespace.
+NOWHERE = -1
+
 # mount(2): flags that only say who sees it.
 PROPAGATION = frozenset({"MS_SHARED", "MS_PRIVATE", "MS_SLAVE", "MS_UNBINDABLE"})
 
@@ -185,7 +188,8 @@ class Moves:
         plain = (place == 0 or call.args[0] == "AT_FDCWD") and not task.where.mounts.over
         if path and plain and not path.startswith(("/proc", "/dev")):
             before = task.where
-            where = Where(Mounts(before.mounts.root), before.root, before.folder)
+            mounts = Mounts(before.mounts.root, number=before.mounts.number)
+            where = Where(mounts, before.root, before.folder)
             task.descriptors.opens(call.result.value, FILE, lambda: self.lies(where, path))
             return
         try:
@@ -239,7 +243,7 @@ class Moves:
         place = f"memfd:{lines.string(argument(call, 0)) or ''}@{call.first}"
         words = f"reg {task.process.ids.users[3]} {task.process.ids.groups[3]} 0777"
         self.paths.files.make(place, words)
-        task.descriptors.opens(call.result.value, FILE, Located(place))
+        task.descriptors.opens(call.result.value, FILE, Located(place, within=NOWHERE))
 
     def pidfd_open(self, task: Task, call: Call) -> None:
         """pidfd_open(2)."""

@@ -145,19 +145,22 @@ class Paths:
         rest = path[match.end() :].lstrip("/")
         return owner.where.locate(rest, known) if rest else known
 
-    def find(self, task: Task, path: str, base: Located | None) -> Found:
+    def find(
+        self, task: Task, path: str, base: Located | None, executes: bool = False
+    ) -> Found:
         """A file with what is known of it."""
         found = self.both(task, path, base)
         if self.files.listed is None and found.place.startswith("/proc/"):
             raise Missing(f"{found.place} is another file for this program than for the log's")
-        return self.files.found(found)
+        other = found.within not in (None, task.where.mounts.number)
+        return self.files.found(found, executes and other)
 
     def programs(self, task: Task, call: Call, place: int, at: int | None) -> list[Found]:
         """The file to execute; behind a script file its interpreter, which runs in its place."""
         path, base = self.named(task, call, place, at)
         found: list[Found] = []
         for _ in range(SCRIPTS + 1):
-            found.append(self.find(task, path, base))
+            found.append(self.find(task, path, base, executes=True))
             interpreter = found[-1].file.interpreter
             if interpreter is None:
                 return found

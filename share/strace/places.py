@@ -11,7 +11,8 @@ from __future__ import annotations
 import os
 import re
 from collections.abc import Callable
-from dataclasses import dataclass, field
+from dataclasses import dataclass, field, replace
+from itertools import count
 
 # How many symbolic links are followed (path_resolution(7)).
 LINKS = 40
@@ -39,6 +40,8 @@ class Located:
     point: str | None = None
     # The place behind symbolic links, where those were followed.
     real: str | None = None
+    # The mount namespace whose mounts it was found through, where that is known.
+    within: int | None = None
 
     def start(self, follows: bool) -> str:
         """Where a path goes on from here."""
@@ -57,6 +60,8 @@ class Mounts:
 
     root: Located = ROOT
     over: dict[str, Mount] = field(default_factory=dict)
+    # Namespaces are told apart by a number.
+    number: int = field(default_factory=count().__next__)
 
     def copy(self) -> Mounts:
         """The same for a new mount namespace."""
@@ -117,11 +122,14 @@ class Where:
         self, path: str, base: Located | None = None, link: Link = no_link
     ) -> Located | None:
         """Where a path leads; None where it begins in a folder that nobody knows."""
+        number: int | None = self.mounts.number
         if path.startswith("/"):
             base = self.root
         elif base is None:
             base = self.folder
-        return None if base is None else self._walk(base, path, link)
+        else:
+            number = base.within
+        return None if base is None else replace(self._walk(base, path, link), within=number)
 
     def within(self, path: str) -> Located:
         """Where a path leads that strace tells: from the root of the mount namespace."""
