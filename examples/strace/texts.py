@@ -218,6 +218,7 @@ RUNS = '7 execve("{}", [], 0x7 /* 9 vars */) = {}\n'
 REFUSED = "-1 EACCES (Permission denied)"
 NO_ROW = "no row explains it"
 TRACED = "execve is of a program: there are no scripts, and nobody traces the task"
+COUNTS = "a capability counts alike for every file and every task"
 BITS = "a securebit above bit 7 is EPERM"
 
 # A log with where it begins, the status of credtrace-compare, what it says and what it mustn't.
@@ -280,6 +281,45 @@ DIFFERENCES = [
      "9 kill(7, SIGTERM) = -1 ESRCH (No such process)\n", 0, ["agree: 5"], []),
     ("pids of a PID namespace that is entered", ROOT, BEGINS + "7 setns(3, CLONE_NEWPID) = 0\n"
      "7 fork() = 8\n8 setuid(5) = 0\n8 kill(7, SIGTERM) = 0\n", 0, ["agree: 3"], []),
+    ("a map after a program was executed", ROOT, BEGINS
+     + "7 clone(flags=CLONE_NEWUSER|SIGCHLD) = 8\n" + RUNS.replace("7 ", "8 ").format("/bin/sh", 0)
+     + '7 openat(AT_FDCWD, "/proc/8/uid_map", O_WRONLY) = 3\n7 write(3, "0 0 1", 5) = 5\n', 3,
+     ["user 0 becomes root of the namespace, and has executed a program there at line 3"], []),
+    ("another user's map after a program was executed", ROOT, BEGINS
+     + "7 clone(flags=CLONE_NEWUSER|SIGCHLD) = 8\n" + RUNS.replace("7 ", "8 ").format("/bin/sh", 0)
+     + '7 openat(AT_FDCWD, "/proc/8/uid_map", O_WRONLY) = 3\n7 write(3, "0 5 1", 5) = 5\n'
+     "8 capget({version=_LINUX_CAPABILITY_VERSION_3, pid=0}, "
+     "{effective=0, permitted=0, inheritable=0}) = 0\n", 0, ["agree: 3"], []),
+    ("nobody is root of a namespace", ROOT, BEGINS
+     + "7 setresuid(4294967294, 4294967294, 4294967294) = 0\n7 unshare(CLONE_NEWUSER) = 0\n"
+     + RUNS.format("/bin/sh", 0) + "7 capget({version=_LINUX_CAPABILITY_VERSION_3, pid=0}, "
+     "{effective=0, permitted=0, inheritable=0}) = 0\n", 0, ["agree: 4"], []),
+    ("a capability that doesn't count for a file", ROOT, BEGINS + "7 setuid(1000) = 0\n"
+     '7 unshare(CLONE_NEWUSER) = 0\n7 open("/home/tool", O_WRONLY) = ' + REFUSED + "\n", 0,
+     [COUNTS, "here: the file's owner or group isn't mapped"], ["looks at the kind"]),
+    ("a capability that doesn't count for a task", ROOT, BEGINS + "7 fork() = 8\n8 setuid(5) = 0\n"
+     "8 unshare(CLONE_NEWUSER) = 0\n8 kill(7, SIGTERM) = -1 EPERM (Operation not permitted)\n", 0,
+     [COUNTS], [NO_ROW]),
+    ("who made the target's namespace", ROOT, BEGINS + "7 fork() = 8\n7 setuid(5) = 0\n"
+     "8 setresuid(6, 5, 6) = 0\n8 unshare(CLONE_NEWUSER) = 0\n7 kill(8, SIGTERM) = 0\n", 0,
+     [COUNTS], [NO_ROW]),
+    ("a thread's execve by -ff", ROOT, BEGINS
+     + "7 clone(child_stack=NULL, flags=CLONE_VM|CLONE_FS|CLONE_FILES|CLONE_THREAD) = 8\n"
+     '8 execve("/bin/sh", [], 0x7 /* 9 vars */ <pid changed to 7 ...>\n'
+     "7 +++ superseded by execve in pid 8 +++\n7 <... execve resumed>) = 0\n7 getuid() = 0\n", 0,
+     ["agree: 4"], []),
+    ("a call that nothing is known of", ROOT, BEGINS + "7 ???() = ?\n7 getuid() = 0\n", 0,
+     ["agree: 2"], []),
+    ("the user namespace of another namespace", ROOT, BEGINS
+     + '7 openat(AT_FDCWD, "/proc/self/ns/user", O_RDONLY) = 3\n7 ioctl(4, NS_GET_USERNS) = 3\n'
+     "7 setns(3, 0) = 0\n", 3, [enters.UNKNOWN], []),
+    ("what a filter refused changes nothing", ROOT, BEGINS
+     + "7 prctl(PR_SET_SECCOMP, SECCOMP_MODE_FILTER, {len=1}) = 0\n"
+     "7 setuid(5) = -1 EPERM (Operation not permitted)\n7 getuid() = 0\n", 0,
+     ["agree: 2 calls, explained by docs/LINUX.md: 1,", "the log: line 2 of it"], []),
+    ("another process changes a file", ROOT, BEGINS + "7 fork() = 8\n7 fork() = 9\n"
+     + RUNS.replace("7 ", "8 ").format("/bin/su", 0) + '9 chmod("/bin/su", 0755) = 0\n'
+     + RUNS.replace("7 ", "8 ").format("/bin/su", 0), 3, ["line 5 changes /bin/su"], []),
     ("tasks that nobody made", ROOT, BEGINS + "8 getuid() = 0\n", 3,
      ["left: the calls of 1 tasks that no call made"], []),
     ("the status of who wrote it down", "Pid:\t5\n" + ROOT, BEGINS + "7 getuid() = 0\n", 0,
@@ -291,3 +331,6 @@ DIFFERENCES = [
      + "7 clone(child_stack=NULL, flags=CLONE_VM|CLONE_FS|CLONE_FILES|CLONE_THREAD) = 8\n"
      "8 setuid(5) = 0\n8 getuid() = 5\n7 getuid() = 0\n", 3, ["not all 2 threads"], []),
 ]
+
+# What credtrace-compare is told besides.
+WORDS = {"another process changes a file": ["--task", "8"]}
