@@ -320,6 +320,20 @@ DIFFERENCES = [
     ("another process changes a file", ROOT, BEGINS + "7 fork() = 8\n7 fork() = 9\n"
      + RUNS.replace("7 ", "8 ").format("/bin/su", 0) + '9 chmod("/bin/su", 0755) = 0\n'
      + RUNS.replace("7 ", "8 ").format("/bin/su", 0), 3, ["line 5 changes /bin/su"], []),
+    ("strace lets go", ROOT, BEGINS + "7 setuid(5) = 0\n7 vfork( <unfinished ...>\n"
+     "8 getuid() = 5\n7 <... vfork resumed> <detached ...>\n8 vfork( <detached ...>\n", 3,
+     ["agree: 2", "left: the calls of 1 tasks"], []),
+    ("a thread's own filesystem id", ROOT, BEGINS
+     + "7 clone(child_stack=NULL, flags=CLONE_VM|CLONE_FS|CLONE_FILES|CLONE_THREAD) = 8\n"
+     "8 setfsgid(5) = 0\n8 exit(0) = ?\n7 unshare(CLONE_NEWUSER) = 0\n"
+     '7 openat(AT_FDCWD, "/proc/self/gid_map", O_WRONLY) = 3\n7 write(3, "0 0 1", 5) = 5\n'
+     "7 setfsgid(0) = 0\n", 0, ["agree: 4"], []),
+    ("a pidfd by clone", ROOT, BEGINS + "7 clone(child_stack=NULL, flags=CLONE_PIDFD|CLONE_NEWUSER|"
+     "SIGCHLD, parent_tid=[3<anon_inode:[pidfd]>]) = 8\n7 setns(3<anon_inode:[pidfd]>, "
+     "CLONE_NEWUSER) = 0\n7 getuid() = 65534\n", 0, ["agree: 2"], []),
+    ("a pidfd by clone3", ROOT, BEGINS + "7 clone3({flags=CLONE_PIDFD|CLONE_NEWUSER, pidfd=0x7ffd, "
+     "exit_signal=SIGCHLD, stack=NULL, stack_size=0} => {pidfd=[3]}, 88) = 8\n"
+     "7 setns(3, CLONE_NEWUSER) = 0\n7 getuid() = 65534\n", 0, ["agree: 2"], []),
     ("tasks that nobody made", ROOT, BEGINS + "8 getuid() = 0\n", 3,
      ["left: the calls of 1 tasks that no call made"], []),
     ("the status of who wrote it down", "Pid:\t5\n" + ROOT, BEGINS + "7 getuid() = 0\n", 0,

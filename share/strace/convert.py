@@ -94,7 +94,8 @@ class Converter(Sayer):
         items = list(items)
         tasks = [self.tasks.first(first)]
         tasks += [self.tasks.spawn(pid, tasks[0], THREAD) for pid in start.threads[1:]]
-        tasks[0].process.ids = start.ids
+        for one in tasks:
+            one.ids = start.ids.copy()
         tasks[0].where.folder = self.begins(items, first)
         self.script.begin_with(start.inits(), start.lines)
         self.script.known = self.files
@@ -219,6 +220,8 @@ class Converter(Sayer):
         if call.inner is not None:
             self.tasks.tells(task.process, call.inner, made)
         child = self.tasks.fork(made, task, flags)
+        if "CLONE_PIDFD" in flags:
+            self._moves.with_pidfd(task, call, child)
         if "CLONE_NEWNS" in flags:
             self._moves.new_mounts(child)
         if "CLONE_NEWUSER" in flags:
@@ -282,9 +285,9 @@ class Converter(Sayer):
         """The task has executed a program: it is the only one of its process."""
         process = task.process
         process.program = program
-        process.ids.executes(words.split())
+        task.ids.executes(words.split())
         if process.space.parent is not None and process.space.uids is None:
-            process.space.early.append((line, *process.ids.users[:2]))
+            process.space.early.append((line, *task.ids.users[:2]))
         task.descriptors = task.descriptors.copy()
         if task.process.making:
             self.apart(task.process)
@@ -303,7 +306,7 @@ class Converter(Sayer):
                 apart=sender.session != target.session,
                 outside=not target.space.is_within(sender.space),
                 maker=target.space.parent is sender.space
-                and target.space.owner == sender.ids.users[1],
+                and target.space.owner == task.ids.users[1],
             )
             self.say(task, call, Said(f"signal {other.name}", said), facts)
 

@@ -68,14 +68,14 @@ class Entries:
         if len(self.spaces) + 1 == SPACES:
             raise Unheld(f"a script declares {SPACES - 1} user namespaces")
         process = task.process
-        space = Space(len(self.spaces) + 1, process.space, owner=process.ids.users[1])
+        space = Space(len(self.spaces) + 1, process.space, owner=task.ids.users[1])
         self.spaces.append(space)
         return self.spaces[-1]
 
     def sits(self, task: Task, space: Space) -> None:
         """The task is a first task of the namespace now."""
         task.process.space = space
-        self.seats.append(Seat(task.name, task.process.number, space, task.process.ids.copy()))
+        self.seats.append(Seat(task.name, task.process.number, space, task.ids.copy()))
 
     def enter(self, task: Task, space: Space) -> str:
         """A task enters a namespace; its name before, which ends in the script."""

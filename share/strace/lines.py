@@ -48,6 +48,9 @@ ATTACHED = re.compile(r"strace: Process (\d{1,9}) attached(?: with \d+ threads)?
 UNFINISHED = "<unfinished ...>"
 PID_CHANGED = re.compile(r"<pid changed to \d{1,9} \.\.\.>$")
 
+# A call in which strace let go of its task.
+DETACHED = "<detached ...>"
+
 # Calls of which only some are read: write(2) where it may be of a map of ids or the beginning of a
 # script file, the others where they make a descriptor.
 ASKED = {
@@ -109,7 +112,7 @@ def is_asked(name: str, rest: str) -> bool:
 
 def has_result(rest: str) -> bool:
     """Whether what follows a call's opening bracket comes to an end as strace's lines do."""
-    return " = " in rest or rest.endswith((UNFINISHED, "<detached ...>"))
+    return " = " in rest or rest.endswith((UNFINISHED, DETACHED))
 
 
 def split(text: str) -> tuple[list[str], str] | None:

@@ -278,6 +278,9 @@ class Reader:
 
     def ends(self, pid: int, begun: Begun, rest: str) -> None:
         """A call has ended: its arguments and its result are known."""
+        if rest.endswith(lines.DETACHED):
+            self.passed[begun.name] += 1
+            return
         if rest.endswith(lines.INJECTED):
             self.passed[f"{begun.name} injected by strace"] += 1
             return

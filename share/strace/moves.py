@@ -27,6 +27,7 @@ CLONE_BITS = {
     "CLONE_VM": 0x100,
     "CLONE_FS": 0x200,
     "CLONE_FILES": 0x400,
+    "CLONE_PIDFD": 0x1000,
     "CLONE_PARENT": 0x8000,
     "CLONE_THREAD": 0x10000,
     "CLONE_NEWNS": 0x20000,
@@ -241,13 +242,19 @@ class Moves:
     def memfd_create(self, task: Task, call: Call) -> None:
         """memfd_create(2): a file of its creator's without any place, which all may execute."""
         place = f"memfd:{lines.string(argument(call, 0)) or ''}@{call.first}"
-        words = f"reg {task.process.ids.users[3]} {task.process.ids.groups[3]} 0777"
+        words = f"reg {task.ids.users[3]} {task.ids.groups[3]} 0777"
         self.paths.files.make(place, words)
         task.descriptors.opens(call.result.value, FILE, Located(place, within=NOWHERE))
 
     def pidfd_open(self, task: Task, call: Call) -> None:
         """pidfd_open(2)."""
         self.is_of(task, call.result.value, self.paths.of_pid(argument(call, 0), task))
+
+    def with_pidfd(self, task: Task, call: Call, child: Task) -> None:
+        """clone(2) or clone3(2) with CLONE_PIDFD: where the log says which descriptor it is."""
+        field = "pidfd" if call.name == "clone3" else "parent_tid"
+        if match := re.search(rf"\b{field}=\[(\d{{1,9}})", " ".join(call.args)):
+            self.is_of(task, int(match[1]), child)
 
     def is_of(self, task: Task, number: int | None, owner: Task | None) -> None:
         """A new descriptor is a process's."""

@@ -46,7 +46,8 @@ class Sayer:
             return
         words = said.words.split()
         if said.answer.startswith("ok"):
-            task.process.ids.after(words)
+            for one in task.process.threads if words[0] in ID_CALLS else [task]:
+                one.ids.after(words)
         space = task.process.space
         denied = space.parent is not None and (space.gids is None or space.denied)
         if task.process.filtered or denied:

@@ -22,8 +22,7 @@ class Process:
     # Its session, and the line of the log at which it installed a seccomp filter.
     session: int = 0
     filtered: int = 0
-    # Its ids as the log's calls leave them, and its user namespace.
-    ids: Ids = field(default_factory=Ids)
+    # Its user namespace.
     space: Space = field(default_factory=Space)
     # Its PID namespace, and that of its children.
     pids: Pids = field(default_factory=Pids)
@@ -43,6 +42,8 @@ class Task:
     process: Process
     where: Where = field(default_factory=Where)
     descriptors: Descriptors = field(default_factory=Descriptors)
+    # Its ids as the log's calls leave them. Those by which files are looked at are a thread's own.
+    ids: Ids = field(default_factory=Ids)
 
     @property
     def name(self) -> str:
@@ -71,7 +72,6 @@ class Tasks:
         self._processes += 1
         process = Process(self._processes, program=parent.process.program)
         process.space = parent.process.space
-        process.ids = parent.process.ids.copy()
         process.session, process.filtered = parent.process.session, parent.process.filtered
         process.pids = Pids() if "CLONE_NEWPID" in flags else parent.process.below
         process.below = process.pids
@@ -103,7 +103,7 @@ class Tasks:
         where = parent.where if "CLONE_FS" in flags else parent.where.copy()
         shares = "CLONE_FILES" in flags
         descriptors = parent.descriptors if shares else parent.descriptors.copy()
-        return Task(0, pid, process, where, descriptors)
+        return Task(0, pid, process, where, descriptors, parent.ids.copy())
 
     def _add(self, task: Task) -> Task:
         """A task more, with the next number."""
