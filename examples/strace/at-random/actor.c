@@ -1,4 +1,4 @@
-// A program that does at random what changes and asks credentials, for examples/strace/random/run:
+// A program that does at random what changes and asks credentials, for examples/strace/at-random/run:
 //
 //     actor SEED STEPS
 //
