@@ -183,6 +183,11 @@ PLACES = [
      + "7 unshare(CLONE_NEWNS) = 0\n" + TOOL.format("/proc/self/exe"), "4755 nosuid"),
     ("a folder in another mount namespace", '7 chdir("FOLDER/jail/usr") = 0\n'
      "7 unshare(CLONE_NEWNS) = 0\n" + TOOL.format("bin/tool"), "4755"),
+    ("a root that is named", TOOL.format("/bin/tool"), "4755"),
+    ("a root that is named, and what -y tells of it", '7 openat(AT_FDCWD<FOLDER/jail/usr>, "bin", '
+     "O_PATH) = 3<FOLDER/jail/usr/bin>\n" + TOOL.format("bin/tool"), "4755"),
+    ("a root of a container, and what -y tells of it", '7 openat(AT_FDCWD</usr>, "bin", '
+     "O_PATH) = 3</usr/bin>\n" + TOOL.format("bin/tool"), "4755"),
     ("a script in a memfd", '7 memfd_create("kept", 0) = 5\n'
      '7 write(5, "#! FOLDER/jail/usr/bin/tool\\necho\\n", 40) = 40\n'
      '7 execveat(5, "", [], 0x7 /* 9 vars */, AT_EMPTY_PATH) = 0\n', "4755"),
@@ -346,5 +351,11 @@ DIFFERENCES = [
      "8 setuid(5) = 0\n8 getuid() = 5\n7 getuid() = 0\n", 3, ["not all 2 threads"], []),
 ]
 
-# What credtrace-compare is told besides.
-WORDS = {"another process changes a file": ["--task", "8"]}
+# What the tools are told besides.
+JAIL = ["--root", "FOLDER/jail"]
+WORDS = {
+    "another process changes a file": ["--task", "8"],
+    "a root that is named": JAIL,
+    "a root that is named, and what -y tells of it": JAIL,
+    "a root of a container, and what -y tells of it": JAIL,
+}

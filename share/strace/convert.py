@@ -14,7 +14,7 @@ from .log import EXECUTIONS, Call, Gone, Item, Renamed
 from .moves import Moves, argument, clone_flags
 from .opened import FILE, told
 from .paths import Paths
-from .places import BEGIN, Located, Where
+from .places import BEGIN, Located, Mounts, Where
 from .saying import Sayer
 from .script import TASKS, Facts, Line, Stop
 from .start import Start
@@ -44,6 +44,7 @@ class Converter(Sayer):
         files: Files,
         asking: bool = False,
         folder: str | None = None,
+        root: str = "/",
         known: dict[str, int] | None = None,
     ) -> None:
         super().__init__(asking)
@@ -59,6 +60,7 @@ class Converter(Sayer):
         self.count = 0
         self.left = 0
         self._folder = folder
+        self._root = root.rstrip("/") or "/"
         self._moves = Moves(self.paths, lambda: self.tasks.by_pid.values())
         self._follow = self._moves.handlers()
         self._asks = asks.Asks(self.paths, self.script, self.changes)
@@ -96,12 +98,20 @@ class Converter(Sayer):
         tasks += [self.tasks.spawn(pid, tasks[0], THREAD) for pid in start.threads[1:]]
         for one in tasks:
             one.ids = start.ids.copy()
-        tasks[0].where.folder = self.begins(items, first)
+        where = tasks[0].where
+        where.root = Located(self._root)
+        where.mounts = Mounts(where.root, outside=self._root.rstrip("/"))
+        where.folder = self.begins(items, tasks[0])
         self.script.begin_with(start.inits(), start.lines)
         self.script.known = self.files
         begins = next((item for item in items if isinstance(item, Call)), None)
         traced = begins is not None and begins.name == "execve" and begins.pid == first
         self.script.tracer = start.traces if traced else None
+        if not traced and self.files.listed is None and self._root == "/":
+            self.notes.append(
+                "the log doesn't begin with an execve: the root of its first process is taken for "
+                "that of this machine (--root names another, as that of a container)"
+            )
         self.together = Together(items, SAYING)
         try:
             for self.at, item in enumerate(items):
@@ -133,7 +143,7 @@ class Converter(Sayer):
             found.append(f"left: the calls of {len(self.strangers)} tasks that no call made")
         return found
 
-    def begins(self, items: list[Item], first: int) -> Located:
+    def begins(self, items: list[Item], task: Task) -> Located:
         """The folder where the log begins: the one that is named, or that -y tells first."""
         if self._folder is not None:
             return Located("" if self._folder == "." else self._folder.rstrip("/") or "/")
@@ -142,10 +152,10 @@ class Converter(Sayer):
                 continue
             if item.name in ("chdir", "fchdir", "chroot", "pivot_root", *CREATIONS):
                 break
-            shown = told(argument(item, 0)) if item.pid == first else None
+            shown = told(argument(item, 0)) if item.pid == task.pid else None
             if shown and item.args[0].startswith("AT_FDCWD"):
                 self.paths.known = True
-                return Located(shown[0])
+                return task.where.within(shown[0])
         return BEGIN
 
     def item(self, item: Item) -> None:

@@ -41,6 +41,8 @@ class File:
     words: str
     interpreter: str | None = None
     noexec: bool = False
+    # When this machine's file system last changed it, or its owner, mode or attribute.
+    changed: float = 0.0
 
 
 @dataclass(frozen=True)
@@ -155,6 +157,10 @@ class Files:
             name += " of another mount namespace" if apart else " through a nosuid mount"
         return Found(name, File(words, file.interpreter, noexec), place, named.place)
 
+    def changed_after(self, time: float) -> list[str]:
+        """The files that this machine has changed since then."""
+        return [place for place, file in self.seen.items() if file.changed > time]
+
     def folder(self, place: str) -> str | None:
         """The words of a folder, where it is known."""
         if self.listed is not None:
@@ -189,7 +195,8 @@ def on_disk(path: str) -> File:
         status = os.stat(name)
         interpreter = interpreter_of(name) if stat.S_ISREG(status.st_mode) else None
         flags = os.statvfs(name).f_flag
-        return File(words_of(name, status, flags), interpreter, bool(flags & os.ST_NOEXEC))
+        noexec = bool(flags & os.ST_NOEXEC)
+        return File(words_of(name, status, flags), interpreter, noexec, status.st_ctime)
     except (OSError, ValueError) as fault:
         reason = fault.strerror if isinstance(fault, OSError) else str(fault)
         raise Missing(f"{path} can't be asked for its owner and mode: {reason}") from None

@@ -62,10 +62,12 @@ class Mounts:
     over: dict[str, Mount] = field(default_factory=dict)
     # Namespaces are told apart by a number.
     number: int = field(default_factory=count().__next__)
+    # The root where the log begins, if it is another: what strace tells may be from outside of it.
+    outside: str = ""
 
     def copy(self) -> Mounts:
         """The same for a new mount namespace."""
-        return Mounts(self.root, dict(self.over))
+        return Mounts(self.root, dict(self.over), outside=self.outside)
 
     def entered(self, place: str) -> tuple[str, Mount | None]:
         """What is there: the mount that covers the place, if one does."""
@@ -133,7 +135,9 @@ class Where:
 
     def within(self, path: str) -> Located:
         """Where a path leads that strace tells: from the root of the mount namespace."""
-        return self._walk(self.mounts.root, path, no_link)
+        outside = self.mounts.outside
+        from_outside = outside and f"{path}/".startswith(f"{outside}/")
+        return self._walk(ROOT if from_outside else self.mounts.root, path, no_link)
 
     def _walk(self, base: Located, path: str, link: Link) -> Located:
         """Goes along the path, one name after another."""
