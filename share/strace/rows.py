@@ -198,6 +198,8 @@ class Explainer:
         words = line.text.split()
         known = self.known(words[0])
         kernel, told = (line.answer or "").split()[0], report.split()[0]
+        # Then the thread that makes the call first may, and another one may not.
+        told = "ok" if told == "aborted" else told
         if told not in RULED:
             return None
         own = self.own(number, line, kernel, told)
