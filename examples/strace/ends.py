@@ -59,6 +59,22 @@ def wrong_names() -> str | None:
     return None if names("", "--help")[1].startswith("usage: ") else "--help isn't known"
 
 
+def wrong_times(place: Path) -> str | None:
+    """A file that was changed after the log was written is told."""
+    tool, log = place / "tool", place / "log"
+    tool.write_bytes(b"")
+    log.write_text(f'7 execve("{tool}", [], 0x7 /* 9 vars */) = 0\n', encoding="ascii")
+    told = f"{tool} was changed after the log was written"
+    for time, tells in ((None, False), (0, True)):
+        os.utime(log, None if time is None else (time, time))
+        done = subprocess.run(
+            [TOP / "share" / "credtrace-from-strace", log], capture_output=True, text=True
+        )
+        if done.returncode or (told in done.stderr) != tells:
+            return f"a file that is older or newer than the log: {done}"
+    return None
+
+
 def wrong_places(place: Path, program: str) -> str | None:
     """The tools work through a symbolic link and from a copy, also of share/ alone."""
     copied = place / "copy"

@@ -187,6 +187,7 @@ class Reader:
         kind = match.lastgroup
         rest = text[match.end() :]
         if kind == "call":
+            rest = lines.PID_CHANGED.sub(lines.UNFINISHED, rest)
             if not lines.has_result(rest):
                 self.cut_by_message(text)
                 return
@@ -277,6 +278,12 @@ class Reader:
 
     def ends(self, pid: int, begun: Begun, rest: str) -> None:
         """A call has ended: its arguments and its result are known."""
+        if rest.endswith(lines.DETACHED):
+            self.passed[begun.name] += 1
+            return
+        if rest.endswith(lines.INJECTED):
+            self.passed[f"{begun.name} injected by strace"] += 1
+            return
         parts = parsed(begun.text + rest)
         if parts is None:
             raise BadLog(self.count, f"the arguments or the result of {begun.name} can't be read")
