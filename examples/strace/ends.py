@@ -9,6 +9,42 @@ from pathlib import Path
 
 TOP = Path(__file__).resolve().parents[2]
 
+# A bad line behind a `file svc` and an `init t1`, and what is told of its word.
+HINTS = [
+    ("t1 setresuids 5 5 5", "Word 2, `setresuids`, is none of the words that may stand there."),
+    ("t1 setresuids 5 5 5", "Is setresuid meant?"),
+    ("t1 getuid", "Is ids meant?"),
+    ("t1 execve svc", "Is exec meant?"),
+    ("t1 kill t1", "Is signal meant?"),
+    ("begin t1 setfsuid 5", "Word 3, `setfsuid`, is none of the words that may stand there."),
+    ("ask h1 capabel 5", "Is capable meant?"),
+    ("takes h1 t1", "Word 1, `takes`, is none of the words that may stand there. Is take meant?"),
+    ("setuid 5", "The task that makes a call stands before it, as in `t1 setuid`."),
+    ("task1 caps", "A task is t with a number. Is t1 meant?"),
+    ("t1", "Word 2, the name of a call or of a question, lacks."),
+    ("t01 caps", "Word 1, `t01`, is no T. Is t1 meant?"),
+    ("t1 capset 0x2000 0 0", "Word 3, `0x2000`, is no SET. Is 2000 meant?"),
+    ("t1 securebits SECBIT_KEEP_CAPS", "is no NUM. Is 16 meant?"),
+    ("t1 securebits 0x10", "is no NUM. Is 16 meant?"),
+    ("t1 capable CAP_SYS_ADMN", "is no CAP. Is CAP_SYS_ADMIN meant?"),
+    ("t1 exec /bin/svc", "Word 3, `/bin/svc`, is no NAME. Is svc meant?"),
+    ("t1 exec scv", "No line above declares `scv`. Is svc meant?"),
+    ("t1 open svc r fd3", "Word 5, `fd3`, is no F. Is f3 meant?"),
+    ("ask t1 caps", "Word 2, `t1`, is no H."),
+    ("init t2 p2 root 0 n0", "Word 4, `root`, is no ID. Is 0 meant?"),
+    ("ns 16 5 0", "Word 2, `16`, is no NUM of 1 to 15."),
+    ("lane 17", "Word 2, `17`, is no NUM of 1 to 16."),
+    ("file a reg 0 0 0755 nosiud", "Word 7, `nosiud`, isn't `nosuid` or `caps`. Is nosuid meant?"),
+    ("file a reg 0 0 0755 caps", "Word 8, the HEX, lacks."),
+    ("file a reg 0 0 0755 caps cap_kill+p", "Is 0000000220000000000000000000000000000000 meant?"),
+    ("t1 setuid 5#leaves", "A comment is a line of its own: its first word begins with `#`."),
+    ("t1 setuid root # leaves", "Word 3, `root`, is no ARG. Is 0 meant?"),
+    ("t1 setuid // leaves", "The line has 2 words. Word 3, the ARG, lacks."),
+]
+# What isn't guessed: words in which more than two letters differ, and values that nobody can tell.
+UNGUESSED = ["t1 frobnicate 5", "t1 setuid bob", "t1 setuid 4294967295", "ns 16 5 0", "ask t1 caps",
+             "t1 capable CAP_NET", "report5 5", "t1 capset 20000000000 0 0"]  # fmt: skip
+
 # Scripts with names, and what --to-script makes of them (setcap(8), linux/capability.h).
 NAMED = [
     ("t1 capset CAP_NET_RAW none all-CAP_CHOWN", "t1 capset 2000 0 1fffffffffe"),
@@ -35,6 +71,19 @@ COMPARED = (
     "line 6: pid 7 capget({version=3}) = 0: the kernel ok CAP_NET_RAW none none * *, the report ok "
     "none none none all none (line 3: t1 caps)",
 )
+
+
+def wrong_hints(place: Path, told) -> str | None:
+    """What is told of a word that is wrong, and that nothing is guessed; `told` checks a script."""
+    script = place / "script"
+    for line, hint in [*HINTS, *((line, None) for line in UNGUESSED)]:
+        declared = "file svc reg 0 0 0755\n", "init t1 p1 0 0 n0\n", f"{line}\n"
+        first = line.split()[0] in ("file", "ns", "init")
+        script.write_text("".join(declared[::2] + declared[1:2] if first else declared))
+        said = " ".join(told(str(script)).split())
+        if hint not in said if hint else " meant?" in said:
+            return f"credtrace-check, {line}: {said}"
+    return None
 
 
 def names(text: str, *words: str) -> tuple[int, str]:
