@@ -7,6 +7,8 @@ import shutil
 import subprocess
 from pathlib import Path
 
+from strace.names import to_names, to_script
+
 TOP = Path(__file__).resolve().parents[2]
 
 # A bad line behind a `file svc` and an `init t1`, and what is told of its word.
@@ -59,10 +61,21 @@ NAMED = [
         "file ping reg 0 0 0755 nosuid caps cap_net_raw,cap_bpf=eip [rootid=1000]",
         "file ping reg 0 0 0755 nosuid caps 010000030020000000200000" "8000000080000000" "e8030000",
     ),
+    (
+        "file a reg 0 0 0755 caps =p cap_chown-p 39+i-p",
+        "file a reg 0 0 0755 caps 00000002feffffff000000007f01000080000000",
+    ),
     ("file a reg 0 0 0755 caps 0x00", "file a reg 0 0 0755 caps 0x00"),
     ("# t1 capset none", "# t1 capset none"),
     ("t1  caps", "t1  caps"),
 ]
+
+# What is no set, no flags and no attribute; some of it as setcap(8) refuses it.
+NO_NAMES = ["t1 capset CAP_FOO 0 0", "t1 capset all-CAP_FOO 0 0", "t1 securebits SECBIT_FOO"]
+NO_NAMES += [f"file a reg 0 0 0755 caps {text}" for text in (
+    "cap_foo=ep", "cap_kill", "cap_kill,=p", "+ep", "none=p", "cap_kill=x", "41=p",
+    "cap_kill=ep cap_chown=p", "cap_kill=p cap_chown=ep",
+)]  # fmt: skip
 
 # A line of credtrace-compare, and the same with names.
 COMPARED = (
@@ -96,15 +109,21 @@ def names(text: str, *words: str) -> tuple[int, str]:
 
 def wrong_names() -> str | None:
     """What is wrong with names in scripts and in comparisons."""
+    for path in sorted((TOP / "examples").glob("*.trace")):
+        for line in map(to_names, path.read_text().splitlines()):
+            if to_names(line) != line or to_names(to_script(line)) != line:
+                return f"{path.name}: another line with names and without: {line}"
     for text, wanted in NAMED:
         if names(f"{text}\n", "--to-script") != (0, f"{wanted}\n"):
             return f"--to-script makes of {text}: {names(text, '--to-script')}"
     if names(f"{COMPARED[0]}\n") != (0, f"{COMPARED[1]}\n"):
         return f"a comparison becomes {names(COMPARED[0])}"
-    said = "credtrace-names: line 1: CAP_FOO is no set: names with commas between them, none, "
-    said += "all, all-NAME\n"
-    if names("t1 capset CAP_FOO 0 0\n", "--to-script") != (2, said):
-        return "an unknown name isn't told"
+    for text in NO_NAMES:
+        status, said = names(f"init t1 p1 0 0 n0\n{text}\n", "--to-script")
+        if status != 2 or not said.endswith("\n") or "Traceback" in said:
+            return f"--to-script makes of {text}: {said}"
+    if not names("", "/no-such-file")[1].startswith("credtrace-names: /no-such-file: No such"):
+        return "a file that isn't there is told otherwise"
     return None if names("", "--help")[1].startswith("usage: ") else "--help isn't known"
 
 
