@@ -77,13 +77,22 @@ NO_NAMES += [f"file a reg 0 0 0755 caps {text}" for text in (
     "cap_kill=ep cap_chown=p", "cap_kill=p cap_chown=ep",
 )]  # fmt: skip
 
-# A line of credtrace-compare, and the same with names.
-COMPARED = (
-    "line 6: pid 7 capget({version=3}) = 0: the kernel ok 2000 0 0 * *, the report ok 0 0 0 "
-    "1ffffffffff 0 (line 3: t1 caps)",
-    "line 6: pid 7 capget({version=3}) = 0: the kernel ok CAP_NET_RAW none none * *, the report ok "
-    "none none none all none (line 3: t1 caps)",
-)
+# Lines of credtrace-compare, and the same with names.
+COMPARED = [
+    (
+        "line 6: pid 7 capget({version=3}) = 0: the kernel ok 2000 0 0 * *, the report ok 0 0 0 "
+        "1ffffffffff 0 (line 3: t1 caps)",
+        "line 6: pid 7 capget({version=3}) = 0: the kernel ok CAP_NET_RAW none none * *, the report "
+        "ok none none none all none (line 3: t1 caps)",
+    ),
+    (
+        "line 9: pid 7 capset({version=3}, ..) = -1 EPERM: the kernel eperm, the report ok (line 4: "
+        "t1 capset 2000 0 0)",
+        "line 9: pid 7 capset({version=3}, ..) = -1 EPERM: the kernel eperm, the report ok (line 4: "
+        "t1 capset CAP_NET_RAW none none)",
+    ),
+    ("    since line 4: t1 securebits 16", "    since line 4: t1 securebits SECBIT_KEEP_CAPS"),
+]
 
 
 def wrong_hints(place: Path, told) -> str | None:
@@ -116,8 +125,9 @@ def wrong_names() -> str | None:
     for text, wanted in NAMED:
         if names(f"{text}\n", "--to-script") != (0, f"{wanted}\n"):
             return f"--to-script makes of {text}: {names(text, '--to-script')}"
-    if names(f"{COMPARED[0]}\n") != (0, f"{COMPARED[1]}\n"):
-        return f"a comparison becomes {names(COMPARED[0])}"
+    for text, wanted in COMPARED:
+        if to_names(text) != wanted:
+            return f"a comparison becomes {to_names(text)}"
     for text in NO_NAMES:
         status, said = names(f"init t1 p1 0 0 n0\n{text}\n", "--to-script")
         if status != 2 or not said.endswith("\n") or "Traceback" in said:

@@ -30,6 +30,9 @@ COMPARED = re.compile(
     r"\(line (?P<number>\d+): (?P<line>.*)\)$"
 )
 
+# The line of a script from which it goes on, as it writes it below a difference.
+SINCE = re.compile(r"( +since line \d+: )(.*)$")
+
 
 class BadName(Exception):
     """A word that is no name of a set."""
@@ -135,10 +138,12 @@ def to_names(line: str) -> str:
     """A line of a report, of a script, of `decode` or of credtrace-compare, with names."""
     if not NAMED.search(line):
         return line
+    if since := SINCE.match(line):
+        return since[1] + words_in_names(since[2])
     if compared := COMPARED.match(line):
         told = f"0 ask h1 {compared['line'].partition(' ')[2]} -> "
         kernel, report = (
-            words_in_names(told + compared[part]).removeprefix(words_in_names(told))
+            words_in_names(told + compared[part]).partition(" -> ")[2]
             for part in ("kernel", "report")
         )
         asked = words_in_names(compared["line"])
