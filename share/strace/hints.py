@@ -31,12 +31,13 @@ def asked(guess: str | None) -> str:
 
 def hints(reason: str, form: Form | None, words: list[str], before: list[str]) -> list[str]:
     """What is told of a bad line besides its test."""
-    if form is None:
-        return [no_form(words)]
     told = []
     kept = without_comment(words)
     if kept != words:
         told.append("A comment is a line of its own: its first word begins with `#`.")
+    if form is None:
+        return [*told, no_form(kept)]
+    if kept != words:
         # What is wrong besides.
         least = [word for word in form.text.split() if not set("[].") & set(word)]
         reason = "count" if len(kept) < len(least) else "word"
