@@ -3,10 +3,15 @@
 from __future__ import annotations
 
 import os
+import re
 import shutil
 import subprocess
+import sys
 from pathlib import Path
 
+from strace.forms import form_of
+from strace.hints import hints, words_of
+from strace.kinds import wrong_word
 from strace.names import to_names, to_script
 
 TOP = Path(__file__).resolve().parents[2]
@@ -105,6 +110,29 @@ def wrong_hints(place: Path, told) -> str | None:
         said = " ".join(told(str(script)).split())
         if hint not in said if hint else " meant?" in said:
             return f"credtrace-check, {line}: {said}"
+    return None
+
+
+def unexplained() -> str | None:
+    """A bad line among the cases of which no word is told, or where a guess is no better."""
+    sys.path.insert(0, str(TOP / "cases"))
+    import suite
+
+    for name in ("grammar", "lanes", "limits"):
+        for case in suite.cases_of(TOP / "cases" / name):
+            match = re.fullmatch(rb"bad (\d+) (word|count|name|order)\n", case.written or b"")
+            if match is None or case.words != ("run",):
+                continue
+            lines = case.given.decode("latin-1").split("\n")[: int(match[1])]
+            words = words_of(lines[-1])
+            told = " ".join(hints(match[2].decode(), form_of(words), words, lines[:-1]))
+            guess = re.search(r"Word (\d+), .* Is (\S+) meant\?$", told)
+            if guess and match[2] == b"word":
+                words[int(guess[1]) - 1] = guess[2]
+                form = form_of(words)
+                told = "" if form and wrong_word(form.text, words[: int(guess[1])]) else told
+            if not told:
+                return f"credtrace-check, {case.name}: {lines[-1]}"
     return None
 
 

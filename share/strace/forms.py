@@ -4,6 +4,7 @@ from __future__ import annotations
 
 import re
 from dataclasses import dataclass
+from functools import cache
 from pathlib import Path
 
 PAGE = Path(__file__).resolve().parents[2] / "docs" / "FORMATS.md"
@@ -43,6 +44,7 @@ def cells(line: str) -> Row:
     return [cell.strip() for cell in line.strip().strip("|").split(" | ")]
 
 
+@cache
 def tables() -> dict[tuple[str, ...], list[Row]]:
     """The rows of each table, by the heads of its columns."""
     found: dict[tuple[str, ...], list[Row]] = {}

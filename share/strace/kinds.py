@@ -53,7 +53,7 @@ KINDS: dict[str, Callable[[str], bool]] = {
 
 
 # The numbers that a word may have, where it isn't all of its kind.
-WITHIN = {("ns", 1): (1, 15), ("lane", 1): (1, 16)}
+WITHIN = {("ns", 1): (1, 15), ("ns", 3): (0, 15), ("lane", 1): (1, 16)}
 
 
 def expected_of(form: str, words: list[str]) -> list[str]:
