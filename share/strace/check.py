@@ -11,7 +11,7 @@ import textwrap
 from .command import Fault, shown
 from .forms import NoPage, form_of, spelling, tests
 from .hints import hints, words_of
-from .running import program
+from .running import cant_run, program
 
 GOOD, BAD, NOT_CHECKED = 0, 2, 3
 
@@ -24,7 +24,7 @@ def verdict(script: bytes) -> tuple[int, str] | None:
     try:
         done = subprocess.run([program(), "run"], input=script, stdout=subprocess.PIPE, check=False)
     except OSError as fault:
-        raise Fault(f"{program()} can't be run: {fault.strerror}") from None
+        raise Fault(cant_run(fault)) from None
     if done.returncode == 0:
         return None
     match = re.fullmatch(rb"bad (\d+) (\w+)\n?", done.stdout)
