@@ -6,9 +6,9 @@
 # The marks are millions of instructions, three in a hundred above what the scripts took last, with a
 # slot of the shared words that has room for 1,024 groups: so what is lost later is seen. On changes there is one of
 # 4 MB of memory too: run keeps no journal, so its memory doesn't grow with the report.
-# Then a script of calls that 64 threads make, 1.28 million entries, is held against a program that only
+# Then a script of calls that 64 threads make, 1.28 million entries, is compared with a program that only
 # writes as many bytes and digits (writes.rs); there the mark is 2, and 10 MB. Its report is audited,
-# which is held against the run that made it: the mark is 2 there too.
+# which is compared with the run that made it: the mark is 2 there too.
 #
 # It needs rustc and GNU time. No part of the checks.
 set -eu

@@ -13,12 +13,12 @@ from .command import Fault, add_options, converted, options_of
 from .log import Call
 from .probe import Probe
 from .rows import Explainer
-from .running import program
+from .running import cant_run, program
 from .script import Line, Script
 
 AGREES, DIFFERS, NOT_COMPARED, ENDS_BEFORE = 0, 1, 2, 3
 
-# The entries that decide a line; the others take hold of a credential and let go of it.
+# The entries that decide a line; the others take hold of a credential and drop it.
 DECIDING = frozenset("begin act ask change open signal spawn fork exit".split())
 
 
@@ -29,7 +29,7 @@ def report_of(script: str) -> str:
             [program(), "run"], input=script.encode("ascii"), stdout=subprocess.PIPE, check=False
         )
     except OSError as fault:
-        raise Fault(f"{program()} can't be run: {fault.strerror}") from None
+        raise Fault(cant_run(fault)) from None
     text = done.stdout.decode("latin-1")
     if done.returncode:
         raise Fault(f"{program()} ended with status {done.returncode}: {text.strip()[:200]}")

@@ -365,4 +365,4 @@ class Journal:
         decision.change = bool(sender and other and sender.process == other.process)
 
     def on_sweep(self, words, told):
-        """What was given up is let go of."""
+        """What was given up is dropped."""
