@@ -72,10 +72,10 @@ row script entries 'proved s, KiB' 'plain s, KiB' 'mark, KiB' \
 for name in calls changes holds checks broadcast; do
   "$proved" run < "$dir/$name" > "$dir/report"
   case $name in
-    calls) mark=38.5 ;;
-    changes) mark=70.1 ;;
-    holds) mark=20.6 ;;
-    checks) mark=49 ;;
+    calls) mark=38.8 ;;
+    changes) mark=70.4 ;;
+    holds) mark=21 ;;
+    checks) mark=49.4 ;;
     broadcast) mark=117.3 ;;
   esac
   ours=$(seconds "$proved" "$name")
