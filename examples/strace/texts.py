@@ -236,7 +236,8 @@ DIFFERENCES = [
      + RUNS.format("/bin/su", 0) + IDS, 0, [f"it may be: {TRACED}"], []),
     ("a drop that a row explains, and what is read then", USER, RUNS.format("/bin/su", 0)
      + "7 prctl(PR_CAPBSET_DROP, CAP_CHOWN) = -1 EPERM (Operation not permitted)\n"
-     "7 prctl(PR_CAPBSET_READ, CAP_CHOWN) = 1\n", 0, [TRACED, "agree: 2 calls, explained by docs/LINUX.md: 1,"], []),
+     "7 prctl(PR_CAPBSET_READ, CAP_CHOWN) = 1\n", 0,
+     [TRACED, "agree: 2 calls, explained by docs/LINUX.md: 1,"], []),
     ("securebits above bit 7", ROOT, BEGINS
      + "7 prctl(PR_SET_SECUREBITS, 0x100 /* SECBIT_??? */) = 0\n"
      "7 prctl(PR_GET_SECUREBITS) = 0x100\n7 prctl(PR_SET_SECUREBITS, SECBIT_NOROOT|0xf00) = 0\n"

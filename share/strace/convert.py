@@ -169,7 +169,7 @@ class Converter(Sayer):
                 self.gone([task], item.last)
             return
         if task is None and item.context:
-            # Another process of the log than those that are converted: it may change a file of theirs.
+            # Another process than those that are converted: it may change a file of theirs.
             nobody = Task(0, item.pid, Process(0), Where(folder=None))
             self.changes.elsewhere(nobody, item)
             return

@@ -37,7 +37,8 @@ class Space:
     denied: bool = False
     # Who made it, by the effective user id.
     owner: int = 0
-    # Programs that its tasks executed before it had a map: the line, and the real and effective user.
+    # Programs that its tasks executed before it had a map: the line, the real and the effective
+    # user.
     early: list[tuple[int, int, int]] = field(default_factory=list)
 
     def outside(self, value: int, groups: bool) -> int | None:
@@ -91,8 +92,8 @@ class Space:
             if root in users:
                 self.uids = None
                 raise Unheld(
-                    f"user {root} becomes root of the namespace, and has executed a program there at "
-                    f"line {line}, when nobody was: a script's namespace has its root from the "
+                    f"user {root} becomes root of the namespace, and has executed a program there "
+                    f"at line {line}, when nobody was: a script's namespace has its root from the "
                     "beginning"
                 )
 
