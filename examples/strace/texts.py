@@ -214,6 +214,7 @@ ROOT = USER.replace("1000", "0").replace("CapPrm:\t0", "CapPrm:\t1ffffffffff").r
 FILES = """/bin/sh reg 0 0 0755
 /bin/su reg 0 0 4755
 /mnt/tool reg 0 0 0755 noexec
+/mnt/su reg 0 0 4755 nosuid
 /home/tool reg 0 0 0755
 / dir 0 0 0755
 /home dir 0 0 0750
@@ -326,6 +327,12 @@ DIFFERENCES = [
     ("another process changes a file", ROOT, BEGINS + "7 fork() = 8\n7 fork() = 9\n"
      + RUNS.replace("7 ", "8 ").format("/bin/su", 0) + '9 chmod("/bin/su", 0755) = 0\n'
      + RUNS.replace("7 ", "8 ").format("/bin/su", 0), 3, ["line 5 changes /bin/su"], []),
+    ("a nosuid mount", ROOT, BEGINS + "7 setuid(5) = 0\n" + RUNS.format("/mnt/su", 0)
+     + "7 geteuid() = 5\n", 0, ["agree: 4"], []),
+    ("a nosuid mount that is mounted again without", ROOT, BEGINS
+     + '7 mount("/mnt", "/home", NULL, MS_BIND, NULL) = 0\n'
+     '7 mount(NULL, "/home", NULL, MS_REMOUNT|MS_BIND, NULL) = 0\n7 setuid(5) = 0\n'
+     + RUNS.format("/home/su", 0) + "7 geteuid() = 0\n", 0, ["agree: 4"], []),
     ("strace lets go", ROOT, BEGINS + "7 setuid(5) = 0\n7 vfork( <unfinished ...>\n"
      "8 getuid() = 5\n7 <... vfork resumed> <detached ...>\n8 vfork( <detached ...>\n", 3,
      ["agree: 2", "left: the calls of 1 tasks"], []),
