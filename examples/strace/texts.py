@@ -334,7 +334,14 @@ DIFFERENCES = [
      '7 mount(NULL, "/home", NULL, MS_REMOUNT|MS_BIND, NULL) = 0\n7 setuid(5) = 0\n'
      + RUNS.format("/home/su", 0) + "7 geteuid() = 0\n", 0, ["agree: 4"], []),
     ("strace lets go", ROOT, BEGINS + "7 setuid(5) = 0\n7 vfork( <unfinished ...>\n"
-     "8 getuid() = 5\n7 <... vfork resumed> <detached ...>\n8 vfork( <detached ...>\n", 3,
+     "8 getuid() = 5\n7 <... vfork resumed> <detached ...>\n8 vfork( <detached ...>\n", 0,
+     ["agree: 4"], ["left: "]),
+    ("strace is killed in a fork", ROOT, BEGINS + "7 clone(child_stack=NULL, flags=SIGCHLD "
+     "<unfinished ...>\n8 setuid(5) = 0\n8 getuid() = 5\n", 0, ["agree: 4"], ["left: "]),
+    ("a parent that is killed in a vfork", ROOT, BEGINS + "7 vfork( <unfinished ...>\n"
+     "8 setuid(5) = 0\n7 +++ killed by SIGKILL +++\n8 getuid() = 5\n", 0, ["agree: 4"], ["left: "]),
+    ("strace is killed in two forks", ROOT, BEGINS + "7 fork() = 8\n8 vfork( <unfinished ...>\n"
+     "7 vfork( <unfinished ...>\n9 setuid(5) = 0\n9 getuid() = 5\n", 3,
      ["agree: 2", "left: the calls of 1 tasks"], []),
     ("a thread's own filesystem id", ROOT, BEGINS
      + "7 clone(child_stack=NULL, flags=CLONE_VM|CLONE_FS|CLONE_FILES|CLONE_THREAD) = 8\n"
