@@ -48,6 +48,9 @@ def paired(inner: list[Call], strangers: list[int], seen: dict[int, int]) -> dic
     pairs = list(zip(order, strangers, strict=True))
     if any(call.first > seen[pid] for call, pid in pairs):
         return {}
+    # Of creations that are under way at the same time nobody knows which one came first.
+    if any(one.last > other.first for one, other in zip(order, order[1:], strict=False)):
+        return {}
     return {
         id(call): replace(
             call,
