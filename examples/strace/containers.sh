@@ -1,5 +1,5 @@
-# Other roots, mounts, user namespaces and containers, of which examples/strace/record makes logs. It reads
-# this file; alone it does nothing.
+# Other roots, mounts, user namespaces and containers, of which examples/strace/record makes logs.
+# It reads this file; alone it does nothing.
 # shellcheck shell=sh disable=SC2154,SC2034 # its variables are those of record
 
 # A root of its own, with a set-user-ID program of user 1001, which the host has as root's.
@@ -98,7 +98,8 @@ INSIDE
   trace=$places record entered sh inside
 }
 
-# Crun takes a machine alone that has cgroup2 and nothing else, so it is given a mount namespace of that kind.
+# Crun takes a machine alone that has cgroup2 and nothing else, so it is given a mount namespace of
+# that kind.
 only_cgroup2() {
   cat > only << 'ONLY'
 umount -l /sys/fs/cgroup
@@ -108,7 +109,8 @@ ONLY
   inside='unshare --mount sh ./only'
 }
 
-# A container by crun, whose program is of user 1000, with the three capabilities of crun's own example.
+# A container by crun, whose program is of user 1000, with the three capabilities of crun's own
+# example.
 crun_() {
   jail
   mkdir -p bundle
@@ -123,8 +125,8 @@ crun_() {
   inside=
 }
 
-# The same by a user, as Podman does it: crun makes a user namespace, has its maps written, and executes
-# itself from a memfd.
+# The same by a user, as Podman does it: crun makes a user namespace, has its maps written, and
+# executes itself from a memfd.
 crun_rootless() {
   mkdir -m 755 user run
   chown 1000 run

@@ -214,6 +214,7 @@ ROOT = USER.replace("1000", "0").replace("CapPrm:\t0", "CapPrm:\t1ffffffffff").r
 FILES = """/bin/sh reg 0 0 0755
 /bin/su reg 0 0 4755
 /mnt/tool reg 0 0 0755 noexec
+/mnt/su reg 0 0 4755 nosuid
 /home/tool reg 0 0 0755
 / dir 0 0 0755
 /home dir 0 0 0750
@@ -236,7 +237,8 @@ DIFFERENCES = [
      + RUNS.format("/bin/su", 0) + IDS, 0, [f"it may be: {TRACED}"], []),
     ("a drop that a row explains, and what is read then", USER, RUNS.format("/bin/su", 0)
      + "7 prctl(PR_CAPBSET_DROP, CAP_CHOWN) = -1 EPERM (Operation not permitted)\n"
-     "7 prctl(PR_CAPBSET_READ, CAP_CHOWN) = 1\n", 0, [TRACED, "agree: 2 calls, explained by docs/LINUX.md: 1,"], []),
+     "7 prctl(PR_CAPBSET_READ, CAP_CHOWN) = 1\n", 0,
+     [TRACED, "agree: 2 calls, explained by docs/LINUX.md: 1,"], []),
     ("securebits above bit 7", ROOT, BEGINS
      + "7 prctl(PR_SET_SECUREBITS, 0x100 /* SECBIT_??? */) = 0\n"
      "7 prctl(PR_GET_SECUREBITS) = 0x100\n7 prctl(PR_SET_SECUREBITS, SECBIT_NOROOT|0xf00) = 0\n"
@@ -325,8 +327,21 @@ DIFFERENCES = [
     ("another process changes a file", ROOT, BEGINS + "7 fork() = 8\n7 fork() = 9\n"
      + RUNS.replace("7 ", "8 ").format("/bin/su", 0) + '9 chmod("/bin/su", 0755) = 0\n'
      + RUNS.replace("7 ", "8 ").format("/bin/su", 0), 3, ["line 5 changes /bin/su"], []),
+    ("a nosuid mount", ROOT, BEGINS + "7 setuid(5) = 0\n" + RUNS.format("/mnt/su", 0)
+     + "7 geteuid() = 5\n", 0, ["agree: 4"], []),
+    ("a nosuid mount that is mounted again without", ROOT, BEGINS
+     + '7 mount("/mnt", "/home", NULL, MS_BIND, NULL) = 0\n'
+     '7 mount(NULL, "/home", NULL, MS_REMOUNT|MS_BIND, NULL) = 0\n7 setuid(5) = 0\n'
+     + RUNS.format("/home/su", 0) + "7 geteuid() = 0\n", 0, ["agree: 4"], []),
     ("strace lets go", ROOT, BEGINS + "7 setuid(5) = 0\n7 vfork( <unfinished ...>\n"
-     "8 getuid() = 5\n7 <... vfork resumed> <detached ...>\n8 vfork( <detached ...>\n", 3,
+     "8 getuid() = 5\n7 <... vfork resumed> <detached ...>\n8 vfork( <detached ...>\n", 0,
+     ["agree: 4"], ["left: "]),
+    ("strace is killed in a fork", ROOT, BEGINS + "7 clone(child_stack=NULL, flags=SIGCHLD "
+     "<unfinished ...>\n8 setuid(5) = 0\n8 getuid() = 5\n", 0, ["agree: 4"], ["left: "]),
+    ("a parent that is killed in a vfork", ROOT, BEGINS + "7 vfork( <unfinished ...>\n"
+     "8 setuid(5) = 0\n7 +++ killed by SIGKILL +++\n8 getuid() = 5\n", 0, ["agree: 4"], ["left: "]),
+    ("strace is killed in two forks", ROOT, BEGINS + "7 fork() = 8\n8 vfork( <unfinished ...>\n"
+     "7 vfork( <unfinished ...>\n9 setuid(5) = 0\n9 getuid() = 5\n", 3,
      ["agree: 2", "left: the calls of 1 tasks"], []),
     ("a thread's own filesystem id", ROOT, BEGINS
      + "7 clone(child_stack=NULL, flags=CLONE_VM|CLONE_FS|CLONE_FILES|CLONE_THREAD) = 8\n"

@@ -1,6 +1,7 @@
 """Calls that the kernel refused and the program allows.
 
-They changed nothing, so what comes later is told by a script in which they stand aside, as comments.
+They changed nothing, so what comes later is told by a script in which they stand aside, as
+comments.
 """
 
 from __future__ import annotations
@@ -11,7 +12,7 @@ from dataclasses import dataclass, replace
 from .rows import CHANGED
 from .script import Line
 
-# How often a script is run again without the first such line; then all that are like it stand aside.
+# How often a script is run again without the first such line; then all like it stand aside.
 RUNS = 20
 
 # A report's answers by the lines of its script.

@@ -136,7 +136,7 @@ def since_the_log(files: Files, logs: list[str]) -> list[str]:
     times = [os.stat(log).st_mtime for log in logs if os.path.isfile(log)]
     changed = files.changed_after(max(times)) if times else []
     return [
-        f"{place} was changed after the log was written: give a list of files as they were (--files)"
+        f"{place} was changed after the log was written: list the files as they were (--files)"
         for place in changed
     ]
 

@@ -109,9 +109,9 @@ class Comparison:
         if not self.told or "no row explains it" not in self.told[0]:
             return None
         return (
-            f"{self.told[0].split(': ')[0]} is the first of {len(self.told)} calls that differ. The "
-            "script begins as root with all capabilities, since no --start was given, and the log "
-            "may not: name the text of /proc/PID/status where it begins by --start"
+            f"{self.told[0].split(': ')[0]} is the first of {len(self.told)} calls that differ. "
+            "The script begins as root with all capabilities, since no --start was given, and the "
+            "log may not: name the text of /proc/PID/status where it begins by --start"
         )
 
     def sum(self) -> str:

@@ -10,7 +10,7 @@ from .changes import Changes
 from .enters import Entries, is_map
 from .files import Files, Found, Missing
 from .lines import fields
-from .log import EXECUTIONS, Call, Gone, Item, Renamed
+from .log import CREATIONS, EXECUTIONS, Call, Gone, Item, Renamed
 from .moves import Moves, argument, clone_flags
 from .opened import FILE, told
 from .paths import Paths
@@ -20,8 +20,6 @@ from .script import TASKS, Facts, Line, Stop
 from .start import Start
 from .tasks import Process, Task
 from .together import Together
-
-CREATIONS = ("fork", "vfork", "clone", "clone3")
 
 ENDS = ("exit", "exit_group")
 
@@ -169,7 +167,7 @@ class Converter(Sayer):
                 self.gone([task], item.last)
             return
         if task is None and item.context:
-            # Another process of the log than those that are converted: it may change a file of theirs.
+            # Another process than those that are converted: it may change a file of theirs.
             nobody = Task(0, item.pid, Process(0), Where(folder=None))
             self.changes.elsewhere(nobody, item)
             return

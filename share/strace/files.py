@@ -152,9 +152,12 @@ class Files:
         apart = apart and is_privileged(words)
         if (mount.nosuid or apart) and " nosuid" not in words:
             words = " ".join([*words.split()[:4], "nosuid", *words.split()[4:]])
+        elif mount.nosuid is False and not apart:
+            words = words.replace(" nosuid", "")
         name = named.place
         if words != file.words:
-            name += " of another mount namespace" if apart else " through a nosuid mount"
+            kind = "nosuid" if " nosuid" in words else "suid"
+            name += " of another mount namespace" if apart else f" through a {kind} mount"
         return Found(name, File(words, file.interpreter, noexec), place, named.place)
 
     def changed_after(self, time: float) -> list[str]:

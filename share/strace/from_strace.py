@@ -60,8 +60,8 @@ def main(words: list[str]) -> int:
         sys.stdout.write(script)
         if count:
             converter.notes.append(
-                f"{count} calls that were refused stand in the script as comments: a seccomp filter "
-                "or the user namespace may have done it, and nothing came of them"
+                f"{count} calls that were refused stand in the script as comments: a seccomp "
+                "filter or the user namespace may have done it, and nothing came of them"
             )
         tell(converter, bool(given.table))
     for left in converter.what_is_left():

@@ -6,9 +6,7 @@ import re
 from dataclasses import replace
 
 from . import changes, moves
-from .log import Call, Item, Renamed
-
-CREATIONS = ("fork", "vfork", "clone", "clone3")
+from .log import CREATIONS, Call, Item, Renamed
 
 # Calls that say where paths lead and what descriptors are of, for the children too.
 CONTEXT = frozenset(

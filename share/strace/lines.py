@@ -43,8 +43,8 @@ MESSAGE = re.compile(r"strace: .*|\[ Process PID=\d+ runs in .* mode\. \]| > .*"
 
 ATTACHED = re.compile(r"strace: Process (\d{1,9}) attached(?: with \d+ threads)?$")
 
-# A call that isn't ended on its line; of an execve in another thread than the first -ff writes which
-# pid it has from then on.
+# A call that isn't ended on its line; of an execve in another thread than the first -ff writes
+# which pid it has from then on.
 UNFINISHED = "<unfinished ...>"
 PID_CHANGED = re.compile(r"<pid changed to \d{1,9} \.\.\.>$")
 

@@ -232,7 +232,7 @@ class Moves:
         task.descriptors.duplicates(descriptor(argument(call, 0)), call.result.value)
 
     def given(self, task: Task, call: Call) -> None:
-        """A descriptor of what nobody knows, unless strace tells it with -y: it isn't the old one."""
+        """A descriptor of what only -y tells: it isn't the one that had the number before."""
         if not call.name.startswith("recv"):
             task.descriptors.closes(call.result.value)
         for listed in RIGHTS.findall(" ".join(call.args)):

@@ -13,8 +13,8 @@ BEARING = frozenset(
     "pidfd_send_signal rt_sigqueueinfo rt_tgsigqueueinfo kill tkill tgkill capset mount umount2 "
     "pivot_root move_mount mount_setattr open_tree setns unshare chmod fchmod fchmodat fchmodat2 "
     "chown lchown fchown fchownat setxattr lsetxattr fsetxattr removexattr lremovexattr "
-    "fremovexattr setxattrat umask bpf io_uring_setup landlock_restrict_self setuid setgid setreuid setregid "
-    "setresuid setresgid setgroups setfsuid setfsgid".split()
+    "fremovexattr setxattrat umask bpf io_uring_setup landlock_restrict_self setuid setgid "
+    "setreuid setregid setresuid setresgid setgroups setfsuid setfsgid".split()
 )
 
 # The same of prctl(2), by its operation.

@@ -1,4 +1,4 @@
-"""Why the kernel refuses a file that the program allows: what holds of the file, the task and the path."""
+"""Why the kernel refuses what the program allows: what holds of the file and of the task."""
 
 from __future__ import annotations
 

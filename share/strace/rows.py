@@ -267,7 +267,8 @@ class Explainer:
             return "", self.text(NOT_MODE, why="the file's mount has noexec")
         before = self.probe.before(number)
         if by_capability(before, line):
-            return "", self.text(COUNTS, why="the file's owner or group isn't mapped in the namespace")
+            why = "the file's owner or group isn't mapped in the namespace"
+            return "", self.text(COUNTS, why=why)
         searched = before.searched if before else {}
         closed = [place for place, may in searched.items() if not may]
         if closed:

@@ -37,7 +37,8 @@ class Space:
     denied: bool = False
     # Who made it, by the effective user id.
     owner: int = 0
-    # Programs that its tasks executed before it had a map: the line, and the real and effective user.
+    # Programs that its tasks executed before it had a map: the line, the real and the effective
+    # user.
     early: list[tuple[int, int, int]] = field(default_factory=list)
 
     def outside(self, value: int, groups: bool) -> int | None:
@@ -91,8 +92,8 @@ class Space:
             if root in users:
                 self.uids = None
                 raise Unheld(
-                    f"user {root} becomes root of the namespace, and has executed a program there at "
-                    f"line {line}, when nobody was: a script's namespace has its root from the "
+                    f"user {root} becomes root of the namespace, and has executed a program there "
+                    f"at line {line}, when nobody was: a script's namespace has its root from the "
                     "beginning"
                 )
 
@@ -142,7 +143,8 @@ def set_ids(ids: list[int], name: str, values: list[int], is_root: bool) -> None
     """What a call that succeeded makes of real, effective, saved and filesystem id."""
     kept = [old if new == -1 else new for old, new in zip(ids, values, strict=False)]
     if name == "setfsuid":
-        ids[3] = values[0] if values[0] != -1 else ids[3]
+        # Its result doesn't tell whether it was permitted: setfsuid(2).
+        ids[3] = values[0] if values[0] != -1 and (is_root or values[0] in ids) else ids[3]
     elif name == "setuid":
         is_new = values[0] not in (ids[0], ids[2])
         ids[:] = [values[0]] * 4 if is_root or is_new else [ids[0], values[0], ids[2], values[0]]

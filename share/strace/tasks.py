@@ -123,7 +123,7 @@ class Tasks:
         self.told.append(f"{task.name} p{task.process.number} {task.pid}")
 
     def find(self, text: str, asker: Task) -> Task | None:
-        """The task that another one names by a pid of its PID namespace, or by `@` and the log's."""
+        """The task that another names: by a pid of its PID namespace, or by `@` and the log's."""
         told = text.startswith("@") or lines.TRANSLATED.search(text) is not None
         number = lines.pid(text.removeprefix("@"))
         if number is None:

@@ -1,10 +1,10 @@
-// A program that does at random what changes and asks credentials, for examples/strace/at-random/run:
+// A program that does at random what changes and asks credentials, for run beside it:
 //
 //     actor SEED STEPS
 //
-// It stands in a folder with copies of itself of all owners, modes and attributes, `tool0` and so on,
-// and with files `note0` and so on; the same lie in its folder `jail`. A child, a thread and a program
-// that it executes go on with a seed of their own. What fails is as good as what succeeds.
+// It stands in a folder with copies of itself of all owners, modes and attributes, `tool0` and so
+// on, and with files `note0` and so on; the same lie in its folder `jail`. A child, a thread and a
+// program that it executes go on with a seed of their own. What fails is as good as what succeeds.
 #define _GNU_SOURCE
 #include <errno.h>
 #include <fcntl.h>

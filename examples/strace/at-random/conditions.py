@@ -8,7 +8,7 @@ from pathlib import Path
 
 from strace import rows
 
-# What is told of a difference: the call, the kernel's answer, the report's, the script's line; then why.
+# What is told of a difference: the call, the kernel's answer, the report's, the script's line.
 DIFFERENCE = re.compile(
     r"line (?P<line>\d+): pid (?P<pid>\d+) (?P<call>.*): the kernel (?P<kernel>[^,]*), "
     r"the report (?P<report>.*) \(line \d+: (?P<text>.*)\)$"

@@ -19,14 +19,16 @@
 static int copied(int from) {
   int to = memfd_create("copy", 0);
   char bytes[1 << 16];
-  for (ssize_t count; (count = read(from, bytes, sizeof bytes)) > 0;) (void)!write(to, bytes, count);
+  ssize_t count;
+  while ((count = read(from, bytes, sizeof bytes)) > 0) (void)!write(to, bytes, count);
   close(from);
   return to;
 }
 
 void execute(unsigned steps) {
-  static const char *const ways[] = {"tool%u", "./tool%u", "/tool%u", "jail/../tool%u", "again/tool%u",
-                                     "tool%u", "link/tool%u", "script%u", "to-tool%u"};
+  static const char *const ways[] = {"tool%u", "./tool%u", "/tool%u", "jail/../tool%u",
+                                     "again/tool%u", "tool%u", "link/tool%u", "script%u",
+                                     "to-tool%u"};
   char name[64], seed[16], count[16];
   snprintf(name, sizeof name, ways[pick(9)], pick(FILES));
   snprintf(seed, sizeof seed, "%u", pick(1u << 30));
@@ -37,7 +39,9 @@ void execute(unsigned steps) {
     case 0: execve("/proc/self/exe", words, none); break;
     case 1: syscall(SYS_execveat, open(name, O_PATH), "", words, none, AT_EMPTY_PATH); break;
     case 2: syscall(SYS_execveat, open(".", O_PATH | O_DIRECTORY), name, words, none, 0); break;
-    case 3: syscall(SYS_execveat, copied(open(name, O_RDONLY)), "", words, none, AT_EMPTY_PATH); break;
+    case 3:
+      syscall(SYS_execveat, copied(open(name, O_RDONLY)), "", words, none, AT_EMPTY_PATH);
+      break;
     default: execve(name, words, none);
   }
 }
@@ -67,7 +71,7 @@ static void new_user_namespace(void) {
   if (unshare(CLONE_NEWUSER | (pick(2) ? CLONE_NEWNS : 0)) == 0 && pick(4)) map("self");
 }
 
-// A child in a user namespace, whose maps the parent writes, which goes on there; or which is entered.
+// A child in a user namespace, whose maps the parent writes, which goes on there, or is entered.
 static void child_namespace(void) {
   int gate[2];
   if (pipe(gate)) return;
