@@ -2,7 +2,7 @@
 
 prctl(2), PR_SET_DUMPABLE: "Normally, the "dumpable" attribute is set to 1. However, it is reset to
 the current value contained in the file /proc/sys/fs/suid_dumpable (which by default has the value
-0), in the following circumstances". What sets it to 1 again is in docs/RULES.md, "Dumpable".
+0), in the following circumstances". What sets it to 1 again is in docs/RULES.md, "Dumpable processes".
 """
 from itertools import product
 
