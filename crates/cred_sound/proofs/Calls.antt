@@ -26,7 +26,7 @@ use Rattle.cred_model.proofs.Numbers.{owner_number}
 use Rattle.cred_model.proofs.Referred.{all_survive, each_ended}
 use Rattle.cred_sound.proofs.References.{own_refs, current_stands}
 use Rattle.cred_sound.proofs.Tests.{outcome_has, if_some, if_none, if_fewer, if_idle, if_own, if_rule, in_slots}
-use Rattle.cred_sound.proofs.Parts.{with_left, Changes, ByBegin, ByAct, BySpawn, ByFork, ByExit, ByAbort, Shares, Renews, Fewer}
+use Rattle.cred_sound.proofs.Parts.{with_left, Changes, OfCall, ByBegin, ByAct, BySpawn, ByFork, ByExit, ByAbort, Shares, Renews, Fewer}
 use Rattle.cred_sound.proofs.OnePart.{still_left, gives_up, still, refused, with_tasks, only_tasks}
 
 -- what the tasks that end referred to
@@ -67,6 +67,7 @@ begin_changes script s line task call =
     let is = own_is s task owner old found at in
     with_tasks script s event (Began (length s.creds) slot (length others)) left (with_current s.tasks task (length s.creds))
     (with_cast s.casts (by task)) (renewed s.dumpable owner.process (differs old.cred new)) new slot (left ++ old.number ∷ []) fewer free
+    (OfCall task old call is ruled)
     (Renews task slot owner new (λ t. false) (renewed_all s task) refl found
     (ByBegin call old line slot refl is ruled unused idle refl
     (ap (λ caller. with_cast s.casts (by caller)) (sym (owner_number s task owner found))) refl refl))
@@ -99,6 +100,7 @@ follow_changes script s number task cast owner old (Ok new) opened first found i
     (λ left slot fewer free.
     with_tasks script s event (Acted task (length s.creds) slot left_waiting) left (with_current s.tasks task (length s.creds))
     (waits_no_more task s.casts) (renewed s.dumpable owner.process (differs old.cred new)) new slot (left ++ old.number ∷ []) fewer free
+    (OfCall task old cast.call is ruled)
     (Renews task slot owner new (λ t. false) (renewed_all s task) refl found
     (ByAct number slot cast old refl opened first is ruled refl refl refl refl))
     (gives_up (with_left s left) old.number (current_stands (with_left s left) task old is)))

@@ -55,7 +55,7 @@ renewed_flags s event task owner ends made c (ByBegin call before number slot is
 renewed_flags s event task owner ends made c (ByAct number slot cast before is opened first has ruled none casts answer flags) found are =
     let now = with_current (survivors ends s.tasks) task (length s.creds) in
     subst (AreFlagged now) (sym flags) (flags_renewed now s.dumpable owner.process _ (none_ends ends s.tasks s.dumpable task (length s.creds) none are))
-renewed_flags s event task owner ends made c (ByCommit label place slot count p last is at changed same cred ending casts answer flags) found are =
+renewed_flags s event task owner ends made c (ByCommit label place slot count p last is first at own changed same cred ending casts answer flags) found are =
     let now = with_current (survivors ends s.tasks) task (length s.creds) in
     subst (AreFlagged now) (sym flags)
     (flags_done last.change last.gains now s.dumpable owner.process (differs_by s owner last)

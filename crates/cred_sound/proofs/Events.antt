@@ -1,5 +1,5 @@
 -- What each event changes.
-use Rattle.std.proofs.Common.{◌≡◌, ◌==◌, ◌⊎◌, inl, inr, ℕ, List, [], ◌∷◌, ◌++◌, length, slice_get, drop, Option, Some, None, true, false, cond, refl, sym, subst, position}
+use Rattle.std.proofs.Common.{◌≡◌, ◌==◌, ◌&&◌, ◌⊎◌, inl, inr, Bool, ℕ, List, [], ◌∷◌, ◌++◌, length, slice_get, drop, Option, Some, None, true, false, cond, refl, sym, subst, position}
 use Rattle.std.specs.List.{All, Contains, count_by, remove}
 use Rattle.std.specs.Option.{option_and_then}
 use Rattle.std.proofs.lemmas.Bool.{eqb-true}
@@ -33,7 +33,7 @@ use Rattle.cred_model.proofs.Lists.{All-at}
 use Rattle.cred_sound.specs.Ledger.{SealsOf}
 use Rattle.cred_sound.proofs.References.{owner_stands, overrides_stand, credential_stands, opener_stands, held_by_stands, file_stands, found_stands, held_stands, base_stands}
 use Rattle.cred_sound.proofs.Tests.{IfAllowed, outcome_has, if_some, if_none, if_either, if_fewer, if_passed, if_idle, if_own, if_last, if_ok, in_slots}
-use Rattle.cred_sound.proofs.Parts.{with_left, Old, OldOrNew, grows, casts_left, Changes, Seals, ByCommit, SetsFlag, Creates, Renews, Overrides, Stays, Adds, Removes, Prepares, Alters, Ends}
+use Rattle.cred_sound.proofs.Parts.{with_left, Old, OldOrNew, grows, casts_left, Changes, Seals, OfFirst, OfLabel, ByCommit, SetsFlag, Creates, Renews, Overrides, Stays, Adds, Removes, Prepares, Alters, Ends}
 use Rattle.cred_sound.proofs.OnePart.{still_left, gives_up, fits_own, still, refused, with_tasks, only_tasks, with_lists, with_prepared}
 use Rattle.cred_sound.proofs.Calls.{ended_stay, begin_changes, act_changes, spawn_changes, fork_changes, exit_changes}
 
@@ -55,6 +55,7 @@ init_changes script s line task process user group ns =
     (still script s event TableFull)
     (λ left slot fewer free.
     with_tasks script s event (Sealed (length s.creds) slot) left (s.tasks ++ first ∷ []) s.casts (flags_begun s process) c slot left fewer free
+    (OfFirst user group ns (root_of script ns) refl)
     (Creates task process user group ns slot refl refl refl new idle refl refl) (still_left s left))))))
 
 -- a label takes hold of what is referred to
@@ -201,11 +202,11 @@ commit_fresh script s label place p last owner at is changed found same =
       left = s.deferred;
       fewer = All-contains_itself s.deferred;
       tasks = Renews p.task p.slot owner last.cred ends refl refl found
-          (ByCommit label place p.slot (count_by ends s.tasks) p last refl is changed same refl refl refl refl refl);
+          (ByCommit label place p.slot (count_by ends s.tasks) p last refl at is refl changed same refl refl refl refl refl);
       files = Stays refl;
       holds = Stays refl;
       prepared = Ends label place p (inl refl) refl at is;
-      creds = Seals last.cred p.slot refl (fits_own s (Commit label) t label place p refl refl at is);
+      creds = Seals last.cred p.slot refl (fits_own s (Commit label) t label place p refl refl at is) (OfLabel place p last is changed refl);
       deferred = All-append Has (ended ends s).deferred (owner.current ∷ p.base ∷ []) (ended_stay s ends)
           (All-cons Has owner.current (p.base ∷ []) (owner_stands s p.task owner found)
           (All-cons Has p.base [] (base_stands s place p is) (All-nil Has)));
@@ -272,6 +273,19 @@ override_held_has script s event task label owner held found is =
     (own_overrides s t task owner found left)) refl refl)
     (still_left s s.deferred))
 
+-- what is lent for access(2) is what was changed last
+kept_some : (test : Changed → Bool) (changed : Option Changed) (last : Changed)
+    → option_and_then (λ x. cond (test x) (Some x) None) changed ≡ Some last → changed ≡ Some last
+kept_some test None last is = cc
+kept_some test (Some x) last is =
+    elim (test x) as (λ b. cond b (Some x) None ≡ Some last → Some x ≡ Some last) [
+      | true ↦ λ same. same
+      | false ↦ λ none. absurd (cc)
+    ] is
+
+changed_for_access : (task : ℕ) (p : Prepared) (last : Changed) → for_access task p ≡ Some last → p.changed ≡ Some last
+changed_for_access task p last = kept_some (λ x. (p.task == task) && is_access x.change) p.changed last
+
 override_prepared_has : (script : Script) (s : State) (task label : ℕ) (owner : Task) → task_of s task ≡ Some owner
     → IfAllowed (Changes script s (Override task label)) (override_prepared s owner label)
 override_prepared_has script s task label owner found =
@@ -291,7 +305,8 @@ override_prepared_has script s task label owner found =
       files = Stays refl;
       holds = Stays refl;
       prepared = Ends label place p (inl refl) refl at is;
-      creds = Seals last.cred p.slot refl (fits_own s event t label place p refl refl at is);
+      creds = Seals last.cred p.slot refl (fits_own s event t label place p refl refl at is)
+          (OfLabel place p last is (changed_for_access owner.number p last changed) refl);
       deferred = gives_up s p.base (base_stands s place p is);
     }))))
 

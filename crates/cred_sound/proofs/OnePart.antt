@@ -15,7 +15,7 @@ use Rattle.cred_model.proofs.Lists.{All-at, All-unmap, AllPairs-unmap, alone, at
 use Rattle.cred_sound.specs.Ledger.{IsClear, IsOrderly, SealsOf, ledger}
 use Rattle.cred_sound.proofs.Moves.{Apart}
 use Rattle.cred_sound.proofs.References.{IsFree, own_refs}
-use Rattle.cred_sound.proofs.Parts.{with_left, sealed_cred, Fits, Changes, TasksChange, FilesChange, HoldsChange, PreparedChange, SameCreds, Seals, SameTasks, Stays, SamePrepared}
+use Rattle.cred_sound.proofs.Parts.{with_left, sealed_cred, Fits, Origin, Changes, TasksChange, FilesChange, HoldsChange, PreparedChange, SameCreds, Seals, SameTasks, Stays, SamePrepared}
 
 -- ---- the references that are left
 
@@ -82,9 +82,9 @@ refused script s event answer = still script s event answer s.deferred (All-cont
 pub with_tasks : (script : Script) (s : State) (event : Event) (answer : Answer) (left : List ℕ) (tasks : List Task)
     (casts : List Broadcast) (flags : List ProcessFlag) (c : Credential) (slot : ℕ) (deferred : List ℕ)
     → let t = record s { tasks = tasks; casts = casts; deferred = deferred; dumpable = flags; creds = s.creds ++ sealed_cred c slot ∷ [] } in
-    All (Contains s.deferred) left → IsFree (with_left s left) slot → TasksChange script s event (answer, t)
+    All (Contains s.deferred) left → IsFree (with_left s left) slot → Origin s c → TasksChange script s event (answer, t)
     → All (Contains (refs (with_left s left))) deferred → Changes script s event (answer, t)
-with_tasks script s event answer left tasks casts flags c slot deferred fewer free change refer =
+with_tasks script s event answer left tasks casts flags c slot deferred fewer free origin change refer =
     let t : State = record s { tasks = tasks; casts = casts; deferred = deferred; dumpable = flags; creds = s.creds ++ sealed_cred c slot ∷ [] } in
     record {
       left = left;
@@ -93,7 +93,7 @@ with_tasks script s event answer left tasks casts flags c slot deferred fewer fr
       files = Stays refl;
       holds = Stays refl;
       prepared = SamePrepared refl;
-      creds = Seals c slot refl (λ order. fits_free s event left t slot refl free);
+      creds = Seals c slot refl (λ order. fits_free s event left t slot refl free) origin;
       deferred = refer;
     }
 

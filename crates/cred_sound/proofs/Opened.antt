@@ -85,7 +85,7 @@ renewed_open s event task owner ends made c (ByAct number slot cast before is op
     subst (AreOpen now) (sym casts)
     (open_left s.tasks now s.casts task (λ k d lt. stays _ _ (sound.under_way k d lt).caller)
     (λ process number other. stays process number) (sound_open s sound))
-renewed_open s event task owner ends made c (ByCommit label place slot count p last is at changed same cred ending casts answer flags) found sound =
+renewed_open s event task owner ends made c (ByCommit label place slot count p last is first at own changed same cred ending casts answer flags) found sound =
     let now = with_current (survivors ends s.tasks) task (length s.creds) in
     subst (AreOpen now) (sym casts) (commit_open s owner ends task (length s.creds) last.change ending (sound_open s sound))
 

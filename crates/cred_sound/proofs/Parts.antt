@@ -42,11 +42,19 @@ pub record Fits (s : State) (event : Event) (left : List ℕ) (t : State) (slot 
   pub unkept : All (λ k. k ≢ slot) (kept t)
   pub own : All (λ p. p.slot ≡ slot → SealsOf event p.label) s.prepared
 
+-- Where a new credential comes from: a first task has it, a call makes it of a task's current one,
+-- or a label prepared it.
+pub data Origin (s : State) (c : Credential) : Type 0 where
+  OfFirst : (user group ns root : ℕ) → c ≡ first_credential user group ns root → Origin s c
+  OfCall : (task : ℕ) (before : Numbered) (call : IdCall) → current_of s task ≡ Some before → set_id before.cred call ≡ Ok c → Origin s c
+  OfLabel : (place : ℕ) (p : Prepared) (last : Changed) → slice_get s.prepared place ≡ Some p → p.changed ≡ Some last → c ≡ last.cred
+      → Origin s c
+
 -- The sealed credentials: as they were, or one more.
 pub data CredsChange (s : State) (event : Event) (left : List ℕ) (t : State) : Type 0 where
   SameCreds : t.creds ≡ s.creds → CredsChange s event left t
   Seals : (c : Credential) (slot : ℕ) → t.creds ≡ s.creds ++ sealed_cred c slot ∷ []
-      → (IsOrderly (ledger s) → Fits s event left t slot) → CredsChange s event left t
+      → (IsOrderly (ledger s) → Fits s event left t slot) → Origin s c → CredsChange s event left t
 
 -- one of the references before the event, or the number of a credential that it sealed
 abbrev pub Old : State → List ℕ → ℕ → Type 0
@@ -91,7 +99,8 @@ pub data Cause (s : State) (event : Event) (task : ℕ) (owner : Task) (ends : T
       → ends ≡ (λ t. false) → made.1.casts ≡ waits_no_more task s.casts
       → made.0 ≡ Acted task (length s.creds) slot (length cast.waiting - 1)
       → made.1.dumpable ≡ renewed s.dumpable owner.process (differs before.cred c) → Cause s event task owner ends c made
-  ByCommit : (label place slot count : ℕ) (p : Prepared) (last : Changed) → event ≡ Commit label → slice_get s.prepared place ≡ Some p
+  ByCommit : (label place slot count : ℕ) (p : Prepared) (last : Changed) → event ≡ Commit label
+      → position (λ p. p.label == label) s.prepared ≡ Some place → slice_get s.prepared place ≡ Some p → p.task ≡ task
       → p.changed ≡ Some last → owner.current ≡ p.base → c ≡ last.cred → ends ≡ ends_with last.change owner
       → made.1.casts ≡ casts_left last.change owner s.casts → made.0 ≡ commit_answer last (length s.creds) slot count
       → made.1.dumpable ≡ flags_committed s owner last → Cause s event task owner ends c made

@@ -168,7 +168,7 @@ creds_orderly s event left t (SameCreds same) before refer order =
     (fewer now (in_use t) t.deferred (kept t)
     (All-weaker (OldOrNew s left t) (Old s left) (λ n has. not_new s t left n same has) (refs t) refer)
     (All-contains_itself (kept t)) order.own order)
-creds_orderly s event left t (Seals c slot creds fits) before refer order =
+creds_orderly s event left t (Seals c slot creds fits origin) before refer order =
     let now = with_kept (ledger (with_left s left)) (kept t) in
     let fit = fits before in
     subst (λ slots. IsOrderly (record (ledger t) { slots = slots }))
