@@ -4,13 +4,13 @@ ghost use Rattle.cred_record.specs.Credential.{Credential, capable};
 ghost use Rattle.cred_model.specs.Ptrace.{asking_user, asking_group, asking_caps, are_all};
 ghost use Rattle.cred_model.specs.Ptrace.{has_asking_ids, has_sys_ptrace, is_no_stronger};
 ghost use Rattle.cred_model.specs.Ptrace.{may_trace, SYS_PTRACE};
-ghost use Rattle.cred_model.specs.Dumpable.{differs};
+ghost use Rattle.cred_model.specs.Dumpable.{differs, is_gain};
 ghost use Rattle.cred_ptrace.specs.Seen.{IsSeen, seen_of};
 
 use cred_caps::{Cap, CapSet};
 use cred_event::Mode;
 use cred_ids::{Id, Ids4};
-use cred_record::Cred;
+use cred_record::{Cred, Gains};
 
 /// The number of CAP_SYS_PTRACE (capabilities(7)).
 const SYS_PTRACE: u32 = 19;
@@ -173,4 +173,11 @@ pub fn differs_by(old_uid: &Ids4, old_gid: &Ids4, new_uid: &Ids4, new_gid: &Ids4
         && old_uid.fs == new_uid.fs
         && old_gid.effective == new_gid.effective
         && old_gid.fs == new_gid.fs)
+}
+
+/// Whether an execve added to the permitted set: then the task's process isn't dumpable.
+pub fn is_gain(gains: &Gains) -> bool
+    ensures { result ≡ is_gain gains.now }
+{
+    !(gains.file.bits() == 0 && gains.inherit.bits() == 0 && gains.root.bits() == 0)
 }

@@ -1,7 +1,8 @@
 //! Which processes are dumpable.
 ghost use Rattle.std.specs.Prelude.{◌≡◌, [], None, IfOk, OnOk, OnErr};
 ghost use Rattle.std.specs.Option.{option_map};
-ghost use Rattle.cred_model.specs.Dumpable.{flag_in, flagged, set_flag, with_flag, without_flag};
+ghost use Rattle.cred_model.specs.Dumpable.{flag_in, flagged, is_dumpable, set_flag, with_flag};
+ghost use Rattle.cred_model.specs.Dumpable.{without_flag};
 
 use cred_ids::{NoMemory, limits};
 use std::alloc::Global;
@@ -94,6 +95,16 @@ impl Dump {
         ensures { result ≡ option_map (λ f. f.dumpable) (flag_in self.now process) }
     {
         Some(self.flag(process)?.dumpable)
+    }
+
+    /// Whether a process is dumpable. One that isn't there isn't.
+    pub fn is_dumpable(&self, process: u32) -> bool
+        ensures { result ≡ is_dumpable self.now process }
+    {
+        match self.flag(process) {
+            Some(flag) => flag.dumpable,
+            None => false,
+        }
     }
 
     /// A process has ended. Where it isn't there, nothing changes.

@@ -5,5 +5,5 @@
 mod check;
 mod dump;
 
-pub use check::{Seen, differs, differs_by, may_trace, may_trace_by};
+pub use check::{Seen, differs, differs_by, is_gain, may_trace, may_trace_by};
 pub use dump::Dump;
