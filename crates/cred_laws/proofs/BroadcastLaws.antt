@@ -90,7 +90,7 @@ none_by s event made process none (Renews task slot owner c ends tasks creds liv
     ] refl
 none_by s event made process none (Renews task slot owner c ends tasks creds lives (ByAct number at cast before is opened first has ruled none_end casts answered flags)) =
     inl (ap (found_in process) casts ∙ left_none task process s.casts none)
-none_by s event made process none (Renews task slot owner c ends tasks creds lives (ByCommit label place at count p last is there changed same cred ending casts answered flags)) =
+none_by s event made process none (Renews task slot owner c ends tasks creds lives (ByCommit label place at count p last is first there own changed same cred ending casts answered flags)) =
     inl (ap (found_in process) casts ∙ committed_none process last.change owner s.casts none)
 none_by s event made process none (Overrides task numbers tasks refer casts flags) = inl (no_change process s.casts made.1.casts casts none)
 none_by s event made process none (Fewer ends tasks creds (ByExit task gone is known ending idle casts flags)) =

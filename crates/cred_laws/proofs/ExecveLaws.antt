@@ -45,7 +45,7 @@ first_place k n true is = cc
 first_place k n false is = cc
 
 -- the first of its label is the one that is found
-found_first : (ps : List Prepared) (label place : ℕ) (p : Prepared) → position (λ p. p.label == label) ps ≡ Some place
+pub found_first : (ps : List Prepared) (label place : ℕ) (p : Prepared) → position (λ p. p.label == label) ps ≡ Some place
     → slice_get ps place ≡ Some p → find (λ p. p.label == label) ps ≡ Some p
 found_first ps label place p at is =
     find_at (λ (p : Prepared). p.label == label) ps ∙ ap (slice_get ps) (first_place _ place _ at) ∙ is

@@ -259,7 +259,7 @@ module _ (P : Credential → Type 0) (kept : Kept P) (script : Script) (s : Stat
       let same : in_cast ≡ cast = only.0 where_it_is in
       own number task _ _ _ old c acts answered (opened ∙ ap Some same) has (ap (λ (b : Broadcast). set_id old.cred b.call) (sym same) ∙ ruled)))
       (ap (found_in process) casts ∙ left_open task process s.casts cast sound.processes is)
-  renews task slot owner c ends (ByCommit label place at_slot count p last commits there changed same cred ending casts answered flags) lives tasks creds =
+  renews task slot owner c ends (ByCommit label place at_slot count p last commits first there own changed same cred ending casts answered flags) lives tasks creds =
       committed_goes task slot owner c ends place p last last.change label commits refl there changed same cred ending casts lives tasks creds
 
   -- tasks end
