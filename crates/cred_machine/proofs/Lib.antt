@@ -21,4 +21,5 @@ pub mod Free
 pub mod Threads
 pub mod Refusals
 pub mod Leads
+pub mod Flags
 pub mod Live

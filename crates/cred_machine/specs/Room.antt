@@ -8,6 +8,7 @@ use Rattle.cred_event.specs.declared.answer.Answer.TheVariants.{Began}
 use Rattle.cred_model.specs.State.{State, Broadcast}
 use Rattle.cred_model.specs.Slots.{swept}
 use Rattle.cred_model.specs.Casts.{with_cast}
+use Rattle.cred_model.specs.Dumpable.{renewed}
 use Rattle.cred_model.specs.Moves.{replaced}
 
 -- the state after a sweep, if there was one
@@ -19,9 +20,13 @@ abbrev pub at_abort : AbortCause → State → State
 at_abort Perm s = s
 at_abort Full s = swept s
 
--- what a call answers whose credential takes this slot, and the state after it
-abbrev pub begun : State → Broadcast → ℕ → Credential → ℕ → Answer × State
-begun s cast old made slot = (
+-- What a call answers whose credential takes this slot, and the state after it, where an effective
+-- or a filesystem id of that is another one, or isn't.
+abbrev pub begun : State → Broadcast → ℕ → Credential → Bool → ℕ → Answer × State
+begun s cast old made other slot = (
   Began (length s.creds) slot (length cast.waiting),
-  record (replaced s cast.caller old made slot) { casts = with_cast s.casts cast },
+  record (replaced s cast.caller old made slot) {
+    casts = with_cast s.casts cast;
+    dumpable = renewed s.dumpable cast.process other;
+  },
 )

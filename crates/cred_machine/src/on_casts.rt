@@ -12,12 +12,14 @@ ghost use Rattle.cred_model.specs.Step.{aborted, by_act, by_begin};
 ghost use Rattle.cred_sound.specs.Sound.{IsSound};
 ghost use Rattle.cred_machine.specs.Room.{at_abort, begun, swept_if};
 
+use crate::flags;
 use crate::slots::{Room, defer_left, make_room};
 use crate::state::{State, overridden};
 use cred_event::{AbortCause, Answer, Named};
 use cred_ids::NoMemory;
 use cred_plain::casts::{cast_of, drop_cast, leave, open_cast, open_in};
 use cred_plain::{Cast, Ending};
+use cred_ptrace::differs;
 use cred_record::{Cred, IdCall, Refusal, copy};
 use cred_setid::apply_to;
 use std::alloc::Global;
@@ -69,6 +71,7 @@ impl State {
             Err(Refusal::Invalid) => return Ok(Answer::Einval),
             Err(Refusal::Memory) => return Err(NoMemory),
         };
+        let other = differs(old.cred, &cred);
         let (number, waiting) = (old.number, self.tasks.others(process, task)?);
         let cast = Cast {
             number: line,
@@ -77,22 +80,24 @@ impl State {
             call: call.copy()?,
             waiting,
         };
-        self.open(cast, number, cred)
+        self.open(cast, number, cred, other)
     }
 
     /// The caller of a broadcast has made this credential of its current one, of this number. That
-    /// takes a slot, and the broadcast is open if anybody waits in it.
-    fn open(&mut self, cast: Cast, old: u64, cred: Cred) -> Result<Answer, NoMemory>
+    /// takes a slot, and the broadcast is open if anybody waits in it. `other` says that an
+    /// effective or a filesystem id is another one in it.
+    fn open(&mut self, cast: Cast, old: u64, cred: Cred, other: bool) -> Result<Answer, NoMemory>
         requires { length cast.waiting ≤ TASKS }
         ensures ok { IfOk result (λ answer. in_slot self.old table_full
-            (λ s slot. begun s cast old cred slot) ≡ (answer, self.new)) }
+            (λ s slot. begun s cast old cred other slot) ≡ (answer, self.new)) }
         ensures err { OnErr result (self.new ≡ self.old) }
     {
         let Room { slot, swept } = self.room()?;
         let Some(slot) = slot else {
             return Ok(self.table_full());
         };
-        let (task, left) = (cast.caller, cast.waiting.len() as u32);
+        let (task, process) = (cast.caller, cast.process);
+        let left = cast.waiting.len() as u32;
         let before = self.casts.len();
         open_cast(&mut self.casts, cast)?;
         let number = match self.replace(task, old, cred, slot, swept) {
@@ -102,6 +107,7 @@ impl State {
                 return Err(err);
             }
         };
+        flags::renew(&mut self.dump, process, other);
         Ok(Answer::Began {
             cred: number,
             slot,
@@ -134,6 +140,7 @@ impl State {
             return Ok(Answer::NoBroadcast(line));
         };
         let (process, left, number) = (cast.process, cast.others(), current.number);
+        let own = owner.process;
         let cred = match called(self.alloc, current.cred, &cast.call) {
             Ok(cred) => cred,
             // Whether a call is valid is the call's alone, and its caller has made it: what the
@@ -143,11 +150,13 @@ impl State {
             }
             Err(Refusal::Memory) => return Err(NoMemory),
         };
+        let other = differs(current.cred, &cred);
         let Some(slot) = room.slot else {
             return self.end_process(process, task, AbortCause::Full);
         };
         let cred = self.replace(task, number, cred, slot, room.swept)?;
         leave(&mut self.casts, task);
+        flags::renew(&mut self.dump, own, other);
         Ok(Answer::Acted {
             task,
             cred,
@@ -196,6 +205,7 @@ impl State {
         defer_left(&mut self.deferred, swept, &self.tasks, ending)?;
         self.tasks.end(ending);
         drop_cast(&mut self.casts, process);
+        self.dump.gone(process);
         Ok(Answer::Aborted { task, cause })
     }
 }

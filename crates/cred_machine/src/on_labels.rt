@@ -10,6 +10,7 @@ ghost use Rattle.cred_machine.specs.Labels.{numbered_in, casts_left, CanCommit, 
 ghost use Rattle.cred_machine.specs.Labels.{IsOnCurrent};
 ghost use Rattle.cred_plain.specs.Tasks.{ending_of};
 
+use crate::flags;
 use crate::slots::{Room, make_room, sweep_if};
 use crate::state::{State, overridden};
 use cred_access::may_signal;
@@ -247,6 +248,7 @@ impl State {
         let last = own.changed.as_ref().unwrap();
         let owner = self.tasks.get(own.task).unwrap();
         let (task, process, slot) = (own.task, owner.process, own.slot);
+        let other = self.differs_from(owner.current, &last.cred);
         let ending = ends_with(last.change, process, task);
         let ended = self.tasks.count(ending);
         let mut numbers = self.tasks.left(ending)?;
@@ -257,6 +259,7 @@ impl State {
         drop_with(&mut self.casts, last.change, process);
         let number = self.creds.seal(cred, slot);
         self.tasks.set_current(task, number);
+        flags::commit(&mut self.dump, last.change, &last.gains, process, other);
         let answer = committed_by(last.change, &last.gains, number, slot, ended);
         drop(self.prepared.remove(place));
         Ok(answer)

@@ -66,8 +66,8 @@ returns-clause-ok c =
     c.in-Some-least.ensures c.in-Some-get.ensures c.owner.view_is c.in-Some-get-2.ensures in
     rw (← c.self.view_is)
     (steps s c.args.line c.in-Some-least.task b o old next
-    c.in-Ok.cred c.in-Ok.ensures (seen_state c.self-2.inside) c.leave.new.casts.items c.args.room.swept c.in-Some-slot.slot
+    c.in-Ok.cred c.in-Ok.ensures (seen_state c.self-2.inside) c.leave.new.casts.items _ c.differs-other.result c.args.room.swept c.in-Some-slot.slot
     c.others-left.result c.in_ok-cred.cred
     (rw (← c.self.view_is) at (sym c.requires.slot ∙ c.in-Some-slot.is)) (rw (← c.self.view_is) at c.requires.swept)
     (rw (← c.cast.view_is) at c.others-left.ensures) (rw (← c.self.view_is) at c.in_ok-cred.ensures.number)
-    (c.self-2.view_is ∙ (rw (← c.self.view_is) at c.in_ok-cred.ensures.ok)) c.leave.ensures)
+    (c.self-2.view_is ∙ (rw (← c.self.view_is) at c.in_ok-cred.ensures.ok)) c.leave.ensures c.differs-other.ensures c.renew.ensures)
