@@ -1,16 +1,13 @@
-//! What the events make of the processes that are dumpable.
+//! The processes that begin with a task, and whether they are dumpable.
 ghost use Rattle.std.specs.Prelude.{◌≡◌, ◌<◌, ◌++◌, ◌∷◌, [], None, find, is_some, length};
 ghost use Rattle.std.specs.Prelude.{if◌then◌else◌, OnOk, OnErr};
 ghost use Rattle.cred_ids.specs.Limits.{TASKS};
-ghost use Rattle.cred_model.specs.Dumpable as model;
-ghost use Rattle.cred_model.specs.Dumpable.{flag_in, renewed, with_flag, without_flag};
+ghost use Rattle.cred_model.specs.Dumpable.{flag_in, with_flag};
 ghost use Rattle.cred_model.specs.Ends.{is_thread_of};
 
-use cred_event::Change;
 use cred_ids::NoMemory;
 use cred_plain::{Task, Tasks};
-use cred_ptrace::{Dump, is_gain};
-use cred_record::Gains;
+use cred_ptrace::Dump;
 
 /// The first thread of a process, which is dumpable or isn't.
 ///
@@ -59,33 +56,4 @@ pub fn enter(tasks: &mut Tasks, dump: &mut Dump, task: Task) -> Result<(), NoMem
         return tasks.push(task);
     }
     begin_process(tasks, dump, task, true)
-}
-
-/// A process whose task has another credential now is dumpable no longer, where an effective or a
-/// filesystem id is another one in that.
-pub fn renew(dump: &mut Dump, process: u32, other: bool)
-    ensures { dump.new ≡ renewed dump.old process other }
-{
-    if other {
-        dump.set(process, false);
-    }
-}
-
-/// What a commit of this change makes of the flag of its task's process.
-pub fn commit(dump: &mut Dump, change: Change, gains: &Gains, process: u32, other: bool)
-    ensures { dump.new ≡ model.flags_by change gains.now dump.old process other }
-{
-    match change {
-        Change::Exec { .. } => dump.set(process, !other && !is_gain(gains)),
-        _ => renew(dump, process, other),
-    }
-}
-
-/// A thread of a process has ended. Where it has no other, the process has ended too.
-pub fn leave(dump: &mut Dump, process: u32, other: bool)
-    ensures { dump.new ≡ (if other then dump.old else without_flag dump.old process) }
-{
-    if !other {
-        dump.gone(process);
-    }
 }

@@ -12,7 +12,6 @@ ghost use Rattle.cred_model.specs.Step.{aborted, by_act, by_begin};
 ghost use Rattle.cred_sound.specs.Sound.{IsSound};
 ghost use Rattle.cred_machine.specs.Room.{at_abort, begun, swept_if};
 
-use crate::flags;
 use crate::slots::{Room, defer_left, make_room};
 use crate::state::{State, overridden};
 use cred_event::{AbortCause, Answer, Named};
@@ -107,7 +106,7 @@ impl State {
                 return Err(err);
             }
         };
-        flags::renew(&mut self.dump, process, other);
+        self.dump.renew(process, other);
         Ok(Answer::Began {
             cred: number,
             slot,
@@ -156,7 +155,7 @@ impl State {
         };
         let cred = self.replace(task, number, cred, slot, room.swept)?;
         leave(&mut self.casts, task);
-        flags::renew(&mut self.dump, own, other);
+        self.dump.renew(own, other);
         Ok(Answer::Acted {
             task,
             cred,

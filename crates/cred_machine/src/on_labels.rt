@@ -10,7 +10,6 @@ ghost use Rattle.cred_machine.specs.Labels.{numbered_in, casts_left, CanCommit, 
 ghost use Rattle.cred_machine.specs.Labels.{IsOnCurrent};
 ghost use Rattle.cred_plain.specs.Tasks.{ending_of};
 
-use crate::flags;
 use crate::slots::{Room, make_room, sweep_if};
 use crate::state::{State, overridden};
 use cred_access::may_signal;
@@ -259,7 +258,8 @@ impl State {
         drop_with(&mut self.casts, last.change, process);
         let number = self.creds.seal(cred, slot);
         self.tasks.set_current(task, number);
-        flags::commit(&mut self.dump, last.change, &last.gains, process, other);
+        self.dump
+            .commit(last.change, &last.gains, process, other);
         let answer = committed_by(last.change, &last.gains, number, slot, ended);
         drop(self.prepared.remove(place));
         Ok(answer)

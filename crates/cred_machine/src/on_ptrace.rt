@@ -1,24 +1,11 @@
 //! The events on who may look into whom, and on processes that are dumpable.
-ghost use Rattle.std.specs.Prelude.{◌≡◌};
-ghost use Rattle.cred_model.specs.Dumpable.{flag_of_value};
 ghost use Rattle.cred_model.specs.Like.{Gives};
 ghost use Rattle.cred_model.specs.Step.{by_dumpable, by_dumped, by_ptrace};
 
 use crate::state::State;
 use cred_event::{Answer, Mode, Told};
-use cred_ptrace::may_trace;
+use cred_ptrace::{flag_of_value, may_trace};
 use cred_script::Script;
-
-/// The flag of a value, which is 0 or 1 (prctl(2), PR_SET_DUMPABLE).
-fn flag_of_value(value: u32) -> Option<bool>
-    ensures { result ≡ flag_of_value value }
-{
-    match value {
-        0 => Some(false),
-        1 => Some(true),
-        _ => None,
-    }
-}
 
 impl State {
     /// A task makes its process dumpable, or not. `NoTask`, and `Einval` of another value than 0

@@ -158,7 +158,7 @@ impl State {
         defer_left(&mut self.deferred, false, &self.tasks, ending)?;
         self.tasks.end(ending);
         leave(&mut self.casts, task);
-        flags::leave(&mut self.dump, process, other);
+        self.dump.leave(process, other);
         Ok(Answer::Done)
     }
 }

@@ -1,10 +1,13 @@
 //! Which processes are dumpable.
-ghost use Rattle.std.specs.Prelude.{◌≡◌, [], None, IfOk, OnOk, OnErr};
+ghost use Rattle.std.specs.Prelude.{◌≡◌, [], None, IfOk, OnOk, OnErr, if◌then◌else◌};
 ghost use Rattle.std.specs.Option.{option_map};
 ghost use Rattle.cred_model.specs.Dumpable.{flag_in, flagged, is_dumpable, set_flag, with_flag};
-ghost use Rattle.cred_model.specs.Dumpable.{without_flag};
+ghost use Rattle.cred_model.specs.Dumpable.{flag_of_value, flags_by, renewed, without_flag};
 
+use crate::check::is_gain;
+use cred_event::Change;
 use cred_ids::{NoMemory, limits};
+use cred_record::Gains;
 use std::alloc::Global;
 use std::marker::Model;
 
@@ -114,9 +117,50 @@ impl Dump {
         self.flags.retain(|flag| flag.process != process);
     }
 
+    /// A task of the process has another credential. Where an effective or a filesystem id is
+    /// another one in that (`other`), the process is dumpable no longer.
+    pub fn renew(&mut self, process: u32, other: bool)
+        ensures { self.new ≡ renewed self.old process other }
+    {
+        if other {
+            self.set(process, false);
+        }
+    }
+
+    /// A task of the process has committed this change. An execve makes the process dumpable again,
+    /// unless an id is another one or the permitted set grows.
+    pub fn commit(&mut self, change: Change, gains: &Gains, process: u32, other: bool)
+        ensures { self.new ≡ flags_by change gains.now self.old process other }
+    {
+        match change {
+            Change::Exec { .. } => self.set(process, !other && !is_gain(gains)),
+            _ => self.renew(process, other),
+        }
+    }
+
+    /// A thread of the process has ended. Where it has no other, the process has ended too.
+    pub fn leave(&mut self, process: u32, other: bool)
+        ensures { self.new ≡ (if other then self.old else without_flag self.old process) }
+    {
+        if !other {
+            self.gone(process);
+        }
+    }
+
     fn flag(&self, process: u32) -> Option<&Flag>
         ensures { option_map (λ f. f.now) result ≡ flag_in self.now process }
     {
         self.flags.iter().find(|flag| flag.process == process)
+    }
+}
+
+/// The flag of a value, which is 0 or 1 (prctl(2), PR_SET_DUMPABLE). `None` of another value.
+pub fn flag_of_value(value: u32) -> Option<bool>
+    ensures { result ≡ flag_of_value value }
+{
+    match value {
+        0 => Some(false),
+        1 => Some(true),
+        _ => None,
     }
 }

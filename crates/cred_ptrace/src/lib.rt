@@ -6,4 +6,4 @@ mod check;
 mod dump;
 
 pub use check::{Seen, differs, differs_by, is_gain, may_trace, may_trace_by};
-pub use dump::Dump;
+pub use dump::{Dump, flag_of_value};
