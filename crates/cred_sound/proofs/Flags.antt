@@ -155,7 +155,7 @@ lives_alone tasks owner task process is =
     ] refl
 
 -- a thread ends: its process has threads left where another is beside it
-lives_beside : (tasks : List Task) (owner : Task) (task : ℕ) → owner.number ≡ task
+pub lives_beside : (tasks : List Task) (owner : Task) (task : ℕ) → owner.number ≡ task
     → lives (survivors (is_task task) tasks) owner.process ≡ is_some (find (is_beside owner) tasks)
 lives_beside tasks owner task number =
     let p = owner.process in
@@ -194,6 +194,12 @@ lives_no_more tasks gone process =
     (λ t of. ap (λ p. not (p == gone)) (eqb-true t.process process of))
 
 -- ---- the flags
+
+-- a process without threads has none
+pub unflagged : {tasks : List Task} {flags : List ProcessFlag} (process : ℕ)
+    → AreFlagged tasks flags → lives tasks process ≡ false → flag_in flags process ≡ None
+unflagged {flags = flags} process are none =
+    none_of (flag_in flags process) (are.own process ∙ none)
 
 flagged_process : (process : ℕ) (dumpable : Bool) (f : ProcessFlag) → (flagged process dumpable f).process ≡ f.process
 flagged_process process dumpable f =
