@@ -167,10 +167,10 @@ impl State {
             return Ok(Answer::NoBroadcast(number));
         };
         let mut parts = self.look_parts(cells, next.now);
-        let old = parts;
+        let own = parts;
         match self.follow(next.cast, &mut parts) {
             Ok(groups) => {
-                let other = differs_by(&old.uid, &old.gid, &parts.uid, &parts.gid);
+                let other = differs_by(&own.uid, &own.gid, &parts.uid, &parts.gid);
                 self.act_with(cells, number, next, &parts, &groups, other)
             }
             // Whether a call is valid is the call's alone, and its caller has made it: what the
