@@ -1,5 +1,5 @@
 -- The flags of the processes, where tasks are created and end.
-use Rattle.std.proofs.Common.{◌≡◌, ℕ, Bool, false, cond, List, [], ◌∷◌, ◌++◌, find, is_some, Option, None, Some, refl, sym, ap, ◌∙◌}
+use Rattle.std.proofs.Common.{◌≡◌, ℕ, Bool, false, cond, List, [], ◌∷◌, ◌++◌, find, is_some, Option, None, Some, Result, Ok, Err, OnOk, refl, sym, ap, ◌∙◌}
 use Rattle.std.specs.Option.{IsSome, option_map, option_map_or}
 use Rattle.cred_model.specs.State.{Task, ProcessFlag}
 use Rattle.cred_model.specs.Dumpable.{flag_in, is_dumpable, renewed, with_flag, without_flag}
@@ -9,6 +9,11 @@ use Rattle.cred_model.proofs.Numbers.{found_number}
 use Rattle.cred_procs.specs.Tasks.{forked, has_process, task_in}
 use Rattle.cred_sound.proofs.Flags.{lives_beside}
 use Rattle.cred_tables.proofs.Owners.{owner_process}
+
+-- what follows where there is a result
+pub on_ok : {A E P Q : Type 0} (r : Result A E) → (P → Q) → OnOk r P → OnOk r Q
+on_ok (Ok x) then p = then p
+on_ok (Err e) then p = tt
 
 -- a process without threads has no flag
 pub no_flag : (flags : List ProcessFlag) (tasks : List Task) (process : ℕ)

@@ -16,7 +16,6 @@ use cred_hold::Cells;
 use cred_ids::Ids4;
 use cred_ptrace::{Seen, differs_by, flag_of_value, may_trace_by};
 use cred_script::Script;
-use cred_setid::Parts;
 use cred_tables::Numbered;
 
 impl State {
@@ -96,19 +95,13 @@ impl State {
         ensures seen { IsSeen result (cred_under self.old.state.creds found.number) }
         ensures same { self.new ≡ self.old }
     {
-        let Parts {
-            uid,
-            gid,
-            perm,
-            eff,
-            ..
-        } = self.look_parts(cells, found);
+        let parts = self.look_parts(cells, found);
         let ns = self.look_ns(cells, found);
         Seen {
-            uid,
-            gid,
-            perm,
-            eff,
+            uid: parts.uid,
+            gid: parts.gid,
+            perm: parts.perm,
+            eff: parts.eff,
             ns,
         }
     }

@@ -1,6 +1,8 @@
-use Rattle.std.proofs.Common.{sym, ap}
-use Rattle.cred_model.specs.State.{Task, task_of}
-use Rattle.cred_tables.specs.Kept.{cred_under, seen_in}
+use Rattle.std.proofs.Common.{◌≡◌, Some, None, sym, ap, ◌∙◌}
+use Rattle.std.specs.Option.{option_map}
+use Rattle.cred_model.specs.State.{Changed, Task, task_of}
+use Rattle.cred_setid.specs.declared.parts.Parts.{Parts}
+use Rattle.cred_tables.specs.Kept.{seen_in}
 use Rattle.cred_tables.specs.Prepared.{changed_of}
 use Rattle.cred_state.proofs.Reading.{is_found}
 use Rattle.cred_state.proofs.Standing.{current-in_use}
@@ -18,7 +20,11 @@ look_parts-old-requires-clause-used c =
     current-in_use c.args.self.now.state c.args.task _ (sym c.in-Some-current.ensures)
 
 pub returns-in_default-clause-other : goal.returns-in_default-clause-other
-returns-in_default-clause-other c = λ last is. let none = c.in_default.ensures in cc
+returns-in_default-clause-other c = λ last is.
+    let none : None ≡ Some (last.cred.uid, last.cred.gid)
+    = c.in_default.ensures
+    ∙ ap (option_map (λ (x : Changed). (x.cred.uid, x.cred.gid))) is in
+    cc
 
 pub returns-in_default-current-clause-other : goal.returns-in_default-current-clause-other
 returns-in_default-current-clause-other c = λ last is.
@@ -31,5 +37,5 @@ returns-clause-other c = λ last is.
     let ids = ids_are last (changed_of s.prepared c.args.label) _ _ c.in-Some.ensures is in
     let parts = c.look_parts-old.ensures.parts.0 in
     differs_current s c.args.task last now c.differs_by.result (sym c.in-Some-current.ensures)
-    (c.differs_by.ensures now.cred last.cred (sym (ap (λ p. p.uid) parts))
-    (sym (ap (λ p. p.gid) parts)) ids.0 ids.1)
+    (c.differs_by.ensures now.cred last.cred (sym (ap (λ (p : Parts). p.uid) parts))
+    (sym (ap (λ (p : Parts). p.gid) parts)) ids.0 ids.1)

@@ -1,10 +1,25 @@
 use Rattle.std.proofs.Common.{Bool, cond, sym, ap, ◌∙◌}
 use Rattle.cred_event.specs.declared.answer.Answer.TheVariants.{Done, Eperm}
 use Rattle.cred_model.specs.Script.{reaches}
+use Rattle.cred_model.specs.State.{Hold, hold_of}
 use Rattle.cred_tables.specs.Kept.{cred_under, parts_of, seen_in, state_of}
+use Rattle.cred_state.proofs.Reading.{is_found}
 use Rattle.cred_state.proofs.Standing.{held-in_use}
 use Rattle.cred_state.proofs.Traces.{trace_no_other, trace_no_own, trace_no_receiver, trace_no_sender, traces}
 use Rattle.cred_state.proofs.state.State.trace.Goals as goal
+
+pub look_seen-asker-requires-clause-found : goal.look_seen-asker-requires-clause-found
+look_seen-asker-requires-clause-found c =
+    let s = c.args.self.now.state in
+    is_found s.creds (λ (h : Hold). h.number) (hold_of s c.args.hold) _
+    (sym c.in-Some-held.ensures)
+
+pub look_seen-seen-requires-clause-found : goal.look_seen-seen-requires-clause-found
+look_seen-seen-requires-clause-found c =
+    let s = c.args.self.now.state in
+    rw c.look_seen-asker.ensures.same
+    (is_found s.creds (λ (h : Hold). h.number) (hold_of s c.args.target) _
+    (sym c.in-Some-held-2.ensures))
 
 pub look_seen-asker-requires-clause-used : goal.look_seen-asker-requires-clause-used
 look_seen-asker-requires-clause-used c =
