@@ -169,7 +169,7 @@ tries_commit s place p owner last sound is found =
     let t = committed (ended ends s) place p owner.current last.cred in
     elim (owner.current == p.base) as (λ b. Keeps s (cond {A = Answer × State} b (answer, record (casts_after last.change owner t) { dumpable = flags_committed s owner last }) (Stale p.base owner.current, given_up s place p))) [
       | true ↦ with_flags s (casts_after last.change owner t) answer (flags_committed s owner last)
-      (commits_casts s t answer last.change owner (commits s answer place p ends owner last.cred sound is found (not_itself last.change owner)))
+          (commits_casts s t answer last.change owner (commits s answer place p ends owner last.cred sound is found (not_itself last.change owner)))
       | false ↦ gives_up_prepared s (Stale p.base owner.current) place p is
     ]
 

@@ -258,8 +258,7 @@ impl State {
         drop_with(&mut self.casts, last.change, process);
         let number = self.creds.seal(cred, slot);
         self.tasks.set_current(task, number);
-        self.dump
-            .commit(last.change, &last.gains, process, other);
+        self.dump.commit(last.change, &last.gains, process, other);
         let answer = committed_by(last.change, &last.gains, number, slot, ended);
         drop(self.prepared.remove(place));
         Ok(answer)

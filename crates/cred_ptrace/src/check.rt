@@ -111,14 +111,7 @@ pub fn may_trace(
 ) -> bool
     ensures { result ≡ may_trace from.now to.now same reach dumpable mode }
 {
-    may_trace_by(
-        &Seen::of(from),
-        &Seen::of(to),
-        same,
-        reach,
-        dumpable,
-        mode,
-    )
+    may_trace_by(&Seen::of(from), &Seen::of(to), same, reach, dumpable, mode)
 }
 
 /// The same, by what the check looks at of the two credentials.

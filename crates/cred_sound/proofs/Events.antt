@@ -188,9 +188,10 @@ commit_fresh : (script : Script) (s : State) (label place : ℕ) (p : Prepared) 
     → position (λ p. p.label == label) s.prepared ≡ Some place → slice_get s.prepared place ≡ Some p
     → p.changed ≡ Some last → task_of s p.task ≡ Some owner → owner.current ≡ p.base
     → let ends = ends_with last.change owner in
-    Changes script s (Commit label)
-    (commit_answer last (length s.creds) p.slot (count_by ends s.tasks),
-    record (casts_after last.change owner (committed (ended ends s) place p owner.current last.cred)) { dumpable = flags_committed s owner last })
+    Changes script s (Commit label) (
+      commit_answer last (length s.creds) p.slot (count_by ends s.tasks),
+      record (casts_after last.change owner (committed (ended ends s) place p owner.current last.cred)) { dumpable = flags_committed s owner last },
+    )
 commit_fresh script s label place p last owner at is changed found same =
     let Has = Contains (refs s) in
     let ends = ends_with last.change owner in

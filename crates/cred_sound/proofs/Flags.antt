@@ -68,15 +68,15 @@ some-kept test p (x ∷ xs) keeps =
     let rest = some-kept test p xs (All-tail (λ x. test x ≡ true → p x ≡ true) x xs keeps) in
     elim (p x) as (λ b. (test x ≡ true → b ≡ true) → is_some (find test (cond b (x ∷ filter p xs) (filter p xs))) ≡ is_some (cond (test x) (Some x) (find test xs))) [
       | true ↦ λ keep.
-      elim (test x) as (λ a. is_some (cond a (Some x) (find test (filter p xs))) ≡ is_some (cond a (Some x) (find test xs))) [
-        | true ↦ refl
-        | false ↦ rest
-      ]
+          elim (test x) as (λ a. is_some (cond a (Some x) (find test (filter p xs))) ≡ is_some (cond a (Some x) (find test xs))) [
+            | true ↦ refl
+            | false ↦ rest
+          ]
       | false ↦ λ keep.
-      elim (test x) as (λ a. (a ≡ true → false ≡ true) → is_some (find test (filter p xs)) ≡ is_some (cond a (Some x) (find test xs))) [
-        | true ↦ λ passes. absurd (let no : false ≡ true = passes refl in cc)
-        | false ↦ λ passes. rest
-      ] keep
+          elim (test x) as (λ a. (a ≡ true → false ≡ true) → is_some (find test (filter p xs)) ≡ is_some (cond a (Some x) (find test xs))) [
+            | true ↦ λ passes. absurd (let no : false ≡ true = passes refl in cc)
+            | false ↦ λ passes. rest
+          ] keep
     ] keeps_first
 
 -- what is found by one test, and passes another
@@ -85,11 +85,11 @@ some-found p q [] x is test = cc
 some-found p q (y ∷ ys) x is test =
     elim (q y) as (λ b. cond b (Some y) (find q ys) ≡ Some x → is_some (cond (p y) (Some y) (find p ys)) ≡ true) [
       | true ↦ λ same.
-      let here : p y ≡ true = let one : y ≡ x = cc in ap p one ∙ test in
-      ap (λ b. is_some (cond b (Some y) (find p ys))) here
+          let here : p y ≡ true = let one : y ≡ x = cc in ap p one ∙ test in
+          ap (λ b. is_some (cond b (Some y) (find p ys))) here
       | false ↦ λ later.
-      let rest = some-found p q ys x later test in
-      elim (p y) as (λ b. is_some (cond b (Some y) (find p ys)) ≡ true) [ true ↦ refl | false ↦ rest ]
+          let rest = some-found p q ys x later test in
+          elim (p y) as (λ b. is_some (cond b (Some y) (find p ys)) ≡ true) [ true ↦ refl | false ↦ rest ]
     ] is
 
 any-filter : {X : Type 0} (test p : X → Bool) (xs : List X) → list_any test (filter p xs) ≡ list_any (λ x. p x && test x) xs
@@ -123,8 +123,8 @@ lives_with tasks t process live =
     some-append (is_thread_of process) tasks (t ∷ [])
     ∙ elim (t.process == process) as (λ b. (t.process == process) ≡ b → (lives tasks process || is_some (cond b (Some t) None)) ≡ lives tasks process) [
       | true ↦ λ is.
-      let here : lives tasks process ≡ true = subst (λ p. lives tasks p ≡ true) (eqb-true t.process process is) live in
-      ap (λ a. a || true) here ∙ sym here
+          let here : lives tasks process ≡ true = subst (λ p. lives tasks p ≡ true) (eqb-true t.process process is) live in
+          ap (λ a. a || true) here ∙ sym here
       | false ↦ λ is. or_false (lives tasks process)
     ] refl
 
@@ -140,18 +140,18 @@ lives_alone : (tasks : List Task) (owner : Task) (task process : ℕ) → find (
 lives_alone tasks owner task process is =
     elim (owner.process == process) as (λ b. (owner.process == process) ≡ b → lives (survivors (is_beside owner) tasks) process ≡ lives tasks process) [
       | true ↦ λ same.
-      let own : (owner.number == owner.number) ≡ true = grind (arith, nat_tests) in
-      let stays : is_beside owner owner ≡ false = ap (λ b. (owner.process == owner.process) && not b) own ∙ and_swap (owner.process == owner.process) false in
-      let on = find_goes_on (is_beside owner) tasks task owner is stays in
-      some-found (is_thread_of process) (λ t. t.number == task) (survivors (is_beside owner) tasks) owner on.0 same
-      ∙ sym (some-found (is_thread_of process) (λ t. t.number == task) tasks owner is same)
+          let own : (owner.number == owner.number) ≡ true = grind (arith, nat_tests) in
+          let stays : is_beside owner owner ≡ false = ap (λ b. (owner.process == owner.process) && not b) own ∙ and_swap (owner.process == owner.process) false in
+          let on = find_goes_on (is_beside owner) tasks task owner is stays in
+          some-found (is_thread_of process) (λ t. t.number == task) (survivors (is_beside owner) tasks) owner on.0 same
+          ∙ sym (some-found (is_thread_of process) (λ t. t.number == task) tasks owner is same)
       | false ↦ λ other.
-      some-filter (is_thread_of process) (λ t. not (is_beside owner t)) true tasks
-      (λ t of.
-      let apart : owner.process ≢ process = eqb-false owner.process process other in
-      let same : t.process ≡ process = eqb-true t.process process of in
-      let test : (t.process == owner.process) ≡ false = grind (arith, nat_tests) in
-      ap (λ b. not (b && not (t.number == owner.number))) test)
+          some-filter (is_thread_of process) (λ t. not (is_beside owner t)) true tasks
+          (λ t of.
+          let apart : owner.process ≢ process = eqb-false owner.process process other in
+          let same : t.process ≡ process = eqb-true t.process process of in
+          let test : (t.process == owner.process) ≡ false = grind (arith, nat_tests) in
+          ap (λ b. not (b && not (t.number == owner.number))) test)
     ] refl
 
 -- a thread ends: its process has threads left where another is beside it
@@ -180,8 +180,8 @@ lives_other tasks owner task process differ is other =
     (λ y alone of.
     elim (y.number == task) as (λ b. (y.number == task) ≡ b → not b ≡ true) [
       | true ↦ λ same.
-      let is_owner : y ≡ owner = alone (eqb-true y.number task same ∙ sym number) in
-      absurd (other (sym (ap (λ (t : Task). t.process) is_owner) ∙ eqb-true y.process process of))
+          let is_owner : y ≡ owner = alone (eqb-true y.number task same ∙ sym number) in
+          absurd (other (sym (ap (λ (t : Task). t.process) is_owner) ∙ eqb-true y.process process of))
       | false ↦ λ same. refl
     ] refl)
     tasks one)
@@ -296,8 +296,8 @@ flags_exited tasks flags owner task differ is are =
         own = λ p.
             elim (owner.process == p) as (λ b. (owner.process == p) ≡ b → is_some (flag_in flags p) ≡ lives (survivors (is_task task) tasks) p) [
               | true ↦ λ same.
-              subst (λ p. is_some (flag_in flags p) ≡ lives (survivors (is_task task) tasks) p) (eqb-true owner.process p same)
-              (are.own owner.process ∙ live ∙ sym (beside ∙ some))
+                  subst (λ p. is_some (flag_in flags p) ≡ lives (survivors (is_task task) tasks) p) (eqb-true owner.process p same)
+                  (are.own owner.process ∙ live ∙ sym (beside ∙ some))
               | false ↦ λ other. are.own p ∙ sym (lives_other tasks owner task p differ is (eqb-false owner.process p other))
             ] refl;
       }
@@ -307,14 +307,14 @@ flags_exited tasks flags owner task differ is are =
             flags_no_more flags owner.process p
             ∙ elim (owner.process == p) as (λ b. (owner.process == p) ≡ b → (not (p == owner.process) && is_some (flag_in flags p)) ≡ lives (survivors (is_task task) tasks) p) [
               | true ↦ λ same.
-              let own : (p == owner.process) ≡ true = let is_own : owner.process ≡ p = eqb-true owner.process p same in grind (arith, nat_tests) in
-              ap (λ b. not b && is_some (flag_in flags p)) own
-              ∙ sym (subst (λ p. lives (survivors (is_task task) tasks) p ≡ false) (eqb-true owner.process p same) (beside ∙ none))
+                  let own : (p == owner.process) ≡ true = let is_own : owner.process ≡ p = eqb-true owner.process p same in grind (arith, nat_tests) in
+                  ap (λ b. not b && is_some (flag_in flags p)) own
+                  ∙ sym (subst (λ p. lives (survivors (is_task task) tasks) p ≡ false) (eqb-true owner.process p same) (beside ∙ none))
               | false ↦ λ other.
-              let apart : owner.process ≢ p = eqb-false owner.process p other in
-              let test : (p == owner.process) ≡ false = grind (arith, nat_tests) in
-              ap (λ b. not b && is_some (flag_in flags p)) test
-              ∙ are.own p ∙ sym (lives_other tasks owner task p differ is apart)
+                  let apart : owner.process ≢ p = eqb-false owner.process p other in
+                  let test : (p == owner.process) ≡ false = grind (arith, nat_tests) in
+                  ap (λ b. not b && is_some (flag_in flags p)) test
+                  ∙ are.own p ∙ sym (lives_other tasks owner task p differ is apart)
             ] refl;
       }
     ] refl

@@ -77,9 +77,9 @@ try_commit_current : (s : State) (place : ℕ) (p : Prepared) (owner : Task) (la
     ≡ (
       commit_answer last (length s.creds) p.slot (count_by (ends_with last.change owner) s.tasks),
       record
-      (casts_after last.change owner
-      (committed (ended (ends_with last.change owner) s) place p owner.current last.cred))
-      { dumpable = flags_committed s owner last },
+          (casts_after last.change owner
+          (committed (ended (ends_with last.change owner) s) place p owner.current last.cred))
+          { dumpable = flags_committed s owner last },
     )
 try_commit_current s place p owner last same = rw same refl
 
@@ -291,13 +291,13 @@ module _ {parts : Parts} {after : List Task} {store : List (Option Credential)} 
           ∙ ap (λ (c : Change). (
             committed_by c last.gains (length (creds_in store t.sealed)) p.slot (count_by (ends_with c e.owner) parts.tasks),
             record
-            (casts_after c e.owner
-            (committed (ended (ends_with c e.owner) before) place p e.owner.current last.cred))
-            { dumpable = flags },
+                (casts_after c e.owner
+                (committed (ended (ends_with c e.owner) before) place p e.owner.current last.cred))
+                { dumpable = flags },
           )) by
           ∙ ap (λ (r : State). (
             committed_by change last.gains (length (creds_in store t.sealed)) p.slot
-            (count_by ends parts.tasks),
+                (count_by ends parts.tasks),
             record r { dumpable = flags },
           ))
           (casts_are_left change e.owner (committed (ended ends before) place p e.owner.current last.cred))

@@ -154,13 +154,7 @@ impl State {
             Err(answer) => return Ok(answer),
         };
         self.slots.reserve()?;
-        fork_in(
-            &mut self.tasks,
-            &mut self.dump,
-            task,
-            child,
-            process,
-        )?;
+        fork_in(&mut self.tasks, &mut self.dump, task, child, process)?;
         self.slots.add(number);
         Ok(Answer::Sealed { cred: number, slot })
     }
