@@ -27,9 +27,9 @@ unfolding empty
 nothing-state_of store = refl
 
 pub invariant_of-result : goal.invariant_of-result
-invariant_of-result c = rw (c.new-2.ensures, c.new-3.ensures, c.new-4.ensures, c.new-5.ensures, c.new-6.ensures, c.in_ok-slots.ensures, c.in_ok-dump.ensures)
+invariant_of-result c = rw (c.new-3.ensures, c.new-4.ensures, c.new-5.ensures, c.new-6.ensures, c.new-7.ensures, c.in_ok-slots.ensures, c.in_ok-dump.ensures)
     (nothing-kept _, All-nil (λ (p : Prepared). IsAlone c.args.master.entries p.slot → slice_get c.args.master.slots p.slot ≡ Some (option_map (λ last. last.cred) p.changed)))
 
 pub returns-clause-state : goal.returns-clause-state
 unfolding empty
-returns-clause-state c = rw (c.new-2.ensures, c.new-3.ensures, c.new-4.ensures, c.new-5.ensures, c.new-6.ensures, c.in_ok-slots.ensures, c.in_ok-dump.ensures) (nothing-state_of c.args.master.slots)
+returns-clause-state c = rw (c.new-3.ensures, c.new-4.ensures, c.new-5.ensures, c.new-6.ensures, c.new-7.ensures, c.in_ok-slots.ensures, c.in_ok-dump.ensures) (nothing-state_of c.args.master.slots)
