@@ -1,5 +1,5 @@
 -- Who may look into whom, which processes are dumpable, and what calls and commits make of that.
-use Rattle.std.proofs.Common.{◌≡◌, ◌==◌, ℕ, Bool, true, false, cond, List, Option, None, Some, Result, Ok, Err, refl, sym, ap, ◌∙◌}
+use Rattle.std.proofs.Common.{◌≡◌, ◌==◌, ℕ, Bool, true, false, cond, List, Option, None, Some, Ok, Err, refl, sym, ap, ◌∙◌}
 use Rattle.std.specs.Option.{option_and_then, option_map, option_map_or}
 use Rattle.cred_ids.specs.declared.id.Ids4.{Ids4}
 use Rattle.cred_record.specs.Credential.{Credential}
@@ -12,7 +12,7 @@ use Rattle.cred_event.specs.declared.event.Mode.{Mode}
 use Rattle.cred_model.specs.Dumpable.{differs, differs_by, flag_of_value, flags_by, flags_committed, is_dumpable, set_flag}
 use Rattle.cred_model.specs.Ptrace.{may_trace}
 use Rattle.cred_model.specs.Script.{Script, reaches}
-use Rattle.cred_model.specs.State.{State, Task, Prepared, Changed, Numbered, ProcessFlag, current_of, held_by, numbered, task_of}
+use Rattle.cred_model.specs.State.{State, Task, Changed, Numbered, ProcessFlag, current_of, held_by, numbered, task_of}
 use Rattle.cred_model.specs.Step.{by_dumpable, by_dumped, by_ptrace, outcome}
 use Rattle.cred_setid.specs.Parts.{changed, parts_of}
 use Rattle.cred_setid.specs.declared.parts.Parts.{Parts as IdParts}
@@ -56,12 +56,13 @@ differs_current s task last now other has is =
 
 -- the ids of what the label prepared
 pub ids_are : (last : Changed) (found : Option Changed) (uid gid : Ids4)
-    → Some (uid, gid) ≡ option_map (λ last. (last.cred.uid, last.cred.gid)) found
+    → ◌≡◌ {A = Option (Ids4 × Ids4)} (Some (uid, gid))
+    (option_map {U = Ids4 × Ids4} (λ last. (last.cred.uid, last.cred.gid)) found)
     → found ≡ Some last → (last.cred.uid ≡ uid) × (last.cred.gid ≡ gid)
 ids_are last None uid gid is at = cc
 ids_are last (Some x) uid gid is at =
     let same : x ≡ last = cc in
-    let both : (uid, gid) ≡ (x.cred.uid, x.cred.gid) = cc in (
+    let both : ◌≡◌ {A = Ids4 × Ids4} (uid, gid) (x.cred.uid, x.cred.gid) = cc in (
       sym (ap (λ (c : Changed). c.cred.uid) same) ∙ sym (ap (λ (ids : Ids4 × Ids4). ids.0) both),
       sym (ap (λ (c : Changed). c.cred.gid) same) ∙ sym (ap (λ (ids : Ids4 × Ids4). ids.1) both),
     )

@@ -3,7 +3,7 @@ use Rattle.std.proofs.Common.{◌≡◌, ℕ, Bool, false, cond, List, [], ◌�
 use Rattle.std.specs.Option.{IsSome, option_map, option_map_or}
 use Rattle.cred_model.specs.State.{Task, ProcessFlag}
 use Rattle.cred_model.specs.Dumpable.{flag_in, is_dumpable, renewed, with_flag, without_flag}
-use Rattle.cred_model.specs.Ends.{is_beside, is_task, is_thread_of, survivors}
+use Rattle.cred_model.specs.Ends.{is_beside, is_task, survivors}
 use Rattle.cred_model.specs.Moves.{first_task}
 use Rattle.cred_model.proofs.Numbers.{found_number}
 use Rattle.cred_procs.specs.Tasks.{forked, has_process, task_in}

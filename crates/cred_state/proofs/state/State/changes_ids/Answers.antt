@@ -1,5 +1,6 @@
-use Rattle.std.proofs.Common.{◌≡◌, Some, None, sym, ap, ◌∙◌}
+use Rattle.std.proofs.Common.{◌≡◌, Option, Some, None, sym, ap, ◌∙◌}
 use Rattle.std.specs.Option.{option_map}
+use Rattle.cred_ids.specs.declared.id.Ids4.{Ids4}
 use Rattle.cred_model.specs.State.{Changed, Task, task_of}
 use Rattle.cred_setid.specs.declared.parts.Parts.{Parts}
 use Rattle.cred_tables.specs.Kept.{seen_in}
@@ -21,9 +22,9 @@ look_parts-old-requires-clause-used c =
 
 pub returns-in_default-clause-other : goal.returns-in_default-clause-other
 returns-in_default-clause-other c = λ last is.
-    let none : None ≡ Some (last.cred.uid, last.cred.gid)
+    let none : ◌≡◌ {A = Option (Ids4 × Ids4)} None (Some (last.cred.uid, last.cred.gid))
     = c.in_default.ensures
-    ∙ ap (option_map (λ (x : Changed). (x.cred.uid, x.cred.gid))) is in
+    ∙ ap (option_map {U = Ids4 × Ids4} (λ (x : Changed). (x.cred.uid, x.cred.gid))) is in
     cc
 
 pub returns-in_default-current-clause-other : goal.returns-in_default-current-clause-other
