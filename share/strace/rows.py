@@ -31,9 +31,13 @@ UNMAPPED_OWNER = "a set-user-ID bit makes the file's owner the effective user"
 SET_ID = "a set-id bit in force makes a file privileged"
 PLAIN_FILE = "a plain file is not privileged"
 TRACED = "execve is of a program: there are no scripts, and nobody traces the task"
+CREATOR = "looking into a task asks for CAP_SYS_PTRACE in the effective set"
+LOOKS = "one rule for each look into a task"
+EXECVE_FLAG = "an execve makes its process dumpable unless an id becomes another"
 ALL = (
     FILESYSTEM_IDS, SECUREBITS, UNMAPPED, DENIED_GROUPS, DIRECTORIES, NOT_MODE, CONTINUE,
-    NO_NEW_PRIVS_FILE, NO_NEW_PRIVS_IDS, UNMAPPED_OWNER, SET_ID, PLAIN_FILE, TRACED,
+    NO_NEW_PRIVS_FILE, NO_NEW_PRIVS_IDS, UNMAPPED_OWNER, SET_ID, PLAIN_FILE, TRACED, CREATOR, LOOKS,
+    EXECVE_FLAG,
 )  # fmt: skip
 
 # What a kept row may have changed.
@@ -91,7 +95,7 @@ DEPENDS: dict[str, tuple[str, ...]] = (
     | dict.fromkeys(("capset", "ambraise"), (CAPS, BOUNDING, BITS))
     | dict.fromkeys(("securebits", "keepcaps"), (CAPS, BITS))
     | dict.fromkeys((*ID_CALLS, "signal"), (IDS, CAPS))
-    | dict.fromkeys(("setfsuid", "setfsgid", "exec"), (FILE_IDS, CAPS, IDS))
+    | dict.fromkeys(("setfsuid", "setfsgid", "exec", "ptrace"), (FILE_IDS, CAPS, IDS))
     | dict.fromkeys(("open", "check", "access"), (FILE_IDS, CAPS, IDS, GROUPS))
 )
 
@@ -205,7 +209,9 @@ class Explainer:
                     parts = CHANGED.get(words[1], ())
                     known.keep(*(Kept(kept.row, part, kept.number, kept.text) for part in parts))
                 return self.text(kept.row, kept.sure, f"line {kept.number}: {kept.text}")
-        return None
+        if words[1] == "ptrace":
+            return self.text(LOOKS if kernel == "eperm" else CREATOR, sure=False)
+        return self.text(EXECVE_FLAG, sure=False) if words[1] == "dumped" else None
 
     def own(self, number: int, line: Line, kernel: str, told: str) -> tuple[str, str] | None:
         """The row that explains an answer by itself, with its text; the log may explain it too."""

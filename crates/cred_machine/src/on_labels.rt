@@ -247,6 +247,7 @@ impl State {
         let last = own.changed.as_ref().unwrap();
         let owner = self.tasks.get(own.task).unwrap();
         let (task, process, slot) = (own.task, owner.process, own.slot);
+        let other = self.differs_from(owner.current, &last.cred);
         let ending = ends_with(last.change, process, task);
         let ended = self.tasks.count(ending);
         let mut numbers = self.tasks.left(ending)?;
@@ -257,6 +258,7 @@ impl State {
         drop_with(&mut self.casts, last.change, process);
         let number = self.creds.seal(cred, slot);
         self.tasks.set_current(task, number);
+        self.dump.commit(last.change, &last.gains, process, other);
         let answer = committed_by(last.change, &last.gains, number, slot, ended);
         drop(self.prepared.remove(place));
         Ok(answer)
