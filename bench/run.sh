@@ -6,9 +6,9 @@
 # The marks are millions of instructions, three in a hundred above what the scripts took last, with a
 # slot of the shared words that has room for 1,024 groups: so what is lost later is seen. On changes there is one of
 # 4 MB of memory too: run keeps no journal, so its memory doesn't grow with the report.
-# Then a script of calls that 64 threads make, 1.28 million entries, is held against a program that only
+# Then a script of calls that 64 threads make, 1.28 million entries, is compared with a program that only
 # writes as many bytes and digits (writes.rs); there the mark is 2, and 10 MB. Its report is audited,
-# which is held against the run that made it: the mark is 2 there too.
+# which is compared with the run that made it: the mark is 2 there too.
 #
 # It needs rustc and GNU time. No part of the checks.
 set -eu
@@ -72,11 +72,11 @@ row script entries 'proved s, KiB' 'plain s, KiB' 'mark, KiB' \
 for name in calls changes holds checks broadcast; do
   "$proved" run < "$dir/$name" > "$dir/report"
   case $name in
-    calls) mark=38.6 ;;
-    changes) mark=70.6 ;;
-    holds) mark=20.6 ;;
-    checks) mark=49 ;;
-    broadcast) mark=120.4 ;;
+    calls) mark=38.8 ;;
+    changes) mark=70.4 ;;
+    holds) mark=21 ;;
+    checks) mark=49.4 ;;
+    broadcast) mark=117.3 ;;
   esac
   ours=$(seconds "$proved" "$name")
   theirs=- a=0 b=0
@@ -119,7 +119,8 @@ row threads 1275968 "$ours" "$theirs" 10240 "$count"
 { cat "$dir/threads"; echo report; cat "$dir/report"; } > "$dir/audited"
 word=audit
 # As bin/credtrace has it.
-export GLIBC_TUNABLES="${GLIBC_TUNABLES-glibc.malloc.hugetlb=1}"
+tunables=glibc.malloc.hugetlb=1:glibc.malloc.mmap_threshold=1073741824:glibc.malloc.top_pad=33554432
+export GLIBC_TUNABLES="${GLIBC_TUNABLES-$tunables}"
 theirs=$ours
 ours=$(seconds "$proved" audited)
 if command -v valgrind > /dev/null; then

@@ -1,5 +1,5 @@
 //! Writes the report of a script of broadcasts and does nothing else: as many bytes, and as many
-//! integers turned into digits. `bench/run.sh` holds the proved program against it on that script.
+//! integers turned into digits. `bench/run.sh` compares the proved program with it on that script.
 //! No part of the product or of the checks.
 //!
 //! Build it with `rustc --edition 2021 -O bench/writes.rs`.

@@ -124,7 +124,7 @@ class Script:
         del self.process[task]
 
     def sweep(self):
-        """All that was given up lets go."""
+        """Every reference that was given up is dropped."""
         self.line("sweep")
         self.entry("sweep", "ok")
         self.slots.sweep()

@@ -1,7 +1,7 @@
 """Every execve(2) of a table of processes and programs: 377,856 of one capability each.
 
 A process may have a capability in its sets in sixteen ways, and what becomes of one capability
-hangs on no other, but for the test of capability-dumb binaries. So a process has its 41
+depends on no other, but for the test of capability-dumb binaries. So a process has its 41
 capabilities in all sixteen ways at once, where that test isn't made. Where it is, it has them in
 the eight ways that the test lets pass, and then eight processes more have one capability in a way
 that it doesn't.

@@ -1,9 +1,10 @@
 """The script of a service that starts, cut off at each of its bytes.
 
-docs/FORMATS.md, "The script": "Each line ends with LF; the last one may lack it". Every line but
-the last is whole, so that alone can be bad: by the first word that names nothing, by too few words,
-by the last word, or by the name of a file that no line declares. Where it is good all lines before
-it have the entries that they have in the whole script.
+docs/FORMATS.md, "The script": "Each line ends with LF; the last one may lack it", and one "whose
+first word begins with `#`, holds nothing". Every line but the last is whole, so that alone can be
+bad: by the first word that names nothing, by too few words, by the last word, or by the name of a
+file that no line declares. Where it is good all lines before it have the entries that they have in
+the whole script.
 """
 import re
 from pathlib import Path
@@ -39,7 +40,7 @@ def form_of(words):
 
 def reason_of(line):
     """Why the line is bad, by the tests in their order; nothing of a good one."""
-    words = line.split()
+    words = line.partition("#")[0].split()
     form = form_of(words) if words else (0, "")
     if form is None:
         return "word"

@@ -110,7 +110,7 @@ def leaves(run, number, slot):
 
 def let_go(run, name):
     """All that referred to credential 0 but the task and hold 1000 is given up and swept. Then its
-    slot is free once both have let go, and not before."""
+    slot is free once both have dropped it, and not before."""
     run.line("sweep", "sweep -> ok")
     leaves(run, 1, 1)
     run.line("sweep", "sweep -> ok")

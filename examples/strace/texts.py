@@ -154,6 +154,46 @@ PLACES = [
      " = 0\n", "0755"),
     ("a memfd", '7 memfd_create("kept", MFD_CLOEXEC) = 5\n'
      '7 execveat(5</memfd:kept>(deleted), "", [], 0x7 /* 9 vars */, AT_EMPTY_PATH) = 0\n', "0777"),
+    ("a descriptor by a message", '7 openat(AT_FDCWD, "FOLDER/usr/bin/tool", O_PATH) = 3\n'
+     "7 recvmsg(5, {msg_name=NULL, msg_control=[{cmsg_len=24, cmsg_level=SOL_SOCKET, "
+     "cmsg_type=SCM_RIGHTS, cmsg_data=[4<socket:[9]>, 3]}], msg_flags=0}, 0) = 1\n"
+     '7 execveat(3, "", [], 0x7 /* 9 vars */, AT_EMPTY_PATH) = 0\n', NO_DESCRIPTOR),
+    ("a descriptor of another process's", '7 openat(AT_FDCWD, "FOLDER/usr/bin/tool", O_PATH) = 3\n'
+     '7 pidfd_getfd(5, 9, 0) = 3\n7 execveat(3, "", [], 0x7 /* 9 vars */, AT_EMPTY_PATH) = 0\n',
+     NO_DESCRIPTOR),
+    ("a root for openat2", '7 openat(AT_FDCWD, "FOLDER/jail", O_PATH) = 3\n'
+     '7 openat2(3, "/../bin/tool", {flags=O_PATH, resolve=RESOLVE_IN_ROOT}, 24) = 4\n'
+     '7 execveat(4, "", [], 0x7 /* 9 vars */, AT_EMPTY_PATH) = 0\n', "4755"),
+    ("a file that is written", TOOL.format("FOLDER/usr/bin/tool")
+     + '7 openat(AT_FDCWD, "FOLDER/usr/bin/tool", O_WRONLY|O_TRUNC) = 3\n',
+     "line 2 changes FOLDER/usr/bin/tool"),
+    ("a file that was written before", '7 openat(AT_FDCWD, "FOLDER/usr/bin/tool", O_WRONLY) = 3\n'
+     + TOOL.format("FOLDER/usr/bin/tool"), "0755"),
+    ("a folder that is renamed", TOOL.format("FOLDER/usr/bin/tool")
+     + '7 renameat(AT_FDCWD, "FOLDER/usr", AT_FDCWD, "FOLDER/old") = 0\n',
+     "line 2 changes FOLDER/usr/bin/tool"),
+    ("a link that is removed", '7 chroot("FOLDER/jail") = 0\n' + TOOL.format("/bin/tool")
+     + '7 unlink("/bin") = 0\n', "line 3 changes FOLDER/jail/bin/tool"),
+    ("another link that is removed", TOOL.format("FOLDER/usr/bin/tool")
+     + '7 unlink("FOLDER/jail/bin") = 0\n', "0755"),
+    ("a descriptor of another mount namespace", '7 openat(AT_FDCWD, "FOLDER/jail/usr/bin/tool", '
+     "O_PATH) = 3\n7 unshare(CLONE_NEWNS) = 0\n"
+     '7 execveat(3, "", [], 0x7 /* 9 vars */, AT_EMPTY_PATH) = 0\n', "4755 nosuid"),
+    ("a program of another mount namespace", TOOL.format("FOLDER/jail/usr/bin/tool")
+     + "7 unshare(CLONE_NEWNS) = 0\n" + TOOL.format("/proc/self/exe"), "4755 nosuid"),
+    ("a folder in another mount namespace", '7 chdir("FOLDER/jail/usr") = 0\n'
+     "7 unshare(CLONE_NEWNS) = 0\n" + TOOL.format("bin/tool"), "4755"),
+    ("a root that is named", TOOL.format("/bin/tool"), "4755"),
+    ("a root that is named, and what -y tells of it", '7 openat(AT_FDCWD<FOLDER/jail/usr>, "bin", '
+     "O_PATH) = 3<FOLDER/jail/usr/bin>\n" + TOOL.format("bin/tool"), "4755"),
+    ("a root of a container, and what -y tells of it", '7 openat(AT_FDCWD</usr>, "bin", '
+     "O_PATH) = 3</usr/bin>\n" + TOOL.format("bin/tool"), "4755"),
+    ("a script in a memfd", '7 memfd_create("kept", 0) = 5\n'
+     '7 write(5, "#! FOLDER/jail/usr/bin/tool\\necho\\n", 40) = 40\n'
+     '7 execveat(5, "", [], 0x7 /* 9 vars */, AT_EMPTY_PATH) = 0\n', "4755"),
+    ("a script in a memfd that is shortened", '7 memfd_create("kept", 0) = 5\n'
+     '7 write(5, "#! FOLDER/jail/us"..., 40) = 40\n'
+     '7 execveat(5, "", [], 0x7 /* 9 vars */, AT_EMPTY_PATH) = 0\n', "first line is shortened"),
     ("an id without a map", "7 unshare(CLONE_NEWUSER) = 0\n7 setuid(0) = 0\n", saying.NO_MAP),
 ]
 
@@ -174,6 +214,7 @@ ROOT = USER.replace("1000", "0").replace("CapPrm:\t0", "CapPrm:\t1ffffffffff").r
 FILES = """/bin/sh reg 0 0 0755
 /bin/su reg 0 0 4755
 /mnt/tool reg 0 0 0755 noexec
+/mnt/su reg 0 0 4755 nosuid
 /home/tool reg 0 0 0755
 / dir 0 0 0755
 /home dir 0 0 0750
@@ -183,6 +224,7 @@ RUNS = '7 execve("{}", [], 0x7 /* 9 vars */) = {}\n'
 REFUSED = "-1 EACCES (Permission denied)"
 NO_ROW = "no row explains it"
 TRACED = "execve is of a program: there are no scripts, and nobody traces the task"
+COUNTS = "a capability counts alike for every file and every task"
 BITS = "a securebit above bit 7 is EPERM"
 
 # A log with where it begins, the status of credtrace-compare, what it says and what it mustn't.
@@ -195,7 +237,8 @@ DIFFERENCES = [
      + RUNS.format("/bin/su", 0) + IDS, 0, [f"it may be: {TRACED}"], []),
     ("a drop that a row explains, and what is read then", USER, RUNS.format("/bin/su", 0)
      + "7 prctl(PR_CAPBSET_DROP, CAP_CHOWN) = -1 EPERM (Operation not permitted)\n"
-     "7 prctl(PR_CAPBSET_READ, CAP_CHOWN) = 1\n", 0, [TRACED, "explained by docs/LINUX.md: 2"], []),
+     "7 prctl(PR_CAPBSET_READ, CAP_CHOWN) = 1\n", 0,
+     [TRACED, "agree: 2 calls, explained by docs/LINUX.md: 1,"], []),
     ("securebits above bit 7", ROOT, BEGINS
      + "7 prctl(PR_SET_SECUREBITS, 0x100 /* SECBIT_??? */) = 0\n"
      "7 prctl(PR_GET_SECUREBITS) = 0x100\n7 prctl(PR_SET_SECUREBITS, SECBIT_NOROOT|0xf00) = 0\n"
@@ -236,8 +279,85 @@ DIFFERENCES = [
      ["line 2: prctl: its constants are numbers: record without -X raw or -X verbose"], []),
     ("an early end", ROOT, BEGINS + "7 setns(5, 0) = 0\n7 getuid() = 0\n", 3,
      ["left: 2 of 3 lines of the log, with 1 calls"], []),
+    ("a result that strace made up", ROOT, BEGINS + "7 setuid(5) = 0 (INJECTED)\n7 getuid() = 0\n",
+     0, ["agree: 2"], []),
+    ("pid 1 without a PID namespace", ROOT, BEGINS + "7 fork() = 8\n8 setuid(5) = 0\n"
+     "8 kill(1, SIGTERM) = -1 EPERM (Operation not permitted)\n", 0, ["agree: 3"], []),
+    ("pid 1 of a PID namespace", ROOT, BEGINS + "7 clone(flags=CLONE_NEWPID|SIGCHLD) = 8\n"
+     "8 fork() = 9\n9 setuid(5) = 0\n9 kill(1, SIGTERM) = -1 EPERM (Operation not permitted)\n"
+     "9 kill(7, SIGTERM) = -1 ESRCH (No such process)\n", 0, ["agree: 5"], []),
+    ("pids of a PID namespace that is entered", ROOT, BEGINS + "7 setns(3, CLONE_NEWPID) = 0\n"
+     "7 fork() = 8\n8 setuid(5) = 0\n8 kill(7, SIGTERM) = 0\n", 0, ["agree: 3"], []),
+    ("a map after a program was executed", ROOT, BEGINS
+     + "7 clone(flags=CLONE_NEWUSER|SIGCHLD) = 8\n" + RUNS.replace("7 ", "8 ").format("/bin/sh", 0)
+     + '7 openat(AT_FDCWD, "/proc/8/uid_map", O_WRONLY) = 3\n7 write(3, "0 0 1", 5) = 5\n', 3,
+     ["user 0 becomes root of the namespace, and has executed a program there at line 3"], []),
+    ("another user's map after a program was executed", ROOT, BEGINS
+     + "7 clone(flags=CLONE_NEWUSER|SIGCHLD) = 8\n" + RUNS.replace("7 ", "8 ").format("/bin/sh", 0)
+     + '7 openat(AT_FDCWD, "/proc/8/uid_map", O_WRONLY) = 3\n7 write(3, "0 5 1", 5) = 5\n'
+     "8 capget({version=_LINUX_CAPABILITY_VERSION_3, pid=0}, "
+     "{effective=0, permitted=0, inheritable=0}) = 0\n", 0, ["agree: 3"], []),
+    ("nobody is root of a namespace", ROOT, BEGINS
+     + "7 setresuid(4294967294, 4294967294, 4294967294) = 0\n7 unshare(CLONE_NEWUSER) = 0\n"
+     + RUNS.format("/bin/sh", 0) + "7 capget({version=_LINUX_CAPABILITY_VERSION_3, pid=0}, "
+     "{effective=0, permitted=0, inheritable=0}) = 0\n", 0, ["agree: 4"], []),
+    ("a capability that doesn't count for a file", ROOT, BEGINS + "7 setuid(1000) = 0\n"
+     '7 unshare(CLONE_NEWUSER) = 0\n7 open("/home/tool", O_WRONLY) = ' + REFUSED + "\n", 0,
+     [COUNTS, "here: the file's owner or group isn't mapped"], ["looks at the kind"]),
+    ("a capability that doesn't count for a task", ROOT, BEGINS + "7 fork() = 8\n8 setuid(5) = 0\n"
+     "8 unshare(CLONE_NEWUSER) = 0\n8 kill(7, SIGTERM) = -1 EPERM (Operation not permitted)\n", 0,
+     [COUNTS], [NO_ROW]),
+    ("who made the target's namespace", ROOT, BEGINS + "7 fork() = 8\n7 setuid(5) = 0\n"
+     "8 setresuid(6, 5, 6) = 0\n8 unshare(CLONE_NEWUSER) = 0\n7 kill(8, SIGTERM) = 0\n", 0,
+     [COUNTS], [NO_ROW]),
+    ("a thread's execve by -ff", ROOT, BEGINS
+     + "7 clone(child_stack=NULL, flags=CLONE_VM|CLONE_FS|CLONE_FILES|CLONE_THREAD) = 8\n"
+     '8 execve("/bin/sh", [], 0x7 /* 9 vars */ <pid changed to 7 ...>\n'
+     "7 +++ superseded by execve in pid 8 +++\n7 <... execve resumed>) = 0\n7 getuid() = 0\n", 0,
+     ["agree: 4"], []),
+    ("a call that nothing is known of", ROOT, BEGINS + "7 ???() = ?\n7 getuid() = 0\n", 0,
+     ["agree: 2"], []),
+    ("the user namespace of another namespace", ROOT, BEGINS
+     + '7 openat(AT_FDCWD, "/proc/self/ns/user", O_RDONLY) = 3\n7 ioctl(4, NS_GET_USERNS) = 3\n'
+     "7 setns(3, 0) = 0\n", 3, [enters.UNKNOWN], []),
+    ("what a filter refused changes nothing", ROOT, BEGINS
+     + "7 prctl(PR_SET_SECCOMP, SECCOMP_MODE_FILTER, {len=1}) = 0\n"
+     "7 setuid(5) = -1 EPERM (Operation not permitted)\n7 getuid() = 0\n", 0,
+     ["agree: 2 calls, explained by docs/LINUX.md: 1,", "the log: line 2 of it"], []),
+    ("another process changes a file", ROOT, BEGINS + "7 fork() = 8\n7 fork() = 9\n"
+     + RUNS.replace("7 ", "8 ").format("/bin/su", 0) + '9 chmod("/bin/su", 0755) = 0\n'
+     + RUNS.replace("7 ", "8 ").format("/bin/su", 0), 3, ["line 5 changes /bin/su"], []),
+    ("a nosuid mount", ROOT, BEGINS + "7 setuid(5) = 0\n" + RUNS.format("/mnt/su", 0)
+     + "7 geteuid() = 5\n", 0, ["agree: 4"], []),
+    ("a nosuid mount that is mounted again without", ROOT, BEGINS
+     + '7 mount("/mnt", "/home", NULL, MS_BIND, NULL) = 0\n'
+     '7 mount(NULL, "/home", NULL, MS_REMOUNT|MS_BIND, NULL) = 0\n7 setuid(5) = 0\n'
+     + RUNS.format("/home/su", 0) + "7 geteuid() = 0\n", 0, ["agree: 4"], []),
+    ("strace lets go", ROOT, BEGINS + "7 setuid(5) = 0\n7 vfork( <unfinished ...>\n"
+     "8 getuid() = 5\n7 <... vfork resumed> <detached ...>\n8 vfork( <detached ...>\n", 0,
+     ["agree: 4"], ["left: "]),
+    ("strace is killed in a fork", ROOT, BEGINS + "7 clone(child_stack=NULL, flags=SIGCHLD "
+     "<unfinished ...>\n8 setuid(5) = 0\n8 getuid() = 5\n", 0, ["agree: 4"], ["left: "]),
+    ("a parent that is killed in a vfork", ROOT, BEGINS + "7 vfork( <unfinished ...>\n"
+     "8 setuid(5) = 0\n7 +++ killed by SIGKILL +++\n8 getuid() = 5\n", 0, ["agree: 4"], ["left: "]),
+    ("strace is killed in two forks", ROOT, BEGINS + "7 fork() = 8\n8 vfork( <unfinished ...>\n"
+     "7 vfork( <unfinished ...>\n9 setuid(5) = 0\n9 getuid() = 5\n", 3,
+     ["agree: 2", "left: the calls of 1 tasks"], []),
+    ("a thread's own filesystem id", ROOT, BEGINS
+     + "7 clone(child_stack=NULL, flags=CLONE_VM|CLONE_FS|CLONE_FILES|CLONE_THREAD) = 8\n"
+     "8 setfsgid(5) = 0\n8 exit(0) = ?\n7 unshare(CLONE_NEWUSER) = 0\n"
+     '7 openat(AT_FDCWD, "/proc/self/gid_map", O_WRONLY) = 3\n7 write(3, "0 0 1", 5) = 5\n'
+     "7 setfsgid(0) = 0\n", 0, ["agree: 4"], []),
+    ("a pidfd by clone", ROOT, BEGINS + "7 clone(child_stack=NULL, flags=CLONE_PIDFD|CLONE_NEWUSER|"
+     "SIGCHLD, parent_tid=[3<anon_inode:[pidfd]>]) = 8\n7 setns(3<anon_inode:[pidfd]>, "
+     "CLONE_NEWUSER) = 0\n7 getuid() = 65534\n", 0, ["agree: 2"], []),
+    ("a pidfd by clone3", ROOT, BEGINS + "7 clone3({flags=CLONE_PIDFD|CLONE_NEWUSER, pidfd=0x7ffd, "
+     "exit_signal=SIGCHLD, stack=NULL, stack_size=0} => {pidfd=[3]}, 88) = 8\n"
+     "7 setns(3, CLONE_NEWUSER) = 0\n7 getuid() = 65534\n", 0, ["agree: 2"], []),
     ("tasks that nobody made", ROOT, BEGINS + "8 getuid() = 0\n", 3,
      ["left: the calls of 1 tasks that no call made"], []),
+    ("the status of who wrote it down", "Pid:\t5\n" + ROOT, BEGINS + "7 getuid() = 0\n", 0,
+     ["agree: 2"], []),
     ("a thread that goes on before the last", ROOT, BEGINS
      + "7 clone(child_stack=NULL, flags=CLONE_VM|CLONE_FS|CLONE_FILES|CLONE_THREAD) = 8\n"
      "8 setuid(5) = 0\n8 getuid() = 5\n7 setuid(5) = 0\n", 0, ["agree: 4"], []),
@@ -245,3 +365,12 @@ DIFFERENCES = [
      + "7 clone(child_stack=NULL, flags=CLONE_VM|CLONE_FS|CLONE_FILES|CLONE_THREAD) = 8\n"
      "8 setuid(5) = 0\n8 getuid() = 5\n7 getuid() = 0\n", 3, ["not all 2 threads"], []),
 ]
+
+# What the tools are told besides.
+JAIL = ["--root", "FOLDER/jail"]
+WORDS = {
+    "another process changes a file": ["--task", "8"],
+    "a root that is named": JAIL,
+    "a root that is named, and what -y tells of it": JAIL,
+    "a root of a container, and what -y tells of it": JAIL,
+}

@@ -46,6 +46,14 @@ def opened(call: Call) -> tuple[int, str, str | None]:
     return place, "open", None if "O_PATH" in flags else want
 
 
+def facts_of(task: Task, found: Found) -> Facts:
+    """What is known of a file besides."""
+    words, space = found.file.words.split(), task.process.space
+    unmapped = not (space.inside(int(words[1]), False) and space.inside(int(words[2]), True))
+    filtered = task.process.filtered
+    return Facts(found.place, found.file.noexec, filtered, unmapped, words=found.file.words)
+
+
 class Asks:
     """Writes the lines of such calls."""
 
@@ -58,6 +66,7 @@ class Asks:
         """A file that the list of files names, or that was executed before."""
         try:
             path, base = self._paths.named(task, call, place, place - 1 if place else None)
+            task = self._paths.rooted(task, call)
             # Most paths of a long log are of other files: their last names say so.
             last = path.rpartition("/")[2]
             plain = path and not path.startswith(("/proc/", "/dev/"))
@@ -69,7 +78,7 @@ class Asks:
             found = self._paths.find(task, path, base)
         except (Unheld, Missing):
             return None
-        self._changes.uses(found.place, call.first)
+        self._changes.uses(found, call.first, False)
         return found
 
     def lines(self, task: Task, call: Call) -> list[Line] | None:
@@ -82,7 +91,7 @@ class Asks:
         if found is None:
             return None
         name = self._script.file(call.first, found)
-        facts = Facts(found.place, filtered=task.process.filtered)
+        facts = facts_of(task, found)
         if form == "open":
             opens = Line(f"{task.name} open {name} {want} {DESCRIPTOR}", call, said, facts)
             return [opens, Line(f"{task.name} close {DESCRIPTOR}")]

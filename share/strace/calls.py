@@ -124,12 +124,6 @@ def setgroups(args: Args, result: Result) -> Said | None:
     return told(" ".join(["setgroups", *(word for word in words if word)]), result)
 
 
-def own(args: Args, pid: int) -> bool:
-    """Whether capset(2) or capget(2) is of the task itself."""
-    named = lines.pid(lines.fields(args[0]).get("pid", "")) if args else None
-    return named in (0, pid)
-
-
 def sets(args: Args, result: Result) -> list[int] | None:
     """The permitted, the inheritable and the effective set that capset(2) or capget(2) names."""
     version = lines.fields(args[0]).get("version", "") if len(args) == 2 else ""

@@ -9,17 +9,14 @@ import sys
 import textwrap
 
 from .command import Fault, shown
-from .forms import Form, NoPage, form_of, keyword, keywords, spelling, tests
-from .kinds import meant, near, wrong_word
-from .running import program
+from .forms import NoPage, form_of, spelling, tests
+from .hints import hints, words_of
+from .running import cant_run, program
 
 GOOD, BAD, NOT_CHECKED = 0, 2, 3
 
 # The program's status for a script with a bad line, and for one that is too large.
 STATUS_BAD, STATUS_LARGE = 2, 6
-
-# The lines that stand before all others.
-DECLARING = ("ns", "file", "init")
 
 
 def verdict(script: bytes) -> tuple[int, str] | None:
@@ -27,7 +24,7 @@ def verdict(script: bytes) -> tuple[int, str] | None:
     try:
         done = subprocess.run([program(), "run"], input=script, stdout=subprocess.PIPE, check=False)
     except OSError as fault:
-        raise Fault(f"{program()} can't be run: {fault.strerror}") from None
+        raise Fault(cant_run(fault)) from None
     if done.returncode == 0:
         return None
     match = re.fullmatch(rb"bad (\d+) (\w+)\n?", done.stdout)
@@ -49,11 +46,6 @@ def wrapped(text: str) -> str:
     return textwrap.fill(text, 100, initial_indent="    ", subsequent_indent="      ")
 
 
-def words_of(line: str) -> list[str]:
-    """The words of a line."""
-    return [word for word in line.split(" ") if word]
-
-
 def explained(script: bytes, number: int, reason: str) -> list[str]:
     """What is told of a bad line."""
     lines = script.decode("latin-1").split("\n")
@@ -67,85 +59,11 @@ def explained(script: bytes, number: int, reason: str) -> list[str]:
         place = next(place for place, c in enumerate(line, 1) if not " " <= c <= "~")
         told.append(wrapped(f"Byte {place} of the line is 0x{ord(line[place - 1]):02x}."))
         return told
-    if any(word.startswith("#") for word in words[1:]):
-        told.append(wrapped("A comment is a line of its own: its first word begins with `#`."))
-    elif form is None:
-        told.append(wrapped("No form of docs/FORMATS.md begins so." + likely(words)))
-        return told
-    elif hint := HINTS.get(reason, lambda *_: None)(form, words, lines[: number - 1]):
-        told.append(wrapped(hint))
+    told += [wrapped(hint) for hint in hints(reason, form, words, lines[: number - 1])]
     if form is not None:
         told.append(wrapped(f"The form: {form.text} ({form.does})"))
         told += [wrapped(f"{name}: {text}") for name, text in spelling(form)]
     return told
-
-
-def likely(words: list[str]) -> str:
-    """The form that is likely meant: one letter or two of its word differ, or the task lacks."""
-    known = keywords()
-    for word in words[:3]:
-        if re.match(r"[tphf][0-9]", word):
-            continue
-        guess = near(word, known)
-        if guess and guess != word:
-            return f" Is {guess} meant?"
-    return ""
-
-
-def right_word(form: Form, words: list[str], _: list[str]) -> str | None:
-    """Which word isn't as its place asks, and what would be right."""
-    wrong = wrong_word(form.text, words)
-    if wrong is None:
-        return None
-    place, kind = wrong
-    word = words[place]
-    guess = meant(kind, word)
-    wrong_so = f"is no {kind}" if kind.isupper() else f"isn't `{kind}`"
-    return f"Word {place + 1}, `{word}`, {wrong_so}." + (f" Is {guess} meant?" if guess else "")
-
-
-def right_count(form: Form, words: list[str], _: list[str]) -> str:
-    """How many words there are, and which lacks or is too many."""
-    told = f"The line has {len(words)} words."
-    expected = form.text.split()
-    if "..." in expected or "[" in form.text:
-        return told
-    if len(words) < len(expected):
-        return f"{told} Word {len(words) + 1}, the {expected[len(words)]}, lacks."
-    return f"{told} Word {len(expected) + 1}, `{words[len(expected)]}`, is too many."
-
-
-def right_name(form: Form, words: list[str], before: list[str]) -> str | None:
-    """Which name isn't declared above, or is twice."""
-    above = [words_of(line) for line in before]
-    files = {line[1]: number for number, line in enumerate(above, 1) if line[:1] == ["file"]}
-    spaces = {line[1]: number for number, line in enumerate(above, 1) if line[:1] == ["ns"]}
-    declared = files if words[0] == "file" else spaces if words[0] == "ns" else {}
-    if words[0] in ("file", "ns") and words[1] in declared:
-        return f"`{words[1]}` was declared by line {declared[words[1]]} already."
-    for place, kind in enumerate(form.text.split()[: len(words)]):
-        word = words[place]
-        if kind == "NAME" and word not in files:
-            guess = near(word, set(files))
-            return f"No line above declares `{word}`." + (f" Is {guess} meant?" if guess else "")
-        if kind == "N" and word != "n0" and word[1:] not in spaces:
-            return f"No line above declares {word}: `ns {word[1:]} ROOT PARENT` would."
-    if words[0] == "ns":
-        return f"No line above declares the parent, {words[3]}."
-    return None
-
-
-def right_order(form: Form, _: list[str], before: list[str]) -> str | None:
-    """Which line the declaration stands behind."""
-    for number, line in enumerate(before, 1):
-        words = words_of(line)
-        if words and not words[0].startswith("#") and words[0] not in DECLARING:
-            word = keyword(form.text)
-            return f"Line {number} is a call, an event or a lane: `{word}` stands above."
-    return None
-
-
-HINTS = {"word": right_word, "count": right_count, "name": right_name, "order": right_order}
 
 
 def unmade(script: bytes) -> list[str]:

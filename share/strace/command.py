@@ -37,11 +37,13 @@ class Options:
     start: str | None = None
     task: int | None = None
     folder: str | None = None
+    root: str = "/"
 
 
 def options_of(given: argparse.Namespace) -> Options:
     """The options as they were given."""
-    return Options(given.log or ["-"], given.files, given.start, given.task, given.folder)
+    logs = given.log or ["-"]
+    return Options(logs, given.files, given.start, given.task, given.folder, given.root)
 
 
 def add_options(parser: argparse.ArgumentParser) -> None:
@@ -60,6 +62,13 @@ def add_options(parser: argparse.ArgumentParser) -> None:
     )
     parser.add_argument(
         "--folder", metavar="PATH", help="the folder where the log begins, for relative paths"
+    )
+    parser.add_argument(
+        "--root",
+        metavar="PATH",
+        default="/",
+        help="the root where the log begins, for absolute paths, as where strace came to a process "
+        "of a container",
     )
     parser.add_argument(
         "log",
@@ -108,18 +117,28 @@ def converted(options: Options, asks: bool = False) -> Converter:
     known: dict[str, int] = {}
     reader, items, first = items_of(options, Converter(Files(listed)).wanted(), start)
     while True:
-        converter = Converter(Files(listed), asks, options.folder, known)
+        converter = Converter(Files(listed), asks, options.folder, options.root, known)
         converter.run(items, first, start)
         # A file that was used before it changed: the script ends where it was used.
         if set(converter.changes.found) <= set(known):
             break
         known |= converter.changes.found
-    converter.notes = start.notes + converter.notes
+    converter.notes = start.notes + converter.notes + since_the_log(converter.files, options.logs)
     converter.passed.names(reader.passed)
     converter.count = reader.count
     if reader.cut and not converter.stopped:
         converter.stopped = Stop(reader.cut.line, reader.cut.what)
     return converter
+
+
+def since_the_log(files: Files, logs: list[str]) -> list[str]:
+    """What is said of files that are others now than when the log was written."""
+    times = [os.stat(log).st_mtime for log in logs if os.path.isfile(log)]
+    changed = files.changed_after(max(times)) if times else []
+    return [
+        f"{place} was changed after the log was written: list the files as they were (--files)"
+        for place in changed
+    ]
 
 
 def items_of(
@@ -130,6 +149,10 @@ def items_of(
     name = shown(options.logs[0])
     try:
         items = read(reader, options.logs)
+        # The status may be that of the program which wrote it down, and which the log doesn't have.
+        begun = [pid for pid in start.threads[:1] if any(item.pid == pid for item in items)]
+        if len(start.threads) == 1:
+            start.threads = begun
         first = start.threads[0] if start.threads else reader.first_pid or 0
         if options.task is not None:
             first, items = family(items, options.task, options.start is not None)

@@ -8,16 +8,17 @@ import subprocess
 import sys
 from dataclasses import dataclass, field
 
+from .aside import Ran, ran
 from .command import Fault, add_options, converted, options_of
 from .log import Call
 from .probe import Probe
 from .rows import Explainer
-from .running import program
+from .running import cant_run, program
 from .script import Line, Script
 
 AGREES, DIFFERS, NOT_COMPARED, ENDS_BEFORE = 0, 1, 2, 3
 
-# The entries that decide a line; the others take hold of a credential and let go of it.
+# The entries that decide a line; the others take hold of a credential and drop it.
 DECIDING = frozenset(
     "begin act ask change open signal spawn fork exit dumpable dumped ptrace".split()
 )
@@ -30,7 +31,7 @@ def report_of(script: str) -> str:
             [program(), "run"], input=script.encode("ascii"), stdout=subprocess.PIPE, check=False
         )
     except OSError as fault:
-        raise Fault(f"{program()} can't be run: {fault.strerror}") from None
+        raise Fault(cant_run(fault)) from None
     text = done.stdout.decode("latin-1")
     if done.returncode:
         raise Fault(f"{program()} ended with status {done.returncode}: {text.strip()[:200]}")
@@ -110,9 +111,9 @@ class Comparison:
         if not self.told or "no row explains it" not in self.told[0]:
             return None
         return (
-            "the script begins as root with all capabilities, since no --start was given, and the "
-            f"log doesn't: {self.told[0].split(': ')[0]} is the first of {len(self.told)} calls "
-            "that differ. Name the text of /proc/PID/status where the log begins by --start"
+            f"{self.told[0].split(': ')[0]} is the first of {len(self.told)} calls that differ. "
+            "The script begins as root with all capabilities, since no --start was given, and the "
+            "log may not: name the text of /proc/PID/status where it begins by --start"
         )
 
     def sum(self) -> str:
@@ -132,15 +133,18 @@ def differing(lines: list[Line], found: dict[int, str]) -> list[int]:
     ]
 
 
-def compare(script: Script, report: str) -> Comparison:
+def compare(script: Script, run: Ran) -> Comparison:
     """Holds each answer beside the kernel's."""
-    found = answers(report)
+    found = run.found
     comparison = Comparison()
     lines = script.lines()
-    probe = Probe(lines, differing(lines, found), report_of, script.known)
+    probe = Probe(run.lines, differing(lines, found), report_of, script.known)
     explainer = Explainer(probe, script.tracer)
     before: Call | None = None
+    renamed = script.renames()
     for number, line in enumerate(lines, 1):
+        for names in renamed.get(number, ()):
+            explainer.goes_on_as(*names)
         if line.call is not None and line.answer is not None:
             report = found.get(number, "nothing")
             if agrees(line.answer, report):
@@ -153,14 +157,14 @@ def compare(script: Script, report: str) -> Comparison:
     return comparison
 
 
-def refusals(script: Script, report: str) -> list[str]:
+def refusals(script: Script, run: Ran) -> list[str]:
     """Why each call of the log was refused, with its line."""
     # To say why takes another package, which is read where it is asked for alone.
     from why.logs import refused
 
     lines = {number: line for number, line in enumerate(script.lines(), 1) if line.call}
     try:
-        found = refused(script.text(), report, set(lines))
+        found = refused(run.text(), report_of(run.text()), set(lines))
     except ValueError as fault:
         raise Fault(str(fault)) from None
     told = []
@@ -184,9 +188,9 @@ def main(words: list[str]) -> int:
     given = parser.parse_args(words)
     try:
         converter = converted(options_of(given))
-        report = report_of(converter.script.text())
-        comparison = compare(converter.script, report)
-        refused = refusals(converter.script, report) if given.why else []
+        run = ran(converter.script.lines(), lambda text: answers(report_of(text)))
+        comparison = compare(converter.script, run)
+        refused = refusals(converter.script, run) if given.why else []
     except Fault as fault:
         print(f"credtrace-compare: {fault}", file=sys.stderr)
         return NOT_COMPARED

@@ -9,19 +9,17 @@ from .calls import ID_CALLS, OWN_CALLS, SET_CALLS, Said, Unheld, answer
 from .changes import Changes
 from .enters import Entries, is_map
 from .files import Files, Found, Missing
-from .lines import fields, pid
-from .log import EXECUTIONS, Call, Gone, Item, Renamed
+from .lines import fields
+from .log import CREATIONS, EXECUTIONS, Call, Gone, Item, Renamed
 from .moves import Moves, argument, clone_flags
 from .opened import FILE, told
 from .paths import Paths
-from .places import BEGIN, Located
+from .places import BEGIN, Located, Mounts, Where
 from .saying import Sayer
 from .script import TASKS, Facts, Line, Stop
 from .start import Start
-from .tasks import Task
+from .tasks import Process, Task
 from .together import Together
-
-CREATIONS = ("fork", "vfork", "clone", "clone3")
 
 ENDS = ("exit", "exit_group")
 
@@ -46,6 +44,7 @@ class Converter(Sayer):
         files: Files,
         asking: bool = False,
         folder: str | None = None,
+        root: str = "/",
         known: dict[str, int] | None = None,
     ) -> None:
         super().__init__(asking)
@@ -61,6 +60,7 @@ class Converter(Sayer):
         self.count = 0
         self.left = 0
         self._folder = folder
+        self._root = root.rstrip("/") or "/"
         self._moves = Moves(self.paths, lambda: self.tasks.by_pid.values())
         self._follow = self._moves.handlers()
         self._asks = asks.Asks(self.paths, self.script, self.changes)
@@ -97,13 +97,22 @@ class Converter(Sayer):
         items = list(items)
         tasks = [self.tasks.first(first)]
         tasks += [self.tasks.spawn(pid, tasks[0], THREAD) for pid in start.threads[1:]]
-        tasks[0].process.ids = start.ids
-        tasks[0].where.folder = self.begins(items, first)
+        for one in tasks:
+            one.ids = start.ids.copy()
+        where = tasks[0].where
+        where.root = Located(self._root)
+        where.mounts = Mounts(where.root, outside=self._root.rstrip("/"))
+        where.folder = self.begins(items, tasks[0])
         self.script.begin_with(start.inits(), start.lines)
         self.script.known = self.files
         begins = next((item for item in items if isinstance(item, Call)), None)
         traced = begins is not None and begins.name == "execve" and begins.pid == first
         self.script.tracer = start.traces if traced else None
+        if not traced and self.files.listed is None and self._root == "/":
+            self.notes.append(
+                "the log doesn't begin with an execve: the root of its first process is taken for "
+                "that of this machine (--root names another, as that of a container)"
+            )
         self.together = Together(items, SAYING)
         try:
             for self.at, item in enumerate(items):
@@ -115,7 +124,7 @@ class Converter(Sayer):
             self.stopped = stop
             rest = items[self.at :]
             self.left = sum(isinstance(item, Call) and item.name in SAYING for item in rest)
-        self.script.head(*self.entries.head())
+        self.script.head(*self.entries.head(self.script))
 
     def is_part(self) -> bool:
         """Whether the script isn't the whole log: it ends before, or lacks tasks."""
@@ -135,7 +144,7 @@ class Converter(Sayer):
             found.append(f"left: the calls of {len(self.strangers)} tasks that no call made")
         return found
 
-    def begins(self, items: list[Item], first: int) -> Located:
+    def begins(self, items: list[Item], task: Task) -> Located:
         """The folder where the log begins: the one that is named, or that -y tells first."""
         if self._folder is not None:
             return Located("" if self._folder == "." else self._folder.rstrip("/") or "/")
@@ -144,10 +153,10 @@ class Converter(Sayer):
                 continue
             if item.name in ("chdir", "fchdir", "chroot", "pivot_root", *CREATIONS):
                 break
-            shown = told(argument(item, 0)) if item.pid == first else None
+            shown = told(argument(item, 0)) if item.pid == task.pid else None
             if shown and item.args[0].startswith("AT_FDCWD"):
                 self.paths.known = True
-                return Located(shown[0])
+                return task.where.within(shown[0])
         return BEGIN
 
     def item(self, item: Item) -> None:
@@ -159,6 +168,11 @@ class Converter(Sayer):
         if isinstance(item, Gone):
             if task:
                 self.gone([task], item.last)
+            return
+        if task is None and item.context:
+            # Another process than those that are converted: it may change a file of theirs.
+            nobody = Task(0, item.pid, Process(0), Where(folder=None))
+            self.changes.elsewhere(nobody, item)
             return
         if task is None:
             self.stranger(item)
@@ -178,7 +192,8 @@ class Converter(Sayer):
             self.notes.append(
                 f"line {call.first}: no call of this log made pid {call.pid}, so its calls are "
                 "passed over: was it a thread of the first process, --start names a folder with "
-                "the status of each (docs/A-REAL-PROCESS.md)"
+                "the status of each; a process of its own is taken by --task "
+                "(docs/A-REAL-PROCESS.md)"
             )
 
     def create(self, task: Task, call: Call) -> None:
@@ -213,13 +228,16 @@ class Converter(Sayer):
 
     def fork(self, task: Task, call: Call, made: int, flags: frozenset[str]) -> None:
         """A new process, which may be in a user namespace of its own."""
-        child = self.tasks.fork(made, task, flags)
         if call.inner is not None:
-            task.process.pids[call.inner] = made
+            self.tasks.tells(task.process, call.inner, made)
+        child = self.tasks.fork(made, task, flags)
+        if "CLONE_PIDFD" in flags:
+            self._moves.with_pidfd(task, call, child)
         if "CLONE_NEWNS" in flags:
             self._moves.new_mounts(child)
         if "CLONE_NEWUSER" in flags:
-            self.entries.sits(child, self.entries.made(task.process.space))
+            self.entries.sits(child, self.entries.made(task))
+            self.script.goes_on_as(task.name, child.name)
             self.room(call.first, 0)
         else:
             self.say(task, call, Said(f"fork {child.name} p{child.process.number}", "ok"))
@@ -258,31 +276,29 @@ class Converter(Sayer):
             self.passed.call(call)
             return
         for found in (*scripts, program):
-            self.changes.uses(found.place, call.first)
+            self.changes.uses(found, call.first, True)
         # A script file has to be executable too. What is refused by EACCES is asked about alone:
         # the reason may be one that the program doesn't know, which would execute the file.
         asked = [*scripts, program][:1] if said == "eacces" else scripts
         for found in asked:
             name = self.script.file(call.first, found)
-            facts = self.facts(task, found)
+            facts = asks.facts_of(task, found)
             answered = said if said == "eacces" else "ok"
             self.say(task, call, Said(f"check {name} x", answered), facts)
         if said != "eacces":
             name = self.script.file(call.first, program)
-            self.say(task, call, Said(f"exec {name}", said), self.facts(task, program))
+            self.say(task, call, Said(f"exec {name}", said), asks.facts_of(task, program))
         if said == "ok":
-            self.executed(task, Located(program.path) if scripts else named, program.file.words)
+            where = Located(program.path) if scripts else named
+            self.executed(task, where, program.file.words, call.first)
 
-    def facts(self, task: Task, found: Found) -> Facts:
-        """What is known of an executed file besides."""
-        words, space = found.file.words.split(), task.process.space
-        unmapped = not (space.inside(int(words[1]), False) and space.inside(int(words[2]), True))
-        return Facts(found.place, found.file.noexec, unmapped=unmapped)
-
-    def executed(self, task: Task, program: Located, words: str) -> None:
+    def executed(self, task: Task, program: Located, words: str, line: int) -> None:
         """The task has executed a program: it is the only one of its process."""
-        task.process.program = program
-        task.process.ids.executes(words.split())
+        process = task.process
+        process.program = program
+        task.ids.executes(words.split())
+        if process.space.parent is not None and process.space.uids is None:
+            process.space.early.append((line, *task.ids.users[:2]))
         task.descriptors = task.descriptors.copy()
         if task.process.making:
             self.apart(task.process)
@@ -291,14 +307,19 @@ class Converter(Sayer):
 
     def kill(self, task: Task, call: Call) -> None:
         """kill(2), tkill(2), tgkill(2), where the target is a task of the log."""
-        target = pid(argument(call, 1 if call.name == "tgkill" else 0))
-        other = self.tasks.find(target, task) if target is not None else None
+        other = self.tasks.find(argument(call, 1 if call.name == "tgkill" else 0), task)
         said = answer(call.result)
         if other is None or said not in ("ok", "eperm"):
             self.passed.call(call)
         else:
-            apart = task.process.session != other.process.session
-            self.say(task, call, Said(f"signal {other.name}", said), Facts(apart=apart))
+            sender, target = task.process, other.process
+            facts = Facts(
+                apart=sender.session != target.session,
+                outside=not target.space.is_within(sender.space),
+                maker=target.space.parent is sender.space
+                and target.space.owner == task.ids.users[1],
+            )
+            self.say(task, call, Said(f"signal {other.name}", said), facts)
 
     def looks(self, task: Task, call: Call) -> bool:
         """Whether the call asks to look into another task of the log: then the script says it."""
@@ -329,6 +350,8 @@ class Converter(Sayer):
             self._follow[call.name](task, call)
         if call.context:
             return
+        if succeeds and call.name in moves.OPENS:
+            self.changes.opens(task, call)
         found = self._asks.lines(task, call) if call.name in moves.OPENS else None
         if found:
             self.script.add(call.first, *found)
@@ -347,7 +370,8 @@ class Converter(Sayer):
 
     def change(self, task: Task, call: Call) -> None:
         """chmod(2) and what else changes a file."""
-        self.passed.call(call)
+        if not call.context:
+            self.passed.call(call)
         if call.result.value == 0:
             self.changes.changes(task, call)
 
@@ -356,8 +380,10 @@ class Converter(Sayer):
         found = task.descriptors.get(argument(call, 0), FILE) or self.paths.base(task, call.args[0])
         if isinstance(found, Located) and is_map(found) and (call.result.value or 0) > 0:
             self.entries.map_written(task, call, found)
-        else:
-            self.passed.call(call)
+            return
+        if isinstance(found, Located) and argument(call, 1).startswith('"#!'):
+            self.files.begins(found.place, argument(call, 1))
+        self.passed.call(call)
 
     def change_namespace(self, task: Task, call: Call) -> None:
         """unshare(2), setns(2)."""
@@ -370,11 +396,13 @@ class Converter(Sayer):
             enters, mounts = self.entries.mounts(task, call)
             if enters:
                 self._moves.enter_mounts(task, mounts, call.first)
+            task.process.below = self.entries.pids(task, call) or task.process.below
         else:
             self._moves.unshare(task, flags)
             if "CLONE_NEWUSER" in flags:
-                space = self.entries.made(task.process.space)
+                space = self.entries.made(task)
         if space is not None:
             before = self.entries.enter(task, space)
             self.script.add(call.first, Line(f"{before} exit"))
+            self.script.goes_on_as(before, task.name)
             self.room(call.first, 0)

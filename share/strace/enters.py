@@ -8,6 +8,7 @@ capabilities.
 
 from __future__ import annotations
 
+import re
 from dataclasses import dataclass
 
 from . import lines
@@ -15,8 +16,10 @@ from .calls import Unheld
 from .log import Call
 from .moves import argument, clone_flags
 from .opened import NAMESPACE, PIDFD
+from .pids import Pids, foreign
 from .places import Located, Mounts
-from .spaces import SPACES, Ids, Space
+from .script import Script
+from .spaces import GREATEST, SPACES, Ids, Space
 from .start import NO_SETUID_FIXUP
 from .tasks import Task, Tasks
 
@@ -33,9 +36,9 @@ class Seat:
     ids: Ids
 
 
-def lead(seat: Seat) -> tuple[str, list[str]]:
-    """The line that creates the first task, and those that lead it to its ids."""
-    root, ids = seat.space.root(), seat.ids
+def lead(seat: Seat, root: int) -> tuple[str, list[str]]:
+    """The line that creates the first task of this root, and those that lead it to its ids."""
+    ids = seat.ids
     init = f"init {seat.task} p{seat.process} {root} {ids.groups[1]} n{seat.space.number}"
     is_root = ids.users == [root] * 4 and ids.groups == [ids.groups[1]] * 4
     calls = [] if is_root else [f"securebits {NO_SETUID_FIXUP}"]
@@ -60,17 +63,19 @@ class Entries:
         self.spaces: list[Space] = []
         self.seats: list[Seat] = []
 
-    def made(self, parent: Space) -> Space:
-        """A namespace more."""
+    def made(self, task: Task) -> Space:
+        """A namespace more, of a task's making."""
         if len(self.spaces) + 1 == SPACES:
             raise Unheld(f"a script declares {SPACES - 1} user namespaces")
-        self.spaces.append(Space(len(self.spaces) + 1, parent))
+        process = task.process
+        space = Space(len(self.spaces) + 1, process.space, owner=task.ids.users[1])
+        self.spaces.append(space)
         return self.spaces[-1]
 
     def sits(self, task: Task, space: Space) -> None:
         """The task is a first task of the namespace now."""
         task.process.space = space
-        self.seats.append(Seat(task.name, task.process.number, space, task.process.ids.copy()))
+        self.seats.append(Seat(task.name, task.process.number, space, task.ids.copy()))
 
     def enter(self, task: Task, space: Space) -> str:
         """A task enters a namespace; its name before, which ends in the script."""
@@ -88,9 +93,8 @@ class Entries:
         found = task.descriptors.get(text, NAMESPACE)
         if isinstance(found, Space):
             return found
-        pid = task.descriptors.get(text, PIDFD)
-        if isinstance(pid, int):
-            owner = self._tasks.find(pid, task)
+        is_process, owner = self.owner(task, text)
+        if is_process:
             if "CLONE_NEWUSER" not in flags:
                 return None
             if owner is None:
@@ -103,12 +107,30 @@ class Entries:
             raise Unheld(UNKNOWN)
         return None
 
+    def owner(self, task: Task, text: str) -> tuple[bool, Task | None]:
+        """Whether a descriptor is a pidfd, and of whom, by what the log or -yy tells."""
+        pid = task.descriptors.get(text, PIDFD)
+        if isinstance(pid, int):
+            return True, self._tasks.by_pid.get(pid)
+        shown = re.fullmatch(r"\d+<pid:(\d{1,9})>", text)
+        return shown is not None, self._tasks.find(f"@{shown[1]}", task) if shown else None
+
+    def pids(self, task: Task, call: Call) -> Pids | None:
+        """The PID namespace that setns(2) enters for children, if it enters one."""
+        text = argument(call, 0)
+        found = task.descriptors.get(text, NAMESPACE)
+        if isinstance(found, Pids):
+            return found
+        _, owner = self.owner(task, text)
+        if "CLONE_NEWPID" in clone_flags(argument(call, 1)):
+            return owner.process.pids if owner else foreign()
+        return foreign() if found == "pid" or "<pid:[" in text else None
+
     def mounts(self, task: Task, call: Call) -> tuple[bool, Mounts | None]:
         """Whether setns(2) enters a mount namespace, and which one, where the log tells it."""
         text = argument(call, 0)
         found = task.descriptors.get(text, NAMESPACE)
-        pid = task.descriptors.get(text, PIDFD)
-        owner = self._tasks.find(pid, task) if isinstance(pid, int) else None
+        _, owner = self.owner(task, text)
         enters = "CLONE_NEWNS" in clone_flags(argument(call, 1)) or isinstance(found, Mounts)
         enters = enters or "<mnt:" in text
         if isinstance(found, Mounts):
@@ -118,7 +140,7 @@ class Entries:
     def map_written(self, task: Task, call: Call, place: Located) -> None:
         """write(2) into uid_map, gid_map or setgroups of a process."""
         _, _, pid, name = (place.place.split("/") + ["", "", ""])[:4]
-        owner = self._tasks.find(int(pid), task) if pid.isdigit() else None
+        owner = self._tasks.find(pid, task)
         if owner is None or owner.process.space.parent is None:
             return
         text = lines.string(argument(call, 1))
@@ -126,13 +148,21 @@ class Entries:
             raise Unheld(f"what is written into {name} is shortened: strace writes it with -s 4096")
         owner.process.space.write(name, text)
 
-    def head(self) -> tuple[list[str], list[str], list[str]]:
+    def head(self, script: Script) -> tuple[list[str], list[str], list[str]]:
         """The lines that declare the namespaces, create the first tasks, and lead these."""
+        if not self.spaces:
+            return [], [], []
+        # Where nobody is root a user is named whom nothing else names.
+        used = {word for line in script.body for word in line.text.split()}
+        used |= {str(value) for seat in self.seats for value in seat.ids.users}
+        nobody = next(value for value in range(GREATEST, 0, -1) if str(value) not in used)
+        roots = {space.number: space.root() for space in self.spaces}
+        known = {number: nobody if root is None else root for number, root in roots.items()}
         declared = [
-            f"ns {space.number} {space.root()} {space.parent.number if space.parent else 0}"
+            f"ns {space.number} {known[space.number]} {space.parent.number if space.parent else 0}"
             for space in self.spaces
         ]
-        led = [lead(seat) for seat in self.seats]
+        led = [lead(seat, known[seat.space.number]) for seat in self.seats]
         return declared, [init for init, _ in led], [line for _, calls in led for line in calls]
 
 

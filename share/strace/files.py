@@ -15,12 +15,15 @@ import stat
 from dataclasses import dataclass
 
 from . import lines
-from .places import Located
+from .places import Located, Mount
 
 # How many script files may stand one behind the other (execve(2), "Interpreter scripts").
 SCRIPTS = 4
 
 ATTRIBUTE = "security.capability"
+
+# The interpreter of a script file whose first line strace has shortened.
+CUT = "..."
 
 
 class BadList(Exception):
@@ -38,15 +41,18 @@ class File:
     words: str
     interpreter: str | None = None
     noexec: bool = False
+    # When this machine's file system last changed it, or its owner, mode or attribute.
+    changed: float = 0.0
 
 
 @dataclass(frozen=True)
 class Found:
-    """A file, the path that names it, and the place where it lies."""
+    """A file, its path in the script, where it lies, and where the path leads that names it."""
 
     path: str
     file: File
     place: str
+    named: str
 
 
 # An id has no leading zero, and is smaller than this (docs/FORMATS.md).
@@ -87,6 +93,21 @@ def read_list(text: str) -> dict[str, File]:
     return found
 
 
+def is_privileged(words: str) -> bool:
+    """Whether a file has set-id bits or an attribute."""
+    return bool(int(words.split()[3], 8) & 0o6000) or " caps " in words
+
+
+def listing(files: dict[str, File]) -> str:
+    """A list of files."""
+    found = []
+    for path, file in files.items():
+        noexec = " noexec" if file.noexec else ""
+        interpreter = f" #! {file.interpreter}" if file.interpreter else ""
+        found.append(f"{quoted(path)} {file.words}{noexec}{interpreter}\n")
+    return "".join(found)
+
+
 class Files:
     """What is known of files: a list, or the file system as it is now."""
 
@@ -108,19 +129,40 @@ class Files:
         """A file that the log itself makes, as memfd_create(2) does."""
         self._made[place] = File(words)
 
-    def found(self, named: Located) -> Found:
-        """The file that lies there."""
+    def begins(self, place: str, text: str) -> None:
+        """What a script file that the log makes begins with, as strace writes it."""
+        if place in self._made:
+            whole = lines.string(text) or lines.string(text.removesuffix("...")) or ""
+            first = whole[2:].split("\n")[0].split()
+            interpreter = first[0] if first else None
+            if text.endswith("...") and "\n" not in whole:
+                interpreter = CUT
+            self._made[place] = File(self._made[place].words, interpreter)
+
+    def found(self, named: Located, apart: bool = False) -> Found:
+        """The file that lies there; `apart` where the mount is of another mount namespace.
+
+        There set-id bits and attribute have no effect, as where it has nosuid (`mnt_may_suid`,
+        fs/namespace.c).
+        """
         file = self._get(named.place, named.real or named.place)
-        mount, place = named.mount, named.real or named.place
-        if mount is None:
-            return Found(named.place, file, place)
+        mount, place = named.mount or Mount(""), named.real or named.place
         noexec = file.noexec if mount.noexec is None else mount.noexec
         words = file.words
-        if mount.nosuid and " nosuid" not in words:
+        apart = apart and is_privileged(words)
+        if (mount.nosuid or apart) and " nosuid" not in words:
             words = " ".join([*words.split()[:4], "nosuid", *words.split()[4:]])
-        apart = words != file.words
-        name = named.place + " through a nosuid mount" if apart else named.place
-        return Found(name, File(words, file.interpreter, noexec), place)
+        elif mount.nosuid is False and not apart:
+            words = words.replace(" nosuid", "")
+        name = named.place
+        if words != file.words:
+            kind = "nosuid" if " nosuid" in words else "suid"
+            name += " of another mount namespace" if apart else f" through a {kind} mount"
+        return Found(name, File(words, file.interpreter, noexec), place, named.place)
+
+    def changed_after(self, time: float) -> list[str]:
+        """The files that this machine has changed since then."""
+        return [place for place, file in self.seen.items() if file.changed > time]
 
     def folder(self, place: str) -> str | None:
         """The words of a folder, where it is known."""
@@ -156,7 +198,8 @@ def on_disk(path: str) -> File:
         status = os.stat(name)
         interpreter = interpreter_of(name) if stat.S_ISREG(status.st_mode) else None
         flags = os.statvfs(name).f_flag
-        return File(words_of(name, status, flags), interpreter, bool(flags & os.ST_NOEXEC))
+        noexec = bool(flags & os.ST_NOEXEC)
+        return File(words_of(name, status, flags), interpreter, noexec, status.st_ctime)
     except (OSError, ValueError) as fault:
         reason = fault.strerror if isinstance(fault, OSError) else str(fault)
         raise Missing(f"{path} can't be asked for its owner and mode: {reason}") from None

@@ -4,6 +4,7 @@ from __future__ import annotations
 
 import re
 from dataclasses import dataclass
+from functools import cache
 from pathlib import Path
 
 PAGE = Path(__file__).resolve().parents[2] / "docs" / "FORMATS.md"
@@ -43,6 +44,7 @@ def cells(line: str) -> Row:
     return [cell.strip() for cell in line.strip().strip("|").split(" | ")]
 
 
+@cache
 def tables() -> dict[tuple[str, ...], list[Row]]:
     """The rows of each table, by the heads of its columns."""
     found: dict[tuple[str, ...], list[Row]] = {}
@@ -94,7 +96,7 @@ def form_of(words: list[str]) -> Form | None:
     first = words[0] if words else ""
     second = words[1] if len(words) > 1 else ""
     third = words[2] if len(words) > 2 else ""
-    if re.match(r"t[0-9]", first):
+    if is_task(first):
         parts = ((ID_CALLS, "T"), (CHANGES, "T"), (QUERIES, "T"))
         asked = [in_table(found[name], second, before) for name, before in parts]
         own = [row for row in found[LINES] if row[0].startswith("`T ")]
@@ -128,8 +130,30 @@ def spelling(form: Form) -> list[tuple[str, str]]:
     return [(", ".join(names), text) for text, names in kinds.items()]
 
 
-def keywords() -> set[str]:
-    """The words that a form is known by."""
+def keywords(*names: tuple[str, str]) -> set[str]:
+    """The words that the forms of these tables are known by."""
     found = tables()
-    rows = [row for name in (LINES, ID_CALLS, CHANGES, QUERIES) for row in found[name]]
-    return {keyword(form) for row in rows for form in quoted(row[0])}
+    rows = [row for name in names for row in found[name]]
+    # The names of tables and of their parts stand for words, and are none.
+    return {keyword(form) for row in rows for form in quoted(row[0])} & {
+        word for row in rows for form in quoted(row[0]) for word in form.split() if word.islower()
+    }
+
+
+def is_task(word: str) -> bool:
+    """Whether a line that begins with this word is one of a task."""
+    return re.match(r"t[0-9]", word) is not None
+
+
+def beginnings(words: list[str]) -> tuple[int, set[str]]:
+    """Which word of a line names its form, and the words that may stand there."""
+    own = {form for row in tables()[LINES] for form in quoted(row[0]) if form.startswith("T ")}
+    of_tasks = {keyword(form) for form in own} - {"IDCALL", "CHANGE", "QUERY"}
+    first = words[0] if words else ""
+    if is_task(first):
+        return 1, of_tasks | keywords(ID_CALLS, CHANGES, QUERIES)
+    tables_of = {"begin": (ID_CALLS,), "ask": (QUERIES,), "change": (CHANGES,)}
+    if first in tables_of:
+        access = {"access"} if first == "change" else set()
+        return 2, keywords(*tables_of[first]) | access
+    return 0, keywords(LINES) - of_tasks - {"nosuid", "caps"}

@@ -5,9 +5,10 @@ from __future__ import annotations
 import argparse
 import sys
 
+from .aside import as_comments
 from .command import ENDS_BEFORE, NONE, WHOLE, Fault, add_options, converted, options_of
 from .convert import Converter
-from .files import quoted
+from .files import listing
 
 
 def parser() -> argparse.ArgumentParser:
@@ -39,12 +40,7 @@ def table(converter: Converter) -> str:
 
 def list_of(converter: Converter) -> str:
     """The list of all files that were asked for."""
-    found = []
-    for path, file in converter.files.seen.items():
-        noexec = " noexec" if file.noexec else ""
-        interpreter = f" #! {file.interpreter}" if file.interpreter else ""
-        found.append(f"{quoted(path)} {file.words}{noexec}{interpreter}\n")
-    return "".join(found)
+    return listing(converter.files.seen)
 
 
 def main(words: list[str]) -> int:
@@ -60,7 +56,13 @@ def main(words: list[str]) -> int:
     if given.list_files:
         sys.stdout.write(list_of(converter))
     else:
-        sys.stdout.write(converter.script.text())
+        script, count = as_comments(converter.script.lines())
+        sys.stdout.write(script)
+        if count:
+            converter.notes.append(
+                f"{count} calls that were refused stand in the script as comments: a seccomp "
+                "filter or the user namespace may have done it, and nothing came of them"
+            )
         tell(converter, bool(given.table))
     for left in converter.what_is_left():
         print(left, file=sys.stderr)

@@ -2,15 +2,15 @@
 
 There clone(2) returns the pid of the namespace, and strace writes that of its own before each line.
 The tasks that nobody made are told apart by their order: pids are given in that of the creations.
+So are those of creations whose end the log hasn't.
 """
 
 from __future__ import annotations
 
 from dataclasses import replace
 
-from .lineage import CREATIONS
 from .lines import Result
-from .log import Call, Item
+from .log import CREATIONS, UNTOLD, Call, Item
 
 
 def matched(items: list[Item], first: int) -> list[Item]:
@@ -22,11 +22,17 @@ def matched(items: list[Item], first: int) -> list[Item]:
     made = [item for item in items if isinstance(item, Call) and is_creation(item)]
     known = {call.result.value for call in made}
     strangers = sorted(pid for pid in seen if pid not in known and pid != first)
+    last = max((seen[pid] for pid in strangers), default=0)
     inner = [call for call in made if call.result.value not in seen]
+    inner = [call for call in inner if not is_untold(call) or call.first < last]
     pairs = paired(inner, strangers, seen)
-    if not pairs:
-        return items
-    return [pairs.get(id(item), item) if isinstance(item, Call) else item for item in items]
+    found = [pairs.get(id(item), item) if isinstance(item, Call) else item for item in items]
+    return [item for item in found if not isinstance(item, Call) or not is_untold(item)]
+
+
+def is_untold(call: Call) -> bool:
+    """Whether it made a task of which its own end doesn't tell the pid."""
+    return (call.result.value or 0) >= UNTOLD
 
 
 def is_creation(call: Call) -> bool:
@@ -42,7 +48,14 @@ def paired(inner: list[Call], strangers: list[int], seen: dict[int, int]) -> dic
     pairs = list(zip(order, strangers, strict=True))
     if any(call.first > seen[pid] for call, pid in pairs):
         return {}
+    # Of creations that are under way at the same time nobody knows which one came first.
+    if any(one.last > other.first for one, other in zip(order, order[1:], strict=False)):
+        return {}
     return {
-        id(call): replace(call, result=Result(pid, None), inner=call.result.value)
+        id(call): replace(
+            call,
+            result=Result(pid, None),
+            inner=None if is_untold(call) else call.result.value,
+        )
         for call, pid in pairs
     }

@@ -6,7 +6,7 @@ import re
 from collections.abc import Callable
 
 from .calls import CAPABILITIES
-from .names import set_in_hex
+from .names import BadName, encoded, flags_in_number, set_in_hex
 
 MOST = (1 << 32) - 1
 ALL = (1 << len(CAPABILITIES)) - 1
@@ -52,40 +52,88 @@ KINDS: dict[str, Callable[[str], bool]] = {
 }
 
 
+# The numbers that a word may have, where it isn't all of its kind.
+WITHIN = {("ns", 1): (1, 15), ("ns", 3): (0, 15), ("lane", 1): (1, 16)}
+
+
+def expected_of(form: str, words: list[str]) -> list[str]:
+    """The kinds of the words of a line: those in brackets as far as the line has them."""
+    expected = form.split()
+    if words[:1] != ["file"]:
+        return expected
+    more = ["nosuid"] if words[6:7] == ["nosuid"] else []
+    return expected[:6] + more + (["caps", "HEX"] if len(words) > 6 + len(more) else [])
+
+
 def wrong_word(form: str, words: list[str]) -> tuple[int, str] | None:
     """The first word that isn't as its place asks, by its place, and what should stand there."""
-    expected = form.split()
-    if words[:1] == ["file"]:
-        expected = expected[:6] + (["nosuid"] if words[6:7] == ["nosuid"] else []) + ["caps", "HEX"]
+    expected = expected_of(form, words)
     for place, word in enumerate(words):
         kind = expected[min(place, len(expected) - 1)]
         if kind == "...":
             kind = expected[-2]
-        kind = kind.strip("[]")
         fits = KINDS.get(kind)
-        if fits is not None and not fits(word):
-            return place, kind
+        least, most = WITHIN.get((expected[0], place), (0, MOST))
+        if fits is not None and not (fits(word) and (most == MOST or is_num(word, least, most))):
+            return place, kind + ("" if most == MOST else f" of {least} to {most}")
         if fits is None and kind.islower() and kind != word:
-            return place, kind
-    return None
+            either = "`nosuid` or `caps`" if words[0] == "file" and place == 6 else f"`{kind}`"
+            return place, either
+    return (len(words), "HEX") if expected[-1] == "HEX" and len(words) < len(expected) else None
 
 
-def meant(kind: str, word: str) -> str | None:
-    """What would be right, where that can be told."""
+def meant(kind: str, words: list[str], form: str) -> str | None:
+    """What the first of these words would be, were it right, where that can be told."""
+    word = words[0]
+    if kind.startswith("`"):
+        return near(word, set(re.findall(r"\w+", kind)))
+    if " of " in kind:
+        return None
     guess = GUESSES.get(kind)
     found = guess(word) if guess else None
-    if found is None and re.fullmatch(r"0+[0-9]+", word):
-        found = str(int(word))
+    if found is None and kind == "HEX":
+        found = guess_attribute(words)
+    if found is None and form == "securebits":
+        found = flags_in_number(word)
+    if found is None and kind in ("NUM", "ID", "ARG", "LINE", "CAP"):
+        found = guess_number(word)
     if found is None and KINDS.get(kind, is_num)(word.lower()):
         found = word.lower()
     fits = KINDS.get(kind)
     return found if found and fits and fits(found) else None
 
 
+def guess_number(word: str) -> str | None:
+    """A number in hexadecimal digits or with zeros before it; the user and the group of root."""
+    if re.fullmatch(r"0[xX][0-9a-fA-F]{1,8}", word):
+        return str(int(word, 16))
+    return {"root": "0"}.get(word, str(int(word)) if re.fullmatch(r"0+[0-9]+", word) else None)
+
+
+def guess_attribute(words: list[str]) -> str | None:
+    """The bytes of an attribute that stands there as a text."""
+    try:
+        return encoded(words)
+    except BadName:
+        return None
+
+
 def guess_cap(word: str) -> str | None:
     """A capability without its prefix, or in small letters."""
     name = word.upper().removeprefix("CAP_")
-    return f"CAP_{name}" if name in CAPABILITIES else None
+    found = name if name in CAPABILITIES else near(name, set(CAPABILITIES))
+    return f"CAP_{found}" if found in CAPABILITIES else None
+
+
+def guess_set(word: str) -> str | None:
+    """A set in names, or with 0x before it."""
+    return set_in_hex(word) or (word[2:] if re.fullmatch(r"0[xX][0-9a-fA-F]+", word) else None)
+
+
+def guess_name(word: str) -> str | None:
+    """The last part of a path."""
+    last = word.rstrip("/").rpartition("/")[2]
+    return last if last != word else None
 
 
 def guess_mode(word: str) -> str | None:
@@ -108,13 +156,19 @@ def guess_want(word: str) -> str | None:
 
 
 def guess_numbered(letter: str) -> Callable[[str], str | None]:
-    """A number without its letter."""
-    return lambda word: letter + word if word.isdigit() else None
+    """A number without its letter, with another word in its place, or with zeros before it."""
+    def guess(word: str) -> str | None:
+        match = re.fullmatch(r"([A-Za-z_]*?)0*([0-9]+)", word)
+        others = set("tphfn") - {letter}
+        return f"{letter}{int(match[2])}" if match and match[1] not in others else None
+
+    return guess
 
 
 GUESSES: dict[str, Callable[[str], str | None]] = {
     "CAP": guess_cap,
-    "SET": set_in_hex,
+    "SET": guess_set,
+    "NAME": guess_name,
     "MODE": guess_mode,
     "WANT": guess_want,
     "KIND": {"file": "reg", "regular": "reg", "directory": "dir", "folder": "dir"}.get,

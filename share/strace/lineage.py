@@ -5,16 +5,15 @@ from __future__ import annotations
 import re
 from dataclasses import replace
 
-from .log import Call, Item, Renamed
-
-CREATIONS = ("fork", "vfork", "clone", "clone3")
+from . import changes, moves
+from .log import CREATIONS, Call, Item, Renamed
 
 # Calls that say where paths lead and what descriptors are of, for the children too.
 CONTEXT = frozenset(
     "chdir fchdir chroot pivot_root mount umount umount2 open_tree fsmount move_mount "
     "mount_setattr open openat openat2 creat dup dup2 dup3 fcntl memfd_create pidfd_open "
     "unshare setns execve execveat".split()
-)
+) | {*moves.GIVEN, *changes.CALLS}
 
 
 class NoProcess(Exception):
@@ -78,6 +77,13 @@ def mounts_apart(item: Item) -> bool:
     return item.name != "mount" or not seen_by
 
 
+def changes_file(item: Item) -> bool:
+    """Whether the item changes a file, which may be one that the process executed."""
+    if not isinstance(item, Call) or item.result.error:
+        return False
+    return item.name in changes.CALLS or (item.name in moves.OPENS and changes.writes(item))
+
+
 def before(item: Item, call: Call, pid: int, alone: bool) -> Item | None:
     """What an ancestor's item means for the process: what leads to it, or its place alone."""
     if not isinstance(item, Call):
@@ -119,6 +125,8 @@ def family(items: list[Item], pid: int, alone: bool) -> tuple[int, list[Item]]:
             if item is above[process]:
                 done.add(process)
                 inside |= {pid} if creates(item) == pid else set()
+        elif changes_file(item) and isinstance(item, Call):
+            kept.append(replace(item, context=True))
         elif mounts_apart(item):
             raise NoProcess(
                 f"line {item.last}: pid {item.pid} mounts what pid {pid} may see, and --task keeps "

@@ -29,8 +29,8 @@ class Result:
 HEAD = re.compile(
     r" *(?:\[pid +(?P<shown>\d+)(?:<[^<>]*>)?\] +|(?P<pid>\d+)(?:<[^<>]*>)? +)?"
     r"(?:\d\d:\d\d:\d\d(?:\.\d+)? +|\d+\.\d+ +)?(?:\(\+ +\d+\.\d+\) +)?(?:\[[ 0-9a-f?]+\] +)?"
-    r"(?:(?P<call>[a-z_][a-z_0-9]*|\?\?\?\?)\("
-    r"|<\.\.\. (?P<resumed>[a-z_][a-z_0-9]*|\?\?\?\?) resumed>"
+    r"(?:(?P<call>[a-z_][a-z_0-9]*|\?{3,4})\("
+    r"|<\.\.\. (?P<resumed>[a-z_][a-z_0-9]*|\?{3,4}) resumed>"
     r"|\+\+\+ (?P<ended>[^+]*) \+\+\+$"
     r"|(?P<signal>---) .* ---$)"
 )
@@ -43,14 +43,26 @@ MESSAGE = re.compile(r"strace: .*|\[ Process PID=\d+ runs in .* mode\. \]| > .*"
 
 ATTACHED = re.compile(r"strace: Process (\d{1,9}) attached(?: with \d+ threads)?$")
 
+# A call that isn't ended on its line; of an execve in another thread than the first -ff writes
+# which pid it has from then on.
 UNFINISHED = "<unfinished ...>"
+PID_CHANGED = re.compile(r"<pid changed to \d{1,9} \.\.\.>$")
 
-# Calls of which only some are read: write(2) where it may be of a map of ids, fcntl(2) where it
-# makes a descriptor.
+# A call in which strace let go of its task.
+DETACHED = "<detached ...>"
+
+# Calls of which only some are read: write(2) where it may be of a map of ids or the beginning of a
+# script file, the others where they make a descriptor.
 ASKED = {
-    "write": re.compile(r'\d+(?:<[^>]*>)?, "(?:(?:[0-9 ]|\\[nt])+"|deny|allow)'),
+    "write": re.compile(r'\d+(?:<[^>]*>(?:\(deleted\))?)?, "(?:(?:[0-9 ]|\\[nt])+"|deny|allow|#!)'),
     "fcntl": re.compile(r"\d+(?:<.*>)?, F_DUPFD"),
+    "ioctl": re.compile(r"\d+(?:<.*>)?, NS_GET_"),
+    "recvmsg": re.compile(r".*(?:SCM_RIGHTS|<unfinished \.\.\.>$)"),
+    "recvmmsg": re.compile(r".*(?:SCM_RIGHTS|<unfinished \.\.\.>$)"),
 }
+
+# A result that strace made up (-e inject): the kernel never saw the call.
+INJECTED = " (INJECTED)"
 
 # Calls of which there are many in a long log, and of which those that failed otherwise say nothing.
 PATH_CALLS = frozenset("open openat openat2 creat access faccessat faccessat2".split())
@@ -100,7 +112,7 @@ def is_asked(name: str, rest: str) -> bool:
 
 def has_result(rest: str) -> bool:
     """Whether what follows a call's opening bracket comes to an end as strace's lines do."""
-    return " = " in rest or rest.endswith((UNFINISHED, "<detached ...>"))
+    return " = " in rest or rest.endswith((UNFINISHED, DETACHED))
 
 
 def split(text: str) -> tuple[list[str], str] | None:

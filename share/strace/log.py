@@ -28,6 +28,11 @@ SUPERSEDED = re.compile(r"superseded by execve in pid (\d{1,9})")
 # The first process, where only later lines tell its pid, as on a terminal.
 UNKNOWN = 0
 
+# What calls return whose end the log hasn't, as where strace was killed: more than any pid. What
+# they made may be there.
+UNTOLD = 1 << 40
+CREATIONS = ("fork", "vfork", "clone", "clone3")
+
 # With -C strace writes a table of its counts behind the log, as with -c in its place.
 SUMMARY = "% time "
 
@@ -150,9 +155,21 @@ class Reader:
             raise BadLog(self.count, "the log is cut in the middle of a call")
         if self.first_pid is None:
             raise BadLog(self.count + 1, "the log has no call")
-        self.passed.update(begun.name for begun in self.begun.values())
+        for pid, begun in self.begun.items():
+            self.without_end(pid, begun)
         self.found.sort(key=lambda pair: pair[0])
         return [item for _, item in self.found]
+
+    def without_end(self, pid: int, begun: Begun) -> None:
+        """A call is begun, and the log ends."""
+        if begun.name not in CREATIONS:
+            self.passed[begun.name] += 1
+            return
+        parts = lines.split(begun.text + ")")
+        args = tuple(parts[0]) if parts else ()
+        untold = Result(UNTOLD + begun.line, None)
+        call = Call(pid, begun.name, args, untold, begun.line, begun.line)
+        self.found.append((begun.line, call))
 
     def lines(self, texts: Iterator[str], progress: Callable[[int], None]) -> None:
         """Reads all lines."""
@@ -187,6 +204,7 @@ class Reader:
         kind = match.lastgroup
         rest = text[match.end() :]
         if kind == "call":
+            rest = lines.PID_CHANGED.sub(lines.UNFINISHED, rest)
             if not lines.has_result(rest):
                 self.cut_by_message(text)
                 return
@@ -277,6 +295,13 @@ class Reader:
 
     def ends(self, pid: int, begun: Begun, rest: str) -> None:
         """A call has ended: its arguments and its result are known."""
+        if rest.endswith(lines.DETACHED):
+            text = begun.text + rest.removesuffix(lines.DETACHED).rstrip()
+            self.begun[pid] = Begun(begun.name, text, begun.line)
+            return
+        if rest.endswith(lines.INJECTED):
+            self.passed[f"{begun.name} injected by strace"] += 1
+            return
         parts = parsed(begun.text + rest)
         if parts is None:
             raise BadLog(self.count, f"the arguments or the result of {begun.name} can't be read")
@@ -293,7 +318,9 @@ class Reader:
             self._alive.add(pid)
             self.found.append((self.count, Renamed(old, pid, self.count)))
             return
-        self.begun.pop(pid, None)
+        begun = self.begun.pop(pid, None)
+        if begun is not None and begun.name in CREATIONS:
+            self.without_end(pid, begun)
         self._alive.discard(pid)
         self.found.append((self.count, Gone(pid, self.count)))
 

@@ -11,10 +11,14 @@ from .calls import Unheld
 from .log import Call
 from .opened import FILE, LOOSE, NAMESPACE, PIDFD, descriptor
 from .paths import Paths, link_of
+from .pids import NOBODY, Pids
 from .places import Located, Mount, Mounts, Where
 from .tasks import Task
 
 Handler = Callable[[Task, Call], None]
+
+# The mount of a memfd is in no namespace.
+NOWHERE = -1
 
 # mount(2): flags that only say who sees it.
 PROPAGATION = frozenset({"MS_SHARED", "MS_PRIVATE", "MS_SLAVE", "MS_UNBINDABLE"})
@@ -23,6 +27,7 @@ CLONE_BITS = {
     "CLONE_VM": 0x100,
     "CLONE_FS": 0x200,
     "CLONE_FILES": 0x400,
+    "CLONE_PIDFD": 0x1000,
     "CLONE_PARENT": 0x8000,
     "CLONE_THREAD": 0x10000,
     "CLONE_NEWNS": 0x20000,
@@ -31,6 +36,10 @@ CLONE_BITS = {
 }
 
 OPENS = ("open", "openat", "openat2", "creat")
+
+# Calls that make descriptors of which the log doesn't tell what they are of.
+GIVEN = ("recvmsg", "recvmmsg", "ioctl", "pidfd_getfd", "open_by_handle_at")
+RIGHTS = re.compile(r"SCM_RIGHTS, cmsg_data=\[((?:[^<\]]|<[^<>]*>)*)\]")
 
 
 def clone_flags(text: str) -> frozenset[str]:
@@ -80,6 +89,7 @@ class Moves:
             "pidfd_open": self.pidfd_open,
         }
         found |= dict.fromkeys(OPENS, self.open)
+        found |= dict.fromkeys(GIVEN, self.given)
         return found | dict.fromkeys(("dup", "dup2", "dup3", "fcntl"), self.dup)
 
     def chdir(self, task: Task, call: Call) -> None:
@@ -179,12 +189,13 @@ class Moves:
         plain = (place == 0 or call.args[0] == "AT_FDCWD") and not task.where.mounts.over
         if path and plain and not path.startswith(("/proc", "/dev")):
             before = task.where
-            where = Where(Mounts(before.mounts.root), before.root, before.folder)
+            mounts = Mounts(before.mounts.root, number=before.mounts.number)
+            where = Where(mounts, before.root, before.folder)
             task.descriptors.opens(call.result.value, FILE, lambda: self.lies(where, path))
             return
         try:
             path, base = self.paths.named(task, call, place, place - 1 if place else None)
-            found = self.paths.both(task, path, base)
+            found = self.paths.both(self.paths.rooted(task, call), path, base)
         except Unheld:
             task.descriptors.closes(call.result.value)
             return
@@ -200,12 +211,17 @@ class Moves:
 
     def opened(self, task: Task, number: int | None, found: Located) -> None:
         """A descriptor of a file, or of a namespace of a process."""
-        match = re.fullmatch(r"/proc/(\d+)(?:/task/\d+)?/ns/(\w+)", found.place)
-        owner = self.paths.of_pid(int(match[1]), task) if match else None
+        match = re.fullmatch(r"/proc/(@?\d+)(?:/task/\d+)?/ns/(\w+)", found.place)
+        owner = self.paths.of_pid(match[1], task) if match else None
         if match and owner and match[2] == "user":
             task.descriptors.opens(number, NAMESPACE, owner.process.space)
         elif match and owner and match[2] == "mnt":
             task.descriptors.opens(number, NAMESPACE, owner.where.mounts)
+        elif match and owner and match[2].startswith("pid"):
+            process = owner.process
+            task.descriptors.opens(
+                number, NAMESPACE, process.pids if match[2] == "pid" else process.below
+            )
         elif match:
             task.descriptors.opens(number, NAMESPACE, match[2])
         else:
@@ -215,16 +231,34 @@ class Moves:
         """dup(2) and its kin, and fcntl(2) with F_DUPFD."""
         task.descriptors.duplicates(descriptor(argument(call, 0)), call.result.value)
 
+    def given(self, task: Task, call: Call) -> None:
+        """A descriptor of what only -y tells: it isn't the one that had the number before."""
+        if not call.name.startswith("recv"):
+            task.descriptors.closes(call.result.value)
+        for listed in RIGHTS.findall(" ".join(call.args)):
+            for number in re.sub(r"<[^<>]*>", "", listed).split(", "):
+                task.descriptors.closes(descriptor(number))
+
     def memfd_create(self, task: Task, call: Call) -> None:
         """memfd_create(2): a file of its creator's without any place, which all may execute."""
         place = f"memfd:{lines.string(argument(call, 0)) or ''}@{call.first}"
-        words = f"reg {task.process.ids.users[3]} {task.process.ids.groups[3]} 0777"
+        words = f"reg {task.ids.users[3]} {task.ids.groups[3]} 0777"
         self.paths.files.make(place, words)
-        task.descriptors.opens(call.result.value, FILE, Located(place))
+        task.descriptors.opens(call.result.value, FILE, Located(place, within=NOWHERE))
 
     def pidfd_open(self, task: Task, call: Call) -> None:
         """pidfd_open(2)."""
-        task.descriptors.opens(call.result.value, PIDFD, lines.pid(argument(call, 0)) or 0)
+        self.is_of(task, call.result.value, self.paths.of_pid(argument(call, 0), task))
+
+    def with_pidfd(self, task: Task, call: Call, child: Task) -> None:
+        """clone(2) or clone3(2) with CLONE_PIDFD: where the log says which descriptor it is."""
+        field = "pidfd" if call.name == "clone3" else "parent_tid"
+        if match := re.search(rf"\b{field}=\[(\d{{1,9}})", " ".join(call.args)):
+            self.is_of(task, int(match[1]), child)
+
+    def is_of(self, task: Task, number: int | None, owner: Task | None) -> None:
+        """A new descriptor is a process's."""
+        task.descriptors.opens(number, PIDFD, owner.pid if owner else NOBODY)
 
     def unshare(self, task: Task, flags: frozenset[str]) -> None:
         """unshare(2), but for a user namespace."""
@@ -235,7 +269,7 @@ class Moves:
         if "CLONE_FILES" in flags:
             task.descriptors = task.descriptors.copy()
         if "CLONE_NEWPID" in flags:
-            task.process.below = {}
+            task.process.below = Pids()
 
     def new_mounts(self, task: Task) -> None:
         """unshare(2) or clone(2) with CLONE_NEWNS."""
@@ -257,7 +291,7 @@ def point_of(found: Located, over: dict[str, Mount]) -> str | None:
 
 def own_process(found: Located, task: Task) -> Located:
     """The same by the pid of the process where the path has `self`."""
-    place = re.sub(r"^/proc/(self|thread-self)(?=/|$)", f"/proc/{task.pid}", found.place)
+    place = re.sub(r"^/proc/(self|thread-self)(?=/|$)", f"/proc/@{task.pid}", found.place)
     return replace(found, place=place)
 
 

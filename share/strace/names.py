@@ -30,6 +30,9 @@ COMPARED = re.compile(
     r"\(line (?P<number>\d+): (?P<line>.*)\)$"
 )
 
+# The line of a script from which it goes on, as it writes it below a difference.
+SINCE = re.compile(r"( +since line \d+: )(.*)$")
+
 
 class BadName(Exception):
     """A word that is no name of a set."""
@@ -89,21 +92,18 @@ def capability(word: str) -> str:
 
 def encoded(words: list[str]) -> str:
     """The bytes of security.capability, for the text of cap_to_text(3) as getcap(8) writes it."""
-    permitted = inheritable = 0
-    effective = False
+    flags = dict.fromkeys("eip", 0)
     root = None
     for word in words:
         if match := re.fullmatch(r"\[rootid=(\d{1,10})\]", word):
             root = int(match[1])
-            continue
-        match = re.fullmatch(r"([A-Za-z_,]*)[=+]([eip]*)", word)
-        value = set_in_hex(match[1] or "all") if match else None
-        if match is None or value is None:
-            raise BadName(f"{word} is no text of capabilities, as cap_net_raw=ep")
-        permitted |= int(value, 16) if "p" in match[2] else 0
-        inheritable |= int(value, 16) if "i" in match[2] else 0
-        effective = effective or "e" in match[2]
-    head = (REVISION_2 if root is None else REVISION_3) | (EFFECTIVE if effective else 0)
+        else:
+            clause(word, flags)
+    permitted, inheritable = flags["p"], flags["i"]
+    # An attribute has one effective flag, for all that it permits; setcap(8) refuses such a text too.
+    if flags["e"] and (permitted | inheritable) & ~flags["e"]:
+        raise BadName(f"{' '.join(words)}: a file has all of its capabilities effective, or none")
+    head = (REVISION_2 if root is None else REVISION_3) | (EFFECTIVE if flags["e"] else 0)
     low = 0xFFFFFFFF
     found = struct.pack(
         "<IIIII", head, permitted & low, inheritable & low, permitted >> 32, inheritable >> 32
@@ -111,14 +111,39 @@ def encoded(words: list[str]) -> str:
     return (found + (b"" if root is None else struct.pack("<I", root))).hex()
 
 
+def clause(word: str, flags: dict[str, int]) -> None:
+    """What a clause of cap_from_text(3) makes of the effective, inheritable and permitted set: `=`
+    lowers its capabilities in all three first."""
+    match = re.fullmatch(r"([A-Za-z_0-9,]*)((?:[=+-][eip]*)+)", word)
+    named = (match[1] or ("all" if match[2][0] == "=" else "")) if match else ""
+    value = ALL_CAPABILITIES if named.lower() == "all" else 0
+    for name in [] if value else named.split(","):
+        known = name.upper().removeprefix("CAP_")
+        if name.isdigit() and int(name) < len(CAPABILITIES):
+            known = CAPABILITIES[int(name)]
+        if known not in CAPABILITIES:
+            raise BadName(f"{word} is no text of capabilities, as cap_net_raw=ep")
+        value |= 1 << CAPABILITIES.index(known)
+    for how, letters in re.findall(r"([=+-])([eip]*)", match[2] if match else ""):
+        for letter in flags:
+            if how == "+" and letter in letters:
+                flags[letter] |= value
+            elif how == "=":
+                flags[letter] = flags[letter] & ~value | (value if letter in letters else 0)
+            elif how == "-" and letter in letters:
+                flags[letter] &= ~value
+
+
 def to_names(line: str) -> str:
     """A line of a report, of a script, of `decode` or of credtrace-compare, with names."""
     if not NAMED.search(line):
         return line
+    if since := SINCE.match(line):
+        return since[1] + words_in_names(since[2])
     if compared := COMPARED.match(line):
         told = f"0 ask h1 {compared['line'].partition(' ')[2]} -> "
         kernel, report = (
-            words_in_names(told + compared[part]).removeprefix(words_in_names(told))
+            words_in_names(told + compared[part]).partition(" -> ")[2]
             for part in ("kernel", "report")
         )
         asked = words_in_names(compared["line"])
@@ -249,7 +274,10 @@ def main(words: list[str]) -> int:
         sys.stdout.flush()
         print(f"credtrace-names: line {number}: {fault}", file=sys.stderr)
         return BAD
-    except FileNotFoundError as fault:
+    except OSError as fault:
+        # Of what is written there is no name.
+        if fault.filename is None:
+            raise
         print(f"credtrace-names: {fault.filename}: {fault.strerror}", file=sys.stderr)
         return BAD
     return GOOD

@@ -6,6 +6,7 @@ import re
 from collections.abc import Callable
 
 from .lines import number
+from .pids import Pids
 from .places import Located, Mounts
 from .spaces import Space
 
@@ -13,7 +14,7 @@ from .spaces import Space
 # attached. Where nobody knows, there is none.
 FILE, PIDFD, NAMESPACE, LOOSE = "file", "pidfd", "namespace", "mount"
 
-What = Located | int | str | Space | Mounts
+What = Located | int | str | Space | Mounts | Pids
 
 # Where a file lies is found out when it is asked for: most opens of a long log nobody asks about.
 Later = Callable[[], Located | None]

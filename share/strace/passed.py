@@ -13,8 +13,8 @@ BEARING = frozenset(
     "pidfd_send_signal rt_sigqueueinfo rt_tgsigqueueinfo kill tkill tgkill capset mount umount2 "
     "pivot_root move_mount mount_setattr open_tree setns unshare chmod fchmod fchmodat fchmodat2 "
     "chown lchown fchown fchownat setxattr lsetxattr fsetxattr removexattr lremovexattr "
-    "fremovexattr setxattrat umask bpf landlock_restrict_self setuid setgid setreuid setregid "
-    "setresuid setresgid setgroups setfsuid setfsgid".split()
+    "fremovexattr setxattrat umask bpf io_uring_setup landlock_restrict_self setuid setgid "
+    "setreuid setregid setresuid setresgid setgroups setfsuid setfsgid".split()
 )
 
 # The same of prctl(2), by its operation.
@@ -48,7 +48,8 @@ class Passed:
     def names(self, counts: Counter[str]) -> None:
         """Calls by their names alone, as they are read in a long log."""
         for name, count in counts.items():
-            (self.bearing if name in BEARING else self.others)[name] += count
+            bears = name in BEARING or name.endswith("injected by strace")
+            (self.bearing if bears else self.others)[name] += count
 
     def told(self) -> list[str]:
         """What was passed over, the most frequent first."""

@@ -9,10 +9,10 @@ from dataclasses import replace
 
 from . import lines
 from .calls import Unheld
-from .files import SCRIPTS, Files, Found, Missing
+from .files import CUT, SCRIPTS, Files, Found, Missing
 from .log import Call
 from .opened import FILE, told
-from .places import Located, no_link
+from .places import Located, Where, no_link
 from .tasks import Task
 
 NO_DESCRIPTOR = "what its descriptor is of isn't known: strace writes it with -y"
@@ -43,7 +43,7 @@ def link_of(place: str) -> str | None:
 class Paths:
     """Where the paths of calls lead."""
 
-    def __init__(self, files: Files, known: bool, find: Callable[[int, Task], Task | None]) -> None:
+    def __init__(self, files: Files, known: bool, find: Callable[[str, Task], Task | None]) -> None:
         self.files = files
         # Whether the folder where the log begins is known.
         self.known = known
@@ -61,7 +61,18 @@ class Paths:
         if shown is None or shown[1] or shown[0] == "/" or shown[0].startswith("/memfd:"):
             return followed or (task.where.within("/") if shown == ("/", False) else None)
         seen = task.where.within(shown[0])
-        return followed if followed and followed.place == seen.place else seen
+        # A process's own folder of /proc has a number that not every mount of /proc has for it.
+        both_proc = followed and followed.place.startswith("/proc/@") and seen.place[:6] == "/proc/"
+        return followed if followed and (both_proc or followed.place == seen.place) else seen
+
+    def rooted(self, task: Task, call: Call) -> Task:
+        """The task as openat2(2) sees its paths, where it is told to stay below a folder."""
+        if call.name != "openat2" or "RESOLVE_IN_ROOT" not in call.args[-2]:
+            return task
+        root = self.base(task, call.args[0]) or task.where.folder
+        if root is None:
+            raise Unheld(NO_DESCRIPTOR)
+        return replace(task, where=Where(task.where.mounts, root, root))
 
     def named(
         self, task: Task, call: Call, place: int, at: int | None
@@ -113,7 +124,7 @@ class Paths:
     def special(self, task: Task, path: str) -> Located | None:
         """The place of a path that /proc or /dev/fd has of a process."""
         if match := OWN_DESCRIPTOR.match(path):
-            owner = self.of_pid(int(match["pid"]), task) if match["pid"] else task
+            owner = self.of_pid(match["pid"], task) if match["pid"] else task
             found = owner.descriptors.get(match["fd"], FILE) if owner else None
             if isinstance(found, Located):
                 return found
@@ -121,7 +132,7 @@ class Paths:
         match = PROCESS.match(path)
         if match is None or match["what"] is None:
             return None
-        owner = self.of_pid(int(match["pid"]), task) if match["pid"] else task
+        owner = self.of_pid(match["pid"], task) if match["pid"] else task
         if owner is None:
             raise Unheld(f"{path} is of a process that the log doesn't have")
         known = {
@@ -134,21 +145,26 @@ class Paths:
         rest = path[match.end() :].lstrip("/")
         return owner.where.locate(rest, known) if rest else known
 
-    def find(self, task: Task, path: str, base: Located | None) -> Found:
+    def find(
+        self, task: Task, path: str, base: Located | None, executes: bool = False
+    ) -> Found:
         """A file with what is known of it."""
         found = self.both(task, path, base)
         if self.files.listed is None and found.place.startswith("/proc/"):
             raise Missing(f"{found.place} is another file for this program than for the log's")
-        return self.files.found(found)
+        other = found.within not in (None, task.where.mounts.number)
+        return self.files.found(found, executes and other)
 
     def programs(self, task: Task, call: Call, place: int, at: int | None) -> list[Found]:
         """The file to execute; behind a script file its interpreter, which runs in its place."""
         path, base = self.named(task, call, place, at)
         found: list[Found] = []
         for _ in range(SCRIPTS + 1):
-            found.append(self.find(task, path, base))
+            found.append(self.find(task, path, base, executes=True))
             interpreter = found[-1].file.interpreter
             if interpreter is None:
                 return found
+            if interpreter == CUT:
+                raise Missing("its first line is shortened: strace writes the whole with -s 4096")
             path, base = interpreter, None
         raise Missing(f"{path} is one script file more than execve(2) follows")

@@ -11,7 +11,8 @@ from __future__ import annotations
 import os
 import re
 from collections.abc import Callable
-from dataclasses import dataclass, field
+from dataclasses import dataclass, field, replace
+from itertools import count
 
 # How many symbolic links are followed (path_resolution(7)).
 LINKS = 40
@@ -39,6 +40,8 @@ class Located:
     point: str | None = None
     # The place behind symbolic links, where those were followed.
     real: str | None = None
+    # The mount namespace whose mounts it was found through, where that is known.
+    within: int | None = None
 
     def start(self, follows: bool) -> str:
         """Where a path goes on from here."""
@@ -57,10 +60,14 @@ class Mounts:
 
     root: Located = ROOT
     over: dict[str, Mount] = field(default_factory=dict)
+    # Namespaces are told apart by a number.
+    number: int = field(default_factory=count().__next__)
+    # The root where the log begins, if it is another: what strace tells may be from outside of it.
+    outside: str = ""
 
     def copy(self) -> Mounts:
         """The same for a new mount namespace."""
-        return Mounts(self.root, dict(self.over))
+        return Mounts(self.root, dict(self.over), outside=self.outside)
 
     def entered(self, place: str) -> tuple[str, Mount | None]:
         """What is there: the mount that covers the place, if one does."""
@@ -117,15 +124,20 @@ class Where:
         self, path: str, base: Located | None = None, link: Link = no_link
     ) -> Located | None:
         """Where a path leads; None where it begins in a folder that nobody knows."""
+        number: int | None = self.mounts.number
         if path.startswith("/"):
             base = self.root
         elif base is None:
             base = self.folder
-        return None if base is None else self._walk(base, path, link)
+        else:
+            number = base.within
+        return None if base is None else replace(self._walk(base, path, link), within=number)
 
     def within(self, path: str) -> Located:
         """Where a path leads that strace tells: from the root of the mount namespace."""
-        return self._walk(self.mounts.root, path, no_link)
+        outside = self.mounts.outside
+        from_outside = outside and f"{path}/".startswith(f"{outside}/")
+        return self._walk(ROOT if from_outside else self.mounts.root, path, no_link)
 
     def _walk(self, base: Located, path: str, link: Link) -> Located:
         """Goes along the path, one name after another."""

@@ -61,7 +61,7 @@ class Probe:
         room = LINES - len(self._lines) - len(declared)
         size = BYTES - sum(len(line.text) + 1 for line in self._lines)
         for number, line in enumerate(self._lines, 1):
-            task = line.text.split()[0]
+            task = line.text.removeprefix("# ").split()[0]
             asks = self._questions(line, names) if number in self._numbers else []
             if TASK.match(task) and len(asks) <= room and 40 * len(asks) <= size:
                 room, size = room - len(asks), size - 40 * len(asks)

@@ -14,6 +14,7 @@ from pathlib import Path
 
 from .calls import ID_CALLS
 from .probe import Probe, Values
+from .refusals import by_capability, has_kill
 from .script import Line
 
 PAGE = Path(__file__).resolve().parents[2] / "docs" / "LINUX.md"
@@ -24,6 +25,7 @@ UNMAPPED = "any id up to 4294967294 may be set"
 DENIED_GROUPS = "setgroups asks for CAP_SETGID alone"
 DIRECTORIES = "a check is of the one file: its directories are not searched"
 NOT_MODE = "a check looks at the kind, the owner, the group and the mode"
+COUNTS = "a capability counts alike for every file and every task"
 CONTINUE = "a signal is allowed by ids, by CAP_KILL or within the process"
 NO_NEW_PRIVS_FILE = "under no_new_privs execve ignores the set-id bits and the attribute"
 NO_NEW_PRIVS_IDS = "under no_new_privs execve keeps the effective ids"
@@ -35,9 +37,9 @@ CREATOR = "looking into a task asks for CAP_SYS_PTRACE in the effective set"
 LOOKS = "one rule for each look into a task"
 EXECVE_FLAG = "an execve makes its process dumpable unless an id becomes another"
 ALL = (
-    FILESYSTEM_IDS, SECUREBITS, UNMAPPED, DENIED_GROUPS, DIRECTORIES, NOT_MODE, CONTINUE,
-    NO_NEW_PRIVS_FILE, NO_NEW_PRIVS_IDS, UNMAPPED_OWNER, SET_ID, PLAIN_FILE, TRACED, CREATOR, LOOKS,
-    EXECVE_FLAG,
+    FILESYSTEM_IDS, SECUREBITS, UNMAPPED, DENIED_GROUPS, DIRECTORIES, NOT_MODE, COUNTS, CONTINUE,
+    NO_NEW_PRIVS_FILE, NO_NEW_PRIVS_IDS, UNMAPPED_OWNER, SET_ID, PLAIN_FILE, TRACED, CREATOR,
+    LOOKS, EXECVE_FLAG,
 )  # fmt: skip
 
 # What a kept row may have changed.
@@ -138,6 +140,14 @@ class Explainer:
         """What is known of a task."""
         return self.tasks.setdefault(task, Known())
 
+    def goes_on_as(self, before: str, after: str) -> None:
+        """A task is in another namespace from here on, under another name, or a child of it is.
+
+        Its sets and bits are new there, and its ids are what they were.
+        """
+        kept = [one for one in self.known(before).kept if one.part in (IDS, FILE_IDS, GROUPS)]
+        self.tasks[after] = Known(kept)
+
     def see(self, number: int, line: Line) -> None:
         """Keeps what a line means for later ones."""
         words = line.text.split()
@@ -192,12 +202,14 @@ class Explainer:
         words = line.text.split()
         known = self.known(words[0])
         kernel, told = (line.answer or "").split()[0], report.split()[0]
+        # Then the thread that makes the call first may, and another one may not.
+        told = "ok" if told == "aborted" else told
         if told not in RULED:
             return None
         own = self.own(number, line, kernel, told)
         if own is not None:
             begins, text = own
-            if begins:
+            if begins and kernel == "ok":
                 parts = CHANGED.get(words[1], ())
                 known.keep(*(Kept(begins, part, number, line.text) for part in parts))
             return text
@@ -205,13 +217,17 @@ class Explainer:
         more = has_more(words[1], line.answer or "", report)
         for kept in known.kept:
             if kept.part in depends and (more is None or kept.more in (None, more)):
-                if kernel != told:
+                if kernel == "ok" and told != "ok":
                     parts = CHANGED.get(words[1], ())
                     known.keep(*(Kept(kept.row, part, kept.number, kept.text) for part in parts))
                 return self.text(kept.row, kept.sure, f"line {kept.number}: {kept.text}")
         if words[1] == "ptrace":
             return self.text(LOOKS if kernel == "eperm" else CREATOR, sure=False)
-        return self.text(EXECVE_FLAG, sure=False) if words[1] == "dumped" else None
+        if words[1] == "dumped":
+            return self.text(EXECVE_FLAG, sure=False)
+        # A log that was recorded inside a user namespace doesn't tell what that denies.
+        denied = words[1] == "setgroups" and (kernel, told) == ("eperm", "ok")
+        return self.text(DENIED_GROUPS, sure=False) if denied else None
 
     def own(self, number: int, line: Line, kernel: str, told: str) -> tuple[str, str] | None:
         """The row that explains an answer by itself, with its text; the log may explain it too."""
@@ -222,15 +238,12 @@ class Explainer:
             return where, f"{where}, which can refuse so (seccomp(2))"
         if form == "securebits" and int(words[2]) > 255:
             return SECUREBITS, self.text(SECUREBITS)
-        if form == "setgroups" and pair == ("eperm", "ok"):
-            return DENIED_GROUPS, self.text(DENIED_GROUPS, facts.denied)
+        if form == "setgroups" and pair == ("eperm", "ok") and facts.denied:
+            return DENIED_GROUPS, self.text(DENIED_GROUPS)
         if form in ID_CALLS and pair == ("einval", "ok"):
             return UNMAPPED, self.text(UNMAPPED)
         if form == "signal":
-            call = line.call
-            continues = call is not None and "SIGCONT" in call.args and not facts.apart
-            holds = pair == ("ok", "eperm") and continues
-            return (CONTINUE, self.text(CONTINUE)) if holds else None
+            return self.signal(number, line, pair)
         if form == "exec" and kernel in ("eperm", "einval") and told == "ok":
             before = self.probe.before(number)
             under = before is None or before.no_new_privs
@@ -241,6 +254,17 @@ class Explainer:
             return self.refused(number, line, pair)
         return None
 
+    def signal(self, number: int, line: Line, pair: tuple[str, str]) -> tuple[str, str] | None:
+        """Why a signal is allowed or refused otherwise."""
+        facts = line.facts
+        if pair == ("ok", "eperm"):
+            continues = line.call is not None and "SIGCONT" in line.call.args and not facts.apart
+            begins = CONTINUE if continues else COUNTS if facts.maker else None
+        else:
+            outside = facts.outside and has_kill(self.probe.before(number))
+            begins = COUNTS if pair == ("eperm", "ok") and outside else None
+        return (begins, self.text(begins)) if begins else None
+
     def refused(self, number: int, line: Line, pair: tuple[str, str]) -> tuple[str, str] | None:
         """Why the kernel refuses a file that the program allows."""
         if pair == ("eperm", "ok") and not line.text.split()[1] == "exec":
@@ -250,6 +274,9 @@ class Explainer:
         if line.facts.noexec:
             return "", self.text(NOT_MODE, why="the file's mount has noexec")
         before = self.probe.before(number)
+        if by_capability(before, line):
+            why = "the file's owner or group isn't mapped in the namespace"
+            return "", self.text(COUNTS, why=why)
         searched = before.searched if before else {}
         closed = [place for place, may in searched.items() if not may]
         if closed:

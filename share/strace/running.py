@@ -19,3 +19,8 @@ def program() -> str:
     if not chosen.exists():
         chosen = Path(shutil.which("credtrace") or chosen)
     return os.environ.get("CREDTRACE") or str(chosen)
+
+
+def cant_run(fault: OSError) -> str:
+    """What is said where the program can't be run."""
+    return f"{program()} can't be run: {fault.strerror} (CREDTRACE names another program)"

@@ -4,7 +4,7 @@ from __future__ import annotations
 
 from dataclasses import replace
 
-from .calls import ID_CALLS, OWN_CALLS, SET_CALLS, Said, Unheld, own
+from .calls import ID_CALLS, OWN_CALLS, SET_CALLS, Said, Unheld
 from .lines import fields, pid
 from .log import EXECUTIONS, UNKNOWN, Call
 from .moves import argument
@@ -46,7 +46,8 @@ class Sayer:
             return
         words = said.words.split()
         if said.answer.startswith("ok"):
-            task.process.ids.after(words)
+            for one in task.process.threads if words[0] in ID_CALLS else [task]:
+                one.ids.after(words)
         space = task.process.space
         denied = space.parent is not None and (space.gids is None or space.denied)
         if task.process.filtered or denied:
@@ -73,10 +74,9 @@ class Sayer:
 
     def set_call(self, task: Task, call: Call) -> None:
         """capset(2) or capget(2), where it is of the task itself."""
-        named = pid(fields(argument(call, 0)).get("pid", ""))
+        named = fields(argument(call, 0)).get("pid", "")
         known = task.pid != UNKNOWN
-        mine = own(call.args, task.pid) or not known
-        mine = mine or (named is not None and self.tasks.find(named, task) is task)
+        mine = pid(named) == 0 or not known or self.tasks.find(named, task) is task
         said = SET_CALLS[call.name](call.args, call.result)
         self.say(task, call, said if mine else None)
 

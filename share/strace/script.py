@@ -33,10 +33,15 @@ class Facts:
     filtered: int = 0
     # Whether the file's owner or group has no number in the task's user namespace.
     unmapped: bool = False
-    # Whether sender and target of a signal are in different sessions.
+    # Whether sender and target of a signal are in different sessions; whether the target is outside
+    # of the sender's user namespace and those below; whether it is in one of the sender's making.
     apart: bool = False
+    outside: bool = False
+    maker: bool = False
     # Whether the task is in a namespace of the log that takes no groups.
     denied: bool = False
+    # The file as the script has it.
+    words: str = ""
 
 
 NO_FACTS = Facts()
@@ -62,6 +67,9 @@ class Script:
     # What is known of files, and whether the tracer has CAP_SYS_PTRACE, where that is known.
     known: Files = field(default_factory=lambda: Files({}))
     tracer: bool | None = None
+    # Tasks that go on under another name, or have a child of another name, in another namespace:
+    # before which line of the body, and both names.
+    renamed: list[tuple[int, str, str]] = field(default_factory=list)
     _files: dict[str, str] = field(default_factory=dict)
     _bytes: int = 0
     _lead: list[str] = field(default_factory=list)
@@ -86,6 +94,18 @@ class Script:
             raise Stop(line, f"a script holds {BYTES} bytes")
         self._bytes += size
         self.body += added
+
+    def goes_on_as(self, before: str, after: str) -> None:
+        """What is known of one task holds for another name from here on."""
+        self.renamed.append((len(self.body), before, after))
+
+    def renames(self) -> dict[int, list[tuple[str, str]]]:
+        """Before which lines of the script tasks have other names."""
+        found: dict[int, list[tuple[str, str]]] = {}
+        for place, before, after in self.renamed:
+            number = len(self._files) + len(self.begin) + place + 1
+            found.setdefault(number, []).append((before, after))
+        return found
 
     def file(self, line: int, found: Found) -> str:
         """The name of a file, which is declared at its first use."""

@@ -11,8 +11,8 @@ from dataclasses import dataclass, field, replace
 
 from .calls import ID_CALLS, Said, Unheld
 
-# The user who is root of a namespace whose map has no root: nobody is.
-NO_ROOT = 4294967294
+# The greatest id.
+GREATEST = 4294967294
 
 # What a namespace tells of an id that it has no number for (user_namespaces(7)).
 OVERFLOW = 65534
@@ -35,6 +35,11 @@ class Space:
     uids: Map | None = None
     gids: Map | None = None
     denied: bool = False
+    # Who made it, by the effective user id.
+    owner: int = 0
+    # Programs that its tasks executed before it had a map: the line, the real and the effective
+    # user.
+    early: list[tuple[int, int, int]] = field(default_factory=list)
 
     def outside(self, value: int, groups: bool) -> int | None:
         """The id in the initial namespace."""
@@ -43,7 +48,7 @@ class Space:
         for inside, outside, count in (self.gids if groups else self.uids) or ():
             if inside <= value < inside + count:
                 found = self.parent.outside(outside + value - inside, groups)
-                return found if found is not None and found <= NO_ROOT else None
+                return found if found is not None and found <= GREATEST else None
         return None
 
     def inside(self, value: int, groups: bool) -> bool:
@@ -56,10 +61,13 @@ class Space:
                 return True
         return False
 
-    def root(self) -> int:
-        """The user who is root here, in the initial namespace."""
-        found = self.outside(0, groups=False)
-        return NO_ROOT if found is None else found
+    def root(self) -> int | None:
+        """The user who is root here, in the initial namespace; None where nobody is."""
+        return self.outside(0, groups=False)
+
+    def is_within(self, other: Space) -> bool:
+        """Whether it is the other one, or below it."""
+        return self is other or (self.parent is not None and self.parent.is_within(other))
 
     def write(self, name: str, text: str) -> None:
         """A map is written, or `deny` into setgroups."""
@@ -72,8 +80,22 @@ class Space:
         rows = [(int(row[0]), int(row[1]), int(row[2])) for row in found]
         if name == "uid_map":
             self.uids = rows
+            self.has_root()
         else:
             self.gids = rows
+
+
+    def has_root(self) -> None:
+        """A script's namespace has its root from the beginning: nobody was root by that before."""
+        root = self.root()
+        for line, *users in self.early:
+            if root in users:
+                self.uids = None
+                raise Unheld(
+                    f"user {root} becomes root of the namespace, and has executed a program there "
+                    f"at line {line}, when nobody was: a script's namespace has its root from the "
+                    "beginning"
+                )
 
 
 @dataclass
@@ -121,7 +143,8 @@ def set_ids(ids: list[int], name: str, values: list[int], is_root: bool) -> None
     """What a call that succeeded makes of real, effective, saved and filesystem id."""
     kept = [old if new == -1 else new for old, new in zip(ids, values, strict=False)]
     if name == "setfsuid":
-        ids[3] = values[0] if values[0] != -1 else ids[3]
+        # Its result doesn't tell whether it was permitted: setfsuid(2).
+        ids[3] = values[0] if values[0] != -1 and (is_root or values[0] in ids) else ids[3]
     elif name == "setuid":
         is_new = values[0] not in (ids[0], ids[2])
         ids[:] = [values[0]] * 4 if is_root or is_new else [ids[0], values[0], ids[2], values[0]]

@@ -4,8 +4,10 @@ from __future__ import annotations
 
 from dataclasses import dataclass, field
 
+from . import lines
 from .log import Call
 from .opened import Descriptors
+from .pids import Pids, foreign
 from .places import Located, Where
 from .spaces import Ids, Space
 
@@ -20,12 +22,11 @@ class Process:
     # Its session, and the line of the log at which it installed a seccomp filter.
     session: int = 0
     filtered: int = 0
-    # Its ids as the log's calls leave them, and its user namespace.
-    ids: Ids = field(default_factory=Ids)
+    # Its user namespace.
     space: Space = field(default_factory=Space)
-    # The log's pids by those that its PID namespace has, and the same for its children.
-    pids: dict[int, int] = field(default_factory=dict)
-    below: dict[int, int] = field(default_factory=dict)
+    # Its PID namespace, and that of its children.
+    pids: Pids = field(default_factory=Pids)
+    below: Pids = field(default_factory=Pids)
     # The call that its threads make one after another, by the number of the task that made it.
     making: dict[int, Call] = field(default_factory=dict)
     # Who makes a call only later whose line stands already.
@@ -41,6 +42,8 @@ class Task:
     process: Process
     where: Where = field(default_factory=Where)
     descriptors: Descriptors = field(default_factory=Descriptors)
+    # Its ids as the log's calls leave them. Those by which files are looked at are a thread's own.
+    ids: Ids = field(default_factory=Ids)
 
     @property
     def name(self) -> str:
@@ -61,30 +64,35 @@ class Tasks:
     def first(self, pid: int) -> Task:
         """The first task, with its process."""
         self._processes += 1
-        return self._add(Task(0, pid, Process(self._processes)))
+        own = Pids(is_log=True)
+        return self._add(Task(0, pid, Process(self._processes, pids=own, below=own)))
 
     def fork(self, pid: int, parent: Task, flags: frozenset[str] = frozenset()) -> Task:
         """A task of a process of its own."""
         self._processes += 1
         process = Process(self._processes, program=parent.process.program)
         process.space = parent.process.space
-        process.ids = parent.process.ids.copy()
         process.session, process.filtered = parent.process.session, parent.process.filtered
-        process.pids = {} if "CLONE_NEWPID" in flags else parent.process.below
+        process.pids = Pids() if "CLONE_NEWPID" in flags else parent.process.below
         process.below = process.pids
-        if process.pids is not parent.process.pids:
-            process.pids.setdefault(1, pid)
+        process.pids.begins(pid)
         return self._add(self._child(pid, parent, process, flags))
 
     def descend(self, task: Task, flags: frozenset[str], inner: int | None) -> None:
         """An ancestor of the task made the next one: in which PID namespace, and with which pid."""
         process = task.process
-        before, process.pids = process.pids, {} if "CLONE_NEWPID" in flags else process.below
+        process.pids = Pids() if "CLONE_NEWPID" in flags else process.below
         process.below = process.pids
-        if process.pids is not before:
-            process.pids.setdefault(1, task.pid)
+        process.pids.begins(task.pid)
         if inner is not None:
-            process.pids[inner] = task.pid
+            self.tells(process, inner, task.pid)
+
+    def tells(self, process: Process, number: int, pid: int) -> None:
+        """A call of this process tells which number a task has in its PID namespace."""
+        if process.pids.is_log:
+            # Then it isn't strace's own, and who is in it besides isn't known.
+            process.pids = process.below = foreign()
+        process.pids.has(number, pid)
 
     def spawn(self, pid: int, creator: Task, flags: frozenset[str] = frozenset()) -> Task:
         """A thread more of a process."""
@@ -95,7 +103,7 @@ class Tasks:
         where = parent.where if "CLONE_FS" in flags else parent.where.copy()
         shares = "CLONE_FILES" in flags
         descriptors = parent.descriptors if shares else parent.descriptors.copy()
-        return Task(0, pid, process, where, descriptors)
+        return Task(0, pid, process, where, descriptors, parent.ids.copy())
 
     def _add(self, task: Task) -> Task:
         """A task more, with the next number."""
@@ -114,9 +122,13 @@ class Tasks:
         task.number, task.process.number = self._tasks, self._processes
         self.told.append(f"{task.name} p{task.process.number} {task.pid}")
 
-    def find(self, pid: int, asker: Task) -> Task | None:
-        """The task that another one names by a pid of its PID namespace."""
-        return self.by_pid.get(asker.process.pids.get(pid, pid))
+    def find(self, text: str, asker: Task) -> Task | None:
+        """The task that another names: by a pid of its PID namespace, or by `@` and the log's."""
+        told = text.startswith("@") or lines.TRANSLATED.search(text) is not None
+        number = lines.pid(text.removeprefix("@"))
+        if number is None:
+            return None
+        return self.by_pid.get(number if told else asker.process.pids.of(number))
 
     def end(self, task: Task) -> None:
         """The task is gone."""

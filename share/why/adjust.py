@@ -152,7 +152,7 @@ REFUSALS = {
 
 
 def changes(words: list[str], before, after) -> list[Reason]:
-    """What the sets became by such a call, held against what they were."""
+    """What the sets became by such a call, compared with what they were."""
     call, sets = words[0], list(before)
     told: list[Reason] = []
     if call == "capset":

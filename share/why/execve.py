@@ -131,7 +131,7 @@ def plain(taken: Program, real: int, bits, root: int) -> Reason:
 def changes(
     file: File, told: list[str], ids, new, before, after, bits, chain, mask: int = ALL
 ) -> list[Reason]:
-    """What an execve made of the sets, held against what they became and were told to gain. The
+    """What an execve made of the sets, compared with what they became and were told to gain. The
     equations are shown of the capabilities in the mask."""
     root = chain[0]
     taken = program(file, ids, bits, chain)

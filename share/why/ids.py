@@ -101,7 +101,7 @@ def allowed(call: str, words: list[str], ids, caps) -> Reason:
 
 
 def changes(call: str, old, new, before, after, bits: int, root: int) -> list[Reason]:
-    """What the sets became where a call set ids, held against what they were."""
+    """What the sets became where a call set ids, compared with what they were."""
     if not of_users(call):
         same(before, after, "a call that sets group ids changes no set")
         return []

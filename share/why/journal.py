@@ -377,4 +377,4 @@ class Journal(Looks):
         decision.change = bool(sender and other and sender.process == other.process)
 
     def on_sweep(self, words, told):
-        """What was given up is let go of."""
+        """What was given up is dropped."""

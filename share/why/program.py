@@ -6,7 +6,7 @@ import re
 import subprocess
 from functools import lru_cache
 
-from strace.running import TOP, program
+from strace.running import TOP, cant_run, program
 
 from .reason import Bad, NotFound
 
@@ -23,7 +23,7 @@ def runs(words: list[str], given: bytes) -> tuple[int, str]:
             [program(), *words], input=given, stdout=subprocess.PIPE, check=False
         )
     except OSError as fault:
-        raise NotFound(f"{program()} can't be run: {fault.strerror}") from None
+        raise NotFound(cant_run(fault)) from None
     return done.returncode, done.stdout.decode("latin-1")
 
 

@@ -1,4 +1,4 @@
-"""The places in the manual that sentences rest on. `check` holds them against the pages."""
+"""The places in the manual that sentences rest on. `check` compares them with the pages."""
 
 CAPABILITIES = "capabilities(7)"
 USER_IDS = f'{CAPABILITIES}, "Effect of user ID changes on capabilities"'

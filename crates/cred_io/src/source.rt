@@ -60,8 +60,9 @@ impl From<AllocError> for ReadRefusal {
     }
 }
 
-/// How many bytes one read asks for. A function pays for its buffer at each call, so it is small.
-const CHUNK: usize = 8192;
+/// How many bytes one read asks for. A call of the kernel costs as much as it takes to copy some
+/// thousand bytes, and a function pays for its buffer each time that it is called.
+const CHUNK: usize = 65_536;
 
 /// Reads to the end, and returns all the bytes if they are no more than `limit`. One byte above the
 /// limit shows that there are too many, so no more than that are ever read. Each turn of the loop

@@ -157,7 +157,7 @@ static long tell_bits(void) {
   return 0;
 }
 
-/* What an execve's gain hangs on: the permitted and the bounding set, no_new_privs and NOROOT. */
+/* What an execve's gain depends on: the permitted and the bounding set, no_new_privs and NOROOT. */
 void tell_before(void) {
   u64 sets[3];
   read_sets(sets);

@@ -1,6 +1,6 @@
 """Reports that are bent: with another error, or other sets, the sentences must be faults.
 
-So it is seen that a sentence is held against what was answered, and not made up for it.
+So it is seen that a sentence is compared with what was answered, and not made up for it.
 """
 
 from __future__ import annotations

@@ -15,9 +15,13 @@ use std::mem::size_of;
 use std::test::Fail;
 use std::thread::{Threads, join};
 
+/// What a token has, in bytes: its slot, and a label or whether it was put.
+const TOKEN: usize = 8;
+
 #[test]
 fn tokens_have_no_room_for_a_credential(rt: HostRuntime) -> Result<(), Fail> {
-    assert!(rt; size_of::<Hold>() <= 160 && size_of::<Writer>() <= 160);
+    assert!(rt; size_of::<Hold>() <= TOKEN && size_of::<Writer>() <= TOKEN);
+    assert!(rt; size_of::<Cred>() > TOKEN);
     Ok(())
 }
 

@@ -1,0 +1,91 @@
+"""What has to stand in a log for what credtrace-compare tells of it, by its text alone."""
+
+from __future__ import annotations
+
+import re
+from collections.abc import Callable
+from pathlib import Path
+
+from strace import rows
+
+# What is told of a difference: the call, the kernel's answer, the report's, the script's line.
+DIFFERENCE = re.compile(
+    r"line (?P<line>\d+): pid (?P<pid>\d+) (?P<call>.*): the kernel (?P<kernel>[^,]*), "
+    r"the report (?P<report>.*) \(line \d+: (?P<text>.*)\)$"
+)
+SINCE = re.compile(r"    since line \d+: (?P<text>.*)$", re.MULTILINE)
+
+# Whether a reason may be told: of the difference, the text of the log, what it is told since, and
+# whether strace was a user's.
+Condition = Callable[[re.Match[str], str, str, bool], bool]
+
+
+def has(*parts: str) -> Condition:
+    """The log has each of these."""
+    return lambda found, log, since, user: all(re.search(part, log) for part in parts)
+
+
+def since_is(pattern: str, *parts: str) -> Condition:
+    """The line that it comes from is such a one, and the log has each of these."""
+    return lambda found, log, since, user: (
+        re.search(pattern, since or found["text"]) is not None
+        and all(re.search(part, log) for part in parts)
+    )
+
+
+NEW_PRIVS = r"PR_SET_NO_NEW_PRIVS, 1"
+SPACE = r"CLONE_NEWUSER"
+RAISE = r"PR_CAP_AMBIENT_RAISE, \S+, 0, 0\) = 0"
+
+CONDITIONS: dict[str, Condition] = {
+    rows.FILESYSTEM_IDS: since_is(r"setres[ug]id \S+ -1 "),
+    rows.SECUREBITS: since_is(r"securebits (25[6-9]|2[6-9]\d|[3-9]\d\d|\d{4})"),
+    rows.UNMAPPED: lambda *_: False,
+    rows.DENIED_GROUPS: since_is(r"setgroups", SPACE),
+    rows.DIRECTORIES: lambda found, log, since, user: found["kernel"] == "eacces",
+    rows.NOT_MODE: lambda found, log, since, user: (
+        found["kernel"] == "eperm" or "MS_NOEXEC" in log or "noexec" not in since
+    ),
+    rows.COUNTS: has(SPACE),
+    rows.CONTINUE: lambda found, log, since, user: "SIGCONT) = 0" in found["call"],
+    rows.NO_NEW_PRIVS_FILE: has(NEW_PRIVS),
+    rows.NO_NEW_PRIVS_IDS: has(NEW_PRIVS),
+    rows.UNMAPPED_OWNER: since_is(r"exec ", SPACE),
+    rows.SET_ID: since_is(r"exec ", RAISE),
+    rows.PLAIN_FILE: since_is(r"exec ", r"setfsgid", RAISE),
+    rows.TRACED: lambda found, log, since, user: user,
+}
+
+
+def text_of(logs: list[str]) -> str:
+    """All of the log."""
+    return "".join(Path(log).read_text(encoding="latin-1") for log in logs)
+
+
+def unfounded(out: str, logs: list[str], user: bool) -> str | None:
+    """A difference that isn't explained, or by what doesn't hold."""
+    log = text_of(logs)
+    blocks = re.split(r"\n(?=line \d+: pid )", out)
+    for block in blocks:
+        head, _, rest = block.partition("\n")
+        found = DIFFERENCE.match(head)
+        if found is None:
+            continue
+        reason = rest.split("\n")[0].strip()
+        if "no row explains it" in reason:
+            return block
+        since = SINCE.search(block)
+        if not holds(found, reason, log, since["text"] if since else "", user):
+            return f"what is told doesn't hold:\n{block}"
+    return None
+
+
+def holds(found: re.Match[str], reason: str, log: str, since: str, user: bool) -> bool:
+    """Whether a reason holds."""
+    if reason.startswith(rows.LOG):
+        return "SECCOMP_MODE_FILTER" in log
+    told = re.sub(r"^docs/LINUX\.md(, it may be)?: ", "", reason)
+    for begins, condition in CONDITIONS.items():
+        if told.startswith(begins):
+            return condition(found, log, since, user)
+    return False

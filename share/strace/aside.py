@@ -1,0 +1,84 @@
+"""Calls that the kernel refused and the program allows.
+
+They changed nothing, so what comes later is told by a script in which they stand aside, as
+comments.
+"""
+
+from __future__ import annotations
+
+from collections.abc import Callable
+from dataclasses import dataclass, replace
+
+from .rows import CHANGED
+from .script import Line
+
+# How often a script is run again without the first such line; then all like it stand aside.
+RUNS = 20
+
+# A report's answers by the lines of its script.
+Answers = Callable[[str], dict[int, str]]
+
+
+@dataclass(frozen=True)
+class Ran:
+    """A script as it was run, its report's answers, and those of the lines that stand aside."""
+
+    lines: list[Line]
+    found: dict[int, str]
+
+    def text(self) -> str:
+        """The script that was run."""
+        return text_of(self.lines)
+
+
+def text_of(lines: list[Line]) -> str:
+    """The text of a script."""
+    return "".join(line.text + "\n" for line in lines)
+
+
+def refused(line: Line) -> bool:
+    """Whether the kernel refused a call that would have changed something."""
+    answer, form = line.answer, line.text.split()[1:2]
+    return answer is not None and not answer.startswith("ok") and form[0] in CHANGED
+
+
+def stands_aside(line: Line, answer: str | None) -> bool:
+    """Whether the kernel refused what the program didn't."""
+    return refused(line) and answer is not None and answer.split()[0] in ("ok", "aborted")
+
+
+def outside_of_rules(line: Line) -> bool:
+    """Whether something else than the rules may have refused it, as the log itself tells."""
+    denied = line.facts.denied and line.text.split()[1] == "setgroups"
+    return refused(line) and bool(line.facts.filtered or denied)
+
+
+def as_comments(lines: list[Line]) -> tuple[str, int]:
+    """The script where nobody runs it: what may be refused so stands aside; and how many did."""
+    kept = [aside(line) if outside_of_rules(line) else line for line in lines]
+    return text_of(kept), sum(map(outside_of_rules, lines))
+
+
+def aside(line: Line) -> Line:
+    """The line as a comment, which takes its place."""
+    return line if line.text.startswith("#") else replace(line, text=f"# {line.text}")
+
+
+def ran(lines: list[Line], answers: Answers) -> Ran:
+    """Runs a script, as often as it takes until the kernel's refusals leave no trace in it."""
+    lines = lines[:]
+    told: dict[int, str] = {}
+    found = answers(text_of(lines))
+    for count in range(RUNS + 1):
+        numbers = [
+            number
+            for number, line in enumerate(lines, 1)
+            if number not in told and stands_aside(line, found.get(number))
+        ]
+        if not numbers:
+            break
+        for number in numbers[:1] if count < RUNS else numbers:
+            told[number] = found[number]
+            lines[number - 1] = aside(lines[number - 1])
+        found = answers(text_of(lines))
+    return Ran(lines, found | told)
