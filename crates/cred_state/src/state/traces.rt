@@ -131,7 +131,8 @@ impl State {
             ≡ option_map (λ last. (last.cred.uid, last.cred.gid))
             (changed_of self.now.state.prepared label) }
     {
-        let last = self.prepared.get(label)?.changed.as_ref()?;
+        let preparation = self.prepared.get(label)?;
+        let last = preparation.changed.as_ref()?;
         Some((last.cred.uid, last.cred.gid))
     }
 }

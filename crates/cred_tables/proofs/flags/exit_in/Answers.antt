@@ -1,5 +1,5 @@
 use Rattle.cred_procs.specs.Tasks.{task_in}
-use Rattle.cred_tables.proofs.Flags.{left_flags}
+use Rattle.cred_tables.proofs.Flagged.{left_flags}
 use Rattle.cred_tables.proofs.Owners.{process_there}
 use Rattle.cred_tables.proofs.flags.exit_in.Goals as goal
 

@@ -1,11 +1,17 @@
+use Rattle.cred_model.specs.State.{Task}
 use Rattle.cred_procs.specs.Tasks.{task_in}
-use Rattle.cred_tables.proofs.Flags.{forked_flag, forks, on_ok}
+use Rattle.cred_tables.proofs.Flagged.{forked_flag, forks, on_ok, seen_there}
 use Rattle.cred_tables.proofs.Owners.{process_there}
 use Rattle.cred_tables.proofs.flags.fork_in.Goals as goal
 
 pub unwrap-own-requires : goal.unwrap-own-requires
 unwrap-own-requires c =
     process_there (task_in c.args.tasks.now c.args.task) c.requires.alive c.process_of.ensures
+
+pub unwrap-number-requires : goal.unwrap-number-requires
+unwrap-number-requires c =
+    seen_there (λ (t : Task). t.current) (task_in c.args.tasks.now c.args.task) c.requires.alive
+    c.current.ensures
 
 pub returns-clause-tasks : goal.returns-clause-tasks
 returns-clause-tasks c =

@@ -1,7 +1,7 @@
 use Rattle.std.proofs.Common.{sym, ap, ◌∙◌}
 use Rattle.cred_model.specs.Dumpable.{renewed}
 use Rattle.cred_procs.specs.Tasks.{task_in}
-use Rattle.cred_tables.proofs.Flags.{renewed_flag}
+use Rattle.cred_tables.proofs.Flagged.{renewed_flag}
 use Rattle.cred_tables.proofs.Owners.{process_there}
 use Rattle.cred_tables.proofs.flags.renew_in.Goals as goal
 

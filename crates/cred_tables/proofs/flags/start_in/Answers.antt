@@ -1,5 +1,5 @@
 use Rattle.std.proofs.Common.{sym, ◌∙◌}
-use Rattle.cred_tables.proofs.Flags.{no_flag}
+use Rattle.cred_tables.proofs.Flagged.{no_flag}
 use Rattle.cred_tables.proofs.flags.start_in.Goals as goal
 
 pub begin_process-requires-clause-unused : goal.begin_process-requires-clause-unused

@@ -15,6 +15,12 @@ pub on_ok : {A E P Q : Type 0} (r : Result A E) → (P → Q) → OnOk r P → O
 on_ok (Ok x) then p = then p
 on_ok (Err e) then p = tt
 
+-- what is seen of a task that is alive is there
+pub seen_there : {X : Type 0} (f : Task → X) (found : Option Task) {seen : Option X} → IsSome found
+    → seen ≡ option_map f found → IsSome seen
+seen_there f None alive is = cc
+seen_there f (Some t) alive is = rw is refl
+
 -- a process without threads has no flag
 pub no_flag : (flags : List ProcessFlag) (tasks : List Task) (process : ℕ)
     → is_some (flag_in flags process) ≡ has_process tasks process
