@@ -98,8 +98,8 @@ impl State {
     /// Whether an effective or a filesystem id of this credential is another one than in the sealed
     /// one of this number.
     pub(crate) fn differs_from(&self, number: u64, new: &Cred) -> bool
-        ensures { result
-            ≡ option_map_or (λ old. differs old.cred new.now) (numbered self.now.creds number) false }
+        ensures { result ≡ option_map_or (λ old. differs old.cred new.now)
+            (numbered self.now.creds number) false }
     {
         match self.creds.get(number) {
             Some(old) => differs(old.cred, new),
