@@ -8,7 +8,7 @@ use Rattle.cred_model.proofs.Places.{none_by_test}
 use Rattle.cred_plain.proofs.Places.{none_is}
 use Rattle.cred_machine.proofs.Refusals.{fork_busy, fork_exists, fork_full, fork_none, fork_overridden, fork_unsealed, fork_used, is_full}
 use Rattle.cred_machine.proofs.Leads.{busy_at, can_create, fork_leads}
-use Rattle.cred_machine.proofs.Flags.{unflagged}
+use Rattle.cred_machine.proofs.Unflagged.{unflagged}
 use Rattle.cred_machine.proofs.Unchanged.{on_err}
 use Rattle.cred_machine.proofs.Seen.{seen_state, seen_task}
 use Rattle.cred_machine.proofs.state.State.fork.Goals as goal
