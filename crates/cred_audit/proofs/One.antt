@@ -8,7 +8,7 @@ use Rattle.cred_model.specs.Script.{Script}
 use Rattle.cred_model.specs.Journal.{SoFar}
 use Rattle.cred_report.specs.Text.{entry_text, text}
 use Rattle.cred_audit.specs.One.{OneJournal}
-use Rattle.cred_audit.specs.Report.{IsOneReport, IsReport}
+use Rattle.cred_audit.specs.Report.{IsOneJournal, IsReport}
 use Rattle.cred_audit.specs.Run.{RunHasEnded}
 use Rattle.cred_audit.specs.declared.run.Run.{Run}
 use Rattle.cred_audit.proofs.Prefixes.{Extends, longer_begins}
@@ -41,7 +41,7 @@ one_journal script journal few so_far other other_so_far is =
       | inr shorter ↦ sym (no_longer script other journal few other_so_far so_far is shorter)
     ]
 
-only_report : (script : Script) (bytes : List ℕ) → length script.lines ≤ LINE_LIMIT → IsReport script bytes → IsOneReport script bytes
+only_report : (script : Script) (bytes : List ℕ) → length script.lines ≤ LINE_LIMIT → IsReport script bytes → IsOneJournal script bytes
 only_report script bytes few report = record {
   report = report;
   only = one_journal script report.journal few report.legal.so_far;
@@ -49,6 +49,6 @@ only_report script bytes few report = record {
 
 -- where a report and its run have ended, no other journal has the report's text
 pub one_left : (script : Script) (bytes rest : List ℕ) (number : ℕ) (run : Run) → Compared script bytes rest number run
-    → rest ≡ [] → RunHasEnded run → IsOneReport script bytes
+    → rest ≡ [] → RunHasEnded run → IsOneJournal script bytes
 one_left script bytes rest number run so none ended =
     only_report script bytes so.after.few (nothing_left script bytes rest number run so none ended)

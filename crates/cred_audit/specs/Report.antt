@@ -15,7 +15,7 @@ pub record IsReport (script : Script) (bytes : List ℕ) : Type 0 where
   pub is : bytes ≡ text script journal
 
 -- They are the text of that journal, and of no other journal so far of the script.
-pub record IsOneReport (script : Script) (bytes : List ℕ) : Type 0 where
+pub record IsOneJournal (script : Script) (bytes : List ℕ) : Type 0 where
   pub report : IsReport script bytes
   pub only : IsOnly script report.journal
 
@@ -38,5 +38,5 @@ pub record IsFault (script : Script) (bytes : List ℕ) (entry : ℕ) : Type 0 w
 
 -- what is said of the bytes is true
 abbrev pub IsVerdict : Script → List ℕ → Verdict → Type 0
-IsVerdict script bytes Legal = IsOneReport script bytes
+IsVerdict script bytes Legal = IsOneJournal script bytes
 IsVerdict script bytes (NotLegal entry) = IsFault script bytes entry

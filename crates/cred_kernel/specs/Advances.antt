@@ -12,8 +12,8 @@ use Rattle.cred_book.specs.declared.step.Step.TheVariants.{More, Ended}
 use Rattle.cred_book.specs.declared.step.Step.TheVariants as step
 use Rattle.cred_kernel.specs.Turns.{Seen, LaneHasEnded}
 
--- The turn had a line left, and has entered one event more, of which so many were decided while the
--- lock was free: one or none. At most one of its lines has ended by that.
+-- The turn had a line left, and has entered one event more, of which so many had gone out as a work
+-- first: one or none. At most one of its lines has ended by that.
 pub record HasEntered (script : Script) (works : ℕ) (old new : Seen) : Type 0 where
   pub lane : new.lane ≡ old.lane
   pub entered : new.numbers.entered ≡ old.numbers.entered + 1

@@ -115,7 +115,7 @@ fn stepped(before: Numbers, step: &Result<Step, NoMemory>, ended: u32) -> Number
 }
 
 /// The lane's numbers after its work came back, by which so many of its lines have ended. What was
-/// entered then is an event more that was decided while the lock was free.
+/// entered then is one event more that went out as a work first.
 fn finished(before: Numbers, step: &Result<Step, Unfinished>, ended: u32) -> Numbers
     requires entered { before.entered < 2 ^ 63 }
     requires decided { before.decided < 2 ^ 63 }

@@ -39,13 +39,6 @@ impl<K: Name> Turn<K> {
     {
         self.numbers.entered
     }
-
-    /// How many lines of the lane have ended.
-    pub fn ended(&self) -> u32
-        ensures { result ≡ self.now.numbers.ended }
-    {
-        self.numbers.ended
-    }
 }
 
 /// Turns, those of all lanes of a kernel as a rule, that of lane 1 first.

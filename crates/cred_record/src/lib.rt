@@ -15,9 +15,9 @@ pub mod want;
 pub mod word_laws;
 
 pub use adj_call::AdjCall;
+pub use cred::{Cred, copy, first};
 /// The bytes of the extended attribute `security.capability` of a file (capabilities(7), "File
 /// capabilities"), as they stand there, whether or not they are well formed.
-pub use cred::{Cred, copy, first};
 pub use cred_ids::Bytes as Attr;
 pub use file::{FileInfo, FileKind};
 pub use gains::Gains;

@@ -5,7 +5,7 @@
 pub struct Numbers {
     /// How many entries were made for the lane.
     pub entered: u64,
-    /// How many of them were decided while the lock was free.
+    /// How many of them went out as a work first, so that they could be decided without the lock.
     pub decided: u64,
     /// How many lines of the lane have ended.
     pub ended: u32,

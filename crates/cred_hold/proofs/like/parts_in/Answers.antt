@@ -46,6 +46,13 @@ read_word-requires-4-clause-within c = let w = width_is in omega arith
 pub read_word-requires-5-clause-within : goal.read_word-requires-5-clause-within
 read_word-requires-5-clause-within c = let w = width_is in omega arith
 
+pub overflow_cast-read_word : goal.overflow_cast-read_word
+overflow_cast-read_word c =
+    let same = c.read_word-4.ensures.same ∙ c.read_word-3.ensures.same ∙ c.read_word-2.ensures.same ∙ c.read_word.ensures.same ∙ c.gather.ensures.same in
+    let at = c.read_word-5.ensures.value ∙ ap (λ h. slice_index h.token.words ROOT) same in
+    let fact = (word-facts _ c.requires.known).root in
+    omega arith
+
 pub known-root-requires : goal.known-root-requires
 known-root-requires c =
     let same = c.read_word-4.ensures.same ∙ c.read_word-3.ensures.same ∙ c.read_word-2.ensures.same ∙ c.read_word.ensures.same ∙ c.gather.ensures.same in
