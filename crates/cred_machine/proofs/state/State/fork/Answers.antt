@@ -49,8 +49,8 @@ returns-clause-ok c =
     (c.in_ok-begin_process.ensures.flags ∙ ap (λ (n : Task). with_flag s.dumpable n.process c.is_dumpable-dumpable.result) c.first-thread.ensures)
     c.is_dumpable-dumpable.ensures)
 
-pub begin_process-requires-unused : goal.begin_process-requires-unused
-begin_process-requires-unused c =
+pub begin_process-requires-clause-unused : goal.begin_process-requires-clause-unused
+begin_process-requires-clause-unused c =
     let s = seen_state c.self.inside in
     let sound : IsSound s = rw (← c.self.view_is) at c.requires.sound in
     ap (λ (n : Task). flag_in s.dumpable n.process) c.first-thread.ensures
