@@ -29,7 +29,6 @@ module _ (s : State) (number : ℕ) where
   pub act_none : cast_of s number ≡ None → outcome s (by_act s number) ≡ (NoBroadcast number, s)
   act_none none = rw none refl
 
-<<<<<<< HEAD
   module _ (cast : Broadcast) (found : cast_of s number ≡ Some cast) where
     pub act_unawaited : slice_get cast.waiting 0 ≡ None
         → outcome s (by_act s number) ≡ (NoBroadcast number, s)
@@ -47,25 +46,16 @@ module _ (s : State) (number : ℕ) where
 module _ (s : State) (number task cast_at : ℕ) (cast : Broadcast) (owner : Task) (old : Numbered)
     (next : IsNext s number task cast_at cast owner old) (made : Credential)
     (rule : set_id old.cred cast.call ≡ Ok made) where
-  pub steps : (after : State) (casts : List Broadcast) (sweep : Bool) (slot left given : ℕ) → free s ≡ Some slot
-      → sweep ≡ not (is_some (least_free s)) → left + 1 ≡ length cast.waiting → given ≡ length s.creds
-      → after ≡ replaced (swept_if sweep s) task old.number made slot → casts ≡ waits_no_more task after.casts
-      → outcome s (by_act s number) ≡ (Acted task given slot left, record after { casts = casts })
-  steps after casts sweep slot left given is for many counted leads cs =
-      acts s number task cast_at cast owner old next made rule sweep slot left is for many
-      ∙ rw (cs, leads, counted) (same sweep)
-=======
-module _ (s : State) (number task : ℕ) (cast : Broadcast) (owner : Task) (old : Numbered) (next : IsNext s number task cast owner old)
-    (made : Credential) (rule : set_id old.cred cast.call ≡ Ok made) where
-  pub steps : (after : State) (casts : List Broadcast) (flags : List ProcessFlag) (other sweep : Bool) (slot left given : ℕ) → free s ≡ Some slot
+  pub steps : (after : State) (casts : List Broadcast) (flags : List ProcessFlag)
+      (other sweep : Bool) (slot left given : ℕ) → free s ≡ Some slot
       → sweep ≡ not (is_some (least_free s)) → left + 1 ≡ length cast.waiting → given ≡ length s.creds
       → after ≡ replaced (swept_if sweep s) task old.number made slot → casts ≡ waits_no_more task after.casts
       → other ≡ differs old.cred made → flags ≡ renewed after.dumpable owner.process other
-      → outcome s (by_act s number) ≡ (Acted task given slot left, record after { casts = casts; dumpable = flags })
+      → outcome s (by_act s number)
+      ≡ (Acted task given slot left, record after { casts = casts; dumpable = flags })
   steps after casts flags other sweep slot left given is for many counted leads cs ids fs =
-      acts s number task cast owner old next made rule sweep slot left is for many
+      acts s number task cast_at cast owner old next made rule sweep slot left is for many
       ∙ rw (fs, ids, cs, leads, counted) (same sweep)
->>>>>>> ptrace
     where
       same : (b : Bool)
           → ◌≡◌ {A = Answer × State} (

@@ -21,6 +21,6 @@ pub mod Free
 pub mod Threads
 pub mod Refusals
 pub mod Leads
-pub mod Flags
+pub mod Unflagged
 pub mod Live
 pub mod Steps

@@ -270,29 +270,30 @@ known_after s after sound number answer marks sweep (Some now) live is gives tak
 
 -- so it is after an id call
 pub known_opened : (s after : State) → IsSound s → (task old slot : ℕ) (made : Credential)
-    (marks : List Bool) (sweep : Bool) (casts : List Broadcast) (known : Option (List Bool))
-    → AreLive marks s → IsCurrentOf s task old
+    (marks : List Bool) (sweep : Bool) (casts : List Broadcast) (flags : List ProcessFlag)
+    (known : Option (List Bool)) → AreLive marks s → IsCurrentOf s task old
     → after ≡ replaced (swept_if sweep (record s { casts = casts })) task old made slot
     → IfSome known (λ now. (sweep ≡ false) × HasTaken marks slot now)
-    → IfSome known (λ now. AreLive now after)
-known_opened s after sound task old slot made marks sweep casts None live own leads takes = tt
-known_opened s after sound task old slot made marks sweep casts (Some now) live own leads takes =
+    → IfSome known (λ now. AreLive now (record after { dumpable = flags }))
+known_opened s after sound task old slot made marks sweep casts flags None live own leads takes = tt
+known_opened s after sound task old slot made marks sweep casts flags (Some now) live own leads takes =
     at (task_of s task) refl own
   where
     at : (o : Option Task) → task_of s task ≡ o → option_map (λ t. t.current) o ≡ Some old
-        → AreLive now after
+        → AreLive now (record after { dumpable = flags })
     at None lives is = λ k h. cc
     at (Some owner) lives is = λ k h.
         let current : owner.current ≡ old = cc in
-        let to : after ≡ record (replaced s task owner.current made slot) { casts = casts }
+        let to : after
+        ≡ record (replaced s task owner.current made slot) { casts = casts; dumpable = s.dumpable }
         = leads
         ∙ ap (λ b. replaced (swept_if b (record s { casts = casts })) task old made slot) takes.0
         ∙ ap (λ (n : ℕ). record (replaced s task n made slot) { casts = casts }) (sym current) in
         takes.1 k h
         ∙ ap (λ b. b || (slot == k)) (live k h)
         ∙ sym
-        (ap (λ (t : State). is_live t k) to
-        ∙ live_replaced s sound task slot owner made lives casts k)
+        (ap (λ (t : State). is_live (record t { dumpable = flags }) k) to
+        ∙ live_replaced s sound task slot owner made lives casts flags k)
 
 -- where a credential stands, by the list of slots
 stands_by : (creds : List SealedCred) (slot n : ℕ) → stands_in creds slot n ≡ option_map_or (λ k. k == slot) (slice_get (slots_of creds) n) false

@@ -1,6 +1,6 @@
 //! The processes that begin with a task, and whether they are dumpable.
 ghost use Rattle.std.specs.Prelude.{◌≡◌, ◌<◌, ◌++◌, ◌∷◌, [], None, find, is_some, length};
-ghost use Rattle.std.specs.Prelude.{if◌then◌else◌, OnOk, OnErr};
+ghost use Rattle.std.specs.Prelude.{true, if◌then◌else◌, OnOk, OnErr};
 ghost use Rattle.cred_ids.specs.Limits.{TASKS};
 ghost use Rattle.cred_model.specs.Dumpable.{flag_in, with_flag};
 ghost use Rattle.cred_model.specs.Ends.{is_thread_of};

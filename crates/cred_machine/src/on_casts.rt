@@ -89,34 +89,25 @@ impl State {
             call: call.copy()?,
             waiting,
         };
-<<<<<<< HEAD
-        self.open(live, cast, number, cred)
+        self.open(live, cast, number, cred, other)
     }
 
     /// The caller of a broadcast has made this credential of its current one, of this number. That
-    /// takes a slot, and the broadcast is open if anybody waits in it.
+    /// takes a slot, and the broadcast is open if anybody waits in it. `other` says that an
+    /// effective or a filesystem id is another one in it.
     fn open(
         &mut self,
         live: &mut Option<Marks>,
         cast: Cast,
         old: u64,
         cred: Cred,
+        other: bool,
     ) -> Result<Answer, NoMemory>
         requires waiting { length cast.waiting ≤ TASKS }
         requires caller { IsCurrentOf self.old cast.caller old }
         requires sound { IsSound self.old }
         requires known { IfSome live.old (λ marks. AreLive marks self.old) }
         ensures live { IfSome live.new (λ marks. AreLive marks self.new) }
-=======
-        self.open(cast, number, cred, other)
-    }
-
-    /// The caller of a broadcast has made this credential of its current one, of this number. That
-    /// takes a slot, and the broadcast is open if anybody waits in it. `other` says that an
-    /// effective or a filesystem id is another one in it.
-    fn open(&mut self, cast: Cast, old: u64, cred: Cred, other: bool) -> Result<Answer, NoMemory>
-        requires { length cast.waiting ≤ TASKS }
->>>>>>> ptrace
         ensures ok { IfOk result (λ answer. in_slot self.old table_full
             (λ s slot. begun s cast old cred other slot) ≡ (answer, self.new)) }
         ensures err { OnErr result (self.new ≡ self.old) }
@@ -137,11 +128,8 @@ impl State {
                 return Err(err);
             }
         };
-<<<<<<< HEAD
-        *live = marks.after_call(slot, swept);
-=======
         self.dump.renew(process, other);
->>>>>>> ptrace
+        *live = marks.after_call(slot, swept);
         Ok(Answer::Began {
             cred: number,
             slot,
@@ -190,15 +178,10 @@ impl State {
         let Some(slot) = room.slot else {
             return self.end_process(process, task, AbortCause::Full);
         };
-<<<<<<< HEAD
         let cred = self.seal(number, cred, slot, room.swept)?;
         self.tasks.set_current_at(task_at, cred);
         acted(&mut self.casts, cast_at, task);
-=======
-        let cred = self.replace(task, number, cred, slot, room.swept)?;
-        leave(&mut self.casts, task);
         self.dump.renew(own, other);
->>>>>>> ptrace
         Ok(Answer::Acted {
             task,
             cred,

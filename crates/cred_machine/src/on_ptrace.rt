@@ -59,10 +59,12 @@ impl State {
         let Some(other) = self.held(target) else {
             return Answer::NoHold(target);
         };
+        let asker = own.cred;
+        let asked = other.cred;
         let same = sender.process == receiver.process;
-        let reach = script.reaches(own.cred.ns, other.cred.ns);
+        let reach = script.reaches(asker.ns, asked.ns);
         let dumpable = self.dump.is_dumpable(receiver.process);
-        if may_trace(own.cred, other.cred, same, reach, dumpable, mode) {
+        if may_trace(asker, asked, same, reach, dumpable, mode) {
             Answer::Done
         } else {
             Answer::Eperm

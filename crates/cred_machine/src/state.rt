@@ -95,18 +95,6 @@ impl State {
         self.creds.get(hold.number)
     }
 
-    /// Whether an effective or a filesystem id of this credential is another one than in the sealed
-    /// one of this number.
-    pub(crate) fn differs_from(&self, number: u64, new: &Cred) -> bool
-        ensures { result
-            ≡ option_map_or (λ old. differs old.cred new.now) (numbered self.now.creds number) false }
-    {
-        match self.creds.get(number) {
-            Some(old) => differs(old.cred, new),
-            None => false,
-        }
-    }
-
     /// Whether a hold or a prepared label has this label.
     pub(crate) fn has_label(&self, label: u32) -> bool
         ensures { result
@@ -146,6 +134,18 @@ impl State {
         if swept {
             self.forget();
         }
+    }
+}
+
+/// Whether an effective or a filesystem id of this credential is another one than in the sealed one
+/// of this number.
+pub fn differs_from(creds: &Creds, number: u64, new: &Cred) -> bool
+    ensures { result ≡ option_map_or (λ old. differs old.cred new.now)
+        (numbered creds.now.list number) false }
+{
+    match creds.get(number) {
+        Some(old) => differs(old.cred, new),
+        None => false,
     }
 }
 

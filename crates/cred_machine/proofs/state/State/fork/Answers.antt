@@ -8,7 +8,7 @@ use Rattle.cred_model.proofs.Places.{none_by_test}
 use Rattle.cred_plain.proofs.Places.{none_is}
 use Rattle.cred_machine.proofs.Refusals.{fork_busy, fork_exists, fork_full, fork_none, fork_overridden, fork_unsealed, fork_used, is_full}
 use Rattle.cred_machine.proofs.Leads.{busy_at, can_create, fork_leads}
-use Rattle.cred_machine.proofs.Flags.{unflagged}
+use Rattle.cred_machine.proofs.Unflagged.{unflagged}
 use Rattle.cred_machine.proofs.Unchanged.{on_err}
 use Rattle.cred_machine.proofs.Seen.{seen_state, seen_task}
 use Rattle.cred_machine.proofs.state.State.fork.Goals as goal
@@ -49,8 +49,8 @@ returns-clause-ok c =
     (c.in_ok-begin_process.ensures.flags ∙ ap (λ (n : Task). with_flag s.dumpable n.process c.is_dumpable-dumpable.result) c.first-thread.ensures)
     c.is_dumpable-dumpable.ensures)
 
-pub begin_process-requires-unused : goal.begin_process-requires-unused
-begin_process-requires-unused c =
+pub begin_process-requires-clause-unused : goal.begin_process-requires-clause-unused
+begin_process-requires-clause-unused c =
     let s = seen_state c.self.inside in
     let sound : IsSound s = rw (← c.self.view_is) at c.requires.sound in
     ap (λ (n : Task). flag_in s.dumpable n.process) c.first-thread.ensures

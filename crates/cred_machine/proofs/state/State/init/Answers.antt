@@ -22,8 +22,8 @@ returns-clause-ok c =
     c.sweep_if.ensures.items
     (c.in_ok-enter.ensures.flags ∙ ap (λ (n : Task). flags_begun s n.process) c.first-task.ensures))
 
-pub enter-requires-own : goal.enter-requires-own
-enter-requires-own c =
+pub enter-requires-clause-own : goal.enter-requires-clause-own
+enter-requires-clause-own c =
     let s = seen_state c.self.inside in
     let sound : IsSound s = rw (← c.self.view_is) at c.requires.sound in
     sound.flags.own c.first-task.result.process

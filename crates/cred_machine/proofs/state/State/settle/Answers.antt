@@ -25,7 +25,7 @@ returns-clause-ok c =
     c.committed_by-answer.ensures c.set_current.ensures c.end.ensures c.drop_with.ensures c.remove.ensures.items
     (c.deref.ensures.value ∙ c.in_ok-extend_from_slice.ensures.items
     ∙ ap (λ (ns : List ℕ). ns ++ owner.current ∷ own.base ∷ []) c.in_ok-numbers.ensures)
-    c.in_ok-make_room.ensures.ok c.commit.ensures (rw (← c.self.view_is) at c.differs_from-other.ensures) c.in_ok-cred.ensures c.seal-number.ensures.sealed)
+    c.in_ok-make_room.ensures.ok c.commit.ensures c.differs_from-other.ensures c.in_ok-cred.ensures c.seal-number.ensures.sealed)
 
 pub returns-in_err-numbers-clause-err : goal.returns-in_err-numbers-clause-err
 returns-in_err-numbers-clause-err c = on_err _ refl
