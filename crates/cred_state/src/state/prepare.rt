@@ -188,7 +188,8 @@ impl State {
         self.slots.drop_later(now);
         let (kept, last) = self.prepared.finish(label);
         drop_cast(&mut self.casts, last.change, process);
-        let (change, gains) = (last.change, last.gains);
+        let change = last.change;
+        let gains = last.gains;
         self.dump.commit(change, &gains, process, other);
         // What was prepared is in the words of its slot already.
         let number = seal_kept(&mut self.slots, kept);

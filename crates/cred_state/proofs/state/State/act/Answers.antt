@@ -15,4 +15,4 @@ look_parts-parts-requires-clause-used c = current-in_use c.args.self.now.state c
 pub act_with-requires-clause-other : goal.act_with-requires-clause-other
 act_with-requires-clause-other c =
     rw c.look_parts-parts.ensures.same
-    (ids_differ _ _ _ _ _ c.differs_by-other.ensures c.look_parts-parts.ensures.parts.0)
+    (ids_differ _ _ c.follow.new.parts _ _ c.differs_by-other.ensures c.look_parts-parts.ensures.parts.0)

@@ -15,4 +15,4 @@ look_parts-parts-requires-clause-used c = current-in_use c.args.self.now.state c
 pub begin_with-requires-clause-other : goal.begin_with-requires-clause-other
 begin_with-requires-clause-other c =
     rw c.look_parts-parts.ensures.same
-    (ids_differ _ _ _ _ _ c.differs_by-other.ensures c.look_parts-parts.ensures.parts.0)
+    (ids_differ _ _ c.apply_parts.new.own _ _ c.differs_by-other.ensures c.look_parts-parts.ensures.parts.0)
