@@ -188,14 +188,12 @@ impl State {
         self.slots.drop_later(now);
         let (kept, last) = self.prepared.finish(label);
         drop_cast(&mut self.casts, last.change, process);
-        let change = last.change;
-        let gains = last.gains;
-        self.dump.commit(change, &gains, process, other);
+        self.dump.commit(last.change, &last.gains, process, other);
         // What was prepared is in the words of its slot already.
         let number = seal_kept(&mut self.slots, kept);
         self.tasks.set_current(task, number);
         let ended = ended.tasks.items().len() as u32;
-        Ok(committed_by(change, &gains, number, kept.slot, ended))
+        Ok(committed_by(last.change, &last.gains, number, kept.slot, ended))
     }
 
     /// The label gives up what it prepared, with its slot and the reference to its base.

@@ -52,6 +52,9 @@ pub commit_ready-requires-clause-ready : goal.commit_ready-requires-clause-ready
 commit_ready-requires-clause-ready c =
     rw (c.changes_ids-other.ensures.same, ← c.self.view_is, c.if-now-base.false) c.in-Some.ensures
 
+pub commit_ready-requires-clause-home : goal.commit_ready-requires-clause-home
+commit_ready-requires-clause-home c = rw c.changes_ids-other.ensures.same c.requires.home
+
 pub commit_ready-requires-clause-current : goal.commit_ready-requires-clause-current
 commit_ready-requires-clause-current c =
     rw (c.changes_ids-other.ensures.same, ← c.self.view_is) c.in-Some-current.ensures
