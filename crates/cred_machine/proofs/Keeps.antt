@@ -1,5 +1,5 @@
 -- No event lets go of what is referred to, and only a sweep of what was given up.
-use Rattle.std.proofs.Common.{◌≡◌, ◌==◌, ◌-◌, ◌⊎◌, inl, inr, ℕ, List, [], ◌∷◌, length, nat_lt, slice_get, find, position, Some, None, true, Result, Ok, Err, refl, arith}
+use Rattle.std.proofs.Common.{◌≡◌, ◌==◌, ◌-◌, ◌⊎◌, inl, inr, ℕ, List, [], ◌∷◌, ◌++◌, length, nat_lt, slice_get, find, position, Some, None, true, Result, Ok, Err, refl, arith}
 use Rattle.std.specs.Option.{option_and_then}
 use Rattle.cred_ids.specs.Limits.{TASKS, OPEN_FILES, PREPARED, DEPTH}
 use Rattle.cred_record.specs.Credential.{Credential, first_credential}
