@@ -232,6 +232,26 @@ class Script:
         self.entry(f"drop {of_other}", "ok")
         self.entry(f"drop {of_task}", "ok")
 
+    def traces(self, task, other, mode, answer):
+        """A question whether the task may look into the other."""
+        self.line(f"t{task} ptrace {mode} t{other}")
+        of_task, of_other, _ = self.labels()
+        self.entry(f"take {of_task} t{task}", self.named(self.acts_with(task)))
+        self.entry(f"takereal {of_other} t{other}", self.named(self.current[other]))
+        self.entry(f"ptrace {mode} t{task} {of_task} t{other} {of_other}", answer)
+        self.entry(f"drop {of_other}", "ok")
+        self.entry(f"drop {of_task}", "ok")
+
+    def dumpable(self, task, value, answer="ok"):
+        """The task's process is to be dumpable, or not."""
+        self.line(f"t{task} dumpable {value}")
+        self.entry(f"dumpable t{task} {value}", answer)
+
+    def dumped(self, task, flag):
+        """Whether the task's process is dumpable."""
+        self.line(f"t{task} dumped")
+        self.entry(f"dumped t{task}", f"ok {flag}")
+
     def case(self, name, calls):
         """The case: this script must be reported so."""
         if len(self.lines) > LINES:

@@ -94,7 +94,10 @@ def check_entry(name: str, line: str, data: dict, place: int) -> None:
     if (told[0] != "ok") != (data["kinds"][place] == "x"):
         wrong(f"{name}: a refusal isn't drawn as one, or something else is")
     row = data["rows"][data["of"][place]][0]
-    task = re.match(r"(?:init|begin|spawn|fork|exit|override|revert|signal) (t\d+)", event)
+    task = re.match(
+        r"(?:init|begin|spawn|fork|exit|override|revert|signal|dumpable|dumped|ptrace \w+) (t\d+)",
+        event,
+    )
     task = task or re.match(r"(?:take|takereal|prepare) h\d+ (t\d+)", event)
     if task and task[1] != row:
         wrong(f"{name}: it stands in the row of {row}")

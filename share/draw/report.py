@@ -67,6 +67,9 @@ FORMS = {
     "open": ["open H NAME WANT F -> ok"],
     "close": ["close F -> ok"],
     "signal": ["signal T H T H -> ok"],
+    "ptrace": ["ptrace (fs|real) T H T H -> ok"],
+    "dumpable": ["dumpable T NUM -> ok"],
+    "dumped": ["dumped T -> ok (0|1)"],
     "sweep": ["sweep -> ok"],
 }
 

@@ -90,7 +90,7 @@ class Story:
             if named[:1] == "t" and named[1:].isdigit():
                 return self.task(named)
             return begun[1] if begun else self.others
-        if words[0] in ("take", "takereal", "prepare"):
+        if words[0] in ("take", "takereal", "prepare", "ptrace"):
             return self.task(words[2])
         if words[0] in ("takefile", "close"):
             return self.files
@@ -281,6 +281,10 @@ class Story:
 
     def on_signal(self, row: Row, _: str, __: str, other: str, *_rest: str, **_entry) -> None:
         """A signal."""
+        self.linked("signals", self.count, row, self.task(other))
+
+    def on_ptrace(self, row: Row, _: str, __: str, ___: str, other: str, *_rest, **_entry) -> None:
+        """A look into another task."""
         self.linked("signals", self.count, row, self.task(other))
 
     def on_sweep(self, row: Row, **_entry) -> None:

@@ -20,6 +20,9 @@ const SHORT = {
   change: (words) => words.slice(2),
   open: (words) => ["open", ...words.slice(2)],
   signal: (words) => ["signal", words[3]],
+  ptrace: (words) => ["ptrace", words[1], words[4]],
+  dumpable: (words) => ["dumpable", words[2]],
+  dumped: () => ["dumped"],
   init: (words) => ["init", ...words.slice(3)],
   spawn: (words) => ["spawn", words[2]],
   fork: (words) => ["fork", words[2]],
@@ -46,7 +49,7 @@ function shortOf(model, place) {
   const short = SHORT[event] || ((all) => [all[0], labelOf(all[1])]);
   let text = short(words).join(" ").trim();
   if (model.kind(place) === "x") return answer.join(" ") + ": " + text;
-  if (event === "ask" && answer.length > 1) text += " = " + answer.slice(1).join(" ");
+  if ((event === "ask" || event === "dumped") && answer.length > 1) text += " = " + answer.slice(1).join(" ");
   if (event === "ask" && words[2] === "check") text += ": ok";
   return text;
 }

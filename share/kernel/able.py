@@ -21,6 +21,7 @@ NO_EXECUTE = "open(2) asks for no execute permission, and opens no directory for
 BUSY = "a program that runs isn't opened for writing (ETXTBSY)"
 DESCRIPTORS = "a descriptor is one of its process, not of the whole system"
 SPACES_OF_PROCESS = "the threads of a process are in one user namespace"
+LOOKS = "the driver doesn't ask who may look into whom"
 NO_SPACES = "user namespaces can't be created here"
 EVERY_ID = ((0, 0xFFFFFFFF),)
 NOT_MAPPED = "ids that aren't mapped here"
@@ -54,6 +55,8 @@ def forms(script: Script) -> Iterator[str]:
             yield KERNEL_MADE.format(OWN_CODE[words[0]])
         elif words[1] == "fcap":
             yield OPENER
+        elif words[1] in ("ptrace", "dumpable", "dumped"):
+            yield LOOKS
         elif words[1] == "open":
             if words[3] not in OPENS or "w" in words[3] and script.files[words[2]].is_dir:
                 yield NO_EXECUTE

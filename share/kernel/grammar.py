@@ -27,7 +27,8 @@ CHANGE = (
 QUERY = ("ids", "caps", "groups", "bits", "capable CAP", "bset CAP", "ambis CAP", "check NAME WANT")
 OF_TASK = (
     *IDCALL, *CHANGE, *QUERY, "open NAME WANT F", "close F", "fcap F CAP", "access NAME WANT",
-    "signal T", "spawn T", "fork T P", "exit",
+    "signal T", "spawn T", "fork T P", "exit", "ptrace fs T", "ptrace real T", "dumpable NUM",
+    "dumped",
 )  # fmt: skip
 LINES = (
     "file NAME KIND ID ID MODE(?: nosuid)?(?: caps HEX)?", "ns NUM ID NUM", "init T P ID ID N",

@@ -264,6 +264,24 @@ def bounding(form: str) -> Reading:
     return read
 
 
+# linux/sched/coredump.h, as strace writes them.
+DUMPABLE = {"SUID_DUMP_DISABLE": 0, "SUID_DUMP_USER": 1, "SUID_DUMP_ROOT": 2}
+
+
+def dumpable(args: Args, result: Result) -> Said | None:
+    """prctl(2), PR_SET_DUMPABLE."""
+    word = args[1] if len(args) > 1 else ""
+    value = DUMPABLE.get(word, lines.number(word))
+    if value is None or not 0 <= value < 1 << 32:
+        return None
+    return told(f"dumpable {value}", result)
+
+
+def dumped(_args: Args, result: Result) -> Said | None:
+    """prctl(2), PR_GET_DUMPABLE."""
+    return Said("dumped", f"ok {result.value}") if result.value in (0, 1) else None
+
+
 def bits_are(pattern: str) -> Reading:
     """prctl(2), PR_GET_SECUREBITS and its kin: a question about securebits and no_new_privs."""
 
@@ -283,6 +301,8 @@ OPERATIONS: dict[str, Reading] = {
     "PR_CAPBSET_DROP": bounding("capdrop"),
     "PR_CAPBSET_READ": bounding("bset"),
     "PR_CAP_AMBIENT": ambient,
+    "PR_SET_DUMPABLE": dumpable,
+    "PR_GET_DUMPABLE": dumped,
     "PR_GET_KEEPCAPS": bits_are("ok {flag} *"),
     "PR_GET_SECUREBITS": bits_are("ok {value} *"),
     "PR_GET_NO_NEW_PRIVS": bits_are("ok * {value}"),

@@ -19,7 +19,9 @@ from .script import Line, Script
 AGREES, DIFFERS, NOT_COMPARED, ENDS_BEFORE = 0, 1, 2, 3
 
 # The entries that decide a line; the others take hold of a credential and drop it.
-DECIDING = frozenset("begin act ask change open signal spawn fork exit".split())
+DECIDING = frozenset(
+    "begin act ask change open signal spawn fork exit dumpable dumped ptrace".split()
+)
 
 
 def report_of(script: str) -> str:

@@ -4,7 +4,7 @@ from __future__ import annotations
 
 from collections.abc import Callable, Iterable
 
-from . import asks, changes, moves
+from . import asks, changes, moves, traces
 from .calls import ID_CALLS, OWN_CALLS, SET_CALLS, Said, Unheld, answer
 from .changes import Changes
 from .enters import Entries, is_map
@@ -27,7 +27,9 @@ ENDS = ("exit", "exit_group")
 THREAD = frozenset({"CLONE_FS", "CLONE_FILES"})
 
 # The calls of which a script has lines.
-SAYING = frozenset([*ID_CALLS, *OWN_CALLS, *SET_CALLS, *EXECUTIONS, *CREATIONS, *ENDS, "kill"])
+SAYING = frozenset(
+    [*ID_CALLS, *OWN_CALLS, *SET_CALLS, *EXECUTIONS, *CREATIONS, *ENDS, "kill", *traces.CALLS]
+)
 
 # What each follows without saying anything in the script.
 SILENT = ("chdir", "fchdir", "memfd_create", "pidfd_open", "dup", "dup2", "dup3", "fcntl", "chroot")
@@ -75,6 +77,7 @@ class Converter(Sayer):
             (CREATIONS, self.create),
             (ENDS, self.end),
             (("kill", "tkill", "tgkill"), self.kill),
+            ((*traces.CALLS, *traces.LINKS), self.trace),
             (self._follow, self.move),
             (changes.CALLS, self.change),
             (("unshare", "setns"), self.change_namespace),
@@ -318,6 +321,20 @@ class Converter(Sayer):
             )
             self.say(task, call, Said(f"signal {other.name}", said), facts)
 
+    def looks(self, task: Task, call: Call) -> bool:
+        """Whether the call asks to look into another task of the log: then the script says it."""
+        found = traces.look(call, task.pid)
+        other = self.tasks.find(found[1], task) if found else None
+        if found and other and other.process is not task.process:
+            self.say(task, call, Said(f"ptrace {found[0]} {other.name}", found[2]))
+            return True
+        return False
+
+    def trace(self, task: Task, call: Call) -> None:
+        """ptrace(2), process_vm_readv(2), kcmp(2), and a link of /proc/PID that is read."""
+        if not self.looks(task, call):
+            self.passed.call(call)
+
     def mark(self, task: Task, call: Call) -> None:
         """setsid(2) and seccomp(2): what they do shows in results of other calls."""
         self.passed.call(call)
@@ -338,6 +355,8 @@ class Converter(Sayer):
         found = self._asks.lines(task, call) if call.name in moves.OPENS else None
         if found:
             self.script.add(call.first, *found)
+        elif self.looks(task, call):
+            return
         elif not succeeds or call.name not in SILENT:
             self.passed.call(call)
 

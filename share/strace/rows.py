@@ -33,9 +33,13 @@ UNMAPPED_OWNER = "a set-user-ID bit makes the file's owner the effective user"
 SET_ID = "a set-id bit in force makes a file privileged"
 PLAIN_FILE = "a plain file is not privileged"
 TRACED = "execve is of a program: there are no scripts, and nobody traces the task"
+CREATOR = "looking into a task asks for CAP_SYS_PTRACE in the effective set"
+LOOKS = "one rule for each look into a task"
+EXECVE_FLAG = "an execve makes its process dumpable unless an id becomes another"
 ALL = (
     FILESYSTEM_IDS, SECUREBITS, UNMAPPED, DENIED_GROUPS, DIRECTORIES, NOT_MODE, COUNTS, CONTINUE,
-    NO_NEW_PRIVS_FILE, NO_NEW_PRIVS_IDS, UNMAPPED_OWNER, SET_ID, PLAIN_FILE, TRACED,
+    NO_NEW_PRIVS_FILE, NO_NEW_PRIVS_IDS, UNMAPPED_OWNER, SET_ID, PLAIN_FILE, TRACED, CREATOR,
+    LOOKS, EXECVE_FLAG,
 )  # fmt: skip
 
 # What a kept row may have changed.
@@ -93,7 +97,7 @@ DEPENDS: dict[str, tuple[str, ...]] = (
     | dict.fromkeys(("capset", "ambraise"), (CAPS, BOUNDING, BITS))
     | dict.fromkeys(("securebits", "keepcaps"), (CAPS, BITS))
     | dict.fromkeys((*ID_CALLS, "signal"), (IDS, CAPS))
-    | dict.fromkeys(("setfsuid", "setfsgid", "exec"), (FILE_IDS, CAPS, IDS))
+    | dict.fromkeys(("setfsuid", "setfsgid", "exec", "ptrace"), (FILE_IDS, CAPS, IDS))
     | dict.fromkeys(("open", "check", "access"), (FILE_IDS, CAPS, IDS, GROUPS))
 )
 
@@ -217,6 +221,10 @@ class Explainer:
                     parts = CHANGED.get(words[1], ())
                     known.keep(*(Kept(kept.row, part, kept.number, kept.text) for part in parts))
                 return self.text(kept.row, kept.sure, f"line {kept.number}: {kept.text}")
+        if words[1] == "ptrace":
+            return self.text(LOOKS if kernel == "eperm" else CREATOR, sure=False)
+        if words[1] == "dumped":
+            return self.text(EXECVE_FLAG, sure=False)
         # A log that was recorded inside a user namespace doesn't tell what that denies.
         denied = words[1] == "setgroups" and (kernel, told) == ("eperm", "ok")
         return self.text(DENIED_GROUPS, sure=False) if denied else None

@@ -3,7 +3,7 @@
 A sealed credential is never changed, so what is asked of it holds wherever it is asked. What the
 script's own questions were told is taken as it is. The rest is asked in copies of the script:
 behind the line that sealed a credential the copy asks the task that has it. A copy leaves out what
-changes nothing: comments, questions, access(2), signals. A line is written as its events where
+changes no credential: comments, questions, access(2), signals, looks into other tasks. A line is written as its events where
 lanes took turns in it, or where it has to be asked before it ends.
 """
 
@@ -21,7 +21,7 @@ from .script import QUERIES
 LINES, BYTES = 20000, 1 << 20
 KINDS = (IDS, CAPS, GROUPS, BITS)
 # What leaves everything as it is: a line that begins so, or the word behind its task.
-NOTHING = QUERIES | {"fcap", "access", "signal"}
+NOTHING = QUERIES | {"fcap", "access", "signal", "ptrace", "dumpable", "dumped"}
 CALL_LABEL = re.compile(r"\bh\d{6}\b")
 
 
@@ -203,7 +203,7 @@ class Copy:
                 self.add(text)
             elif word in ("begin", "act"):
                 self.keep(line, event)
-            elif word not in ("signal", "ask"):
+            elif word not in ("signal", "ask", "ptrace", "dumpable", "dumped"):
                 self.add(CALL_LABEL.sub(self.label, event))
             if index in after:
                 self.question(after[index])

@@ -2,6 +2,7 @@
 
 from __future__ import annotations
 
+from .looking import Flag
 from .reason import Fault, Reason
 
 
@@ -50,17 +51,19 @@ class Home:
 class Decision:
     """An entry that is told: a refusal, or an event that may change a task's credential.
 
-    `change` has the words of what is committed or followed; of a signal, whether it stays in one
-    process. `target` is the credential of who is signalled, or the creator of a task.
+    `change` has the words of what is committed or followed; of a signal and of a look, whether it
+    stays in one process. `target` is the credential of who is signalled or looked into, or the
+    creator of a task. `flag` is what may have made the process that is looked into dumpable or not.
     """
 
-    __slots__ = ("after", "before", "change", "index", "line", "reason", "target", "task", "told",
-                 "words")  # fmt: skip
+    __slots__ = ("after", "before", "change", "flag", "index", "line", "reason", "target", "task",
+                 "told", "words")  # fmt: skip
 
     def __init__(self, index, line, words, told, task, before=None, after=None):
         self.index, self.line, self.words, self.told, self.task = index, line, words, told, task
         self.before, self.after = before, after
         self.target = self.change = None
+        self.flag: Flag | None = None
         self.reason: Reason | Fault | None = None
 
     @property

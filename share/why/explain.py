@@ -2,7 +2,9 @@
 
 from __future__ import annotations
 
-from . import access, adjust, execve, ids, sources
+from collections.abc import Callable
+
+from . import access, adjust, execve, ids, looking, sources
 from .asking import KINDS, Values
 from .books import Decision
 from .journal import Journal
@@ -36,7 +38,8 @@ class Explainer:
         if self.full:
             want(before, *KINDS)
             want(after, *KINDS)
-            want(decision.target if event == "signal" else None, IDS)
+            want(decision.target if event in ("signal", "ptrace") else None, IDS, CAPS)
+            self.wants_of_flag(decision)
             return
         if decision.reason is not None or not (decision.refused or after is not None):
             return
@@ -55,8 +58,18 @@ class Explainer:
         elif event == "signal":
             want(before, IDS, CAPS)
             want(decision.target, IDS)
+        elif event == "ptrace":
+            want(before, IDS, CAPS)
+            want(decision.target, IDS, CAPS)
+            self.wants_of_flag(decision)
         elif event == "init":
             want(after, CAPS)
+
+    def wants_of_flag(self, decision: Decision) -> None:
+        """What the flag of a process rests on."""
+        if decision.flag is not None:
+            for credential in decision.flag.credentials():
+                self.values.want(credential, IDS)
 
     def wants_of_change(self, call: str, before: int | None) -> None:
         """What the refusal of a change rests on."""
@@ -97,7 +110,30 @@ class Explainer:
         if words[0] == "signal":
             asked = values.ids(before), values.caps(before), values.ids(decision.target)
             return [access.signal_allowed(*asked, decision.change)]
+        if words[0] == "ptrace":
+            return [self.look(decision, looking.allowed)]
+        if words[0] == "dumped":
+            dumpable, text = self.flag_of(decision)
+            if decision.told != ["ok", str(int(dumpable))]:
+                raise Fault(f"it was answered {' '.join(decision.told)}, but it is {text}")
+            return [Reason(text, sources.DUMPABLE)]
         return []
+
+    def flag_of(self, decision: Decision) -> tuple[bool, str]:
+        """Whether the process is dumpable, and since when."""
+        dumpable, flag = looking.found(decision.flag, self.values.ids)
+        return dumpable, looking.since(flag, dumpable, self.journal.script.line(flag.line))
+
+    def look(self, decision: Decision, why: Callable[..., Reason]) -> Reason:
+        """Why a look into another task is refused or allowed."""
+        if decision.change:
+            return Reason("allowed: both are threads of one process", sources.TRACE)
+        values, spaces = self.values, self.journal.namespaces
+        sides = (decision.before, decision.target)
+        own, other = ((values.ids(it), values.caps(it)) for it in sides)
+        one, two = (spaces[it] for it in sides)
+        reach = one in self.journal.script.spaces[two]
+        return why(decision.words[1], own, other, reach, one == two, self.flag_of(decision))
 
     def born(self, decision: Decision) -> Reason:
         """The sets that a new task has."""
@@ -142,6 +178,10 @@ class Explainer:
         # Within one process a signal is always allowed.
         if event == "signal" and told == "eperm" and not decision.change:
             return self.signal_refused(decision)
+        if event == "ptrace" and told == "eperm" and not decision.change:
+            return self.look(decision, looking.refused)
+        if event == "dumpable" and told == "einval" and words[2] not in ("0", "1"):
+            return Reason(f"EINVAL: {words[2]} is neither 0 nor 1", sources.DUMPABLE)
         raise Fault(f"no sentence for {' '.join(words)}, answered {told}")
 
     def is_access(self, line: int) -> bool:

@@ -8,6 +8,8 @@ from __future__ import annotations
 
 from . import stood
 from .books import Cast, Decision, Home, Label, Task
+from .looking import Flag
+from .looks import Looks
 from .reason import CAPS, IDS, Fault
 from .script import Script
 
@@ -15,7 +17,7 @@ RULED = frozenset(("eperm", "einval", "eacces"))
 HOLDS = 512
 
 
-class Journal:
+class Journal(Looks):
     """The entries of a report, followed one after another."""
 
     def __init__(self, script: Script, report: str, line: int | None = None) -> None:
@@ -30,6 +32,7 @@ class Journal:
         self.files: dict[str, tuple[int, int]] = {}
         self.gone_files: dict[str, int] = {}
         self.casts: dict[str, Cast] = {}
+        self.flags: dict[str, Flag] = {}
         self.ended_casts: dict[int, str] = {}
         self.slots: dict[int, int] = {}
         self.namespaces: dict[int, int] = {}
@@ -128,6 +131,7 @@ class Journal:
         del members[name]
         if not members:
             del self.processes[task.process]
+            self.flags.pop(task.process, None)
         cast = self.casts.get(task.process)
         if cast is not None and name in cast.waiting:
             del cast.waiting[name]
@@ -154,6 +158,7 @@ class Journal:
             return
         namespace = int(words[5][1:])
         number = int(told[1][1:])
+        self.flags.setdefault(words[2], Flag("first", self.line))
         self.born(words, told, words[1], words[2], namespace, number, "first task", None)
         self.seal(told, 1, self.tasks[words[1]])
 
@@ -217,6 +222,10 @@ class Journal:
         number = self.seal(told, 1, task)
         decision = self.decide(words, told, label.task, task.current, number)
         decision.change = label.change
+        if len(told) > 3:
+            self.flagged(task, number, "execve", told[-3:] == ["0", "0", "0"])
+        else:
+            self.flagged(task, number)
         self.current(task, number)
         self.give_up(words[1], "committed")
         if len(told) > 3:
@@ -277,6 +286,7 @@ class Journal:
             return
         number = self.seal(told, 1, task)
         self.decide(words, told, words[1], task.current, number)
+        self.flagged(task, number)
         self.current(task, number)
         waiting = {name: None for name in self.processes[task.process] if name != task.name}
         cast = self.casts[task.process] = Cast(self.line, words[1], words[2:], waiting)
@@ -297,6 +307,7 @@ class Journal:
             return
         number = self.seal(told, 2, task)
         self.decide(words, told, task.name, task.current, number).change = cast.words
+        self.flagged(task, number)
         self.current(task, number)
         del cast.waiting[task.name]
         self.completed(process, cast)
@@ -327,6 +338,7 @@ class Journal:
         task = self.tasks[words[1]]
         how = f"forked by {task.name}"
         number = int(told[1][1:])
+        self.flags[words[3]] = self.flags[task.process]
         self.born(words, told, words[2], words[3], task.namespace, number, how, task.name)
 
     def on_exit(self, words, told):

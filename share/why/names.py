@@ -31,6 +31,8 @@ CALLS = {
     "securebits": "prctl(2), PR_SET_SECUREBITS", "keepcaps": "prctl(2), PR_SET_KEEPCAPS",
     "nonewprivs": "prctl(2), PR_SET_NO_NEW_PRIVS", "exec": "execve(2)", "open": "open(2)",
     "close": "close(2)", "access": "access(2)", "signal": "kill(2)", "fork": "fork(2)",
+    "ptrace": "a ptrace access check", "dumpable": "prctl(2), PR_SET_DUMPABLE",
+    "dumped": "prctl(2), PR_GET_DUMPABLE",
     "spawn": "clone(2), CLONE_THREAD", "exit": "_exit(2)", "init": "a first task",
     "ids": "getresuid(2), getresgid(2)", "caps": "capget(2)", "groups": "getgroups(2)",
     "bits": "prctl(2), PR_GET_SECUREBITS", "capable": "capget(2)",

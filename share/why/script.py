@@ -41,6 +41,7 @@ class Script:
         self.declarations: list[str] = []
         self.files: dict[str, File] = {}
         self.roots: dict[int, list[int]] = {0: [0]}
+        self.spaces: dict[int, list[int]] = {0: [0]}
         for line in self.lines:
             words = line.split()
             if not words or words[0] not in DECLARATIONS:
@@ -53,6 +54,7 @@ class Script:
             else:
                 number, root, parent = map(int, words[1:4])
                 self.roots[number] = [root, *self.roots[parent]]
+                self.spaces[number] = [number, *self.spaces[parent]]
 
     def declare_file(self, words: list[str]) -> None:
         """Keeps the file of a line."""

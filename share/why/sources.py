@@ -36,6 +36,8 @@ EXECVE_IGNORED = "execve(2), DESCRIPTION"
 OPEN = "open(2), ERRORS"
 CLOSE = "close(2), ERRORS"
 KILL = "kill(2), DESCRIPTION"
+TRACE = 'ptrace(2), "Ptrace access mode checking"'
+DUMPABLE = "prctl(2), PR_SET_DUMPABLE"
 ACCESS = "access(2), DESCRIPTION"
 CLONE = "clone(2), CLONE_THREAD"
 

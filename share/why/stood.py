@@ -29,6 +29,7 @@ def source_of(words) -> str:
     """What the kernel's documentation has of an event on a label."""
     return {
         "ask": sources.ACCESSING, "open": sources.OPEN_FILES, "signal": sources.ACCESSING,
+        "ptrace": sources.ACCESSING,
         "drop": sources.MANAGING, "override": sources.OVERRIDING, "revert": sources.OVERRIDING,
     }.get(words[0], sources.ALTERING)  # fmt: skip
 
@@ -41,8 +42,10 @@ def no_task(journal, words, told) -> Reason:
     why = "no line before has made it"
     if gone:
         why = f"{gone[1]} in {at(journal, gone[0])}"
-    signalled = journal.script.line(journal.line).split(" ")[1:] == ["signal", name]
-    source = sources.errors("kill") if signalled and words[0] != "take" else sources.TASKS
+    call = journal.script.line(journal.line).split(" ")[1:]
+    page = {"signal": "kill", "ptrace": "ptrace"}.get(call[0] if call else "")
+    asked = page is not None and call[-1] == name and words[0] != "take"
+    source = sources.errors(page) if asked else sources.TASKS
     return Reason(f"no task {name}: {why}", source)
 
 

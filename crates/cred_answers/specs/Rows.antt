@@ -1,6 +1,6 @@
 -- Which answers an event may be given: its refusals in the order in which they are tested, and then
 -- what it is answered where none comes. The numbers of an answer don't matter.
-use Rattle.std.specs.Prelude.{ℕ, Bool, true, false, nat_lt, IsTrue, if◌then◌else◌}
+use Rattle.std.specs.Prelude.{ℕ, Bool, true, false, not, nat_lt, IsTrue, if◌then◌else◌}
 use Rattle.cred_caps.specs.Numbers.{LAST}
 use Rattle.cred_event.specs.declared.answer.Named.TheVariants.{Task, Process, Label, File}
 use Rattle.cred_event.specs.declared.answer.Counted.TheVariants.{Tasks, Files, Holds, Prepared}
@@ -99,7 +99,7 @@ check_row Eacces = true
 check_row Done = true
 check_row answer = false
 
--- a signal
+-- a signal, and a question whether a task may look into another
 abbrev pub signal_row : Answer → Bool
 signal_row (NoTask task) = true
 signal_row (NoHold label) = true
@@ -227,6 +227,19 @@ abbrev pub sweep_row : Answer → Bool
 sweep_row Done = true
 sweep_row answer = false
 
+-- a value for the flag of a process, which is 0 or 1
+abbrev pub dumpable_row : ℕ → Answer → Bool
+dumpable_row value (NoTask task) = true
+dumpable_row value Einval = nat_lt 1 value
+dumpable_row value Done = not (nat_lt 1 value)
+dumpable_row value answer = false
+
+-- a question about the flag
+abbrev pub dumped_row : Answer → Bool
+dumped_row (NoTask task) = true
+dumped_row (Told (Flag flag)) = true
+dumped_row answer = false
+
 -- what a question may be answered
 abbrev pub may_tell : Query → Answer → Bool
 may_tell query.Ids answer = ids_row answer
@@ -267,6 +280,9 @@ may (event.Spawn task child) answer = spawn_row answer
 may (event.Fork task child process) answer = fork_row answer
 may (event.Exit task) answer = exit_row answer
 may event.Sweep answer = sweep_row answer
+may (event.Dumpable task value) answer = dumpable_row value answer
+may (event.Dumped task) answer = dumped_row answer
+may (event.Ptrace from hold to target mode) answer = signal_row answer
 
 -- the event may be given an answer of this form
 abbrev pub CanAnswer : Event → Answer → Type 0

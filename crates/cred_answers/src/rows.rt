@@ -4,7 +4,7 @@ ghost use Rattle.cred_answers.specs.Rows as spec;
 
 use crate::call_rows::{adjust_row, begin_row};
 use crate::told_rows::may_tell;
-use cred_event::{Answer, Change, Counted, Event, Named};
+use cred_event::{Answer, Change, Counted, Event, Named, Told};
 
 /// A first task.
 fn init_row(answer: &Answer) -> bool
@@ -62,7 +62,7 @@ fn release_row(answer: &Answer) -> bool
     matches!(answer, Answer::NoHold(_) | Answer::Done)
 }
 
-/// A signal.
+/// A signal, and a question whether a task may look into another.
 fn signal_row(answer: &Answer) -> bool
     ensures { result ≡ spec.signal_row answer.now }
 {
@@ -249,6 +249,26 @@ fn sweep_row(answer: &Answer) -> bool
     matches!(answer, Answer::Done)
 }
 
+/// A value for the flag of a process, which is 0 or 1.
+fn dumpable_row(value: u32, answer: &Answer) -> bool
+    ensures { result ≡ spec.dumpable_row value answer.now }
+{
+    let is_none = value > 1;
+    match answer {
+        Answer::NoTask(_) => true,
+        Answer::Einval => is_none,
+        Answer::Done => !is_none,
+        _ => false,
+    }
+}
+
+/// A question about the flag.
+fn dumped_row(answer: &Answer) -> bool
+    ensures { result ≡ spec.dumped_row answer.now }
+{
+    matches!(answer, Answer::NoTask(_) | Answer::Told(Told::Flag(_)))
+}
+
 /// What a change may be answered.
 fn may_change(change: Change, answer: &Answer) -> bool
     ensures { result ≡ spec.may_change change answer.now }
@@ -286,5 +306,8 @@ pub fn can_answer(event: &Event, answer: &Answer) -> bool
         Event::Fork { .. } => fork_row(answer),
         Event::Exit { .. } => exit_row(answer),
         Event::Sweep => sweep_row(answer),
+        Event::Dumpable { value, .. } => dumpable_row(*value, answer),
+        Event::Dumped { .. } => dumped_row(answer),
+        Event::Ptrace { .. } => signal_row(answer),
     }
 }

@@ -13,13 +13,15 @@ use Rattle.cred_rules.specs.Exec.{Executed, NoExec, exec}
 use Rattle.cred_rules.specs.SetId.{set_id}
 use Rattle.cred_copies.specs.Lists.{HoldsList}
 use Rattle.cred_event.specs.declared.event.Event.{Event}
-use Rattle.cred_event.specs.declared.event.Event.TheVariants.{Init, Take, TakeFile, Release, Ask, Signal, Prepare, Alter, Commit, Abort, Override, Revert, Begin, Act, OpenFile, CloseFile, Spawn, Fork, Exit, Sweep}
+use Rattle.cred_event.specs.declared.event.Event.TheVariants.{Init, Take, TakeFile, Release, Ask, Signal, Prepare, Alter, Commit, Abort, Override, Revert, Begin, Act, OpenFile, CloseFile, Spawn, Fork, Exit, Sweep, Dumpable, Dumped, Ptrace}
 use Rattle.cred_event.specs.declared.event.Change.{Change}
 use Rattle.cred_event.specs.declared.event.Change.TheVariants.{SetFs, Adjust, Exec, Access}
 use Rattle.cred_event.specs.declared.answer.Answer.{Answer}
 use Rattle.cred_event.specs.declared.answer.Answer.TheVariants.{Sealed, Kept, Began, Acted, Aborted, Stale}
 use Rattle.cred_event.specs.declared.answer.AbortCause.TheVariants as cause
-use Rattle.cred_model.specs.Script.{Script, info_of, chain_of, root_of}
+use Rattle.cred_model.specs.Script.{Script, info_of, chain_of, root_of, reaches}
+use Rattle.cred_model.specs.Dumpable.{differs, flag_of_value, flags_begun, flags_committed, is_dumpable, renewed}
+use Rattle.cred_model.specs.Ptrace.{may_trace}
 use Rattle.cred_model.specs.State.{State, Task, Broadcast, Prepared, Changed, Numbered, credential_of, opener_of, numbered, task_of, cast_of, cast_in, begun_by, open_of, hold_of, prepared_of, held_by}
 use Rattle.cred_model.specs.Named.{change_files}
 use Rattle.cred_model.specs.Answers.{checked}
@@ -79,16 +81,27 @@ tries_commit : (s : State) (place : ℕ) (p : Prepared) (owner : Task) (last : C
 tries_commit s place p owner last =
     let ends = ends_with last.change owner in
     let count = count_by ends s.tasks in
-    elim (owner.current == p.base) as (λ b. Leaves s (cond {A = Answer × State} b (commit_answer last (length s.creds) p.slot count, casts_after last.change owner (committed (ended ends s) place p owner.current last.cred)) (Stale p.base owner.current, given_up s place p))) [
+    let now = casts_after last.change owner (committed (ended ends s) place p owner.current last.cred) in
+    elim (owner.current == p.base) as (λ b. Leaves s (cond {A = Answer × State} b (
+      commit_answer last (length s.creds) p.slot count,
+      record now { dumpable = flags_committed s owner last },
+    ) (Stale p.base owner.current, given_up s place p))) [
       | true ↦ λ list. absurd (commits_plainly last.change last.gains (length s.creds) p.slot count list)
       | false ↦ λ list. absurd list
     ]
 
-follows_plainly : (s : State) (cast : Broadcast) (task old : ℕ) (made : Result Credential Denial) → Leaves s (follow s cast task old (by_rule made))
-follows_plainly s cast task old (Err refusal) = λ list. absurd list
-follows_plainly s cast task old (Ok new) =
+follows_plainly : (s : State) (cast : Broadcast) (task : ℕ) (owner : Task) (old : Numbered)
+    (made : Result Credential Denial) → Leaves s (follow s cast task owner old (by_rule made))
+follows_plainly s cast task owner old (Err refusal) = λ list. absurd list
+follows_plainly s cast task owner old (Ok new) =
     in_slots (Leaves s) s (λ now. (Aborted task cause.Full, aborted cast now))
-    (λ now slot. (Acted task (length now.creds) slot (length cast.waiting - 1), record (replaced now task old new slot) { casts = waits_no_more task now.casts }))
+    (λ now slot. (
+      Acted task (length now.creds) slot (length cast.waiting - 1),
+      record (replaced now task old.number new slot) {
+        casts = waits_no_more task now.casts;
+        dumpable = renewed now.dumpable owner.process (differs old.cred new);
+      },
+    ))
     (λ left fewer list. absurd list)
     (λ left slot fewer free list. absurd list)
 
@@ -111,7 +124,13 @@ by_event script s line (Init task process user group ns) =
     (if_idle (Leaves s) (cast_in s process) _
     (λ idle. if_none (Leaves s) (task_of s task) _ _
     (λ new. if_fewer (Leaves s) (length s.tasks) TASKS _ _
-    (in_slots (Leaves s) s table_full (λ s slot. (Sealed (length s.creds) slot, created s (first_task task process (length s.creds)) c slot))
+    (in_slots (Leaves s) s table_full
+    (λ s slot. (
+      Sealed (length s.creds) slot,
+      record (created s (first_task task process (length s.creds)) c slot) {
+        dumpable = flags_begun s process;
+      },
+    ))
     (λ left fewer list. absurd list)
     (λ left slot fewer free list. absurd list)))))
 by_event script s line (Take label task side) =
@@ -191,7 +210,13 @@ by_event script s line (Begin task call) =
     let others = others_of owner s.tasks in
     let cast : Broadcast = record { number = line; process = owner.process; caller = task; call = call; waiting = others } in
     in_slots (Leaves s) s table_full
-    (λ s slot. (Began (length s.creds) slot (length others), record (replaced s task old.number new slot) { casts = with_cast s.casts cast }))
+    (λ s slot. (
+      Began (length s.creds) slot (length others),
+      record (replaced s task old.number new slot) {
+        casts = with_cast s.casts cast;
+        dumpable = renewed s.dumpable owner.process (differs old.cred new);
+      },
+    ))
     (λ left fewer list. absurd list)
     (λ left slot fewer free list. absurd list))))))))
 by_event script s line (Act number) =
@@ -200,7 +225,7 @@ by_event script s line (Act number) =
     (λ cast opened. if_some (Leaves s) (slice_get cast.waiting 0) _ _
     (λ task first. if_some (Leaves s) (task_of s task) _ _
     (λ owner found. if_some (Leaves s) (numbered s.creds owner.current) _ _
-    (λ old at. follows_plainly s cast task old.number (set_id old.cred cast.call))))))
+    (λ old at. follows_plainly s cast task owner old (set_id old.cred cast.call))))))
 by_event script s line (OpenFile hold place asked fd) =
     outcome_has (Leaves s) s _ (refuses s)
     (if_some (Leaves s) (held_by s hold) _ _
@@ -234,6 +259,25 @@ by_event script s line (Exit task) =
     (λ owner is. if_idle (Leaves s) (begun_by s task) _
     (λ idle. if_own (Leaves s) owner _ (λ list. absurd list))))
 by_event script s line Sweep = λ list. absurd list
+by_event script s line (Dumpable task value) =
+    outcome_has (Leaves s) s _ (refuses s)
+    (if_some (Leaves s) (task_of s task) _ _
+    (λ owner is. if_some (Leaves s) (flag_of_value value) _ _ (λ flag valid list. absurd list)))
+by_event script s line (Dumped task) =
+    outcome_has (Leaves s) s _ (refuses s)
+    (if_some (Leaves s) (task_of s task) _ _ (λ owner is list. refl))
+by_event script s line (Ptrace from hold to target mode) =
+    outcome_has (Leaves s) s _ (refuses s)
+    (if_some (Leaves s) (task_of s from) _ _
+    (λ sender is. if_some (Leaves s) (task_of s to) _ _
+    (λ receiver there. if_some (Leaves s) (held_by s hold) _ _
+    (λ own held. if_some (Leaves s) (held_by s target) _ _
+    (λ other at.
+    if_last (Leaves s)
+    (may_trace own.cred other.cred (sender.process == receiver.process)
+    (reaches script.namespaces own.cred.ns other.cred.ns)
+    (is_dumpable s.dumpable receiver.process) mode) _ _
+    (λ list. refl))))))
 
 -- an event that is answered with a list leaves the state
 pub list_leaves : (script : Script) (s : State) (line : ℕ) (event : Event) → HoldsList (step script s line event).0 → (step script s line event).1 ≡ s

@@ -91,5 +91,20 @@ fn copy_plain(e: &Event) -> Event
         },
         Event::Exit { task } => Event::Exit { task },
         Event::Sweep => Event::Sweep,
+        Event::Dumpable { task, value } => Event::Dumpable { task, value },
+        Event::Dumped { task } => Event::Dumped { task },
+        Event::Ptrace {
+            from,
+            hold,
+            to,
+            target,
+            mode,
+        } => Event::Ptrace {
+            from,
+            hold,
+            to,
+            target,
+            mode,
+        },
     }
 }

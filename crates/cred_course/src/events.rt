@@ -4,11 +4,11 @@ ghost use Rattle.cred_ids.specs.Limits.{LINE_LIMIT};
 ghost use Rattle.cred_copies.specs.Lists.{BeginsSetGroups};
 ghost use Rattle.cred_event.specs.declared.content.Content.TheVariants as content;
 ghost use Rattle.cred_event.specs.declared.event.Event.TheVariants as event;
-ghost use Rattle.cred_event.specs.declared.event.Side.TheVariants.{Subjective};
+ghost use Rattle.cred_event.specs.declared.event.Side.TheVariants.{Subjective, Objective};
 ghost use Rattle.cred_model.specs.Course as spec;
 
 use cred_copies::copy_event;
-use cred_event::{Change, Content, Event, Query, Side, Stage};
+use cred_event::{Change, Content, Event, Mode, Query, Side, Stage};
 use cred_ids::{NoMemory, limits};
 use cred_record::Want;
 
@@ -49,6 +49,7 @@ pub(crate) fn event_in(
         ) => { open_event(line, *task, *file, *want, *fd, stage) }
         (Content::Fcap { fd, cap, .. }, _) => fcap_event(line, *fd, *cap, stage),
         (Content::Signal { task, to }, _) => signal_event(line, *task, *to, stage),
+        (Content::Ptrace { task, to, mode }, _) => ptrace_event(line, *task, *to, *mode, stage),
         (Content::Change { task, change }, _) => change_event(line, *task, *change, stage),
         (Content::Access { task, file, want }, _) => {
             access_event(line, *task, *file, *want, stage)
@@ -73,7 +74,7 @@ fn new_label(line: u32) -> u32
     hold_label(line) + 1
 }
 
-/// The label of what a line holds of the task that it signals. A line that signals prepares
+/// The label of what a line holds of the task that it signals or looks into. Such a line prepares
 /// nothing.
 fn target_label(line: u32) -> u32
     requires { line ≤ LINE_LIMIT }
@@ -149,6 +150,17 @@ fn fcap_event(line: u32, fd: u32, cap: u32, stage: Stage) -> Option<Event>
     }
 }
 
+/// The label takes hold of the credential that the task is acted on by.
+fn take_target(label: u32, task: u32) -> Option<Event>
+    ensures { result ≡ Some (event.Take label task Objective) }
+{
+    Some(Event::Take {
+        label,
+        task,
+        side: Side::Objective,
+    })
+}
+
 fn signal_event(line: u32, task: u32, to: u32, stage: Stage) -> Option<Event>
     requires { line ≤ LINE_LIMIT }
     ensures { result ≡ spec.event_in line (content.Signal task to) stage }
@@ -157,16 +169,34 @@ fn signal_event(line: u32, task: u32, to: u32, stage: Stage) -> Option<Event>
     let target = target_label(line);
     match stage {
         Stage::First => take(hold, task),
-        Stage::TakingTarget => Some(Event::Take {
-            label: target,
-            task: to,
-            side: Side::Objective,
-        }),
+        Stage::TakingTarget => take_target(target, to),
         Stage::Signalling => Some(Event::Signal {
             from: task,
             hold,
             to,
             target,
+        }),
+        Stage::ReleasingTarget => Some(Event::Release { label: target }),
+        Stage::Releasing => Some(Event::Release { label: hold }),
+        _ => None,
+    }
+}
+
+fn ptrace_event(line: u32, task: u32, to: u32, mode: Mode, stage: Stage) -> Option<Event>
+    requires { line ≤ LINE_LIMIT }
+    ensures { result ≡ spec.event_in line (content.Ptrace task to mode) stage }
+{
+    let hold = hold_label(line);
+    let target = target_label(line);
+    match stage {
+        Stage::First => take(hold, task),
+        Stage::TakingTarget => take_target(target, to),
+        Stage::Tracing => Some(Event::Ptrace {
+            from: task,
+            hold,
+            to,
+            target,
+            mode,
         }),
         Stage::ReleasingTarget => Some(Event::Release { label: target }),
         Stage::Releasing => Some(Event::Release { label: hold }),

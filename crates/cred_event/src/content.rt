@@ -1,5 +1,5 @@
 //! What a line of a script holds, and where a line stands between its events.
-use crate::event::{Change, Event, Query};
+use crate::event::{Change, Event, Mode, Query};
 use cred_record::{IdCall, Want};
 
 /// What a line of a script holds.
@@ -37,6 +37,12 @@ pub enum Content {
         task: u32,
         to: u32,
     },
+    /// The task asks to look into another.
+    Ptrace {
+        task: u32,
+        to: u32,
+        mode: Mode,
+    },
     /// The task changes its own credential.
     Change {
         task: u32,
@@ -61,10 +67,12 @@ pub enum Stage {
     Asking,
     /// The opening of a file.
     Opening,
-    /// The hold of the credential of the task that is signalled.
+    /// The hold of the credential of the task that is signalled, or looked into.
     TakingTarget,
     /// The signal.
     Signalling,
+    /// The question whether the task may look into the other.
+    Tracing,
     /// The release of the target's hold.
     ReleasingTarget,
     /// The preparation of a new credential.

@@ -11,6 +11,16 @@ pub enum Side {
     Objective,
 }
 
+/// Which of its ids, and which of its capability sets, a task asks by that wants to look into
+/// another (ptrace(2), "Ptrace access mode checking").
+#[derive(Clone, Copy, PartialEq, Eq, Debug)]
+pub enum Mode {
+    /// Its filesystem ids and its effective set: PTRACE_MODE_FSCREDS, as for `/proc/PID/exe`.
+    Fs,
+    /// Its real ids and its permitted set: PTRACE_MODE_REALCREDS, as for PTRACE_ATTACH.
+    Real,
+}
+
 /// A question about one credential.
 #[derive(Clone, Copy, PartialEq, Eq, Debug)]
 pub enum Query {
@@ -150,4 +160,22 @@ pub enum Event {
     },
     /// Every reference that was given up lets go of its credential.
     Sweep,
+    /// The task's process is dumpable from now on, or isn't: the value is 1 or 0 (prctl(2),
+    /// PR_SET_DUMPABLE).
+    Dumpable {
+        task: u32,
+        value: u32,
+    },
+    /// Is the task's process dumpable (PR_GET_DUMPABLE)?
+    Dumped {
+        task: u32,
+    },
+    /// May the one task, on the credential that `hold` holds, look into the other, on `target`'s?
+    Ptrace {
+        from: u32,
+        hold: u32,
+        to: u32,
+        target: u32,
+        mode: Mode,
+    },
 }

@@ -12,4 +12,4 @@ mod event;
 pub use answer::{AbortCause, Answer, Counted, Named, Told};
 pub use content::{Content, Stage};
 pub use entry::Entry;
-pub use event::{Change, Event, Query, Side};
+pub use event::{Change, Event, Mode, Query, Side};

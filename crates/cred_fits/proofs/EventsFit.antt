@@ -6,7 +6,7 @@ use Rattle.std.proofs.lemmas.List.Elements.{All-head, All-tail, All-weaker}
 use Rattle.std.proofs.lemmas.Option.{IfSome_then, get_or_from_slice_get}
 use Rattle.cred_ids.specs.Limits.{LINE_LIMIT}
 use Rattle.cred_event.specs.declared.content.Content.{Content}
-use Rattle.cred_event.specs.declared.content.Content.TheVariants.{One, Id, Question, Open, Fcap, Signal, Change, Access}
+use Rattle.cred_event.specs.declared.content.Content.TheVariants.{One, Id, Question, Open, Fcap, Signal, Ptrace, Change, Access}
 use Rattle.cred_event.specs.declared.content.Stage.{Stage}
 use Rattle.cred_event.specs.declared.content.Stage.TheVariants as stage
 use Rattle.cred_event.specs.declared.answer.Answer.{Answer}
@@ -50,6 +50,11 @@ stage_fits line (Signal task to) stage.TakingTarget few fits = (omega (arith, fe
 stage_fits line (Signal task to) stage.Signalling few fits = (fits.0, omega (arith, few), fits.1, omega (arith, few))
 stage_fits line (Signal task to) stage.ReleasingTarget few fits = omega (arith, few)
 stage_fits line (Signal task to) stage.Releasing few fits = omega (arith, few)
+stage_fits line (Ptrace task to mode) stage.First few fits = (omega (arith, few), fits.0)
+stage_fits line (Ptrace task to mode) stage.TakingTarget few fits = (omega (arith, few), fits.1)
+stage_fits line (Ptrace task to mode) stage.Tracing few fits = (fits.0, omega (arith, few), fits.1, omega (arith, few))
+stage_fits line (Ptrace task to mode) stage.ReleasingTarget few fits = omega (arith, few)
+stage_fits line (Ptrace task to mode) stage.Releasing few fits = omega (arith, few)
 stage_fits line (Change task change) stage.First few fits = (omega (arith, few), fits.0)
 stage_fits line (Change task change) stage.Preparing few fits = (omega (arith, few), fits.0, omega (arith, few))
 stage_fits line (Change task change) stage.Altering few fits = (omega (arith, few), fits.1)

@@ -26,6 +26,7 @@ use Rattle.cred_forms.specs.declared.forms.Parsed.TheVariants as parsed
 use Rattle.cred_forms.specs.Changes.{change_of}
 use Rattle.cred_forms.specs.Files as files
 use Rattle.cred_forms.specs.IdCalls.{id_call_of}
+use Rattle.cred_forms.specs.Modes.{mode_of}
 use Rattle.cred_forms.specs.Questions.{query_of, query_named, file_and_want}
 use Rattle.cred_forms.specs.Calls as calls
 use Rattle.cred_forms.specs.Forms as forms
@@ -51,6 +52,14 @@ task_fits word = numbered_fits _ 1 LAST_NUMBER word
 
 process_fits : OfAll IsNumber spelling.process_of
 process_fits word = numbered_fits _ 1 LAST_NUMBER word
+
+-- nothing is said of a mode
+any_some : {A : Type 0} (found : Option A) → HoldsSome (λ a. Unit {0}) found
+any_some None = tt
+any_some (Some a) = tt
+
+any_mode : OfAll (λ mode. Unit {0}) mode_of
+any_mode word = any_some (mode_of word)
 
 label_fits : OfAll IsNumber spelling.label_of
 label_fits word = numbered_fits _ 1 LAST_NUMBER word
@@ -145,6 +154,9 @@ other_fits known task t other.Signal words = then_holds IsNumber FitsContent (on
 other_fits known task t other.Spawn words = then_holds IsNumber FitsContent (one_of spelling.task_of words) _ (one_holds IsNumber spelling.task_of task_fits words) (λ v h. (t, h))
 other_fits known task t other.Fork words = then_holds _ FitsContent (two_of spelling.task_of spelling.process_of words) _ (two_holds IsNumber IsNumber spelling.task_of spelling.process_of task_fits process_fits words) (λ v h. (t, h.0, h.1))
 other_fits known task t other.Exit words = bare_holds FitsContent words _ t
+other_fits known task t other.Dumpable words = then_holds IsNumber FitsContent (one_of spelling.number_of words) _ (one_holds IsNumber spelling.number_of number_fits words) (λ v h. (t, h))
+other_fits known task t other.Dumped words = bare_holds FitsContent words _ t
+other_fits known task t other.Ptrace words = then_holds _ FitsContent (two_of mode_of spelling.task_of words) _ (two_holds (λ mode. Unit {0}) IsNumber mode_of spelling.task_of any_mode task_fits words) (λ v h. (t, h.1))
 
 named_call_fits : (known : List NamedFile) (task : ℕ) → IsNumber task → (kind : CallName) (words : List (List ℕ)) → spelled.Holds FitsContent (calls.call_of known task kind words)
 unfolding calls.call_of

@@ -1,6 +1,7 @@
 -- Each event is given one of the answers of its row.
-use Rattle.std.proofs.Common.{◌≡◌, ℕ, ◌-◌, ◌==◌, nat_lt, Bool, true, false, cond, List, [], ◌∷◌, length, slice_get, not, Option, Some, None, Result, Ok, Err, refl, ap}
+use Rattle.std.proofs.Common.{◌≡◌, ℕ, ◌-◌, ◌==◌, nat_lt, Bool, true, false, cond, List, [], ◌∷◌, length, slice_get, not, Option, Some, None, Result, Ok, Err, ok_or, refl, ap, arith}
 use Rattle.std.specs.List.{find, position, count_by}
+use Rattle.std.proofs.lemmas.Bool.Decides.{nat_tests}
 use Rattle.std.specs.Option.{option_map_or, option_and_then}
 use Rattle.cred_ids.specs.Limits.{TASKS, OPEN_FILES, HOLDS, PREPARED, DEPTH}
 use Rattle.cred_caps.specs.Numbers.{LAST}
@@ -26,12 +27,14 @@ use Rattle.cred_event.specs.declared.answer.Counted.TheVariants as counted
 use Rattle.cred_event.specs.declared.event.Change.{Change}
 use Rattle.cred_event.specs.declared.event.Change.TheVariants as change
 use Rattle.cred_event.specs.declared.event.Event.TheVariants as event
+use Rattle.cred_event.specs.declared.event.Mode.{Mode}
 use Rattle.cred_event.specs.declared.event.Query.{Query}
 use Rattle.cred_event.specs.declared.event.Query.TheVariants as query
 use Rattle.cred_event.specs.declared.event.Side.{Side}
 use Rattle.cred_model.specs.Answers.{is_ok, flag, checked, reply}
 use Rattle.cred_model.specs.Change.{Made, by_rule, made_by_rule, executed, made_by_exec, by_change}
 use Rattle.cred_model.specs.Casts.{others_of, with_cast, waits_no_more}
+use Rattle.cred_model.specs.Dumpable.{differs, renewed, set_flag, flags_begun, flags_committed}
 use Rattle.cred_model.specs.Ends.{ended, is_thread_of}
 use Rattle.cred_model.specs.Moves.{◌>>=◌, in_slot, table_full, first_task, created, replaced}
 use Rattle.cred_model.specs.Moves.{preparing, altered, committed, given_up}
@@ -39,7 +42,7 @@ use Rattle.cred_model.specs.Named.{query_files, change_files}
 use Rattle.cred_model.specs.Script.{Script, info_of, chain_of, root_of}
 use Rattle.cred_model.specs.Slots.{swept_if_full, free}
 use Rattle.cred_model.specs.State.{State, Task, Numbered, Prepared, Changed, Broadcast, numbered, task_of, cast_of, cast_in, begun_by, open_of, hold_of, prepared_of, credential_of, opener_of, held_by}
-use Rattle.cred_model.specs.Step.{outcome, by_init, take_hold, by_take, by_take_file, by_release, by_ask, by_signal, by_prepare, by_alter, for_task, try_commit, ends_with, casts_after, committed_by, commit_answer, by_commit, by_abort, for_access, override_held, override_prepared, by_override, by_revert, by_begin, aborted, follow, by_act, by_open, by_close, by_spawn, by_fork, by_exit}
+use Rattle.cred_model.specs.Step.{outcome, by_init, take_hold, by_take, by_take_file, by_release, by_ask, by_signal, by_prepare, by_alter, for_task, try_commit, ends_with, casts_after, committed_by, commit_answer, by_commit, by_abort, for_access, override_held, override_prepared, by_override, by_revert, by_begin, aborted, follow, by_act, by_open, by_close, by_spawn, by_fork, by_exit, by_dumpable, by_dumped, by_ptrace}
 use Rattle.cred_laws.proofs.Cases.{some_case, none_case, test_case, own_case, idle_case}
 use Rattle.cred_answers.specs.CallRows as call_rows
 use Rattle.cred_answers.specs.Rows as rows
@@ -70,7 +73,7 @@ of_init s task process user group ns root =
     none_case Q (task_of s task) _ _ refl (λ new.
     test_case Q (nat_lt (length s.tasks) TASKS) _ _ refl
     (slot_tells rows.init_row s table_full
-    (λ t slot. (answer.Sealed (length t.creds) slot, created t (first_task task process (length t.creds)) (first_credential user group ns root) slot))
+    (λ t slot. (answer.Sealed (length t.creds) slot, record (created t (first_task task process (length t.creds)) (first_credential user group ns root) slot) { dumpable = flags_begun t process }))
     (λ t. refl) (λ t slot. refl))))
 
 of_hold : (row : Answer → Bool) (s : State) (label : ℕ) (taken : Numbered) → row (answer.Exists named.Label label) ≡ true
@@ -230,7 +233,7 @@ tried : (s : State) (place : ℕ) (p : Prepared) (owner : Task) (last : Changed)
 tried s place p owner last =
     let ends = ends_with last.change owner in
     elim (owner.current == p.base) as (λ b. IsCommitted (cond b
-    (commit_answer last (length s.creds) p.slot (count_by ends s.tasks), casts_after last.change owner (committed (ended ends s) place p owner.current last.cred))
+    (commit_answer last (length s.creds) p.slot (count_by ends s.tasks), record (casts_after last.change owner (committed (ended ends s) place p owner.current last.cred)) { dumpable = flags_committed s owner last })
     (answer.Stale p.base owner.current, given_up s place p))) [
       | true ↦ of_committed last.change last.gains (length s.creds) p.slot (count_by ends s.tasks)
       | false ↦ refl
@@ -295,15 +298,15 @@ of_begin s line task call =
     let others = others_of owner s.tasks in
     let cast : Broadcast = record { number = line; process = owner.process; caller = task; call = call; waiting = others } in
     slot_tells row s table_full
-    (λ t slot. (answer.Began (length t.creds) slot (length others), record (replaced t task old.number made slot) { casts = with_cast t.casts cast }))
+    (λ t slot. (answer.Began (length t.creds) slot (length others), record (replaced t task old.number made slot) { casts = with_cast t.casts cast; dumpable = renewed t.dumpable owner.process (differs old.cred made) }))
     (λ t. ap not valid) (λ t slot. ap not valid)))))))
 
-followed : (s : State) (cast : Broadcast) (task old : ℕ) (r : Result Credential Answer) → rows.act_row (follow s cast task old r).0 ≡ true
-followed s cast task old (Err refused) = refl
-followed s cast task old (Ok made) =
+followed : (s : State) (cast : Broadcast) (task : ℕ) (owner : Task) (old : Numbered) (r : Result Credential Answer) → rows.act_row (follow s cast task owner old r).0 ≡ true
+followed s cast task owner old (Err refused) = refl
+followed s cast task owner old (Ok made) =
     slot_tells rows.act_row s
     (λ t. (answer.Aborted task cause.Full, aborted cast t))
-    (λ t slot. (answer.Acted task (length t.creds) slot (length cast.waiting - 1), record (replaced t task old made slot) { casts = waits_no_more task t.casts }))
+    (λ t slot. (answer.Acted task (length t.creds) slot (length cast.waiting - 1), record (replaced t task old.number made slot) { casts = waits_no_more task t.casts; dumpable = renewed t.dumpable owner.process (differs old.cred made) }))
     (λ t. refl) (λ t slot. refl)
 
 of_act : (s : State) (number : ℕ) → Tells rows.act_row s (by_act s number)
@@ -313,7 +316,7 @@ of_act s number =
     some_case Q (slice_get cast.waiting 0) _ _ refl (λ task is.
     some_case Q (task_of s task) _ _ refl (λ owner is.
     some_case Q (numbered s.creds owner.current) _ _ refl (λ old is.
-    followed s cast task old.number (by_rule (set_id old.cred cast.call))))))
+    followed s cast task owner old (by_rule (set_id old.cred cast.call))))))
 
 -- ---- files and tasks
 
@@ -369,6 +372,32 @@ of_exit s task =
     idle_case Q (begun_by s task) _ (λ number. refl) (λ idle.
     own_case Q owner _ (λ depth. refl) refl))
 
+-- ---- who may look into whom
+
+of_ptrace : (script : Script) (s : State) (from hold to target : ℕ) (mode : Mode) → Tells rows.signal_row s (by_ptrace script s from hold to target mode)
+of_ptrace script s from hold to target mode =
+    let Q = Tells rows.signal_row s in
+    some_case Q (task_of s from) _ _ refl (λ sender is.
+    some_case Q (task_of s to) _ _ refl (λ receiver is.
+    some_case Q (held_by s hold) _ _ refl (λ own is.
+    some_case Q (held_by s target) _ _ refl (λ other is. signalled s _))))
+
+of_dumped : (s : State) (task : ℕ) → Tells rows.dumped_row s (by_dumped s task)
+of_dumped s task = some_case (Tells rows.dumped_row s) (task_of s task) _ _ refl (λ owner is. refl)
+
+-- 0 and 1 are done, and no other value is
+of_value : (s : State) (process value : ℕ) (zero one : Bool) → (value == 0) ≡ zero → (value == 1) ≡ one
+    → Tells (rows.dumpable_row value) s (ok_or (cond zero (Some false) (cond one (Some true) None)) answer.Einval >>=
+      λ flag. Ok (answer.Done, record s { dumpable = set_flag s.dumpable process flag }))
+of_value s process value true one z o = grind (arith, nat_tests)
+of_value s process value false true z o = grind (arith, nat_tests)
+of_value s process value false false z o = grind (arith, nat_tests)
+
+of_dumpable : (s : State) (task value : ℕ) → Tells (rows.dumpable_row value) s (by_dumpable s task value)
+of_dumpable s task value =
+    some_case (Tells (rows.dumpable_row value) s) (task_of s task) _ _ refl (λ owner is.
+    of_value s owner.process value (value == 0) (value == 1) refl refl)
+
 pub answers_are_of_their_rows : AnswersAreOfTheirRows
 answers_are_of_their_rows script s line (event.Init task process user group ns) = of_init s task process user group ns (root_of script ns)
 answers_are_of_their_rows script s line (event.Take label task side) = of_take s label task side
@@ -389,4 +418,7 @@ answers_are_of_their_rows script s line (event.CloseFile fd) = of_close s fd
 answers_are_of_their_rows script s line (event.Spawn task child) = of_spawn s task child
 answers_are_of_their_rows script s line (event.Fork task child process) = of_fork s task child process
 answers_are_of_their_rows script s line (event.Exit task) = of_exit s task
+answers_are_of_their_rows script s line (event.Dumpable task value) = of_dumpable s task value
+answers_are_of_their_rows script s line (event.Dumped task) = of_dumped s task
+answers_are_of_their_rows script s line (event.Ptrace from hold to target mode) = of_ptrace script s from hold to target mode
 answers_are_of_their_rows script s line event.Sweep = refl

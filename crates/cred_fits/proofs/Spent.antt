@@ -247,7 +247,7 @@ short script journal so_far = let all = spent script journal (length journal) so
 -- an event seals one credential at most
 one_sealed : (s : State) (event : Event) (left : List ℕ) (t : State) → CredsChange s event left t → length t.creds ≤ length s.creds + 1
 one_sealed s event left t (SameCreds same) = let long = ap (λ (creds : List SealedCred). length creds) same in omega (arith, long)
-one_sealed s event left t (Seals c slot creds fits) =
+one_sealed s event left t (Seals c slot creds fits origin) =
     let long = ap (λ (creds : List SealedCred). length creds) creds in omega (arith, long, length_push s.creds (sealed_cred c slot))
 
 pub few_sealed : (script : Script) (journal : List Entry) (k : ℕ) → k ≤ length journal → length (state_at script journal k).creds ≤ k

@@ -18,12 +18,14 @@ use Rattle.cred_event.specs.declared.answer.Answer.TheVariants as answer
 use Rattle.cred_event.specs.declared.event.Change.{Change}
 use Rattle.cred_event.specs.declared.event.Change.TheVariants as change
 use Rattle.cred_event.specs.declared.event.Event.TheVariants as event
+use Rattle.cred_event.specs.declared.event.Mode.{Mode}
 use Rattle.cred_event.specs.declared.event.Query.{Query}
 use Rattle.cred_event.specs.declared.event.Query.TheVariants as query
 use Rattle.cred_event.specs.declared.event.Side.{Side}
 use Rattle.cred_model.specs.Answers.{flag, checked, reply}
 use Rattle.cred_model.specs.Casts.{waits_no_more, joined, with_child, without, dropped, is_open, waits_in}
 use Rattle.cred_model.specs.Change.{Made}
+use Rattle.cred_model.specs.Dumpable.{flags_begun, flags_committed, flag_of_value}
 use Rattle.cred_model.specs.Ends.{ended, survivors}
 use Rattle.cred_model.specs.Moves.{◌>>=◌, table_full, first_task, created, preparing, altered}
 use Rattle.cred_model.specs.Moves.{committed, given_up, with_current, updated, with_overrides}
@@ -32,7 +34,7 @@ use Rattle.cred_model.specs.Named.{query_files, change_files}
 use Rattle.cred_model.specs.Script.{Script, NamedFile, info_of, chain_of}
 use Rattle.cred_model.specs.Slots.{refs}
 use Rattle.cred_model.specs.State.{State, SealedCred, Task, Numbered, Prepared, Changed, Broadcast, numbered, number_on, task_of, cast_in, begun_by, open_of, hold_of, prepared_of, credential_of, opener_of, held_by}
-use Rattle.cred_model.specs.Step.{by_init, take_hold, by_take, by_take_file, by_release, by_ask, by_signal, by_prepare, by_alter, is_access, for_task, try_commit, ends_with, casts_after, committed_by, commit_answer, by_commit}
+use Rattle.cred_model.specs.Step.{by_init, take_hold, by_take, by_take_file, by_release, by_ask, by_signal, by_prepare, by_alter, is_access, for_task, try_commit, ends_with, casts_after, committed_by, commit_answer, by_commit, by_dumpable, by_dumped, by_ptrace}
 use Rattle.cred_model.proofs.Lists.{All-at, All-kept, All-remove, find_each, get_each}
 use Rattle.cred_model.proofs.Numbers.{updated_as, overriding_as, changed_as}
 use Rattle.cred_model.proofs.Rising.{All-in_order, All-passed}
@@ -110,7 +112,7 @@ of_init s task process user group ns root known fits =
     (none_case (Gives s) (task_of s task) _ _ (fits.0, range) (λ new.
     test_case (Gives s) (nat_lt (length s.tasks) TASKS) _ _ (tt, range)
     (in_slots Good s table_full
-    (λ t slot. (answer.Sealed (length t.creds) slot, created t (first_task task process (length t.creds)) (first_credential user group ns root) slot))
+    (λ t slot. (answer.Sealed (length t.creds) slot, record (created t (first_task task process (length t.creds)) (first_credential user group ns root) slot) { dumpable = flags_begun t process }))
     (λ left less. (tt, range))
     (λ left slot less free. (
       (known.creds, slot_number slot free.below),
@@ -187,6 +189,22 @@ of_signal s from hold to target known fits =
     some_case (Gives s) (task_of s to) _ _ (fits.2, known.range) (λ receiver is.
     some_case (Gives s) (held_by s hold) _ _ (fits.1, known.range) (λ own is.
     some_case (Gives s) (held_by s target) _ _ (fits.3, known.range) (λ other is. signalled s _ known))))
+
+pub of_ptrace : (script : Script) (s : State) (from hold to target : ℕ) (mode : Mode) → IsKnown s
+    → FitsEvent (event.Ptrace from hold to target mode) → Gives s (by_ptrace script s from hold to target mode)
+of_ptrace script s from hold to target mode known fits =
+    some_case (Gives s) (task_of s from) _ _ (fits.0, known.range) (λ sender is.
+    some_case (Gives s) (task_of s to) _ _ (fits.2, known.range) (λ receiver is.
+    some_case (Gives s) (held_by s hold) _ _ (fits.1, known.range) (λ own is.
+    some_case (Gives s) (held_by s target) _ _ (fits.3, known.range) (λ other is. signalled s _ known))))
+
+pub of_dumpable : (s : State) (task value : ℕ) → IsKnown s → IsNumber task → Gives s (by_dumpable s task value)
+of_dumpable s task value known t =
+    some_case (Gives s) (task_of s task) _ _ (t, known.range) (λ owner is.
+    some_case (Gives s) (flag_of_value value) _ _ (tt, known.range) (λ flag is. (tt, known.range)))
+
+pub of_dumped : (s : State) (task : ℕ) → IsKnown s → IsNumber task → Gives s (by_dumped s task)
+of_dumped s task known t = some_case (Gives s) (task_of s task) _ _ (t, known.range) (λ owner is. (tt, known.range))
 
 pub of_prepare : (s : State) (label task hold : ℕ) → IsKnown s → FitsEvent (event.Prepare label task hold) → Gives s (by_prepare s label task hold)
 of_prepare s label task hold known fits =
@@ -288,7 +306,7 @@ tried s task place p owner last known at found changed =
     let fits = prepared_at s place p range at in
     let ends = ends_with last.change owner in
     elim (owner.current == p.base) as (λ b. Good (cond b
-    (commit_answer last (length s.creds) p.slot (count_by ends s.tasks), casts_after last.change owner (committed (ended ends s) place p owner.current last.cred))
+    (commit_answer last (length s.creds) p.slot (count_by ends s.tasks), record (casts_after last.change owner (committed (ended ends s) place p owner.current last.cred)) { dumpable = flags_committed s owner last })
     (answer.Stale p.base owner.current, given_up s place p))) [
       | true ↦ (
         commit_fits last.change last.gains (length s.creds) p.slot (count_by ends s.tasks) changed.1 known.creds (slot_number p.slot fits.1)

@@ -20,6 +20,7 @@ use Rattle.cred_event.specs.declared.event.Event.TheVariants as event
 use Rattle.cred_model.specs.Answers.{is_ok, checked}
 use Rattle.cred_model.specs.Casts.{others_of, with_cast, waits_no_more, is_open}
 use Rattle.cred_model.specs.Change.{by_rule}
+use Rattle.cred_model.specs.Dumpable.{differs, renewed}
 use Rattle.cred_model.specs.Ends.{is_thread_of, is_beside, is_task}
 use Rattle.cred_model.specs.Moves.{◌>>=◌, table_full, first_task, replaced}
 use Rattle.cred_model.specs.Script.{Script, info_of, root_of}
@@ -37,7 +38,7 @@ use Rattle.cred_reader.proofs.Spelled.{Holds}
 use Rattle.cred_fits.specs.Content.{FitsFile}
 use Rattle.cred_fits.proofs.CredFits.{FitsCred, call_made_fits}
 use Rattle.cred_fits.proofs.Ranges.{FitsTask, FitsCast, FitsChanged, FitsPrepared, IsInRange, Good, Gives, some_fits, IsFound, is_found, found_by, idle, own, fewer}
-use Rattle.cred_fits.proofs.StateFits.{IsKnown, slot_number, with_cred, current_fits, overrides_fit, survivors_fit, dropped_fit, left_fit, joined_fit, prepared_at, owner_fits, found_answer, without_label, of_init, of_take, of_take_file, of_release, of_ask, of_signal, of_prepare, of_alter, of_commit, of_check}
+use Rattle.cred_fits.proofs.StateFits.{IsKnown, slot_number, with_cred, current_fits, overrides_fit, survivors_fit, dropped_fit, left_fit, joined_fit, prepared_at, owner_fits, found_answer, without_label, of_init, of_take, of_take_file, of_release, of_ask, of_signal, of_prepare, of_alter, of_commit, of_check, of_dumpable, of_dumped, of_ptrace}
 
 -- ---- what is given up, and what overrides
 
@@ -147,7 +148,7 @@ of_begin s line task call known n t fits =
     let others = others_of owner s.tasks in
     let cast : Broadcast = record { number = line; process = owner.process; caller = task; call = call; waiting = others } in
     in_slots Good s table_full
-    (λ t slot. (answer.Began (length t.creds) slot (length others), record (replaced t task old.number made slot) { casts = with_cast t.casts cast }))
+    (λ t slot. (answer.Began (length t.creds) slot (length others), record (replaced t task old.number made slot) { casts = with_cast t.casts cast; dumpable = renewed t.dumpable owner.process (differs old.cred made) }))
     (λ left less. (tt, range))
     (λ left slot less free. (
       (known.creds, slot_number slot free.below, (let few = known.tasks in omega (arith, few, others_few owner s.tasks))),
@@ -177,15 +178,15 @@ aborted_range cast s range = record {
   prepared = range.prepared;
 }
 
-followed : (s : State) (cast : Broadcast) (task old : ℕ) (r : Result Credential Denial) → IsKnown s → IsNumber task
-    → IsNumber (length cast.waiting - 1) → Holds FitsCred r → Good (follow s cast task old (by_rule r))
-followed s cast task old (Err Perm) known t few h = (t, aborted_range cast s known.range)
-followed s cast task old (Err Invalid) known t few h = (t, aborted_range cast s known.range)
-followed s cast task old (Ok made) known t few h =
+followed : (s : State) (cast : Broadcast) (task : ℕ) (owner : Task) (old : Numbered) (r : Result Credential Denial) → IsKnown s → IsNumber task
+    → IsNumber (length cast.waiting - 1) → Holds FitsCred r → Good (follow s cast task owner old (by_rule r))
+followed s cast task owner old (Err Perm) known t few h = (t, aborted_range cast s known.range)
+followed s cast task owner old (Err Invalid) known t few h = (t, aborted_range cast s known.range)
+followed s cast task owner old (Ok made) known t few h =
     let range = known.range in
     in_slots Good s
     (λ t. (answer.Aborted task cause.Full, aborted cast t))
-    (λ t slot. (answer.Acted task (length t.creds) slot (length cast.waiting - 1), record (replaced t task old made slot) { casts = waits_no_more task t.casts }))
+    (λ t slot. (answer.Acted task (length t.creds) slot (length cast.waiting - 1), record (replaced t task old.number made slot) { casts = waits_no_more task t.casts; dumpable = renewed t.dumpable owner.process (differs old.cred made) }))
     (λ left less. (t, aborted_range cast (with_left s left) range))
     (λ left slot less free. (
       (t, known.creds, slot_number slot free.below, few),
@@ -207,7 +208,7 @@ of_act s number known n =
     some_case (Gives s) (task_of s task) _ _ (n, range) (λ owner found.
     some_case (Gives s) (numbered s.creds owner.current) _ _ (n, range) (λ old there.
     let cred = is_found s owner.current old range.creds there in
-    followed s cast task old.number (set_id old.cred cast.call) known (All-at IsNumber cast.waiting 0 task at fits.2)
+    followed s cast task owner old (set_id old.cred cast.call) known (All-at IsNumber cast.waiting 0 task at fits.2)
     (waiting_few cast.waiting way.rising fits.2) (call_made_fits old.cred cast.call cred.cred fits.1)))))
 
 -- ---- files and tasks
@@ -306,4 +307,7 @@ step_fits script s line (event.CloseFile fd) files known n fits = of_close s fd 
 step_fits script s line (event.Spawn task child) files known n fits = of_spawn s task child known fits.0 fits.1
 step_fits script s line (event.Fork task child process) files known n fits = of_fork s task child process known fits.0 fits.1 fits.2
 step_fits script s line (event.Exit task) files known n fits = of_exit s task known fits
+step_fits script s line (event.Dumpable task value) files known n fits = of_dumpable s task value known fits.0
+step_fits script s line (event.Dumped task) files known n fits = of_dumped s task known fits
+step_fits script s line (event.Ptrace from hold to target mode) files known n fits = of_ptrace script s from hold to target mode known fits
 step_fits script s line event.Sweep files known n fits = (tt, known.range)

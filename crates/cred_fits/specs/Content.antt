@@ -4,7 +4,8 @@ use Rattle.cred_ids.specs.Id.{IsId}
 use Rattle.cred_record.specs.File.{File}
 use Rattle.cred_event.specs.declared.content.Content.{Content}
 use Rattle.cred_event.specs.declared.content.Content.TheVariants.{Nothing, One, Id, Question, Open}
-use Rattle.cred_event.specs.declared.content.Content.TheVariants.{Fcap, Signal, Change, Access}
+use Rattle.cred_event.specs.declared.content.Content.TheVariants.{Fcap, Signal, Ptrace, Change}
+use Rattle.cred_event.specs.declared.content.Content.TheVariants.{Access}
 use Rattle.cred_reader.specs.Fits.{IsNumber, IsWant, FitsCall, FitsChange, FitsQuery, FitsEvent}
 
 -- the ids of a file that a line declares
@@ -21,5 +22,6 @@ FitsContent (Question task query) = IsNumber task × FitsQuery query
 FitsContent (Open task file want fd) = IsNumber task × IsWant want × IsNumber fd
 FitsContent (Fcap task fd cap) = IsNumber task × IsNumber fd × IsNumber cap
 FitsContent (Signal task to) = IsNumber task × IsNumber to
+FitsContent (Ptrace task to mode) = IsNumber task × IsNumber to
 FitsContent (Change task change) = IsNumber task × FitsChange change
 FitsContent (Access task file want) = IsNumber task × IsWant want

@@ -2,9 +2,10 @@
 -- that names the call.
 use Rattle.std.specs.Prelude.{ℕ, List, [], ◌∷◌, Result, Ok, Err, ok_or}
 use Rattle.cred_event.specs.declared.event.Event.TheVariants.{CloseFile, Spawn, Fork, Exit}
+use Rattle.cred_event.specs.declared.event.Event.TheVariants.{Dumpable, Dumped}
 use Rattle.cred_event.specs.declared.content.Content.{Content}
 use Rattle.cred_event.specs.declared.content.Content.TheVariants.{One, Id, Question, Open, Fcap}
-use Rattle.cred_event.specs.declared.content.Content.TheVariants.{Signal, Change, Access}
+use Rattle.cred_event.specs.declared.content.Content.TheVariants.{Signal, Ptrace, Change, Access}
 use Rattle.cred_model.specs.Script.{NamedFile}
 use Rattle.cred_spelling.specs.declared.names.CallName.{CallName}
 use Rattle.cred_spelling.specs.declared.names.CallName.TheVariants as call
@@ -13,11 +14,13 @@ use Rattle.cred_spelling.specs.declared.names.OtherName.TheVariants as name
 use Rattle.cred_spelling.specs.declared.reason.Reason.{Reason}
 use Rattle.cred_spelling.specs.declared.reason.Reason.TheVariants.{Word, Count}
 use Rattle.cred_spelling.specs.Names as names
-use Rattle.cred_spelling.specs.Spellings.{cap_of, task_of, process_of, descriptor_of}
+use Rattle.cred_spelling.specs.Spellings.{number_of, cap_of, task_of, process_of}
+use Rattle.cred_spelling.specs.Spellings.{descriptor_of}
 use Rattle.cred_spelling.specs.Words.{◌>>=◌, word_of, bare, one_of, two_of}
 use Rattle.cred_forms.specs.IdCalls.{id_call_of}
 use Rattle.cred_forms.specs.Changes.{change_of}
 use Rattle.cred_forms.specs.Questions.{file_and_want, query_of}
+use Rattle.cred_forms.specs.Modes.{mode_of}
 
 -- `open NAME WANT F`
 unfoldable pub open_of : List NamedFile → ℕ → List (List ℕ) → Result Content Reason
@@ -28,7 +31,8 @@ open_of files task (name ∷ want ∷ descriptor ∷ []) = do
 open_of files task words = Err Count
 
 -- A call that is neither an id call, nor a change, nor a question, by its name. `signal` has the
--- task that is signalled, `spawn` the new thread, `fork` the child and its process.
+-- task that is signalled, `spawn` the new thread, `fork` the child and its process. `ptrace` has how
+-- the task asks, and then the task that it asks to look into.
 unfoldable pub other_of : List NamedFile → ℕ → OtherName → List (List ℕ) → Result Content Reason
 other_of files task name.Open words = open_of files task words
 other_of files task name.Close words = do
@@ -50,6 +54,13 @@ other_of files task name.Fork words = do
   word ← two_of task_of process_of words
   Ok (One (Fork task word.0 word.1))
 other_of files task name.Exit words = bare words (One (Exit task))
+other_of files task name.Dumpable words = do
+  value ← one_of number_of words
+  Ok (One (Dumpable task value))
+other_of files task name.Dumped words = bare words (One (Dumped task))
+other_of files task name.Ptrace words = do
+  word ← two_of mode_of task_of words
+  Ok (Ptrace task word.1 word.0)
 
 -- what the task does, by its name
 unfoldable pub call_of : List NamedFile → ℕ → CallName → List (List ℕ) → Result Content Reason

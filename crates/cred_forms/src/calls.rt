@@ -6,13 +6,14 @@ ghost use Rattle.cred_forms.specs.Read.{GivesLine};
 
 use crate::changes::change_of;
 use crate::id_calls::id_call_of;
+use crate::modes::AccessMode;
 use crate::questions::{file_and_want, query_of};
 use crate::refusal::LineRefusal;
 use cred_event::{Content, Event};
 use cred_script::Files;
 use cred_spelling::{
-    CallName, Cap, Descriptor, OtherName, Process, Reason, Task, call_name, no_words, one, two,
-    word,
+    CallName, Cap, Descriptor, Number, OtherName, Process, Reason, Task, call_name, no_words, one,
+    two, word,
 };
 use std::alloc::Global;
 
@@ -77,7 +78,8 @@ fn call_of(
 }
 
 /// A call that is neither an id call, nor a change, nor a question, by its name. `signal` has the
-/// task that is signalled, `spawn` the new thread, `fork` the child and its process.
+/// task that is signalled, `spawn` the new thread, `fork` the child and its process. `ptrace` has how
+/// the task asks, and then the task that it asks to look into.
 #[tactic(auto, unfolding(crate::specs::Calls::other_of))]
 fn other_of(files: &Files, task: u32, name: OtherName, words: &[&[u8]]) -> Result<Content, Reason>
     ensures { Says (λ made. made) result
@@ -116,6 +118,18 @@ fn other_of(files: &Files, task: u32, name: OtherName, words: &[&[u8]]) -> Resul
         OtherName::Exit => {
             no_words(words)?;
             Ok(Content::One(Event::Exit { task }))
+        }
+        OtherName::Dumpable => {
+            let value = one::<Number>(words)?;
+            Ok(Content::One(Event::Dumpable { task, value }))
+        }
+        OtherName::Dumped => {
+            no_words(words)?;
+            Ok(Content::One(Event::Dumped { task }))
+        }
+        OtherName::Ptrace => {
+            let (mode, to) = two::<AccessMode, Task>(words)?;
+            Ok(Content::Ptrace { task, to, mode })
         }
     }
 }

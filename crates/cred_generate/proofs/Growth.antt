@@ -25,20 +25,22 @@ use Rattle.cred_event.specs.declared.event.Change.{Change}
 use Rattle.cred_event.specs.declared.event.Change.TheVariants as change
 use Rattle.cred_event.specs.declared.event.Event.{Event}
 use Rattle.cred_event.specs.declared.event.Event.TheVariants as event
+use Rattle.cred_event.specs.declared.event.Mode.{Mode}
 use Rattle.cred_event.specs.declared.event.Query.{Query}
 use Rattle.cred_event.specs.declared.event.Query.TheVariants as query
 use Rattle.cred_event.specs.declared.event.Side.{Side}
 use Rattle.cred_model.specs.Answers.{is_ok, refusal, flag, checked, reply}
 use Rattle.cred_model.specs.Casts.{others_of, with_cast, waits_no_more}
 use Rattle.cred_model.specs.Change.{Made, by_rule, made_by_rule, executed, made_by_exec, by_change}
+use Rattle.cred_model.specs.Dumpable.{differs, renewed, flags_begun, flags_committed, flag_of_value}
 use Rattle.cred_model.specs.Ends.{ended, is_thread_of}
 use Rattle.cred_model.specs.Moves.{◌>>=◌, in_slot, table_full, first_task, created, replaced}
 use Rattle.cred_model.specs.Moves.{preparing, altered, committed, given_up}
 use Rattle.cred_model.specs.Named.{query_files, change_files}
 use Rattle.cred_model.specs.Script.{Script, info_of, chain_of, root_of}
 use Rattle.cred_model.specs.Slots.{swept_if_full, free, least_free, swept}
-use Rattle.cred_model.specs.State.{State, SealedCred, Task, Numbered, Prepared, Changed, Broadcast, numbered, number_on, task_of, cast_of, cast_in, begun_by, open_of, hold_of, prepared_of, credential_of, opener_of, held_by}
-use Rattle.cred_model.specs.Step.{done, outcome, by_init, take_hold, by_take, by_take_file, by_release, by_ask, by_signal, by_prepare, by_alter, for_task, try_commit, ends_with, casts_after, committed_by, commit_answer, by_commit, by_abort, for_access, override_held, override_prepared, by_override, by_revert, by_begin, aborted, follow, by_act, by_open, by_close, by_spawn, by_fork, by_exit}
+use Rattle.cred_model.specs.State.{State, SealedCred, Task, Numbered, Prepared, Changed, Broadcast, ProcessFlag, numbered, number_on, task_of, cast_of, cast_in, begun_by, open_of, hold_of, prepared_of, credential_of, opener_of, held_by}
+use Rattle.cred_model.specs.Step.{done, outcome, by_init, take_hold, by_take, by_take_file, by_release, by_ask, by_signal, by_prepare, by_alter, for_task, try_commit, ends_with, casts_after, committed_by, commit_answer, by_commit, by_abort, for_access, override_held, override_prepared, by_override, by_revert, by_begin, aborted, follow, by_act, by_open, by_close, by_spawn, by_fork, by_exit, by_dumpable, by_dumped, by_ptrace}
 use Rattle.cred_model.proofs.Numbers.{numbered_is, sealed_cred_of}
 use Rattle.cred_laws.proofs.Cases.{some_case, none_case, test_case, own_case, idle_case, rule_case}
 use Rattle.cred_generate.specs.Sealed.{named, count_with}
@@ -116,7 +118,7 @@ of_init s task process user group ns root =
     none_case (Tells s) (task_of s task) _ _ refl (λ new.
     test_case (Tells s) (nat_lt (length s.tasks) TASKS) _ _ refl
     (slot_counts s table_full
-    (λ t slot. (answer.Sealed (length t.creds) slot, created t (first_task task process (length t.creds)) (first_credential user group ns root) slot))
+    (λ t slot. (answer.Sealed (length t.creds) slot, record (created t (first_task task process (length t.creds)) (first_credential user group ns root) slot) { dumpable = flags_begun t process }))
     (λ t is. long s t is) (λ t slot is. next_of s t.creds (record { cred = first_credential user group ns root; slot = slot }) is))))
 
 of_hold : (s : State) (label : ℕ) (taken : Numbered) → (taken.number == length s.creds) ≡ false → Tells s (take_hold s label taken)
@@ -228,20 +230,21 @@ of_alter script s label to =
     altered_counts s label to _ (change_silent (info_of script (change_files to)) (chain_of script base.cred.ns) base.cred to)))
 
 -- a commit's answer names the next number, whatever the change was
-committed_counts : (to : Change) (gains : Gains) (s t : State) (slot count : ℕ) (owner : Task) (new : SealedCred) → t.creds ≡ s.creds ++ new ∷ []
-    → Counts s (committed_by to gains (length s.creds) slot count, casts_after to owner t)
-committed_counts (change.Exec file) gains s t slot count owner new is = rw is (next_counts s.creds new)
-committed_counts (change.SetFs kind id) gains s t slot count owner new is = rw is (next_counts s.creds new)
-committed_counts (change.Adjust call) gains s t slot count owner new is = rw is (next_counts s.creds new)
-committed_counts change.Access gains s t slot count owner new is = rw is (next_counts s.creds new)
+committed_counts : (to : Change) (gains : Gains) (s t : State) (slot count : ℕ) (owner : Task) (flags : List ProcessFlag) (new : SealedCred)
+    → t.creds ≡ s.creds ++ new ∷ []
+    → Counts s (committed_by to gains (length s.creds) slot count, record (casts_after to owner t) { dumpable = flags })
+committed_counts (change.Exec file) gains s t slot count owner flags new is = rw is (next_counts s.creds new)
+committed_counts (change.SetFs kind id) gains s t slot count owner flags new is = rw is (next_counts s.creds new)
+committed_counts (change.Adjust call) gains s t slot count owner flags new is = rw is (next_counts s.creds new)
+committed_counts change.Access gains s t slot count owner flags new is = rw is (next_counts s.creds new)
 
 tried : (s : State) (place : ℕ) (p : Prepared) (owner : Task) (last : Changed) → Counts s (try_commit s place p owner last)
 tried s place p owner last =
     let ends = ends_with last.change owner in
     elim (owner.current == p.base) as (λ b. Counts s (cond b
-    (commit_answer last (length s.creds) p.slot (count_by ends s.tasks), casts_after last.change owner (committed (ended ends s) place p owner.current last.cred))
+    (commit_answer last (length s.creds) p.slot (count_by ends s.tasks), record (casts_after last.change owner (committed (ended ends s) place p owner.current last.cred)) { dumpable = flags_committed s owner last })
     (answer.Stale p.base owner.current, given_up s place p))) [
-      | true ↦ committed_counts last.change last.gains s (committed (ended ends s) place p owner.current last.cred) p.slot (count_by ends s.tasks) owner _ refl
+      | true ↦ committed_counts last.change last.gains s (committed (ended ends s) place p owner.current last.cred) p.slot (count_by ends s.tasks) owner (flags_committed s owner last) _ refl
       | false ↦ refl
     ]
 
@@ -290,15 +293,15 @@ of_begin s line task call =
     let others = others_of owner s.tasks in
     let cast : Broadcast = record { number = line; process = owner.process; caller = task; call = call; waiting = others } in
     slot_counts s table_full
-    (λ t slot. (answer.Began (length t.creds) slot (length others), record (replaced t task old.number made slot) { casts = with_cast t.casts cast }))
+    (λ t slot. (answer.Began (length t.creds) slot (length others), record (replaced t task old.number made slot) { casts = with_cast t.casts cast; dumpable = renewed t.dumpable owner.process (differs old.cred made) }))
     (λ t is. long s t is) (λ t slot is. next_of s t.creds (record { cred = made; slot = slot }) is)))))))
 
-followed : (s : State) (cast : Broadcast) (task old : ℕ) (r : Result Credential Answer) → Counts s (follow s cast task old r)
-followed s cast task old (Err refused) = refl
-followed s cast task old (Ok made) =
+followed : (s : State) (cast : Broadcast) (task : ℕ) (owner : Task) (old : Numbered) (r : Result Credential Answer) → Counts s (follow s cast task owner old r)
+followed s cast task owner old (Err refused) = refl
+followed s cast task owner old (Ok made) =
     slot_counts s
     (λ t. (answer.Aborted task cause.Full, aborted cast t))
-    (λ t slot. (answer.Acted task (length t.creds) slot (length cast.waiting - 1), record (replaced t task old made slot) { casts = waits_no_more task t.casts }))
+    (λ t slot. (answer.Acted task (length t.creds) slot (length cast.waiting - 1), record (replaced t task old.number made slot) { casts = waits_no_more task t.casts; dumpable = renewed t.dumpable owner.process (differs old.cred made) }))
     (λ t is. long s t is) (λ t slot is. next_of s t.creds (record { cred = made; slot = slot }) is)
 
 of_act : (s : State) (number : ℕ) → Tells s (by_act s number)
@@ -307,7 +310,7 @@ of_act s number =
     some_case (Tells s) (slice_get cast.waiting 0) _ _ refl (λ task is.
     some_case (Tells s) (task_of s task) _ _ refl (λ owner is.
     some_case (Tells s) (numbered s.creds owner.current) _ _ refl (λ old is.
-    followed s cast task old.number (by_rule (set_id old.cred cast.call))))))
+    followed s cast task owner old (by_rule (set_id old.cred cast.call))))))
 
 of_open : (script : Script) (s : State) (hold place : ℕ) (asked : Want) (fd : ℕ) → Tells s (by_open script s hold place asked fd)
 of_open script s hold place asked fd =
@@ -347,6 +350,21 @@ of_exit s task =
     idle_case (Tells s) (begun_by s task) _ (λ number. refl) (λ idle.
     own_case (Tells s) owner _ (λ depth. refl) refl))
 
+of_dumpable : (s : State) (task value : ℕ) → Tells s (by_dumpable s task value)
+of_dumpable s task value =
+    some_case (Tells s) (task_of s task) _ _ refl (λ owner is.
+    some_case (Tells s) (flag_of_value value) _ _ refl (λ flag is. refl))
+
+of_dumped : (s : State) (task : ℕ) → Tells s (by_dumped s task)
+of_dumped s task = some_case (Tells s) (task_of s task) _ _ refl (λ owner is. refl)
+
+of_ptrace : (script : Script) (s : State) (from hold to target : ℕ) (mode : Mode) → Tells s (by_ptrace script s from hold to target mode)
+of_ptrace script s from hold to target mode =
+    some_case (Tells s) (task_of s from) _ _ refl (λ sender is.
+    some_case (Tells s) (task_of s to) _ _ refl (λ receiver is.
+    some_case (Tells s) (held_by s hold) _ _ refl (λ own is.
+    some_case (Tells s) (held_by s target) _ _ refl (λ other is. signalled s _))))
+
 pub tells : (script : Script) (s : State) (line : ℕ) (e : Event) → Tells s (done script s line e)
 tells script s line (event.Init task process user group ns) = of_init s task process user group ns (root_of script ns)
 tells script s line (event.Take label task side) = of_take s label task side
@@ -367,4 +385,7 @@ tells script s line (event.CloseFile fd) = of_close s fd
 tells script s line (event.Spawn task child) = of_spawn s task child
 tells script s line (event.Fork task child process) = of_fork s task child process
 tells script s line (event.Exit task) = of_exit s task
+tells script s line (event.Dumpable task value) = of_dumpable s task value
+tells script s line (event.Dumped task) = of_dumped s task
+tells script s line (event.Ptrace from hold to target mode) = of_ptrace script s from hold to target mode
 tells script s line event.Sweep = refl

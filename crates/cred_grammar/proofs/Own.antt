@@ -37,6 +37,7 @@ use Rattle.cred_forms.specs.Changes.{change_of}
 use Rattle.cred_script.specs.Files.{place_of}
 use Rattle.cred_forms.specs.Files.{has_room, file_of}
 use Rattle.cred_forms.specs.IdCalls.{id_call_of}
+use Rattle.cred_forms.specs.Modes.{mode_of}
 use Rattle.cred_forms.specs.Questions.{query_of, query_named, file_and_want}
 use Rattle.cred_forms.specs.Calls.{open_of, other_of, call_of, content_of}
 use Rattle.cred_forms.specs.Forms.{take_of, take_file_of, ask_of, alter_of, override_of, begin_of, event_of, parse_form}
@@ -226,6 +227,9 @@ own_other files task other.Signal words = skip (OwnContent (Some task)) (one_of 
 own_other files task other.Spawn words = skip (OwnContent (Some task)) (one_of task_of words) _ (λ child. record { is = (none, refl) })
 own_other files task other.Fork words = skip (OwnContent (Some task)) (two_of task_of process_of words) _ (λ word. record { is = (none, refl) })
 own_other files task other.Exit words = skip (OwnContent (Some task)) (no_words words) _ (λ end. record { is = (none, refl) })
+own_other files task other.Dumpable words = skip (OwnContent (Some task)) (one_of number_of words) _ (λ value. record { is = (none, refl) })
+own_other files task other.Dumped words = skip (OwnContent (Some task)) (no_words words) _ (λ end. record { is = (none, refl) })
+own_other files task other.Ptrace words = skip (OwnContent (Some task)) (two_of mode_of task_of words) _ (λ word. record { is = (none, refl) })
 
 own_call : (files : List NamedFile) (task : ℕ) (called : CallName) (words : List (List ℕ)) → Good (OwnContent (Some task)) (call_of files task called words)
 unfolding call_of

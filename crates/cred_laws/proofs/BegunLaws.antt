@@ -18,6 +18,7 @@ use Rattle.cred_model.specs.Answers.{refusal}
 use Rattle.cred_model.specs.Casts.{others_of, with_cast, waits_no_more}
 use Rattle.cred_model.specs.Change.{by_rule}
 use Rattle.cred_model.specs.Ends.{is_beside}
+use Rattle.cred_model.specs.Dumpable.{differs, renewed}
 use Rattle.cred_model.specs.Moves.{table_full, replaced, with_current}
 use Rattle.cred_model.specs.Step.{aborted, done, follow, outcome, step}
 use Rattle.cred_model.proofs.Numbers.{numbered_last, owner_number}
@@ -128,7 +129,10 @@ begin_case script s line task call cred at left =
     let others = others_of owner s.tasks in
     let by : ℕ → Broadcast = λ caller. record { number = line; process = owner.process; caller = caller; call = call; waiting = others } in
     in_slots (λ made. Q (Ok made)) s table_full
-    (λ s slot. (Began (length s.creds) slot (length others), record (replaced s task old.number new slot) { casts = with_cast s.casts (by task) }))
+    (λ s slot. (
+      Began (length s.creds) slot (length others),
+      record (replaced s task old.number new slot) { casts = with_cast s.casts (by task); dumpable = renewed s.dumpable owner.process (differs old.cred new) },
+    ))
     (λ gone fewer answered. cc)
     (λ gone slot fewer free answered.
     record {
@@ -172,14 +176,17 @@ closed_by s process cast task sound is first few =
     left_open task process s.casts cast sound.processes is
     ∙ ap (λ w. cond (not (length w == 0)) (Some (record cast { waiting = w })) None) (last_waits task cast.waiting first few)
 
-follow_closes : (s : State) (process : ℕ) (cast : Broadcast) (task old : ℕ) (made : Result Credential Answer) → IsSound s
+follow_closes : (s : State) (process : ℕ) (cast : Broadcast) (task : ℕ) (owner : Task) (old : Numbered) (made : Result Credential Answer) → IsSound s
     → cast_in s process ≡ Some cast → slice_get cast.waiting 0 ≡ Some task → (who cred slot left : ℕ) → left ≡ 0
-    → (follow s cast task old made).0 ≡ Acted who cred slot left → found_in process (follow s cast task old made).1.casts ≡ None
-follow_closes s process cast task old (Err refused) sound is first who cred slot left none answered = cc
-follow_closes s process cast task old (Ok new) sound is first who cred slot left none answered =
+    → (follow s cast task owner old made).0 ≡ Acted who cred slot left → found_in process (follow s cast task owner old made).1.casts ≡ None
+follow_closes s process cast task owner old (Err refused) sound is first who cred slot left none answered = cc
+follow_closes s process cast task owner old (Ok new) sound is first who cred slot left none answered =
     in_slots (λ made. made.0 ≡ Acted who cred slot left → found_in process made.1.casts ≡ None) s
     (λ now. (Aborted task cause.Full, aborted cast now))
-    (λ now slot. (Acted task (length now.creds) slot (length cast.waiting - 1), record (replaced now task old new slot) { casts = waits_no_more task now.casts }))
+    (λ now slot. (
+      Acted task (length now.creds) slot (length cast.waiting - 1),
+      record (replaced now task old.number new slot) { casts = waits_no_more task now.casts; dumpable = renewed now.dumpable owner.process (differs old.cred new) },
+    ))
     (λ gone fewer answered. cc)
     (λ gone at fewer free answered.
     let few : length cast.waiting - 1 ≡ left = cc in
@@ -201,7 +208,7 @@ act_case script s line number process cast who cred slot left sound opened is no
     (λ task first. some_case Q (task_of s task) _ _ (λ answered. cc)
     (λ owner lives. some_case Q (numbered s.creds owner.current) _ _ (λ answered. cc)
     (λ old now.
-    follow_closes s process in_cast task old.number (by_rule (set_id old.cred in_cast.call)) sound (is ∙ ap Some same) first who cred slot left none))))
+    follow_closes s process in_cast task owner old (by_rule (set_id old.cred in_cast.call)) sound (is ∙ ap Some same) first who cred slot left none))))
 
 pub acted_closes : (script : Script) (s : State) (line number process : ℕ) (cast : Broadcast) (who cred slot left : ℕ) → IsSound s
     → cast_of s number ≡ Some cast → cast_in s process ≡ Some cast → left ≡ 0

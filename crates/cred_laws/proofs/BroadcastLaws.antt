@@ -23,7 +23,7 @@ use Rattle.cred_model.specs.Step.{step}
 use Rattle.cred_model.proofs.Lists.{found}
 use Rattle.cred_model.proofs.Referred.{all_survive}
 use Rattle.cred_sound.specs.Sound.{IsSound}
-use Rattle.cred_sound.proofs.Parts.{begun, TasksChange, ByBegin, ByAct, ByCommit, BySpawn, ByFork, ByExit, ByAbort, SameTasks, Creates, Shares, Renews, Overrides, Fewer, casts_left}
+use Rattle.cred_sound.proofs.Parts.{begun, TasksChange, ByBegin, ByAct, ByCommit, BySpawn, ByFork, ByExit, ByAbort, SameTasks, SetsFlag, Creates, Shares, Renews, Overrides, Fewer, casts_left}
 use Rattle.cred_sound.proofs.Events.{changes}
 use Rattle.cred_sound.proofs.Sound.{step_sound, opening_sound}
 use Rattle.cred_sound.proofs.Threads.{finds_itself}
@@ -52,14 +52,16 @@ committed_none process change owner casts none = none
 
 none_by : {script : Script} → (s : State) (event : Event) (made : Answer × State) (process : ℕ) → cast_in s process ≡ None → TasksChange script s event made
     → (found_in process made.1.casts ≡ None) ⊎ BeginsIn s made.1 process
-none_by s event made process none (SameTasks same casts) = inl (no_change process s.casts made.1.casts casts none)
-none_by s event made process none (Creates task of user group ns slot is tasks creds new idle casts) =
+none_by s event made process none (SameTasks same casts flags) = inl (no_change process s.casts made.1.casts casts none)
+none_by s event made process none (SetsFlag task value owner flag is found known same casts flags) =
     inl (no_change process s.casts made.1.casts casts none)
-none_by s event made process none (Shares task child of parent tasks creds current new (BySpawn owner is lives own casts)) =
+none_by s event made process none (Creates task of user group ns slot is tasks creds new idle casts flags) =
+    inl (no_change process s.casts made.1.casts casts none)
+none_by s event made process none (Shares task child of parent tasks creds current new (BySpawn owner is lives own casts flags)) =
     inl (ap (found_in process) casts ∙ joined_none task child process s.casts none)
-none_by s event made process none (Shares task child of parent tasks creds current new (ByFork is unused casts)) =
+none_by s event made process none (Shares task child of parent tasks creds current new (ByFork by is known unused casts flags)) =
     inl (no_change process s.casts made.1.casts casts none)
-none_by s event made process none (Renews task slot owner c ends tasks creds lives (ByBegin call before number at is has ruled unused idle none_end casts answered)) =
+none_by s event made process none (Renews task slot owner c ends tasks creds lives (ByBegin call before number at is has ruled unused idle none_end casts answered flags)) =
     let n = length s.creds in
     elim (owner.process == process) as (λ b. (owner.process == process) ≡ b → (found_in process made.1.casts ≡ None) ⊎ BeginsIn s made.1 process) [
       | true ↦ λ test. inr (
@@ -86,14 +88,14 @@ none_by s event made process none (Renews task slot owner c ends tasks creds liv
           inl (ap (found_in process) casts
           ∙ begun_none process s.casts (begun number owner call s.tasks) (eqb-false owner.process process test) none)
     ] refl
-none_by s event made process none (Renews task slot owner c ends tasks creds lives (ByAct number at cast before is opened first has ruled none_end casts answered)) =
+none_by s event made process none (Renews task slot owner c ends tasks creds lives (ByAct number at cast before is opened first has ruled none_end casts answered flags)) =
     inl (ap (found_in process) casts ∙ left_none task process s.casts none)
-none_by s event made process none (Renews task slot owner c ends tasks creds lives (ByCommit label place at count p last is there changed same cred ending casts answered)) =
+none_by s event made process none (Renews task slot owner c ends tasks creds lives (ByCommit label place at count p last is first there own changed same cred ending casts answered flags)) =
     inl (ap (found_in process) casts ∙ committed_none process last.change owner s.casts none)
-none_by s event made process none (Overrides task numbers tasks refer casts) = inl (no_change process s.casts made.1.casts casts none)
-none_by s event made process none (Fewer ends tasks creds (ByExit task is ending idle casts)) =
+none_by s event made process none (Overrides task numbers tasks refer casts flags) = inl (no_change process s.casts made.1.casts casts none)
+none_by s event made process none (Fewer ends tasks creds (ByExit task gone is known ending idle casts flags)) =
     inl (ap (found_in process) casts ∙ left_none task process s.casts none)
-none_by s event made process none (Fewer ends tasks creds (ByAbort number task cause cast is ending casts answered)) =
+none_by s event made process none (Fewer ends tasks creds (ByAbort number task cause cast is ending casts answered flags)) =
     inl (ap (found_in process) casts ∙ dropped_still process cast.process s.casts none)
 
 -- ---- each broadcast is followed

@@ -19,11 +19,12 @@ use Rattle.cred_event.specs.declared.event.Change.TheVariants.{Exec}
 use Rattle.cred_event.specs.declared.event.Event.{Event}
 use Rattle.cred_event.specs.declared.event.Event.TheVariants.{Commit}
 use Rattle.cred_model.specs.Script.{Script, info_of, chain_of}
-use Rattle.cred_model.specs.State.{State, SealedCred, Task, Broadcast, Prepared, Changed, Numbered, numbered, task_of, begun_by}
+use Rattle.cred_model.specs.State.{State, SealedCred, Task, Broadcast, Prepared, Changed, ProcessFlag, Numbered, numbered, task_of, begun_by}
 use Rattle.cred_model.specs.Named.{change_files}
 use Rattle.cred_model.specs.Change.{Made, made_by_exec, executed, by_change}
 use Rattle.cred_model.specs.Casts.{dropped}
 use Rattle.cred_model.specs.Ends.{is_beside, survivors, ended}
+use Rattle.cred_model.specs.Dumpable.{flags_committed}
 use Rattle.cred_model.specs.Moves.{updated, with_current, committed, given_up}
 use Rattle.cred_model.specs.Step.{committed_by, commit_answer, ends_with, casts_after, try_commit, for_task, outcome, by_commit, done}
 use Rattle.cred_model.proofs.Lists.{All-at, at_place, slice_get_at}
@@ -44,7 +45,7 @@ first_place k n true is = cc
 first_place k n false is = cc
 
 -- the first of its label is the one that is found
-found_first : (ps : List Prepared) (label place : ℕ) (p : Prepared) → position (λ p. p.label == label) ps ≡ Some place
+pub found_first : (ps : List Prepared) (label place : ℕ) (p : Prepared) → position (λ p. p.label == label) ps ≡ Some place
     → slice_get ps place ≡ Some p → find (λ p. p.label == label) ps ≡ Some p
 found_first ps label place p at is =
     find_at (λ (p : Prepared). p.label == label) ps ∙ ap (slice_get ps) (first_place _ place _ at) ∙ is
@@ -103,12 +104,12 @@ module _ (script : Script) (s : State) (label number slot count : ℕ) (gains : 
   abbrev Q : Result (Answer × State) Answer → Type 0
   Q r = answer_of r ≡ Executed number slot count gains → IsExecve script s (Commit label) number slot gains (outcome s r).1
 
-  fresh : (casts : List Broadcast) (place file : ℕ) (p : Prepared) (owner : Task) (last : Changed) → position (λ p. p.label == label) s.prepared ≡ Some place
+  fresh : (casts : List Broadcast) (flags : List ProcessFlag) (place file : ℕ) (p : Prepared) (owner : Task) (last : Changed) → position (λ p. p.label == label) s.prepared ≡ Some place
       → slice_get s.prepared place ≡ Some p → p.changed ≡ Some last → task_of s p.task ≡ Some owner → owner.current ≡ p.base
       → last.change ≡ Exec file → number ≡ length s.creds → slot ≡ p.slot → gains ≡ last.gains
       → IsExecve script s (Commit label) number slot gains
-      (record (committed (ended (is_beside owner) s) place p owner.current last.cred) { casts = casts })
-  fresh casts place file p owner last at is changed lives same executes at_number at_slot at_gains =
+      (record (committed (ended (is_beside owner) s) place p owner.current last.cred) { casts = casts; dumpable = flags })
+  fresh casts flags place file p owner last at is changed lives same executes at_number at_slot at_gains =
       let labelled : (p.label == label) ≡ true
       = at_place (λ (p : Prepared). p.label == label) s.prepared place p is (position-Some (λ (p : Prepared). p.label == label) s.prepared place p at).1 in
       let own : p.label ≡ label = eqb-true p.label label labelled in
@@ -145,27 +146,29 @@ module _ (script : Script) (s : State) (label number slot count : ℕ) (gains : 
         alone = all_alone s.tasks owner p.task (length s.creds);
       }
 
-  by_kind : (place : ℕ) (p : Prepared) (owner : Task) (last : Changed) → position (λ p. p.label == label) s.prepared ≡ Some place
+  by_kind : (flags : List ProcessFlag) (place : ℕ) (p : Prepared) (owner : Task) (last : Changed) → position (λ p. p.label == label) s.prepared ≡ Some place
       → slice_get s.prepared place ≡ Some p → p.changed ≡ Some last → task_of s p.task ≡ Some owner → owner.current ≡ p.base
       → (change : Change) → last.change ≡ change
       → committed_by change last.gains (length s.creds) p.slot (count_by (ends_with change owner) s.tasks) ≡ Executed number slot count gains
       → IsExecve script s (Commit label) number slot gains
-      (casts_after change owner (committed (ended (ends_with change owner) s) place p owner.current last.cred))
-  by_kind place p owner last at is changed lives same (Exec file) executes answered =
+      (record (casts_after change owner (committed (ended (ends_with change owner) s) place p owner.current last.cred)) { dumpable = flags })
+  by_kind flags place p owner last at is changed lives same (Exec file) executes answered =
       let at_number : number ≡ length s.creds = cc in
       let at_slot : slot ≡ p.slot = cc in
       let at_gains : gains ≡ last.gains = cc in
-      fresh (dropped owner.process s.casts) place file p owner last at is changed lives same executes at_number at_slot at_gains
-  by_kind place p owner last at is changed lives same other executes answered = cc
+      fresh (dropped owner.process s.casts) flags place file p owner last at is changed lives same executes at_number at_slot at_gains
+  by_kind flags place p owner last at is changed lives same other executes answered = cc
 
   settles : (place : ℕ) (p : Prepared) (owner : Task) (last : Changed) → position (λ p. p.label == label) s.prepared ≡ Some place
       → slice_get s.prepared place ≡ Some p → p.changed ≡ Some last → task_of s p.task ≡ Some owner
       → Q (Ok (try_commit s place p owner last))
   settles place p owner last at is changed lives =
       let ends = ends_with last.change owner in
-      let fresh_one : Answer × State = (commit_answer last (length s.creds) p.slot (count_by ends s.tasks), casts_after last.change owner (committed (ended ends s) place p owner.current last.cred)) in
+      let flags = flags_committed s owner last in
+      let now = casts_after last.change owner (committed (ended ends s) place p owner.current last.cred) in
+      let fresh_one : Answer × State = (commit_answer last (length s.creds) p.slot (count_by ends s.tasks), record now { dumpable = flags }) in
       elim (owner.current == p.base) as (λ b. (b ≡ true → owner.current ≡ p.base) → Q (Ok (cond {A = Answer × State} b fresh_one (Stale p.base owner.current, given_up s place p)))) [
-        | true ↦ λ same answered. by_kind place p owner last at is changed lives (same refl) last.change refl answered
+        | true ↦ λ same answered. by_kind flags place p owner last at is changed lives (same refl) last.change refl answered
         | false ↦ λ same answered. cc
       ] (eqb-true owner.current p.base)
 

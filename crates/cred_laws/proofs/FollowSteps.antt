@@ -28,7 +28,7 @@ use Rattle.cred_model.proofs.Numbers.{numbered_is, numbered_last, overriding_as,
 use Rattle.cred_model.proofs.Rising.{All-passed, length-in_order}
 use Rattle.cred_sound.specs.Casts.{IsThread, IsUnderWay}
 use Rattle.cred_sound.specs.Sound.{IsSound}
-use Rattle.cred_sound.proofs.Parts.{sealed_cred, begun, casts_left, TasksChange, Cause, Creation, Death, ByBegin, ByAct, ByCommit, BySpawn, ByFork, ByExit, ByAbort, SameTasks, Creates, Shares, Renews, Overrides, Fewer}
+use Rattle.cred_sound.proofs.Parts.{sealed_cred, begun, casts_left, TasksChange, Cause, Creation, Death, ByBegin, ByAct, ByCommit, BySpawn, ByFork, ByExit, ByAbort, SameTasks, SetsFlag, Creates, Shares, Renews, Overrides, Fewer}
 use Rattle.cred_sound.proofs.Threads.{not_true, thread_is}
 use Rattle.cred_laws.specs.Broadcast.{Completes}
 use Rattle.cred_laws.specs.Made.{IsMadeOf, IsMade, AreMade}
@@ -176,7 +176,7 @@ module _ (P : Credential → Type 0) (kept : Kept P) (script : Script) (s : Stat
 
   created : (task child of : ℕ) (parent : Numbered) → Creation s event task child of made
       → made.1.tasks ≡ s.tasks ++ first_task child of parent.number ∷ [] → made.1.creds ≡ s.creds → current_of s task ≡ Some parent → Goes
-  created task child of parent (BySpawn owner spawns lives own_process casts) tasks creds current =
+  created task child of parent (BySpawn owner spawns lives own_process casts flags) tasks creds current =
       let waiting = Waiting task child in
       let new = first_task child of parent.number in
       let old : Followed P made.1.creds s.tasks process waiting
@@ -195,7 +195,7 @@ module _ (P : Credential → Type 0) (kept : Kept P) (script : Script) (s : Stat
       Waits waiting (settled (s.tasks ++ new ∷ []) waiting tasks (All-push (HasOr P made.1.creds process waiting) s.tasks new old by_parent))
       (ap (found_in process) casts ∙ joined_open task child process s.casts cast is
       ∙ child_shown task child cast at.under_way.some)
-  created task child of parent (ByFork forks unused casts) tasks creds current =
+  created task child of parent (ByFork by forks known unused casts flags) tasks creds current =
       let new = first_task child of parent.number in
       let Had = HasOr P made.1.creds process cast.waiting in
       Waits cast.waiting
@@ -240,11 +240,11 @@ module _ (P : Credential → Type 0) (kept : Kept P) (script : Script) (s : Stat
   renews : (task slot : ℕ) (owner : Task) (c : Credential) (ends : Task → Bool) → Cause s event task owner ends c made
       → task_of s task ≡ Some owner → made.1.tasks ≡ with_current (survivors ends s.tasks) task (length s.creds)
       → made.1.creds ≡ s.creds ++ sealed_cred c slot ∷ [] → Goes
-  renews task slot owner c ends (ByBegin call old number at_slot begins has ruled unused idle none casts answered) lives tasks creds =
+  renews task slot owner c ends (ByBegin call old number at_slot begins has ruled unused idle none casts answered flags) lives tasks creds =
       Waits cast.waiting
       (beside ends task slot owner c lives tasks creds (idle_differs s process owner.process cast is idle))
       (ap (found_in process) casts ∙ begun_beside process s.casts (begun number owner call s.tasks) cast is ∙ shown_open cast at.under_way.some)
-  renews task slot owner c ends (ByAct number at_slot in_cast old acts opened first has ruled none casts answered) lives tasks creds =
+  renews task slot owner c ends (ByAct number at_slot in_cast old acts opened first has ruled none casts answered flags) lives tasks creds =
       let waiting = filter (λ n. not (n == task)) cast.waiting in
       Waits waiting
       (renewed ends task slot owner c waiting lives tasks creds (λ n differ still. still_without n task cast.waiting differ still)
@@ -259,12 +259,12 @@ module _ (P : Credential → Type 0) (kept : Kept P) (script : Script) (s : Stat
       let same : in_cast ≡ cast = only.0 where_it_is in
       own number task _ _ _ old c acts answered (opened ∙ ap Some same) has (ap (λ (b : Broadcast). set_id old.cred b.call) (sym same) ∙ ruled)))
       (ap (found_in process) casts ∙ left_open task process s.casts cast sound.processes is)
-  renews task slot owner c ends (ByCommit label place at_slot count p last commits there changed same cred ending casts answered) lives tasks creds =
+  renews task slot owner c ends (ByCommit label place at_slot count p last commits first there own changed same cred ending casts answered flags) lives tasks creds =
       committed_goes task slot owner c ends place p last last.change label commits refl there changed same cred ending casts lives tasks creds
 
   -- tasks end
   fewer : (ends : Task → Bool) → Death s event ends made → made.1.tasks ≡ survivors ends s.tasks → made.1.creds ≡ s.creds → Goes
-  fewer ends (ByExit task exits ending idle casts) tasks creds =
+  fewer ends (ByExit task gone exits known ending idle casts flags) tasks creds =
       let waiting = filter (λ n. not (n == task)) cast.waiting in
       let now = survivors ends s.tasks in
       let others : All (λ t. t.number ≢ task) now
@@ -278,7 +278,7 @@ module _ (P : Credential → Type 0) (kept : Kept P) (script : Script) (s : Stat
       (followed_waiting P made.1.creds now process cast.waiting waiting
       (λ k d lt. still_without _ task cast.waiting (others k d lt)) (had ends made.1.creds (same_creds creds))))
       (ap (found_in process) casts ∙ left_open task process s.casts cast sound.processes is)
-  fewer ends (ByAbort number task cause in_cast acts ending casts answered) tasks creds =
+  fewer ends (ByAbort number task cause in_cast acts ending casts answered flags) tasks creds =
       elim (in_cast.process == process) as (λ b. (in_cast.process == process) ≡ b → Goes) [
         | true ↦ λ test.
             let own : in_cast.process ≡ process = eqb-true in_cast.process process test in
@@ -294,9 +294,11 @@ module _ (P : Credential → Type 0) (kept : Kept P) (script : Script) (s : Stat
       ] refl
 
   pub goes : TasksChange script s event made → (more : List SealedCred) × (made.1.creds ≡ s.creds ++ more) → Goes
-  goes (SameTasks same casts) more =
+  goes (SameTasks same casts flags) more =
       Waits cast.waiting (settled s.tasks cast.waiting same (grown made.1.creds more)) (open_still casts)
-  goes (Creates task of user group ns slot inits tasks creds new idle casts) more =
+  goes (SetsFlag task value owner flag is found known same casts flags) more =
+      Waits cast.waiting (settled s.tasks cast.waiting same (grown made.1.creds more)) (open_still casts)
+  goes (Creates task of user group ns slot inits tasks creds new idle casts flags) more =
       let first = first_task task of (length s.creds) in
       Waits cast.waiting
       (settled (s.tasks ++ first ∷ []) cast.waiting tasks
@@ -305,7 +307,7 @@ module _ (P : Credential → Type 0) (kept : Kept P) (script : Script) (s : Stat
       (open_still casts)
   goes (Shares task child of parent tasks creds current new creation) more = created task child of parent creation tasks creds current
   goes (Renews task slot owner c ends tasks creds lives cause) more = renews task slot owner c ends cause lives tasks creds
-  goes (Overrides task numbers tasks refer casts) more =
+  goes (Overrides task numbers tasks refer casts flags) more =
       let Had = HasOr P made.1.creds process cast.waiting in
       Waits cast.waiting
       (settled (map (overriding task numbers) s.tasks) cast.waiting tasks

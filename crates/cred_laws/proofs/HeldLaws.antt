@@ -43,7 +43,7 @@ same_creds s creds kept = ([], kept ∙ sym (append-nil s.creds))
 
 extends : (s : State) (event : Event) (left : List ℕ) (t : State) → CredsChange s event left t → Extends s t.creds
 extends s event left t (SameCreds same) = same_creds s t.creds same
-extends s event left t (Seals c slot creds fits) = (_, creds)
+extends s event left t (Seals c slot creds fits origin) = (_, creds)
 
 pub step_extends : (script : Script) (s : State) (line : ℕ) (event : Event) → Extends s (step script s line event).1.creds
 step_extends script s line event = let c = changes script s line event in extends s event c.left _ c.creds

@@ -1,19 +1,24 @@
 -- Every journal is lawful.
-use Rattle.std.proofs.Common.{◌≡◌, ◌≢◌, ℕ, ◌+◌, ◌<◌, ◌≤◌, List, ◌++◌, length, take, drop, slice_get, Option, Some, None, false, refl, sym, ap, ◌∙◌, subst, arith}
+use Rattle.std.proofs.Common.{◌≡◌, ◌≢◌, ℕ, ◌+◌, ◌<◌, ◌≤◌, inl, inr, zero, suc, List, ◌++◌, length, take, drop, slice_get, Option, Some, None, true, false, refl, sym, ap, ◌∙◌, subst, arith}
 use Rattle.std.specs.List.{All}
 use Rattle.std.specs.Option.{IfSome, option_map}
-use Rattle.std.proofs.lemmas.List.{take-take, take-append-drop, get_or-drop, get_or-take, length-drop, length-take}
+use Rattle.std.proofs.lemmas.Bool.{cases_lt}
+use Rattle.std.proofs.lemmas.List.{take_all, take-take, take-append-drop, get_or-drop, get_or-take, length-drop, length-take}
 use Rattle.std.proofs.lemmas.Option.{slice_get-get_or}
+use Rattle.cred_record.specs.Credential.{Credential}
 use Rattle.cred_record.specs.declared.gains.Gains.{Gains}
 use Rattle.cred_record.specs.declared.id_call.IdCall.{IdCall}
 use Rattle.cred_event.specs.declared.answer.Answer.{Answer}
-use Rattle.cred_event.specs.declared.answer.Answer.TheVariants.{Executed}
+use Rattle.cred_event.specs.declared.answer.Answer.TheVariants.{Done, Executed}
 use Rattle.cred_event.specs.declared.event.Event.TheVariants.{Release, CloseFile}
+use Rattle.cred_event.specs.declared.event.Mode.{Mode}
 use Rattle.cred_event.specs.declared.entry.Entry.{Entry}
 use Rattle.cred_model.specs.Script.{Script}
 use Rattle.cred_model.specs.State.{State, SealedCred, Task, Numbered, numbered, task_of, current_of, opener_of, held_by}
+use Rattle.cred_model.specs.Dumpable.{is_dumpable, differs}
 use Rattle.cred_model.specs.Step.{step}
 use Rattle.cred_model.specs.Journal.{replay, IsAnswered}
+use Rattle.cred_model.proofs.Lists.{slice_get_at}
 use Rattle.cred_model.proofs.Numbers.{numbered_stays}
 use Rattle.cred_laws.specs.Slots.{IsUnused}
 use Rattle.cred_sound.proofs.Sound.{sound_after}
@@ -23,7 +28,8 @@ use Rattle.cred_laws.specs.Overrides.{IsOverriding}
 use Rattle.cred_laws.specs.Permitted.{IsCreatedWith}
 use Rattle.cred_laws.specs.Permitted as permitted
 use Rattle.cred_laws.specs.Execve.{IsExecve}
-use Rattle.cred_laws.specs.Journals.{state_at, IsAlwaysSound, IsAlwaysMade, WritesUnusedSlots, KeepsSealed, KeepsHeld, KeepsOpeners, KeepsPrepared, OverridesLeave, ExecvesByTheRule, GainsAsAnswered, CreatesTasks, CompletesForAll, JournalsAreLawful}
+use Rattle.cred_laws.specs.Trace.{IsOwn, AsksWithoutCap, HasThreads, IsAskedFor, IsExecuted}
+use Rattle.cred_laws.specs.Journals.{state_at, IsAlwaysSound, IsAlwaysMade, IsAlwaysValid, LooksIntoOwn, LeavesClear, StaysUndumpable, WritesUnusedSlots, KeepsSealed, KeepsHeld, KeepsOpeners, KeepsPrepared, OverridesLeave, ExecvesByTheRule, GainsAsAnswered, CreatesTasks, CompletesForAll, JournalsAreLawful}
 use Rattle.cred_laws.specs.Broadcast.{HasNamed, AllHave, Completes}
 use Rattle.cred_laws.proofs.AlikeLaws.{keeps_alike}
 use Rattle.cred_laws.proofs.BroadcastLaws.{calls_are_every_threads, followed_after}
@@ -35,6 +41,8 @@ use Rattle.cred_laws.proofs.PreparedLaws.{prepared_goes_on}
 use Rattle.cred_laws.proofs.MadeLaws.{made_after}
 use Rattle.cred_laws.proofs.ExecveLaws.{execves_are_by_the_rule}
 use Rattle.cred_laws.proofs.PermittedLaws.{permitted_gains, new_tasks_are_created}
+use Rattle.cred_laws.proofs.ValidLaws.{valid_journal}
+use Rattle.cred_laws.proofs.TraceLaws.{looks_into_own_alone, differs_itself, ids_clear_flag, flag_stays_clear}
 
 -- ---- the entries of a journal
 
@@ -67,6 +75,9 @@ always_sound script journal k = sound_after script (take k journal)
 
 pub always_made : (script : Script) (journal : List Entry) → IsAlwaysMade script journal
 always_made script journal k = made_after script (take k journal)
+
+pub always_valid : (script : Script) (journal : List Entry) → IsAlwaysValid script journal
+always_valid script journal k = valid_journal script (take k journal)
 
 unused_by : (script : Script) (journal : List Entry) (k number : ℕ) (new : Numbered) (o : Option Entry)
     → slice_get journal k ≡ o → length (state_at script journal k).creds ≤ number
@@ -182,10 +193,90 @@ pub completes_for_all : (script : Script) (journal : List Entry) → IsAnswered 
 completes_for_all script journal answered k process call =
     completes_by script journal k process call (slice_get journal k) refl (answered_at script journal answered k)
 
+looks_by : (script : Script) (journal : List Entry) (k process : ℕ) (mode : Mode) (own other : Credential) (o : Option Entry)
+    → IfSome o (λ entry. entry.answer ≡ (step script (state_at script journal k) entry.line entry.event).0)
+    → IfSome o (λ entry. AsksWithoutCap (state_at script journal k) entry.event mode own other process → entry.answer ≡ Done → IsOwn mode own other × (is_dumpable (state_at script journal k).dumpable process ≡ true))
+looks_by script journal k process mode own other (Some entry) answered =
+    λ asks done.
+    looks_into_own_alone script (state_at script journal k) entry.line entry.event mode own other process (always_valid script journal k) asks
+    (sym answered ∙ done)
+looks_by script journal k process mode own other None answered = tt
+
+pub looks_into_own : (script : Script) (journal : List Entry) → IsAnswered script journal → LooksIntoOwn script journal
+looks_into_own script journal answered k process mode own other =
+    looks_by script journal k process mode own other (slice_get journal k) (answered_at script journal answered k)
+
+-- past its end a journal leads no further
+past_end : (script : Script) (journal : List Entry) (k : ℕ) → slice_get journal k ≡ None
+    → state_at script journal (k + 1) ≡ state_at script journal k
+past_end script journal k none =
+    elim (cases_lt k (length journal)) [
+      | inl lt ↦ absurd (let there = slice_get_at journal k lt in let both : Some there.0 ≡ None = sym there.1 ∙ none in cc)
+      | inr past ↦ ap (replay script) (take_all (k + 1) journal (omega (arith, past)) ∙ sym (take_all k journal past))
+    ]
+
+cleared_by : (script : Script) (journal : List Entry) (k task : ℕ) (owner : Task) (before after : Numbered) (o : Option Entry) → slice_get journal k ≡ o
+    → task_of (state_at script journal k) task ≡ Some owner → current_of (state_at script journal k) task ≡ Some before
+    → current_of (state_at script journal (k + 1)) task ≡ Some after → differs before.cred after.cred ≡ true
+    → is_dumpable (state_at script journal (k + 1)).dumpable owner.process ≡ false
+cleared_by script journal k task owner before after (Some entry) is found was now differ =
+    ap (λ (s : State). is_dumpable s.dumpable owner.process) (step_at script journal k entry is)
+    ∙ ids_clear_flag script (state_at script journal k) entry.line entry.event task owner before after (always_sound script journal k) found was
+    (ap (λ (s : State). current_of s task) (sym (step_at script journal k entry is)) ∙ now) differ
+cleared_by script journal k task owner before after None is found was now differ =
+    absurd (
+      let both : Some before ≡ Some after = sym was ∙ ap (λ (s : State). current_of s task) (sym (past_end script journal k is)) ∙ now in
+      let same : before ≡ after = cc in
+      let no = differs_itself before.cred in
+      let yes = ap (λ (n : Numbered). differs before.cred n.cred) same ∙ differ in
+      cc)
+
+kept_clear : (script : Script) (journal : List Entry) (i process : ℕ) (o : Option Entry) → slice_get journal i ≡ o
+    → IfSome o (λ entry. entry.answer ≡ (step script (state_at script journal i) entry.line entry.event).0)
+    → HasThreads (state_at script journal i) process
+    → IfSome o (λ entry. IsAskedFor (state_at script journal i) entry.event process → ⊥)
+    → IfSome o (λ entry. IsExecuted script (state_at script journal i) entry.event entry.answer (state_at script journal (i + 1)) process → ⊥)
+    → is_dumpable (state_at script journal i).dumpable process ≡ false
+    → is_dumpable (state_at script journal (i + 1)).dumpable process ≡ false
+kept_clear script journal i process (Some entry) is answered has unasked unexecuted clear =
+    let s = state_at script journal i in
+    ap (λ (t : State). is_dumpable t.dumpable process) (step_at script journal i entry is)
+    ∙ flag_stays_clear script s entry.line entry.event process (always_sound script journal i) (always_made script journal i) has clear unasked
+    (λ done.
+    unexecuted
+    (subst (λ answer. IsExecuted script s entry.event answer (state_at script journal (i + 1)) process) (sym answered)
+    (subst (λ t. IsExecuted script s entry.event (step script s entry.line entry.event).0 t process) (sym (step_at script journal i entry is)) done)))
+kept_clear script journal i process None is answered has unasked unexecuted clear =
+    ap (λ (t : State). is_dumpable t.dumpable process) (past_end script journal i is) ∙ clear
+
+clear_until : (script : Script) (journal : List Entry) (k l process : ℕ) → IsAnswered script journal → k < l
+    → is_dumpable (state_at script journal (k + 1)).dumpable process ≡ false
+    → ((i : ℕ) → k < i → i < l → LeavesClear script journal i process)
+    → is_dumpable (state_at script journal l).dumpable process ≡ false
+clear_until script journal k zero process answered before clear leaves = absurd (omega arith)
+clear_until script journal k (suc i) process answered before clear leaves =
+    elim (cases_lt k i) [
+      | inl later ↦
+      let one = leaves i later (omega arith) in
+      let next : i + 1 ≡ suc i = omega arith in
+      ap (λ n. is_dumpable (state_at script journal n).dumpable process) (sym next)
+      ∙ kept_clear script journal i process (slice_get journal i) refl (answered_at script journal answered i) one.has one.unasked one.unexecuted
+      (clear_until script journal k i process answered later clear (λ j above below. leaves j above (omega (arith, below))))
+      | inr first ↦
+      let same : k + 1 ≡ suc i = omega (arith, first, before) in
+      ap (λ n. is_dumpable (state_at script journal n).dumpable process) (sym same) ∙ clear
+    ]
+
+pub stays_undumpable : (script : Script) (journal : List Entry) → IsAnswered script journal → StaysUndumpable script journal
+stays_undumpable script journal answered k l task owner before after later found was now differ leaves =
+    clear_until script journal k l owner.process answered later
+    (cleared_by script journal k task owner before after (slice_get journal k) refl found was now differ) leaves
+
 pub lawful : JournalsAreLawful
 lawful script journal answered = record {
   sound = always_sound script journal;
   made = always_made script journal;
+  valid = always_valid script journal;
   unused = writes_unused_slots script journal;
   sealed = keeps_sealed script journal;
   held = keeps_held script journal;
@@ -197,4 +288,6 @@ lawful script journal answered = record {
   created = creates_tasks script journal;
   calls = completes_for_all script journal answered;
   alike = keeps_alike script journal answered;
+  looks = looks_into_own script journal answered;
+  undumpable = stays_undumpable script journal answered;
 }

@@ -21,3 +21,5 @@ pub mod AlikeLaws
 pub mod Lawful
 pub mod Unexecuted
 pub mod ExecveLaws
+pub mod ValidLaws
+pub mod TraceLaws

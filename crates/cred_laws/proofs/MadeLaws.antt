@@ -25,7 +25,7 @@ use Rattle.cred_laws.specs.Made.{IsMadeOf, IsMade, AreMade, PreparedAreMade}
 same_numbered : (s : State) (event : Event) (left : List ℕ) (t : State) → CredsChange s event left t → (n : ℕ)
     → n < length s.creds → numbered t.creds n ≡ numbered s.creds n
 same_numbered s event left t (SameCreds same) n lt = ap (λ creds. numbered creds n) same
-same_numbered s event left t (Seals c slot creds fits) n lt =
+same_numbered s event left t (Seals c slot creds fits origin) n lt =
     ap (λ creds. numbered creds n) creds ∙ numbered_before s.creds _ n lt
 
 pub bases_sealed : (s : State) → IsSound s → All (λ p. p.base < length s.creds) s.prepared

@@ -1,5 +1,5 @@
 -- How the permitted set of a task's credential may change.
-use Rattle.std.proofs.Common.{◌≡◌, ◌==◌, ℕ, List, [], ◌∷◌, ◌++◌, length, Option, Some, None, Ok, Bool, true, false, cond, refl, sym, ap, ◌∙◌, subst, arith}
+use Rattle.std.proofs.Common.{◌≡◌, ◌==◌, ◌⊎◌, inl, inr, ℕ, ◌<◌, List, [], ◌∷◌, ◌++◌, length, Option, Some, None, Ok, Bool, true, false, cond, refl, sym, ap, ◌∙◌, subst, arith}
 use Rattle.std.specs.List.{find}
 use Rattle.std.specs.Option.{IfSome, option_map, option_and_then, option_or}
 use Rattle.std.proofs.lemmas.List.Folds.{find-append}
@@ -24,7 +24,7 @@ use Rattle.cred_model.proofs.Lists.{All-at}
 use Rattle.cred_model.proofs.Numbers.{current_is, at_owner, owner_number, numbered_stays, numbered_last, updated_task, overriding_task, sealed_cred_of}
 use Rattle.cred_sound.specs.Sound.{IsSound}
 use Rattle.cred_sound.proofs.Survivors.{find_survivor, find_no_survivor}
-use Rattle.cred_sound.proofs.Parts.{sealed_cred, Cause, Creation, CredsChange, TasksChange, SameCreds, Seals, ByBegin, ByAct, ByCommit, BySpawn, ByFork, SameTasks, Creates, Shares, Renews, Overrides, Fewer}
+use Rattle.cred_sound.proofs.Parts.{sealed_cred, Cause, Creation, CredsChange, TasksChange, SameCreds, Seals, ByBegin, ByAct, ByCommit, BySpawn, ByFork, SameTasks, SetsFlag, Creates, Shares, Renews, Overrides, Fewer}
 use Rattle.cred_sound.proofs.Events.{changes}
 use Rattle.cred_laws.specs.Made.{IsMadeOf, IsMade, AreMade}
 use Rattle.cred_laws.specs.Permitted.{GainsBy, PermittedGains, IsCreatedWith}
@@ -38,12 +38,9 @@ current_in tasks creds task = option_and_then (λ (t : Task). numbered creds t.c
 
 -- ---- a task that lived
 
-unchanged : (t : State) (task : ℕ) (answer : Answer) (before after : Numbered) → current_of t task ≡ Some before
-    → current_of t task ≡ Some after → GainsBy answer before after
-unchanged t task answer before after stays now =
-    let both : Some before ≡ Some after = sym stays ∙ now in
-    let same : after ≡ before = cc in
-    record { same = λ number. same; other = λ differ. absurd (differ (ap (λ (c : Numbered). c.number) same)) }
+-- what a task has is what it had
+same_one : (t : State) (task : ℕ) (before after : Numbered) → current_of t task ≡ Some before → current_of t task ≡ Some after → after ≡ before
+same_one t task before after stays now = let both : Some before ≡ Some after = sym stays ∙ now in cc
 
 -- with more credentials it has the one that it had
 still_current : (s : State) (more : List SealedCred) (task : ℕ) (c : Numbered) → current_of s task ≡ Some c
@@ -56,7 +53,7 @@ still_current s more task c is =
 still_with : (s : State) (event : Event) (left : List ℕ) (t : State) (task : ℕ) (c : Numbered) → CredsChange s event left t
     → current_of s task ≡ Some c → current_in s.tasks t.creds task ≡ Some c
 still_with s event left t task c (SameCreds same) is = ap (λ creds. current_in s.tasks creds task) same ∙ is
-still_with s event left t task c (Seals new slot creds fits) is =
+still_with s event left t task c (Seals new slot creds fits origin) is =
     ap (λ creds. current_in s.tasks creds task) creds ∙ still_current s _ task c is
 
 -- and next to more tasks
@@ -111,11 +108,11 @@ called_gains s task old before call c current is ruled =
 caused_gains : (script : Script) (s : State) (event : Event) (task : ℕ) (owner : Task) (ends : Task → Bool) (old : Numbered) (c : Credential)
     (made : Answer × State) → AreMade script s → current_of s task ≡ Some old → owner.current ≡ old.number
     → Cause s event task owner ends c made → less c.perm old.cred.perm ≡ gained made.0
-caused_gains script s event task owner ends old c made are current number (ByBegin call before line slot by is ruled unused idle none casts answered) =
+caused_gains script s event task owner ends old c made are current number (ByBegin call before line slot by is ruled unused idle none casts answered flags) =
     called_gains s task old before call c current is ruled ∙ ap gained (sym answered)
-caused_gains script s event task owner ends old c made are current number (ByAct line slot cast before by opened first is ruled none casts answered) =
+caused_gains script s event task owner ends old c made are current number (ByAct line slot cast before by opened first is ruled none casts answered flags) =
     called_gains s task old before cast.call c current is ruled ∙ ap gained (sym answered)
-caused_gains script s event task owner ends old c made are current number (ByCommit label place slot count p last by is changed same cred ending casts answered) =
+caused_gains script s event task owner ends old c made are current number (ByCommit label place slot count p last by first is own changed same cred ending casts answered flags) =
     let one = All-at (IsMade script s.creds) s.prepared place p is are in
     let so = subst (λ o. IfSome o (IsMadeOf script (numbered s.creds p.base))) changed one in
     let base : numbered s.creds p.base ≡ Some old = ap (numbered s.creds) (sym same ∙ number) ∙ under_number s task old current in
@@ -124,31 +121,43 @@ caused_gains script s event task owner ends old c made are current number (ByCom
     ∙ change_gains (info_of script (change_files last.change)) (chain_of script old.cred.ns) old.cred last.change (record { answer = by.0; cred = last.cred; gains = last.gains }) (length s.creds) slot count by.1
     ∙ ap gained (sym answered)
 
-updated_gains : (s : State) (acting task slot : ℕ) (owner : Task) (before after : Numbered) (c : Credential) (answer : Answer) (t : Task) (b : Bool)
-    → (t.number == acting) ≡ b → t.number ≡ task → task_of s acting ≡ Some owner
-    → ((old : Numbered) → current_of s acting ≡ Some old → less c.perm old.cred.perm ≡ gained answer)
-    → current_of s task ≡ Some before → numbered s.creds t.current ≡ Some before
+-- The event gives the task this credential in the place of the old one.
+pub record IsRenewed (s : State) (event : Event) (made : Answer × State) (task : ℕ) (before after : Numbered) : Type 0 where
+  pub owner : Task
+  pub ends : Task → Bool
+  pub found : task_of s task ≡ Some owner
+  pub old : before.number < length s.creds
+  pub new : after.number ≡ length s.creds
+  pub cause : Cause s event task owner ends after.cred made
+
+-- A task that lives before and after an event has what it had, or a new credential.
+abbrev pub Goes : State → Event → Answer × State → ℕ → Numbered → Numbered → Type 0
+Goes s event made task before after = (after ≡ before) ⊎ IsRenewed s event made task before after
+
+updated_goes : (s : State) (event : Event) (made : Answer × State) (acting task slot : ℕ) (owner : Task) (ends : Task → Bool) (before after : Numbered)
+    (c : Credential) (t : Task) (b : Bool) → (t.number == acting) ≡ b → t.number ≡ task → task_of s acting ≡ Some owner
+    → Cause s event acting owner ends c made → current_of s task ≡ Some before → numbered s.creds t.current ≡ Some before
     → numbered (s.creds ++ sealed_cred c slot ∷ []) (cond b (record t { current = length s.creds }) t).current ≡ Some after
-    → GainsBy answer before after
-updated_gains s acting task slot owner before after c answer t true test number acts gains is at now =
+    → Goes s event made task before after
+updated_goes s event made acting task slot owner ends before after c t true test number acts cause is at now =
     let actor : acting ≡ task = grind (arith, nat_tests) in
     let last = numbered_last s.creds (sealed_cred c slot) in
     let news : Some (record { number = length s.creds; cred = c; slot = slot }) ≡ Some after = sym last ∙ now in
     let new : record { number = length s.creds; cred = c; slot = slot } ≡ after = cc in
     let here = current_is s task before is in
     let below = slice_get_within s.creds here.owner.current (sealed_cred_of before) here.sealed in
-    record {
-      same = λ same_number.
-          let number_is = ap (λ (n : Numbered). n.number) new in
-          let there = here.number in absurd (omega arith);
-      other = λ differ.
-          ap (λ (n : Numbered). less n.cred.perm before.cred.perm) (sym new)
-          ∙ gains before (ap (current_of s) actor ∙ is);
-    }
-updated_gains s acting task slot owner before after c answer t false test number acts gains is at now =
+    inr (record {
+      owner = owner;
+      ends = ends;
+      found = ap (task_of s) (sym actor) ∙ acts;
+      old = let there = here.number in omega arith;
+      new = sym (ap (λ (n : Numbered). n.number) new);
+      cause = subst (λ c. Cause s event task owner ends c made) (ap (λ (n : Numbered). n.cred) new)
+          (subst (λ task. Cause s event task owner ends c made) actor cause);
+    })
+updated_goes s event made acting task slot owner ends before after c t false test number acts cause is at now =
     let both : Some before ≡ Some after = sym (numbered_stays s.creds (sealed_cred c slot ∷ []) t.current before at) ∙ now in
-    let same : after ≡ before = cc in
-    record { same = λ same_number. same; other = λ differ. absurd (differ (ap (λ (c : Numbered). c.number) same)) }
+    inl (cc)
 
 -- the number of the acting task's old credential, as its owner has it and as it is found
 owner_current : (s : State) (acting : ℕ) (owner : Task) (old : Numbered) → task_of s acting ≡ Some owner
@@ -159,21 +168,24 @@ owner_current s acting owner old found current =
     let one : at.owner ≡ owner = cc in
     sym (at.number ∙ ap (λ (t : Task). t.current) one)
 
-gains_by : (script : Script) (s : State) (event : Event) (left : List ℕ) (made : Answer × State) (task : ℕ) (before after : Numbered)
-    → IsSound s → AreMade script s → CredsChange s event left made.1 → TasksChange script s event made → current_of s task ≡ Some before
-    → current_of made.1 task ≡ Some after → GainsBy made.0 before after
-gains_by script s event left made task before after sound are creds (SameTasks same casts) is now =
-    unchanged made.1 task made.0 before after
-    (ap (λ tasks. current_in tasks made.1.creds task) same ∙ still_with s event left made.1 task before creds is) now
-gains_by script s event left made task before after sound are creds (Creates new process user group ns slot by tasks sealed fresh idle casts) is now =
-    unchanged made.1 task made.0 before after
+pub goes_by : (script : Script) (s : State) (event : Event) (left : List ℕ) (made : Answer × State) (task : ℕ) (before after : Numbered)
+    → IsSound s → CredsChange s event left made.1 → TasksChange script s event made → current_of s task ≡ Some before
+    → current_of made.1 task ≡ Some after → Goes s event made task before after
+goes_by script s event left made task before after sound creds (SameTasks same casts flags) is now =
+    inl (same_one made.1 task before after
+    (ap (λ tasks. current_in tasks made.1.creds task) same ∙ still_with s event left made.1 task before creds is) now)
+goes_by script s event left made task before after sound creds (SetsFlag acting value owner flag on found known same casts flags) is now =
+    inl (same_one made.1 task before after
+    (ap (λ tasks. current_in tasks made.1.creds task) same ∙ still_with s event left made.1 task before creds is) now)
+goes_by script s event left made task before after sound creds (Creates new process user group ns slot by tasks sealed fresh idle casts flags) is now =
+    inl (same_one made.1 task before after
     (ap (λ tasks. current_in tasks made.1.creds task) tasks
-    ∙ still_before s _ made.1.creds task before (still_with s event left made.1 task before creds is)) now
-gains_by script s event left made task before after sound are creds (Shares parent child process shared tasks sealed current fresh creation) is now =
-    unchanged made.1 task made.0 before after
+    ∙ still_before s _ made.1.creds task before (still_with s event left made.1 task before creds is)) now)
+goes_by script s event left made task before after sound creds (Shares parent child process shared tasks sealed current fresh creation) is now =
+    inl (same_one made.1 task before after
     (ap (λ tasks. current_in tasks made.1.creds task) tasks
-    ∙ still_before s _ made.1.creds task before (still_with s event left made.1 task before creds is)) now
-gains_by script s event left made task before after sound are creds (Renews acting slot owner c ends tasks sealed found cause) is now =
+    ∙ still_before s _ made.1.creds task before (still_with s event left made.1 task before creds is)) now)
+goes_by script s event left made task before after sound creds (Renews acting slot owner c ends tasks sealed found cause) is now =
     let creds_after = s.creds ++ sealed_cred c slot ∷ [] in
     let at = current_is s task before is in
     let rest = survivors ends s.tasks in
@@ -187,16 +199,16 @@ gains_by script s event left made task before after sound are creds (Renews acti
     let here : task_of s task ≡ Some t = find_survivor ends s.tasks task t sound.tasks alive.1 in
     let both : Some at.owner ≡ Some t = sym at.is ∙ here in
     let one : at.owner ≡ t = cc in
-    updated_gains s acting task slot owner before after c made.0 t (t.number == acting) refl
-    (owner_number s task t here) found (λ old current. caused_gains script s event acting owner ends old c made are current (owner_current s acting owner old found current) cause) is
+    updated_goes s event made acting task slot owner ends before after c t (t.number == acting) refl
+    (owner_number s task t here) found cause is
     (ap (λ (t : Task). numbered s.creds t.current) (sym one) ∙ at_owner s task before at is)
     alive.2
-gains_by script s event left made task before after sound are creds (Overrides acting numbers tasks refer casts) is now =
-    unchanged made.1 task made.0 before after
+goes_by script s event left made task before after sound creds (Overrides acting numbers tasks refer casts flags) is now =
+    inl (same_one made.1 task before after
     (ap (λ tasks. current_in tasks made.1.creds task) tasks
     ∙ acts_same s.tasks made.1.creds acting numbers task
-    ∙ still_with s event left made.1 task before creds is) now
-gains_by script s event left made task before after sound are creds (Fewer ends tasks sealed death) is now =
+    ∙ still_with s event left made.1 task before creds is) now)
+goes_by script s event left made task before after sound creds (Fewer ends tasks sealed death) is now =
     let at = current_is s task before is in
     let rest = survivors ends s.tasks in
     let seen : option_and_then (λ (t : Task). numbered s.creds t.current) (find (λ (t : Task). t.number == task) rest) ≡ Some after
@@ -207,12 +219,22 @@ gains_by script s event left made task before after sound are creds (Fewer ends 
     let both : Some at.owner ≡ Some t = sym at.is ∙ here in
     let one : at.owner ≡ t = cc in
     let stays : current_of s task ≡ Some after = ap (option_and_then (λ (t : Task). numbered s.creds t.current)) here ∙ alive.2 in
-    unchanged s task made.0 before after is stays
+    inl (same_one s task before after is stays)
+
+gains_by : (script : Script) (s : State) (event : Event) (made : Answer × State) (task : ℕ) (before after : Numbered) → AreMade script s
+    → current_of s task ≡ Some before → Goes s event made task before after → GainsBy made.0 before after
+gains_by script s event made task before after are is (inl same) =
+    record { same = λ number. same; other = λ differ. absurd (differ (ap (λ (c : Numbered). c.number) same)) }
+gains_by script s event made task before after are is (inr new) = record {
+  same = λ number. absurd (let below = new.old in let last = new.new in omega (arith, number));
+  other = λ differ.
+      caused_gains script s event task new.owner new.ends before after.cred made are is (owner_current s task new.owner before new.found is) new.cause;
+}
 
 pub permitted_gains : PermittedGains
-permitted_gains script s line event task before after sound are =
+permitted_gains script s line event task before after sound are is now =
     let c = changes script s line event in
-    gains_by script s event c.left _ task before after sound are c.creds c.tasks
+    gains_by script s event _ task before after are is (goes_by script s event c.left _ task before after sound c.creds c.tasks is now)
 
 -- ---- a task that is created
 
@@ -244,16 +266,18 @@ child_at s parent child process task shared c false test current now = cc
 
 created_with : (script : Script) (s : State) (event : Event) (parent child process task : ℕ) (c : Numbered) (made : Answer × State)
     → Creation s event parent child process made → (child ≡ task) × (current_of s parent ≡ Some c) → IsCreatedWith script s event task c
-created_with script s event parent child process task c made (BySpawn owner is found own casts) with =
+created_with script s event parent child process task c made (BySpawn owner is found own casts flags) with =
     subst (λ e. IsCreatedWith script s e task c) (sym is) with
-created_with script s event parent child process task c made (ByFork is unused casts) with =
+created_with script s event parent child process task c made (ByFork by is known unused casts flags) with =
     subst (λ e. IsCreatedWith script s e task c) (sym is) with
 
 created_by : (script : Script) (s : State) (event : Event) (made : Answer × State) (task : ℕ) (after : Numbered) → TasksChange script s event made
     → task_of s task ≡ None → current_of made.1 task ≡ Some after → IsCreatedWith script s event task after
-created_by script s event made task after (SameTasks same casts) none now =
+created_by script s event made task after (SameTasks same casts flags) none now =
     absurd (nobody made.1.tasks made.1.creds task after (ap (find (λ (t : Task). t.number == task)) same ∙ none) now)
-created_by script s event made task after (Creates number process user group ns slot by tasks creds fresh idle casts) none now =
+created_by script s event made task after (SetsFlag acting value owner flag on found known same casts flags) none now =
+    absurd (nobody made.1.tasks made.1.creds task after (ap (find (λ (t : Task). t.number == task)) same ∙ none) now)
+created_by script s event made task after (Creates number process user group ns slot by tasks creds fresh idle casts flags) none now =
     let first = first_task number process (length s.creds) in
     let owner = find-append (λ (t : Task). t.number == task) s.tasks (first ∷ [])
     ∙ ap (λ o. option_or o (find (λ (t : Task). t.number == task) (first ∷ []))) none in
@@ -275,7 +299,7 @@ created_by script s event made task after (Renews acting slot owner c ends tasks
     absurd (nobody made.1.tasks made.1.creds task after
     (ap (find (λ (t : Task). t.number == task)) tasks ∙ updated_task (survivors ends s.tasks) acting (length s.creds) task
     ∙ ap (option_map (updated acting (length s.creds))) (find_no_survivor ends s.tasks task none)) now)
-created_by script s event made task after (Overrides acting numbers tasks refer casts) none now =
+created_by script s event made task after (Overrides acting numbers tasks refer casts flags) none now =
     absurd (nobody made.1.tasks made.1.creds task after
     (ap (find (λ (t : Task). t.number == task)) tasks ∙ overriding_task s.tasks acting numbers task
     ∙ ap (option_map (overriding acting numbers)) none) now)

@@ -21,13 +21,15 @@ use Rattle.cred_event.specs.declared.event.Change.TheVariants.{SetFs, Adjust, Ex
 use Rattle.cred_event.specs.declared.event.Query.{Query}
 use Rattle.cred_event.specs.declared.event.Query.TheVariants.{Ids, Caps, Groups, Bits, Capable, Bset, AmbIs, Check}
 use Rattle.cred_event.specs.declared.event.Event.{Event}
-use Rattle.cred_event.specs.declared.event.Event.TheVariants.{Init, Take, TakeFile, Release, Ask, Signal, Prepare, Alter, Commit, Abort, Override, Revert, Begin, Act, OpenFile, CloseFile, Spawn, Fork, Exit, Sweep}
-use Rattle.cred_model.specs.Script.{Script, info_of, chain_of, root_of}
+use Rattle.cred_event.specs.declared.event.Event.TheVariants.{Init, Take, TakeFile, Release, Ask, Signal, Prepare, Alter, Commit, Abort, Override, Revert, Begin, Act, OpenFile, CloseFile, Spawn, Fork, Exit, Sweep, Dumpable, Dumped, Ptrace}
+use Rattle.cred_model.specs.Script.{Script, info_of, chain_of, root_of, reaches}
 use Rattle.cred_model.specs.Named.{change_files}
 use Rattle.cred_model.specs.State.{State, Broadcast, Task, Numbered, numbered, task_of, cast_of, cast_in, begun_by, open_of, hold_of, prepared_of, credential_of, opener_of, held_by}
 use Rattle.cred_model.specs.Casts.{not_busy, others_of, with_cast, waits_no_more}
 use Rattle.cred_model.specs.Ends.{is_thread_of}
 use Rattle.cred_model.specs.Slots.{free, swept_if_full}
+use Rattle.cred_model.specs.Ptrace.{may_trace}
+use Rattle.cred_model.specs.Dumpable.{is_dumpable, differs, renewed, flags_begun, flag_of_value}
 use Rattle.cred_model.specs.Answers.{refusal, flag, checked, reply, is_ok}
 use Rattle.cred_model.specs.Change.{Made, made_by_rule, made_by_exec, by_rule, by_change}
 use Rattle.cred_model.specs.Moves.{◌>>=◌, none_or, fewer_or, unless_refused, not_overridden}
@@ -184,17 +186,25 @@ hold_plain s label taken =
     none_plain (hold_of s label) _ _ refl
     (none_plain (prepared_of s label) _ _ refl (fewer_plain (length s.holds) HOLDS _ _ refl (at_once _ _ refl)))
 
-follow_plain : (s : State) (cast : Broadcast) (task old : ℕ) (made : Result Credential Answer) → Plain (Ok (follow s cast task old made))
-follow_plain s cast task old (Err refused) = at_once _ _ refl
-follow_plain s cast task old (Ok new) =
+follow_plain : (s : State) (cast : Broadcast) (task : ℕ) (owner : Task) (old : Numbered) (made : Result Credential Answer)
+    → Plain (Ok (follow s cast task owner old made))
+follow_plain s cast task owner old (Err refused) = at_once _ _ refl
+follow_plain s cast task owner old (Ok new) =
     slot_plain s (λ t. (answer.Aborted task cause.Full, aborted cast t))
-    (λ t slot. (answer.Acted task (length t.creds) slot (length cast.waiting - 1), record (replaced t task old new slot) { casts = waits_no_more task t.casts }))
+    (λ t slot. (
+      answer.Acted task (length t.creds) slot (length cast.waiting - 1),
+      record (replaced t task old.number new slot) { casts = waits_no_more task t.casts; dumpable = renewed t.dumpable owner.process (differs old.cred new) },
+    ))
     (λ t. refl) (λ t slot. refl)
 
 pub plain : (script : Script) (s : State) (line : ℕ) (event : Event) → commits event ≡ false → Plain (done script s line event)
 plain script s line (Init task process user group ns) other =
     idle_plain (cast_in s process) _ (none_plain (task_of s task) _ _ refl (fewer_plain (length s.tasks) TASKS _ _ refl
-    (slot_plain s table_full (λ t slot. (answer.Sealed (length t.creds) slot, created t (first_task task process (length t.creds)) (first_credential user group ns (root_of script ns)) slot))
+    (slot_plain s table_full
+    (λ t slot. (
+      answer.Sealed (length t.creds) slot,
+      record (created t (first_task task process (length t.creds)) (first_credential user group ns (root_of script ns)) slot) { dumpable = flags_begun t process },
+    ))
     (λ t. refl) (λ t slot. refl))))
 plain script s line (Take label task side) other =
     some_plain (credential_of s task side) _ _ refl (λ taken. hold_plain s label taken)
@@ -247,14 +257,17 @@ plain script s line (Begin task call) other =
     let others = others_of owner s.tasks in
     let cast : Broadcast = record { number = line; process = owner.process; caller = task; call = call; waiting = others } in
     slot_plain s table_full
-    (λ t slot. (answer.Began (length t.creds) slot (length others), record (replaced t task old.number new slot) { casts = with_cast t.casts cast }))
+    (λ t slot. (
+      answer.Began (length t.creds) slot (length others),
+      record (replaced t task old.number new slot) { casts = with_cast t.casts cast; dumpable = renewed t.dumpable owner.process (differs old.cred new) },
+    ))
     (λ t. refl) (λ t slot. refl)))))))
 plain script s line (Act number) other =
     some_plain (cast_of s number) _ _ refl
     (λ cast. some_plain (slice_get cast.waiting 0) _ _ refl
     (λ task. some_plain (task_of s task) _ _ refl
     (λ owner. some_plain (numbered s.creds owner.current) _ _ refl
-    (λ old. follow_plain s cast task old.number (by_rule (set_id old.cred cast.call))))))
+    (λ old. follow_plain s cast task owner old (by_rule (set_id old.cred cast.call))))))
 plain script s line (OpenFile hold place asked fd) other =
     some_plain (held_by s hold) _ _ refl
     (λ held. none_plain (open_of s fd) _ _ refl
@@ -277,4 +290,14 @@ plain script s line (Fork task child process) other =
 plain script s line (Exit task) other =
     some_plain (task_of s task) _ _ refl
     (λ owner. idle_plain (begun_by s task) _ (own_plain owner _ (at_once _ _ refl)))
+plain script s line (Dumpable task value) other =
+    some_plain (task_of s task) _ _ refl (λ owner. some_plain (flag_of_value value) _ _ refl (λ flag. at_once _ _ refl))
+plain script s line (Dumped task) other = some_plain (task_of s task) _ _ refl (λ owner. at_once _ _ refl)
+plain script s line (Ptrace from hold to target mode) other =
+    some_plain (task_of s from) _ _ refl
+    (λ sender. some_plain (task_of s to) _ _ refl
+    (λ receiver. some_plain (held_by s hold) _ _ refl
+    (λ own. some_plain (held_by s target) _ _ refl
+    (λ with.
+    last_plain (may_trace own.cred with.cred (sender.process == receiver.process) (reaches script.namespaces own.cred.ns with.cred.ns) (is_dumpable s.dumpable receiver.process) mode) _ _ s refl refl))))
 plain script s line Sweep other = at_once _ _ refl

@@ -20,7 +20,7 @@ unused : (s : State) (event : Event) (left : List ℕ) (t : State) → CredsChan
 unused s event left t (SameCreds same) order number new past is =
     let within = slice_get_within t.creds number (sealed_cred_of new) (numbered_is t.creds number new is).1 in
     let long = ap (λ (creds : List SealedCred). length creds) same in absurd (omega arith)
-unused s event left t (Seals c slot creds fits) order number new past is =
+unused s event left t (Seals c slot creds fits origin) order number new past is =
     let within = slice_get_within t.creds number (sealed_cred_of new) (numbered_is t.creds number new is).1 in
     let long = ap (λ (creds : List SealedCred). length creds) creds in
     let last : number ≡ length s.creds = omega (arith, length_push s.creds (sealed_cred c slot)) in

@@ -1,16 +1,19 @@
 -- The laws, of the states that one journal leads through.
-use Rattle.std.specs.Prelude.{◌≡◌, ◌≢◌, ℕ, Bool, false, ◌+◌, ◌<◌, ◌≤◌, List, length, take}
+use Rattle.std.specs.Prelude.{◌≡◌, ◌≢◌, ℕ, Bool, true, false, ◌+◌, ◌<◌, ◌≤◌, List, length, take}
 use Rattle.std.specs.Prelude.{slice_get, Some, None, IfSome}
 use Rattle.std.specs.Option.{option_map}
 use Rattle.cred_ids.specs.declared.id.Kind.{Kind}
 use Rattle.cred_record.specs.declared.gains.Gains as answer
+use Rattle.cred_record.specs.Credential.{Credential}
 use Rattle.cred_record.specs.declared.id_call.IdCall.{IdCall}
-use Rattle.cred_event.specs.declared.answer.Answer.TheVariants.{Executed, Began}
+use Rattle.cred_event.specs.declared.answer.Answer.TheVariants.{Done, Executed, Began}
 use Rattle.cred_event.specs.declared.event.Event.TheVariants.{Release, Begin, CloseFile}
+use Rattle.cred_event.specs.declared.event.Mode.{Mode}
 use Rattle.cred_event.specs.declared.entry.Entry.{Entry}
 use Rattle.cred_model.specs.Script.{Script}
-use Rattle.cred_model.specs.State.{State, Prepared, Numbered, numbered, task_of, cast_in}
+use Rattle.cred_model.specs.State.{State, Task, Prepared, Numbered, numbered, task_of, cast_in}
 use Rattle.cred_model.specs.State.{current_of, opener_of, held_by}
+use Rattle.cred_model.specs.Dumpable.{is_dumpable, differs}
 use Rattle.cred_model.specs.Journal.{replay, IsAnswered}
 use Rattle.cred_sound.specs.Sound.{IsSound}
 use Rattle.cred_laws.specs.Slots.{IsUnused}
@@ -19,6 +22,8 @@ use Rattle.cred_laws.specs.Made.{AreMade}
 use Rattle.cred_laws.specs.Overrides.{IsOverriding}
 use Rattle.cred_laws.specs.Execve.{IsExecve}
 use Rattle.cred_laws.specs.Permitted.{GainsBy, IsCreatedWith}
+use Rattle.cred_laws.specs.Valid.{AreValid}
+use Rattle.cred_laws.specs.Trace.{IsOwn, AsksWithoutCap, HasThreads, IsAskedFor, IsExecuted}
 use Rattle.cred_laws.specs.Broadcast.{HasNamed, AllHave, Completes, kind_of, three_of, IsAlike}
 use Rattle.cred_laws.specs.Broadcast.{stepping}
 
@@ -33,6 +38,10 @@ IsAlwaysSound script journal = (k : ℕ) → IsSound (state_at script journal k)
 -- In each state a prepared credential that was changed is what its last change makes of its base.
 abbrev pub IsAlwaysMade : Script → List Entry → Type 0
 IsAlwaysMade script journal = (k : ℕ) → AreMade script (state_at script journal k)
+
+-- In each state the sets of each sealed credential are those of a credential.
+abbrev pub IsAlwaysValid : Script → List Entry → Type 0
+IsAlwaysValid script journal = (k : ℕ) → AreValid (state_at script journal k)
 
 -- What an entry seals is put where no credential in use stood, and where no prepared label kept the
 -- slot but the one whose credential the entry seals. One that was given up and waits for the sweep
@@ -166,10 +175,45 @@ KeepsAlike script journal =
     → (equal : List ℕ)
     × AllHave (λ c. three_of (kind_of call) c ≡ equal) (state_at script journal (done + 1)) process
 
+-- Where an entry says that a task may look into one of another process, and was asked by a
+-- credential without CAP_SYS_PTRACE, the target's ids are those that are asked by, it is permitted
+-- no more than the one that asks, and its process is dumpable.
+abbrev pub LooksIntoOwn : Script → List Entry → Type 0
+LooksIntoOwn script journal =
+    (k process : ℕ) (mode : Mode) (own other : Credential)
+    → IfSome (slice_get journal k) (λ entry.
+    AsksWithoutCap (state_at script journal k) entry.event mode own other process
+    → entry.answer ≡ Done
+    → IsOwn mode own other × (is_dumpable (state_at script journal k).dumpable process ≡ true))
+
+-- The process has threads before an entry by which none of them asks for the flag or completes an
+-- execve.
+pub record LeavesClear (script : Script) (journal : List Entry) (i process : ℕ) : Type 0 where
+  pub has : HasThreads (state_at script journal i) process
+  pub unasked : IfSome (slice_get journal i) (λ entry.
+      IsAskedFor (state_at script journal i) entry.event process → ⊥)
+  pub unexecuted : IfSome (slice_get journal i) (λ entry.
+      IsExecuted script (state_at script journal i) entry.event entry.answer
+      (state_at script journal (i + 1)) process → ⊥)
+
+-- Where an entry gives a task a credential with another effective or filesystem id, the task's
+-- process isn't dumpable after it, up to an entry by which one of its threads asks for the flag or
+-- completes an execve, or up to the end of its last thread.
+abbrev pub StaysUndumpable : Script → List Entry → Type 0
+StaysUndumpable script journal =
+    (k l task : ℕ) (owner : Task) (before after : Numbered) → k < l
+    → task_of (state_at script journal k) task ≡ Some owner
+    → current_of (state_at script journal k) task ≡ Some before
+    → current_of (state_at script journal (k + 1)) task ≡ Some after
+    → differs before.cred after.cred ≡ true
+    → ((i : ℕ) → k < i → i < l → LeavesClear script journal i owner.process)
+    → is_dumpable (state_at script journal l).dumpable owner.process ≡ false
+
 -- all of these
 pub record IsLawful (script : Script) (journal : List Entry) : Type 0 where
   pub sound : IsAlwaysSound script journal
   pub made : IsAlwaysMade script journal
+  pub valid : IsAlwaysValid script journal
   pub unused : WritesUnusedSlots script journal
   pub sealed : KeepsSealed script journal
   pub held : KeepsHeld script journal
@@ -181,6 +225,8 @@ pub record IsLawful (script : Script) (journal : List Entry) : Type 0 where
   pub created : CreatesTasks script journal
   pub calls : CompletesForAll script journal
   pub alike : KeepsAlike script journal
+  pub looks : LooksIntoOwn script journal
+  pub undumpable : StaysUndumpable script journal
 
 -- They hold of every journal whose entries have the answers that the rules give.
 abbrev pub JournalsAreLawful : Type 0

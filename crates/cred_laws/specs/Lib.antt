@@ -5,6 +5,8 @@ pub mod Made
 pub mod Execve
 pub mod Overrides
 pub mod Permitted
+pub mod Valid
+pub mod Trace
 pub mod Answered
 pub mod Calls
 pub mod Broadcast

@@ -2,8 +2,8 @@
 ghost use Rattle.cred_laws.specs.Journals.{JournalsAreLawful};
 
 /// Every journal whose entries have the answers that the rules give is lawful: each of its states
-/// is sound, and each prepared credential there is what its change makes of its base. Its entries
-/// seal credentials only in slots that are not in use; what is sealed, what is held, what an open
+/// is sound, each prepared credential there is what its change makes of its base, and the sets of
+/// each sealed one are those of a credential. Its entries seal credentials only in slots that are not in use; what is sealed, what is held, what an open
 /// file was opened by and what is prepared stays. What an entry adds to what a living task is
 /// permitted is what its answer says was gained, and a task lives from the entry on that creates
 /// it.
@@ -12,6 +12,12 @@ ghost use Rattle.cred_laws.specs.Journals.{JournalsAreLawful};
 /// or the groups that the call names. And where before its own step each thread had the same real,
 /// effective and saved ids of the call's kind, and all of them or none the kind's capability, these
 /// three are equal in all live threads after it.
+///
+/// Where an entry says that a task may look into one of another process, and was asked without
+/// CAP_SYS_PTRACE, the target's ids are those that are asked by, it is permitted no more, and its
+/// process is dumpable. And where an entry gives a task another effective or filesystem id, its
+/// process is not dumpable after it, until one of its threads asks for that or completes an execve,
+/// or the last one ends.
 ///
 /// A journal in order, and one whose lanes take turns, has those answers.
 pub fn journals_are_lawful()

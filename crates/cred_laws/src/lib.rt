@@ -15,3 +15,5 @@ pub mod order;
 pub mod overrides;
 pub mod permitted;
 pub mod slots;
+pub mod trace;
+pub mod valid;

@@ -3,9 +3,9 @@ use Rattle.std.proofs.Common.{◌≡◌, ℕ, ◌+◌, ◌*◌, ◌-◌, ◌<◌
 use Rattle.std.specs.Option.{IfSome, option_and_then, option_map_or}
 use Rattle.cred_ids.specs.Limits.{TRIES, TASKS}
 use Rattle.cred_event.specs.declared.content.Content.{Content}
-use Rattle.cred_event.specs.declared.content.Content.TheVariants.{One, Id, Question, Open, Fcap, Signal, Change, Access}
+use Rattle.cred_event.specs.declared.content.Content.TheVariants.{One, Id, Question, Open, Fcap, Signal, Ptrace, Change, Access}
 use Rattle.cred_event.specs.declared.content.Stage.{Stage}
-use Rattle.cred_event.specs.declared.content.Stage.TheVariants.{First, Acting, Asking, Opening, TakingTarget, Signalling, ReleasingTarget, Preparing, Altering, Committing, Aborting, Overriding, TakingAccess, ReleasingAccess, Reverting, Releasing, Retrying}
+use Rattle.cred_event.specs.declared.content.Stage.TheVariants.{First, Acting, Asking, Opening, TakingTarget, Signalling, Tracing, ReleasingTarget, Preparing, Altering, Committing, Aborting, Overriding, TakingAccess, ReleasingAccess, Reverting, Releasing, Retrying}
 use Rattle.cred_event.specs.declared.event.Event.{Event}
 use Rattle.cred_event.specs.declared.event.Event.TheVariants.{Begin, Act, Spawn}
 use Rattle.cred_event.specs.declared.answer.Answer.{Answer}
@@ -51,6 +51,11 @@ more_may line (Signal task to) TakingTarget = omega arith
 more_may line (Signal task to) Signalling = omega arith
 more_may line (Signal task to) ReleasingTarget = omega arith
 more_may line (Signal task to) Releasing = omega arith
+more_may line (Ptrace task to mode) First = omega arith
+more_may line (Ptrace task to mode) TakingTarget = omega arith
+more_may line (Ptrace task to mode) Tracing = omega arith
+more_may line (Ptrace task to mode) ReleasingTarget = omega arith
+more_may line (Ptrace task to mode) Releasing = omega arith
 more_may line (Change task change) First = omega arith
 more_may line (Change task change) Preparing = omega arith
 more_may line (Change task change) Altering = omega arith

@@ -10,6 +10,7 @@ use Rattle.cred_event.specs.declared.answer.Answer.{Answer}
 use Rattle.cred_event.specs.declared.answer.Answer.TheVariants.{Acted, Aborted}
 use Rattle.cred_model.specs.State.{State, Task, Broadcast, Numbered, numbered, cast_of, task_of}
 use Rattle.cred_model.specs.Casts.{waits_no_more}
+use Rattle.cred_model.specs.Dumpable.{differs, renewed}
 use Rattle.cred_model.specs.Moves.{in_slot, replaced}
 use Rattle.cred_model.specs.Slots.{free, least_free, swept}
 use Rattle.cred_model.specs.Step.{aborted, by_act, outcome}
@@ -22,9 +23,11 @@ use Rattle.cred_machine.specs.Room.{swept_if}
 use Rattle.cred_machine.proofs.Rooms.{in_free, in_none}
 use Rattle.cred_machine.proofs.Seen.{placed}
 
-act_does : (task old : ℕ) (new : Credential) (cast : Broadcast) → State → ℕ → Answer × State
-act_does task old new cast s slot =
-    (Acted task (length s.creds) slot (length cast.waiting - 1), record (replaced s task old new slot) { casts = waits_no_more task s.casts })
+act_does : (task : ℕ) (owner : Task) (old : Numbered) (new : Credential) (cast : Broadcast) → State → ℕ → Answer × State
+act_does task owner old new cast s slot = (
+  Acted task (length s.creds) slot (length cast.waiting - 1),
+  record (replaced s task old.number new slot) { casts = waits_no_more task s.casts; dumpable = renewed s.dumpable owner.process (differs old.cred new) },
+)
 
 -- the least task that waits in the broadcast of this number, and its credential; and where the
 -- broadcast stands
@@ -100,31 +103,37 @@ module _ (s : State) (number task cast_at : ℕ) (cast : Broadcast) (owner : Tas
   act_refused denial rule = rw (next.found, next.least, next.lives, next.has, rule) refl
 
   module _ (new : Credential) (rule : set_id old.cred cast.call ≡ Ok new) where
-    act_tests : outcome s (by_act s number) ≡ in_slot s (λ r. (Aborted task Full, aborted cast r)) (act_does task old.number new cast)
+    act_tests : outcome s (by_act s number) ≡ in_slot s (λ r. (Aborted task Full, aborted cast r)) (act_does task owner old new cast)
     unfolding act_does
     act_tests = rw (next.found, next.least, next.lives, next.has, rule) refl
 
     pub act_full : free s ≡ None → outcome s (by_act s number) ≡ (Aborted task Full, aborted cast (swept s))
-    act_full none = act_tests ∙ in_none s (λ r. (Aborted task Full, aborted cast r)) (act_does task old.number new cast) none
+    act_full none = act_tests ∙ in_none s (λ r. (Aborted task Full, aborted cast r)) (act_does task owner old new cast) none
 
     pub acts : (sweep : Bool) (slot left : ℕ) → free s ≡ Some slot → sweep ≡ not (is_some (least_free s)) → left + 1 ≡ length cast.waiting
         → outcome s (by_act s number)
-        ≡ (Acted task (length s.creds) slot left, record (replaced (swept_if sweep s) task old.number new slot) { casts = waits_no_more task s.casts })
+        ≡ (
+          Acted task (length s.creds) slot left,
+          record (replaced (swept_if sweep s) task old.number new slot) { casts = waits_no_more task s.casts; dumpable = renewed s.dumpable owner.process (differs old.cred new) },
+        )
     unfolding act_does
     acts sweep slot left is for many =
         let fewer : length cast.waiting - 1 ≡ left = omega (arith, many) in
         act_tests
-        ∙ in_free s (λ r. (Aborted task Full, aborted cast r)) (act_does task old.number new cast) sweep slot is for
+        ∙ in_free s (λ r. (Aborted task Full, aborted cast r)) (act_does task owner old new cast) sweep slot is for
         ∙ same sweep
-        ∙ ap (λ (k : ℕ). (Acted task (length s.creds) slot k, record (replaced (swept_if sweep s) task old.number new slot) { casts = waits_no_more task s.casts })) fewer
+        ∙ ap (λ (k : ℕ). (Acted task (length s.creds) slot k, record (replaced (swept_if sweep s) task old.number new slot) { casts = waits_no_more task s.casts; dumpable = renewed s.dumpable owner.process (differs old.cred new) })) fewer
       where
         same : (b : Bool)
             → ◌≡◌ {A = Answer × State} (
               Acted task (length (swept_if b s).creds) slot (length cast.waiting - 1),
-              record (replaced (swept_if b s) task old.number new slot) { casts = waits_no_more task (swept_if b s).casts },
+              record (replaced (swept_if b s) task old.number new slot) {
+                casts = waits_no_more task (swept_if b s).casts;
+                dumpable = renewed (swept_if b s).dumpable owner.process (differs old.cred new);
+              },
             ) (
               Acted task (length s.creds) slot (length cast.waiting - 1),
-              record (replaced (swept_if b s) task old.number new slot) { casts = waits_no_more task s.casts },
+              record (replaced (swept_if b s) task old.number new slot) { casts = waits_no_more task s.casts; dumpable = renewed s.dumpable owner.process (differs old.cred new) },
             )
         same true = refl
         same false = refl

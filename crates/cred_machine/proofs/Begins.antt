@@ -12,7 +12,8 @@ use Rattle.cred_record.specs.declared.refusal.Refusal.TheVariants as refusal
 use Rattle.cred_rules.specs.SetId.{set_id}
 use Rattle.cred_event.specs.declared.answer.Answer.{Answer}
 use Rattle.cred_event.specs.declared.answer.Answer.TheVariants.{Began, Eperm, Einval}
-use Rattle.cred_model.specs.State.{State, Task, Broadcast, Numbered, numbered, task_of, cast_in}
+use Rattle.cred_model.specs.State.{State, Task, Broadcast, ProcessFlag, Numbered, numbered, task_of, cast_in}
+use Rattle.cred_model.specs.Dumpable.{differs, renewed}
 use Rattle.cred_model.specs.Casts.{not_busy, others_of, with_cast}
 use Rattle.cred_model.specs.Moves.{in_slot, not_overridden, replaced, table_full}
 use Rattle.cred_model.specs.Slots.{free, least_free}
@@ -68,16 +69,17 @@ module _ (s : State) (line task : ℕ) (call : IdCall) (owner : Task) (old : Num
   others_are : (waiting : List ℕ) → waiting ≡ others_in owner.process task s.tasks → waiting ≡ others_of owner s.tasks
   others_are waiting is = is ∙ ap (λ (n : ℕ). others_in owner.process n s.tasks) (sym (owner_number s task owner can.lives))
 
-  pub begins : (made : Credential) (copied : IdCall) (waiting : List ℕ) → set_id old.cred call ≡ Ok made → copied ≡ call
-      → waiting ≡ others_in owner.process task s.tasks
+  pub begins : (made : Credential) (copied : IdCall) (waiting : List ℕ) (other : Bool) → set_id old.cred call ≡ Ok made → copied ≡ call
+      → waiting ≡ others_in owner.process task s.tasks → other ≡ differs old.cred made
       → outcome s (by_begin s line task call)
       ≡ in_slot s table_full (λ r slot. begun r
-      (record { number = line; process = owner.process; caller = task; call = copied; waiting = waiting }) old.number made slot)
-  begins made copied waiting rule same these =
+      (record { number = line; process = owner.process; caller = task; call = copied; waiting = waiting }) old.number made other slot)
+  begins made copied waiting other rule same these is =
       let cast : IdCall → List ℕ → Broadcast
       = λ k ns. record { number = line; process = owner.process; caller = task; call = k; waiting = ns } in
       begin_tests s line task call owner old made (cast copied waiting) can rule
       (ap (λ (k : IdCall). cast k waiting) same ∙ ap (λ (ns : List ℕ). cast call ns) (others_are waiting these))
+      ∙ ap (λ (b : Bool). in_slot s table_full (λ r slot. begun r (cast copied waiting) old.number made b slot)) (sym is)
 
 -- what is answered, by what answers the same
 pub same_answer : {E : Type 0} (given made : Answer × State) (answered : Result Answer E) (after : State) → given ≡ made
@@ -86,18 +88,22 @@ same_answer given made (Ok answer) after is gives = is ∙ gives
 same_answer given made (Err e) after is gives = tt
 
 -- The broadcast is open, and then its caller's credential is replaced.
-pub opens : (s : State) (cast : Broadcast) (old : ℕ) (made : Credential) (slot : ℕ) (sweep : Bool) (number left : ℕ) (casts : List Broadcast) (after : State)
+pub opens : (s : State) (cast : Broadcast) (old : ℕ) (made : Credential) (other : Bool) (slot : ℕ) (sweep : Bool) (number left : ℕ) (casts : List Broadcast)
+    (after : State) (flags : List ProcessFlag)
     → free s ≡ Some slot → sweep ≡ not (is_some (least_free s)) → number ≡ length s.creds → left ≡ length cast.waiting → casts ≡ with_cast s.casts cast
     → after ≡ replaced (swept_if sweep (record s { casts = casts })) cast.caller old made slot
-    → in_slot s table_full (λ r at. begun r cast old made at) ≡ (Began number slot left, after)
-opens s cast old made slot sweep number left casts after found is numbers many cs leads =
-    in_free s table_full (λ r at. begun r cast old made at) sweep slot found is
-    ∙ rw (leads, cs, many, numbers) (same sweep)
+    → flags ≡ renewed after.dumpable cast.process other
+    → in_slot s table_full (λ r at. begun r cast old made other at) ≡ (Began number slot left, record after { dumpable = flags })
+opens s cast old made other slot sweep number left casts after flags found is numbers many cs leads fs =
+    in_free s table_full (λ r at. begun r cast old made other at) sweep slot found is
+    ∙ rw (fs, leads, cs, many, numbers) (same sweep)
   where
     same : (b : Bool)
-        → ◌≡◌ {A = Answer × State} (begun (swept_if b s) cast old made slot) (
+        → ◌≡◌ {A = Answer × State} (begun (swept_if b s) cast old made other slot) (
           Began (length s.creds) slot (length cast.waiting),
-          replaced (swept_if b (record s { casts = with_cast s.casts cast })) cast.caller old made slot,
+          record (replaced (swept_if b (record s { casts = with_cast s.casts cast })) cast.caller old made slot) {
+            dumpable = renewed (replaced (swept_if b (record s { casts = with_cast s.casts cast })) cast.caller old made slot).dumpable cast.process other;
+          },
         )
     same true = refl
     same false = refl

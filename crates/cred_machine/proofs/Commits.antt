@@ -6,6 +6,7 @@ use Rattle.cred_event.specs.declared.answer.Answer.TheVariants.{Stale}
 use Rattle.cred_event.specs.declared.event.Change.{Change}
 use Rattle.cred_event.specs.declared.event.Change.TheVariants.{SetFs, Adjust, Exec, Access}
 use Rattle.cred_model.specs.State.{State, Task, Prepared, Changed}
+use Rattle.cred_model.specs.Dumpable.{flags_committed}
 use Rattle.cred_model.specs.Ends.{ended, left_by, survivors}
 use Rattle.cred_model.specs.Moves.{committed, given_up, with_current}
 use Rattle.cred_model.specs.Step.{casts_after, committed_by, ends_with, try_commit}
@@ -38,6 +39,7 @@ module _ (s : State) (place : ℕ) (p : Prepared) (owner : Task) (last : Changed
     casts = casts_left last.change owner.process s.casts;
     prepared = remove s.prepared place;
     deferred = late;
+    dumpable = flags_committed s owner last;
     creds = s.creds ++ record { cred = last.cred; slot = p.slot } ∷ [];
   }
 
@@ -53,6 +55,7 @@ module _ (s : State) (place : ℕ) (p : Prepared) (owner : Task) (last : Changed
           casts = casts_left last.change owner.process s.casts;
           prepared = remove s.prepared place;
           deferred = s.deferred ++ (left_by (ends_by (ending_of last.change owner.process p.task)) s.tasks ++ owner.current ∷ p.base ∷ []);
+          dumpable = flags_committed s owner last;
           creds = s.creds ++ record { cred = last.cred; slot = p.slot } ∷ [];
         },
       )
@@ -62,9 +65,9 @@ module _ (s : State) (place : ℕ) (p : Prepared) (owner : Task) (last : Changed
       let ends = ends_with last.change owner in
       let now = ends_by (ending_of last.change owner.process p.task) in
       let first : try_commit s place p owner last
-      ≡ (answered ends, casts_after last.change owner (committed (ended ends s) place p owner.current last.cred))
+      ≡ (answered ends, record (casts_after last.change owner (committed (ended ends s) place p owner.current last.cred)) { dumpable = flags_committed s owner last })
       = rw test refl in
       first
-      ∙ ap (λ (r : State). (answered ends, r)) (casts_are last.change owner (committed (ended ends s) place p owner.current last.cred))
+      ∙ ap (λ (r : State). (answered ends, record r { dumpable = flags_committed s owner last })) (casts_are last.change owner (committed (ended ends s) place p owner.current last.cred))
       ∙ ap (λ (late : List ℕ). (answered ends, after ends late)) (append_assoc s.deferred (left_by ends s.tasks) (owner.current ∷ p.base ∷ []))
       ∙ ap (λ (e : Task → Bool). (answered e, after e (s.deferred ++ (left_by e s.tasks ++ owner.current ∷ p.base ∷ [])))) (ends_are last.change owner p.task own)

@@ -1,13 +1,14 @@
 -- What a commit leads to, by the parts of the state after it, or how it is refused.
-use Rattle.std.proofs.Common.{◌≡◌, ◌≢◌, ℕ, ◌<◌, ◌==◌, is_some, true, List, [], ◌∷◌, ◌++◌, count_by, get_or, length, position, remove, slice_get, Option, Some, None, Result, Ok, Err, refl, sym, ap, ◌∙◌, subst}
-use Rattle.std.specs.Option.{option_and_then, option_map}
+use Rattle.std.proofs.Common.{◌≡◌, ◌≢◌, ℕ, ◌<◌, ◌==◌, is_some, true, false, Bool, List, [], ◌∷◌, ◌++◌, count_by, get_or, length, position, remove, slice_get, Option, Some, None, Result, Ok, Err, refl, sym, ap, ◌∙◌, subst}
+use Rattle.std.specs.Option.{option_and_then, option_map, option_map_or}
 use Rattle.std.specs.Result.{IfOk}
 use Rattle.std.proofs.lemmas.Result.{IfOk-weaker}
 use Rattle.std.proofs.lemmas.Option.{slice_get-get_or, slice_get_within}
 use Rattle.cred_record.specs.Credential.{Credential}
 use Rattle.cred_event.specs.declared.answer.Answer.{Answer}
 use Rattle.cred_event.specs.declared.answer.Answer.TheVariants.{Stale}
-use Rattle.cred_model.specs.State.{State, Broadcast, Changed, Prepared, SealedCred, Task, begun_by, task_of}
+use Rattle.cred_model.specs.State.{State, Broadcast, Changed, Prepared, ProcessFlag, SealedCred, Task, begun_by, numbered, task_of}
+use Rattle.cred_model.specs.Dumpable.{differs, flags_by, flags_committed}
 use Rattle.cred_model.specs.Casts.{not_busy}
 use Rattle.cred_model.specs.Ends.{left_by, survivors}
 use Rattle.cred_model.specs.Moves.{given_up, not_overridden, with_current}
@@ -83,47 +84,49 @@ module _ (s : State) (place : ℕ) (p : Prepared) (owner : Task) (last : Changed
   -- ---- a label whose base is its task's current credential
 
   -- the state with these parts
-  with_parts : List Task → List Broadcast → List Prepared → List ℕ → List SealedCred → State
-  with_parts tasks casts prepared late creds =
-      record s { tasks = tasks; casts = casts; prepared = prepared; deferred = late; creds = creds }
+  with_parts : List Task → List Broadcast → List Prepared → List ℕ → List ProcessFlag → List SealedCred → State
+  with_parts tasks casts prepared late flags creds =
+      record s { tasks = tasks; casts = casts; prepared = prepared; deferred = late; dumpable = flags; creds = creds }
 
-  same_parts : {ts us : List Task} {cs ds : List Broadcast} {ps qs : List Prepared} {ms ns : List ℕ} {es fs : List SealedCred}
-      → ts ≡ us → cs ≡ ds → ps ≡ qs → ms ≡ ns → es ≡ fs → with_parts ts cs ps ms es ≡ with_parts us ds qs ns fs
-  same_parts tasks casts prepared late creds = rw (tasks, casts, prepared, late, creds) refl
+  same_parts : {ts us : List Task} {cs ds : List Broadcast} {ps qs : List Prepared} {ms ns : List ℕ} {gs hs : List ProcessFlag} {es fs : List SealedCred}
+      → ts ≡ us → cs ≡ ds → ps ≡ qs → ms ≡ ns → gs ≡ hs → es ≡ fs → with_parts ts cs ps ms gs es ≡ with_parts us ds qs ns hs fs
+  same_parts tasks casts prepared late flags creds = rw (tasks, casts, prepared, late, flags, creds) refl
 
   pub commits : (ending : Ending) (answer : Answer) (number ended : ℕ) (cred : Credential) (tasks goes_on : List Task) (casts : List Broadcast) (prepared : List Prepared)
-      (numbers late : List ℕ) (old creds : List SealedCred) → IsOnCurrent s place → ending ≡ ending_of last.change owner.process p.task
+      (numbers late : List ℕ) (flags : List ProcessFlag) (other : Bool) (old creds : List SealedCred) → IsOnCurrent s place → ending ≡ ending_of last.change owner.process p.task
       → number ≡ length old → old ≡ s.creds → ended ≡ count_by (ends_by ending) s.tasks
       → answer ≡ committed_by last.change last.gains number p.slot ended
       → tasks ≡ with_current goes_on p.task number → goes_on ≡ survivors (ends_by ending) s.tasks
       → casts ≡ casts_left last.change owner.process s.casts
       → prepared ≡ remove s.prepared place → numbers ≡ left_by (ends_by ending) s.tasks ++ owner.current ∷ p.base ∷ []
-      → late ≡ s.deferred ++ numbers → cred ≡ last.cred → creds ≡ old ++ record { cred = cred; slot = p.slot } ∷ []
-      → Commits s place answer (record s { tasks = tasks; casts = casts; prepared = prepared; deferred = late; creds = creds })
+      → late ≡ s.deferred ++ numbers → flags ≡ flags_by last.change last.gains s.dumpable owner.process other
+      → other ≡ option_map_or (λ old. differs old.cred last.cred) (numbered s.creds owner.current) false → cred ≡ last.cred → creds ≡ old ++ record { cred = cred; slot = p.slot } ∷ []
+      → Commits s place answer (record s { tasks = tasks; casts = casts; prepared = prepared; deferred = late; dumpable = flags; creds = creds })
   unfolding with_parts
-  commits ending answer number ended cred tasks goes_on casts prepared numbers late old creds current ends many same count answers ts goes cs ps left ls copied es =
+  commits ending answer number ended cred tasks goes_on casts prepared numbers late flags other old creds current ends many same count answers ts goes cs ps left ls fs ids copied es =
       let now = ending_of last.change owner.process p.task in
       let own = owner_number s p.task owner is.lives in
       let next : number ≡ length s.creds = many ∙ ap length same in
       let by_ending : Ending → List Task = λ e. with_current (survivors (ends_by e) s.tasks) p.task (length s.creds) in
       let late_by : Ending → List ℕ = λ e. s.deferred ++ (left_by (ends_by e) s.tasks ++ owner.current ∷ p.base ∷ []) in
-      let parts : with_parts tasks casts prepared late creds
-      ≡ with_parts (by_ending now) (casts_left last.change owner.process s.casts) (remove s.prepared place) (late_by now)
+      let parts : with_parts tasks casts prepared late flags creds
+      ≡ with_parts (by_ending now) (casts_left last.change owner.process s.casts) (remove s.prepared place) (late_by now) (flags_committed s owner last)
       (s.creds ++ record { cred = last.cred; slot = p.slot } ∷ [])
       = same_parts
       (ts ∙ ap (λ (us : List Task). with_current us p.task number) goes
       ∙ ap (λ (n : ℕ). with_current (survivors (ends_by ending) s.tasks) p.task n) next ∙ ap by_ending ends)
       cs ps (ls ∙ ap (λ (ms : List ℕ). s.deferred ++ ms) left ∙ ap late_by ends)
+      (fs ∙ ap (flags_by last.change last.gains s.dumpable owner.process) ids)
       (es ∙ ap (λ (c : Credential). old ++ record { cred = c; slot = p.slot } ∷ []) copied
       ∙ ap (λ (ds : List SealedCred). ds ++ record { cred = last.cred; slot = p.slot } ∷ []) same) in
       let said : answer ≡ committed_by last.change last.gains (length s.creds) p.slot (count_by (ends_by now) s.tasks)
       = answers
       ∙ ap (λ (n : ℕ). committed_by last.change last.gains n p.slot ended) next
       ∙ ap (λ (n : ℕ). committed_by last.change last.gains (length s.creds) p.slot n) (count ∙ ap (λ (e : Ending). count_by (ends_by e) s.tasks) ends) in
-      commits_by answer (with_parts tasks casts prepared late creds)
+      commits_by answer (with_parts tasks casts prepared late flags creds)
       (settled s place p owner last (current p owner last is) own
       ∙ ap (λ (r : State). (committed_by last.change last.gains (length s.creds) p.slot (count_by (ends_by now) s.tasks), r)) (sym parts)
-      ∙ ap (λ (a : Answer). (a, with_parts tasks casts prepared late creds)) (sym said))
+      ∙ ap (λ (a : Answer). (a, with_parts tasks casts prepared late flags creds)) (sym said))
 
 -- ---- the tests of a commit
 

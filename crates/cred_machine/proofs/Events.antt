@@ -6,6 +6,7 @@ use Rattle.cred_rules.specs.SetId.{set_id}
 use Rattle.cred_event.specs.declared.answer.Answer.TheVariants.{Done, Kept, Sealed}
 use Rattle.cred_model.specs.State.{State, Broadcast, Changed, Hold, Prepared, Task, Numbered, begun_by, cast_in, cast_of, hold_of, numbered, prepared_of, task_of}
 use Rattle.cred_model.specs.Casts.{joined, not_busy, waits_no_more, others_of}
+use Rattle.cred_model.specs.Dumpable.{differs, flags_begun, flags_left, is_dumpable, with_flag}
 use Rattle.cred_model.specs.Ends.{is_task, is_thread_of, left_by, survivors}
 use Rattle.cred_model.specs.Moves.{created, first_task, in_slot, not_overridden, preparing}
 use Rattle.cred_model.specs.Moves.{table_full}
@@ -22,6 +23,7 @@ pub exited : (s : State) (task : ℕ) (owner : Task) → task_of s task ≡ Some
         tasks = survivors (is_task task) s.tasks;
         casts = waits_no_more task s.casts;
         deferred = s.deferred ++ left_by (is_task task) s.tasks;
+        dumpable = flags_left s owner;
       },
     )
 exited s task owner lives idle own = rw (lives, idle, own) refl
@@ -46,14 +48,20 @@ spawned s task child owner parent can = rw (can.lives, can.has, can.idle, can.ne
 pub forked : (s : State) (task child process : ℕ) (owner : Task) (parent : Numbered) → CanCreate s task child owner parent
     → find (is_thread_of process) s.tasks ≡ None
     → outcome s (by_fork s task child process)
-    ≡ (Sealed parent.number parent.slot, record s { tasks = s.tasks ++ first_task child process parent.number ∷ [] })
+    ≡ (
+      Sealed parent.number parent.slot,
+      record s {
+        tasks = s.tasks ++ first_task child process parent.number ∷ [];
+        dumpable = with_flag s.dumpable process (is_dumpable s.dumpable owner.process);
+      },
+    )
 forked s task child process owner parent can unused = rw (can.lives, can.has, can.idle, can.new, unused, can.own, can.few) refl
 
 pub init_tests : (s : State) (task process user group ns root : ℕ) → not_busy (cast_in s process) ≡ Ok tt → task_of s task ≡ None
     → nat_lt (length s.tasks) TASKS ≡ true
     → outcome s (by_init s task process user group ns root)
     ≡ in_slot s table_full (λ r slot.
-    (Sealed (length r.creds) slot, created r (first_task task process (length r.creds)) (first_credential user group ns root) slot))
+    (Sealed (length r.creds) slot, record (created r (first_task task process (length r.creds)) (first_credential user group ns root) slot) { dumpable = flags_begun r process }))
 init_tests s task process user group ns root idle new few = rw (idle, new, few) refl
 
 pub commit_tests : (s : State) (label place : ℕ) (p : Prepared) (owner : Task) (last : Changed) → position (λ p. p.label == label) s.prepared ≡ Some place
@@ -88,6 +96,6 @@ pub record CanBegin (s : State) (line task : ℕ) (owner : Task) (old : Numbered
 pub begin_tests : (s : State) (line task : ℕ) (call : IdCall) (owner : Task) (old : Numbered) (made : Credential) (cast : Broadcast)
     → CanBegin s line task owner old → set_id old.cred call ≡ Ok made
     → cast ≡ record { number = line; process = owner.process; caller = task; call = call; waiting = others_of owner s.tasks }
-    → outcome s (by_begin s line task call) ≡ in_slot s table_full (λ r slot. begun r cast old.number made slot)
+    → outcome s (by_begin s line task call) ≡ in_slot s table_full (λ r slot. begun r cast old.number made (differs old.cred made) slot)
 begin_tests s line task call owner old made cast can rule is =
     rw (can.lives, can.has, can.idle, can.new, can.own, rule, is) refl

@@ -6,8 +6,9 @@ use Rattle.cred_rules.specs.SetId.{set_id}
 use Rattle.cred_event.specs.declared.answer.AbortCause.{AbortCause}
 use Rattle.cred_event.specs.declared.answer.Answer.{Answer}
 use Rattle.cred_event.specs.declared.answer.Answer.TheVariants.{Aborted, Acted, NoBroadcast}
-use Rattle.cred_model.specs.State.{State, Task, Broadcast, Numbered, cast_of, task_of, numbered}
+use Rattle.cred_model.specs.State.{State, Task, Broadcast, ProcessFlag, Numbered, cast_of, task_of, numbered}
 use Rattle.cred_model.specs.Casts.{waits_no_more}
+use Rattle.cred_model.specs.Dumpable.{differs, renewed}
 use Rattle.cred_model.specs.Moves.{replaced}
 use Rattle.cred_model.specs.Slots.{free, least_free}
 use Rattle.cred_model.specs.Step.{aborted, by_act, outcome}
@@ -45,21 +46,27 @@ module _ (s : State) (number : ℕ) where
 module _ (s : State) (number task cast_at : ℕ) (cast : Broadcast) (owner : Task) (old : Numbered)
     (next : IsNext s number task cast_at cast owner old) (made : Credential)
     (rule : set_id old.cred cast.call ≡ Ok made) where
-  pub steps : (after : State) (casts : List Broadcast) (sweep : Bool) (slot left given : ℕ) → free s ≡ Some slot
+  pub steps : (after : State) (casts : List Broadcast) (flags : List ProcessFlag)
+      (other sweep : Bool) (slot left given : ℕ) → free s ≡ Some slot
       → sweep ≡ not (is_some (least_free s)) → left + 1 ≡ length cast.waiting → given ≡ length s.creds
       → after ≡ replaced (swept_if sweep s) task old.number made slot → casts ≡ waits_no_more task after.casts
-      → outcome s (by_act s number) ≡ (Acted task given slot left, record after { casts = casts })
-  steps after casts sweep slot left given is for many counted leads cs =
+      → other ≡ differs old.cred made → flags ≡ renewed after.dumpable owner.process other
+      → outcome s (by_act s number)
+      ≡ (Acted task given slot left, record after { casts = casts; dumpable = flags })
+  steps after casts flags other sweep slot left given is for many counted leads cs ids fs =
       acts s number task cast_at cast owner old next made rule sweep slot left is for many
-      ∙ rw (cs, leads, counted) (same sweep)
+      ∙ rw (fs, ids, cs, leads, counted) (same sweep)
     where
       same : (b : Bool)
           → ◌≡◌ {A = Answer × State} (
             Acted task (length s.creds) slot left,
-            record (replaced (swept_if b s) task old.number made slot) { casts = waits_no_more task s.casts },
+            record (replaced (swept_if b s) task old.number made slot) { casts = waits_no_more task s.casts; dumpable = renewed s.dumpable owner.process (differs old.cred made) },
           ) (
             Acted task (length s.creds) slot left,
-            record (replaced (swept_if b s) task old.number made slot) { casts = waits_no_more task (replaced (swept_if b s) task old.number made slot).casts },
+            record (replaced (swept_if b s) task old.number made slot) {
+              casts = waits_no_more task (replaced (swept_if b s) task old.number made slot).casts;
+              dumpable = renewed (replaced (swept_if b s) task old.number made slot).dumpable owner.process (differs old.cred made);
+            },
           )
       same true = refl
       same false = refl

@@ -103,6 +103,7 @@ module _ (s : State) (creds : List SealedCred) (r : References) (are : AreOf r s
     holds = refl;
     prepared = refl;
     deferred = refl;
+    dumpable = refl;
     slots = slots;
     creds = All-weaker (Contains (refs s)) (λ n. slice_get creds n ≡ slice_get s.creds n)
         (λ n has. kept n (refer_is r s n are ∙ among (refs s) n has)) (refs s) (All-contains_itself (refs s));

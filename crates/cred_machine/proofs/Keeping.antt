@@ -8,7 +8,7 @@ use Rattle.cred_event.specs.declared.answer.Answer.{Answer}
 use Rattle.cred_event.specs.declared.answer.Answer.TheVariants.{Done, Kept}
 use Rattle.cred_model.specs.Moves.{altered, given_up, holding, in_slot, preparing}
 use Rattle.cred_model.specs.Slots.{least_free, refs, swept}
-use Rattle.cred_model.specs.State.{State, SealedCred, Broadcast, OpenFile as Open, Hold, Prepared, Changed, Numbered, hold_of, prepared_of}
+use Rattle.cred_model.specs.State.{State, SealedCred, Broadcast, OpenFile as Open, Hold, Prepared, ProcessFlag, Changed, Numbered, hold_of, prepared_of}
 use Rattle.cred_model.specs.Step.{take_hold}
 use Rattle.cred_model.proofs.Lists.{All-left}
 use Rattle.cred_model.proofs.Referred.{EachRef, each_deferred, each_files, each_holds, each_prepared}
@@ -110,6 +110,17 @@ with_casts s t answer casts keeps = record { left = keeps.left; each = by keeps.
     by each = each
 
     more : CredsKept s t → CredsKept s (record t { casts = casts })
+    more (NoneMore same) = NoneMore same
+    more (OneMore new is there) = OneMore new is there
+
+-- and so do the flags
+pub with_flags : (s t : State) (answer : Answer) (flags : List ProcessFlag) → Keeps s (answer, t) → Keeps s (answer, record t { dumpable = flags })
+with_flags s t answer flags keeps = record { left = keeps.left; each = by keeps.each; swept = keeps.swept; creds = more keeps.creds }
+  where
+    by : EachRef (Contains (refs t)) (with_left s keeps.left) → EachRef (Contains (refs t)) (with_left s keeps.left)
+    by each = each
+
+    more : CredsKept s t → CredsKept s (record t { dumpable = flags })
     more (NoneMore same) = NoneMore same
     more (OneMore new is there) = OneMore new is there
 

@@ -10,6 +10,7 @@ use Rattle.cred_event.specs.declared.answer.Answer.TheVariants.{Done, Sealed, St
 use Rattle.cred_event.specs.declared.event.Change.{Change}
 use Rattle.cred_event.specs.declared.event.Change.TheVariants.{Exec, SetFs, Adjust, Access}
 use Rattle.cred_model.specs.Casts.{dropped}
+use Rattle.cred_model.specs.Dumpable.{flags_committed}
 use Rattle.cred_model.specs.Ends.{ended, left_by, survivors}
 use Rattle.cred_model.specs.Moves.{committed, created, first_task, given_up, lent, overridden, overriding, replaced, updated, with_current, with_overrides}
 use Rattle.cred_model.specs.Slots.{refs}
@@ -24,7 +25,7 @@ use Rattle.cred_sound.proofs.References.{overrides_stand, own_refs, owner_stands
 use Rattle.cred_sound.proofs.Survivors.{find_goes_on}
 use Rattle.cred_machine.specs.Kept.{may_have_swept}
 use Rattle.cred_machine.proofs.Lasting.{IsOwn, currents_before, currents_ended, currents_stay, last_of, overridden_before, overrides_ended, overrides_stay, owned, unremoved}
-use Rattle.cred_machine.proofs.Keeping.{IsLeft, Keeps, OneMore, NoneMore, all_stand, each_before, each_creds, gives_up_prepared, if_left, with_casts}
+use Rattle.cred_machine.proofs.Keeping.{IsLeft, Keeps, OneMore, NoneMore, all_stand, each_before, each_creds, gives_up_prepared, if_left, with_casts, with_flags}
 
 -- the tasks before there was one more
 tasks_before : {P : ℕ → Type 0} {s : State} → EachRef P s → (tasks : List Task) (new : Task) → All (λ t. P t.current) (tasks ++ new ∷ [])
@@ -166,8 +167,9 @@ tries_commit s place p owner last sound is found =
     let ends = ends_with last.change owner in
     let answer = commit_answer last (length s.creds) p.slot (count_by ends s.tasks) in
     let t = committed (ended ends s) place p owner.current last.cred in
-    elim (owner.current == p.base) as (λ b. Keeps s (cond {A = Answer × State} b (answer, casts_after last.change owner t) (Stale p.base owner.current, given_up s place p))) [
-      | true ↦ commits_casts s t answer last.change owner (commits s answer place p ends owner last.cred sound is found (not_itself last.change owner))
+    elim (owner.current == p.base) as (λ b. Keeps s (cond {A = Answer × State} b (answer, record (casts_after last.change owner t) { dumpable = flags_committed s owner last }) (Stale p.base owner.current, given_up s place p))) [
+      | true ↦ with_flags s (casts_after last.change owner t) answer (flags_committed s owner last)
+          (commits_casts s t answer last.change owner (commits s answer place p ends owner last.cred sound is found (not_itself last.change owner)))
       | false ↦ gives_up_prepared s (Stale p.base owner.current) place p is
     ]
 

@@ -1,5 +1,5 @@
 -- No event lets go of what is referred to, and only a sweep of what was given up.
-use Rattle.std.proofs.Common.{◌≡◌, ◌==◌, ◌-◌, ◌⊎◌, inl, inr, ℕ, List, [], ◌∷◌, length, nat_lt, slice_get, find, position, Some, None, true, Result, Ok, Err, refl, arith}
+use Rattle.std.proofs.Common.{◌≡◌, ◌==◌, ◌-◌, ◌⊎◌, inl, inr, ℕ, List, [], ◌∷◌, ◌++◌, length, nat_lt, slice_get, find, position, Some, None, true, Result, Ok, Err, refl, arith}
 use Rattle.std.specs.Option.{option_and_then}
 use Rattle.cred_ids.specs.Limits.{TASKS, OPEN_FILES, PREPARED, DEPTH}
 use Rattle.cred_record.specs.Credential.{Credential, first_credential}
@@ -12,20 +12,23 @@ use Rattle.cred_event.specs.declared.answer.AbortCause.TheVariants as cause
 use Rattle.cred_event.specs.declared.answer.Answer.TheVariants.{Done, Sealed, Kept, TableFull, Began, Acted, Aborted}
 use Rattle.cred_event.specs.declared.event.Change.{Change}
 use Rattle.cred_event.specs.declared.event.Event.{Event}
-use Rattle.cred_event.specs.declared.event.Event.TheVariants.{Init, Take, TakeFile, Release, Ask, Signal, Prepare, Alter, Commit, Abort, Override, Revert, Begin, Act, OpenFile, CloseFile, Spawn, Fork, Exit, Sweep}
+use Rattle.cred_event.specs.declared.event.Event.TheVariants.{Init, Take, TakeFile, Release, Ask, Signal, Prepare, Alter, Commit, Abort, Override, Revert, Begin, Act, OpenFile, CloseFile, Spawn, Fork, Exit, Sweep, Dumpable, Dumped, Ptrace}
+use Rattle.cred_event.specs.declared.event.Mode.{Mode}
 use Rattle.cred_model.specs.Answers.{checked}
-use Rattle.cred_model.specs.Casts.{joined, others_of, waits_no_more, with_cast}
+use Rattle.cred_model.specs.Casts.{dropped, joined, others_of, waits_no_more, with_cast}
 use Rattle.cred_model.specs.Change.{by_change, by_rule}
-use Rattle.cred_model.specs.Ends.{is_task, is_thread_of}
+use Rattle.cred_model.specs.Dumpable.{differs, flag_of_value, flags_begun, flags_left, is_dumpable, renewed, set_flag, with_flag, without_flag}
+use Rattle.cred_model.specs.Ends.{ended, is_task, is_thread_of}
 use Rattle.cred_model.specs.Moves.{created, first_task, preparing, replaced, table_full}
 use Rattle.cred_model.specs.Named.{change_files}
-use Rattle.cred_model.specs.Script.{Script, chain_of, info_of, root_of}
+use Rattle.cred_model.specs.Ptrace.{may_trace}
+use Rattle.cred_model.specs.Script.{Script, chain_of, info_of, reaches, root_of}
 use Rattle.cred_model.specs.State.{State, Task, Broadcast, Prepared, Numbered, begun_by, cast_in, cast_of, credential_of, held_by, hold_of, numbered, open_of, opener_of, prepared_of, task_of}
 use Rattle.cred_model.specs.Step.{aborted, follow, for_access, for_task, step}
 use Rattle.cred_sound.specs.Sound.{IsSound}
 use Rattle.cred_sound.proofs.Parts.{with_left}
 use Rattle.cred_sound.proofs.Tests.{outcome_has, if_some, if_none, if_either, if_fewer, if_passed, if_idle, if_own, if_last, if_rule, if_ok}
-use Rattle.cred_machine.proofs.Keeping.{IsLeft, Keeps, alters, closes, gives_up_prepared, if_left, if_left_one, in_slots, less, opens, prepares, refused, releases, still, takes_hold}
+use Rattle.cred_machine.proofs.Keeping.{IsLeft, Keeps, alters, closes, gives_up_prepared, if_left, if_left_one, in_slots, less, opens, prepares, refused, releases, still, takes_hold, with_flags}
 use Rattle.cred_machine.proofs.KeepingTasks.{creates, ends_some, lends, lends_prepared, replaces, reverts, shares, tries_commit}
 
 -- where no slot is free
@@ -40,9 +43,11 @@ init_keeps script s line task process user group ns =
     (if_idle Q (cast_in s process) _
     (λ idle. if_none Q (task_of s task) _ _
     (λ new. if_fewer Q (length s.tasks) TASKS _ _
-    (in_slots Q s table_full (λ s slot. (Sealed (length s.creds) slot, created s (first_task task process (length s.creds)) c slot))
+    (in_slots Q s table_full (λ s slot. (Sealed (length s.creds) slot, record (created s (first_task task process (length s.creds)) c slot) { dumpable = flags_begun s process }))
     (full s)
-    (λ left slot is. creates s left slot task process c is)))))
+    (λ left slot is.
+    let t = created (with_left s left) (first_task task process (length s.creds)) c slot in
+    with_flags s t (Sealed (length s.creds) slot) (flags_begun s process) (creates s left slot task process c is))))))
 
 release_keeps : (script : Script) (s : State) (line label : ℕ) → Keeps s (step script s line (Release label))
 release_keeps script s line label =
@@ -160,24 +165,33 @@ begin_keeps script s line task call sound =
     let others = others_of owner s.tasks in
     let cast : Broadcast = record { number = line; process = owner.process; caller = task; call = call; waiting = others } in
     in_slots Q s table_full
-    (λ s slot. (Began (length s.creds) slot (length others), record (replaced s task old.number new slot) { casts = with_cast s.casts cast }))
+    (λ s slot. (Began (length s.creds) slot (length others), record (replaced s task old.number new slot) { casts = with_cast s.casts cast; dumpable = renewed s.dumpable owner.process (differs old.cred new) }))
     (full s)
     (λ left slot is.
-    replaces s (Began (length s.creds) slot (length others)) left task slot owner old new (with_cast s.casts cast) sound found at
-    (if_left_one s left old.number is)))))))))
+    let answer = Began (length s.creds) slot (length others) in
+    let t = record (replaced (with_left s left) task old.number new slot) { casts = with_cast s.casts cast } in
+    with_flags s t answer (renewed s.dumpable owner.process (differs old.cred new))
+    (replaces s answer left task slot owner old new (with_cast s.casts cast) sound found at (if_left_one s left old.number is))))))))))
 
 follow_keeps : (s : State) (cast : Broadcast) (task : ℕ) (owner : Task) (old : Numbered) (made : Result Credential Denial) → IsSound s
-    → task_of s task ≡ Some owner → numbered s.creds owner.current ≡ Some old → Keeps s (follow s cast task old.number (by_rule made))
+    → task_of s task ≡ Some owner → numbered s.creds owner.current ≡ Some old → Keeps s (follow s cast task owner old (by_rule made))
 follow_keeps s cast task owner old (Err refusal) sound found at =
-    ends_some s (Aborted task cause.Perm) s.deferred (is_thread_of cast.process) _ (inl refl)
+    let answer = Aborted task cause.Perm in
+    let t = record (ended (is_thread_of cast.process) s) { casts = dropped cast.process s.casts } in
+    with_flags s t answer (without_flag s.dumpable cast.process) (ends_some s answer s.deferred (is_thread_of cast.process) _ (inl refl))
 follow_keeps s cast task owner old (Ok new) sound found at =
     let left_waiting = length cast.waiting - 1 in
     in_slots (Keeps s) s (λ now. (Aborted task cause.Full, aborted cast now))
-    (λ now slot. (Acted task (length now.creds) slot left_waiting, record (replaced now task old.number new slot) { casts = waits_no_more task now.casts }))
-    (λ left is. ends_some s (Aborted task cause.Full) left (is_thread_of cast.process) _ (inr (λ after. refl)))
+    (λ now slot. (Acted task (length now.creds) slot left_waiting, record (replaced now task old.number new slot) { casts = waits_no_more task now.casts; dumpable = renewed now.dumpable owner.process (differs old.cred new) }))
+    (λ left is.
+    let answer = Aborted task cause.Full in
+    let t = record (ended (is_thread_of cast.process) (with_left s left)) { casts = dropped cast.process s.casts } in
+    with_flags s t answer (without_flag s.dumpable cast.process) (ends_some s answer left (is_thread_of cast.process) _ (inr (λ after. refl))))
     (λ left slot is.
-    replaces s (Acted task (length s.creds) slot left_waiting) left task slot owner old new (waits_no_more task s.casts) sound found at
-    (if_left_one s left old.number is))
+    let answer = Acted task (length s.creds) slot left_waiting in
+    let t = record (replaced (with_left s left) task old.number new slot) { casts = waits_no_more task s.casts } in
+    with_flags s t answer (renewed s.dumpable owner.process (differs old.cred new))
+    (replaces s answer left task slot owner old new (waits_no_more task s.casts) sound found at (if_left_one s left old.number is)))
 
 act_keeps : (script : Script) (s : State) (line number : ℕ) → IsSound s → Keeps s (step script s line (Act number))
 act_keeps script s line number sound =
@@ -212,7 +226,10 @@ fork_keeps script s line task child process =
     (λ new. if_none Q (find (is_thread_of process) s.tasks) _ _
     (λ unused. if_own Q owner _
     (if_fewer Q (length s.tasks) TASKS _ _
-    (shares s (Sealed parent.number parent.slot) (first_task child process parent.number) s.casts))))))))
+    (let answer = Sealed parent.number parent.slot in
+    let t = record s { tasks = s.tasks ++ first_task child process parent.number ∷ []; casts = s.casts } in
+    with_flags s t answer (with_flag s.dumpable process (is_dumpable s.dumpable owner.process))
+    (shares s answer (first_task child process parent.number) s.casts)))))))))
 
 exit_keeps : (script : Script) (s : State) (line task : ℕ) → Keeps s (step script s line (Exit task))
 exit_keeps script s line task =
@@ -221,7 +238,30 @@ exit_keeps script s line task =
     (if_some Q (task_of s task) _ _
     (λ owner is. if_idle Q (begun_by s task) _
     (λ idle. if_own Q owner _
-    (ends_some s Done s.deferred (is_task task) (waits_no_more task s.casts) (inl refl)))))
+    (let t = record (ended (is_task task) s) { casts = waits_no_more task s.casts } in
+    with_flags s t Done (flags_left s owner) (ends_some s Done s.deferred (is_task task) (waits_no_more task s.casts) (inl refl))))))
+
+dumpable_keeps : (script : Script) (s : State) (line task value : ℕ) → Keeps s (step script s line (Dumpable task value))
+dumpable_keeps script s line task value =
+    let Q = Keeps s in
+    outcome_has Q s _ (refused s)
+    (if_some Q (task_of s task) _ _
+    (λ owner is. if_some Q (flag_of_value value) _ _
+    (λ flag known. with_flags s s Done (set_flag s.dumpable owner.process flag) (refused s Done))))
+
+ptrace_keeps : (script : Script) (s : State) (line from hold to target : ℕ) (mode : Mode) → Keeps s (step script s line (Ptrace from hold to target mode))
+ptrace_keeps script s line from hold to target mode =
+    let Q = Keeps s in
+    outcome_has Q s _ (refused s)
+    (if_some Q (task_of s from) _ _
+    (λ sender is. if_some Q (task_of s to) _ _
+    (λ receiver there. if_some Q (held_by s hold) _ _
+    (λ own held. if_some Q (held_by s target) _ _
+    (λ other at.
+    let same = sender.process == receiver.process in
+    let reach = reaches script.namespaces own.cred.ns other.cred.ns in
+    let dumpable = is_dumpable s.dumpable receiver.process in
+    if_last Q (may_trace own.cred other.cred same reach dumpable mode) _ _ (refused s Done))))))
 
 -- what an event keeps
 pub keeps : (script : Script) (s : State) (line : ℕ) (event : Event) → IsSound s → Keeps s (step script s line event)
@@ -250,6 +290,11 @@ keeps script s line (CloseFile fd) sound = close_keeps script s line fd
 keeps script s line (Spawn task child) sound = spawn_keeps script s line task child
 keeps script s line (Fork task child process) sound = fork_keeps script s line task child process
 keeps script s line (Exit task) sound = exit_keeps script s line task
+keeps script s line (Dumpable task value) sound = dumpable_keeps script s line task value
+keeps script s line (Dumped task) sound =
+    outcome_has (Keeps s) s _ (refused s)
+    (if_some _ (task_of s task) _ _ (λ owner is. refused s _))
+keeps script s line (Ptrace from hold to target mode) sound = ptrace_keeps script s line from hold to target mode
 keeps script s line Sweep sound = still s Done [] (at s.deferred)
   where
     at : (xs : List ℕ) → ([] ≡ xs) ⊎ (nat_lt 0 (length xs) ≡ true)

@@ -5,48 +5,61 @@ use Rattle.cred_event.specs.declared.answer.AbortCause.{AbortCause}
 use Rattle.cred_event.specs.declared.answer.Answer.{Answer}
 use Rattle.cred_event.specs.declared.answer.Answer.TheVariants.{Done, Kept, Sealed, TableFull}
 use Rattle.cred_record.specs.Credential.{Credential, first_credential}
-use Rattle.cred_model.specs.State.{State, Broadcast, Hold, Prepared, SealedCred, Task, Numbered, begun_by, cast_in, hold_of, numbered, prepared_of, task_of}
+use Rattle.cred_model.specs.State.{State, Broadcast, Hold, Prepared, SealedCred, Task, Numbered, ProcessFlag, begun_by, cast_in, hold_of, numbered, prepared_of, task_of}
 use Rattle.cred_model.specs.Slots.{free, least_free, swept}
 use Rattle.cred_model.specs.Casts.{dropped, joined, not_busy, waits_no_more}
+use Rattle.cred_model.specs.Dumpable.{flags_begun, is_dumpable, with_flag, without_flag}
 use Rattle.cred_model.specs.Ends.{is_task, is_thread_of, left_by, survivors}
 use Rattle.cred_model.specs.Moves.{created, preparing, first_task, not_overridden, table_full}
 use Rattle.cred_model.specs.Step.{aborted, by_exit, by_fork, by_init, by_prepare, by_spawn, outcome}
+use Rattle.cred_model.proofs.Numbers.{owner_number}
 use Rattle.cred_model.proofs.Places.{none_by_test}
+use Rattle.cred_plain.specs.Tasks.{is_other}
 use Rattle.cred_machine.specs.Room.{at_abort, swept_if}
 use Rattle.cred_machine.proofs.Events.{CanCreate, CanPrepare, exited, forked, init_tests, prepare_tests, spawned}
 use Rattle.cred_machine.proofs.Refusals.{neither, some_of}
 use Rattle.cred_machine.proofs.Rooms.{in_free, in_none, preparing_if}
 use Rattle.cred_machine.proofs.Seen.{found_in}
 
--- the state with these tasks, broadcasts and numbers that were given up
-with_parts : State → List Task → List Broadcast → List ℕ → State
-with_parts s tasks casts late = record s { tasks = tasks; casts = casts; deferred = late }
+-- the state with these tasks, broadcasts, flags, and numbers that were given up
+with_parts : State → List Task → List Broadcast → List ℕ → List ProcessFlag → State
+with_parts s tasks casts late flags = record s { tasks = tasks; casts = casts; deferred = late; dumpable = flags }
 
-same_parts : (s : State) {ts us : List Task} {cs ds : List Broadcast} {ms ns : List ℕ} → ts ≡ us → cs ≡ ds → ms ≡ ns → with_parts s ts cs ms ≡ with_parts s us ds ns
-same_parts s tasks casts late = rw (tasks, casts, late) refl
+same_parts : (s : State) {ts us : List Task} {cs ds : List Broadcast} {ms ns : List ℕ} {fs gs : List ProcessFlag}
+    → ts ≡ us → cs ≡ ds → ms ≡ ns → fs ≡ gs → with_parts s ts cs ms fs ≡ with_parts s us ds ns gs
+same_parts s tasks casts late flags = rw (tasks, casts, late, flags) refl
 
-pub exit_leads : (s : State) (task : ℕ) (owner : Task) (tasks : List Task) (casts : List Broadcast) (late numbers : List ℕ)
+-- the flags after the end of a thread of this process, where it has another thread or hasn't
+flags_unless : State → ℕ → Bool → List ProcessFlag
+flags_unless s process other = if other then s.dumpable else without_flag s.dumpable process
+
+pub exit_leads : (s : State) (task : ℕ) (owner : Task) (tasks : List Task) (casts : List Broadcast) (late numbers : List ℕ) (flags : List ProcessFlag) (other : Bool)
     → task_of s task ≡ Some owner → not_busy (begun_by s task) ≡ Ok tt → not_overridden owner ≡ Ok tt
     → tasks ≡ survivors (is_task task) s.tasks → casts ≡ waits_no_more task s.casts → late ≡ s.deferred ++ numbers → numbers ≡ left_by (is_task task) s.tasks
-    → outcome s (by_exit s task) ≡ (Done, record s { tasks = tasks; casts = casts; deferred = late })
-unfolding with_parts
-exit_leads s task owner tasks casts late numbers lives idle own ts cs ns left =
+    → flags ≡ (if other then s.dumpable else without_flag s.dumpable owner.process) → other ≡ is_some (find (is_other owner.process task) s.tasks)
+    → outcome s (by_exit s task) ≡ (Done, record s { tasks = tasks; casts = casts; deferred = late; dumpable = flags })
+unfolding with_parts flags_unless
+exit_leads s task owner tasks casts late numbers flags other lives idle own ts cs ns left fs is =
     exited s task owner lives idle own
-    ∙ ap (λ (r : State). (Done, r)) (sym (same_parts s ts cs (ns ∙ ap (λ ms. s.deferred ++ ms) left)))
+    ∙ ap (λ (r : State). (Done, r))
+    (sym (same_parts s ts cs (ns ∙ ap (λ ms. s.deferred ++ ms) left)
+    (fs ∙ ap (flags_unless s owner.process)
+    (is ∙ ap (λ (n : ℕ). is_some (find (is_other owner.process n) s.tasks)) (sym (owner_number s task owner lives))))))
 
-pub process_ended : (s : State) (process : ℕ) (tasks : List Task) (casts : List Broadcast) (late numbers : List ℕ) (sweep : Bool)
-    → tasks ≡ survivors (is_thread_of process) s.tasks → casts ≡ dropped process s.casts
+pub process_ended : (s : State) (process : ℕ) (tasks : List Task) (casts : List Broadcast) (late numbers : List ℕ) (flags : List ProcessFlag) (sweep : Bool)
+    → tasks ≡ survivors (is_thread_of process) s.tasks → casts ≡ dropped process s.casts → flags ≡ without_flag s.dumpable process
     → late ≡ (if sweep then [] else s.deferred) ++ numbers → numbers ≡ left_by (is_thread_of process) s.tasks
     → (cause : AbortCause) → at_abort cause s ≡ (if sweep then record s { deferred = [] } else s)
-    → (cast : Broadcast) → cast.process ≡ process → record s { tasks = tasks; casts = casts; deferred = late } ≡ aborted cast (at_abort cause s)
+    → (cast : Broadcast) → cast.process ≡ process
+    → record s { tasks = tasks; casts = casts; deferred = late; dumpable = flags } ≡ aborted cast (at_abort cause s)
 unfolding with_parts
-process_ended s process tasks casts late numbers sweep ts cs ns left cause is cast same =
-    same_parts s ts cs (ns ∙ ap (λ ms. (if sweep then [] else s.deferred) ++ ms) left)
+process_ended s process tasks casts late numbers flags sweep ts cs fs ns left cause is cast same =
+    same_parts s ts cs (ns ∙ ap (λ ms. (if sweep then [] else s.deferred) ++ ms) left) fs
     ∙ at sweep
     ∙ ap (λ (p : ℕ). aborted (record cast { process = p }) (if sweep then record s { deferred = [] } else s)) (sym same)
     ∙ ap (aborted cast) (sym is)
   where
-    at : (b : Bool) → with_parts s (survivors (is_thread_of process) s.tasks) (dropped process s.casts) ((if b then [] else s.deferred) ++ left_by (is_thread_of process) s.tasks)
+    at : (b : Bool) → with_parts s (survivors (is_thread_of process) s.tasks) (dropped process s.casts) ((if b then [] else s.deferred) ++ left_by (is_thread_of process) s.tasks) (without_flag s.dumpable process)
         ≡ aborted (record cast { process = process }) (if b then record s { deferred = [] } else s)
     at true = refl
     at false = refl
@@ -56,14 +69,17 @@ pub spawn_leads : (s : State) (task child : ℕ) (owner : Task) (parent : Number
     → outcome s (by_spawn s task child) ≡ (Sealed parent.number parent.slot, record s { tasks = tasks; casts = casts })
 unfolding with_parts
 spawn_leads s task child owner parent tasks casts can ts cs =
-    spawned s task child owner parent can ∙ ap (λ (r : State). (Sealed parent.number parent.slot, r)) (sym (same_parts s ts cs refl))
+    spawned s task child owner parent can ∙ ap (λ (r : State). (Sealed parent.number parent.slot, r)) (sym (same_parts s ts cs refl refl))
 
-pub fork_leads : (s : State) (task child process : ℕ) (owner : Task) (parent : Numbered) (tasks : List Task) → CanCreate s task child owner parent
-    → find (is_thread_of process) s.tasks ≡ None → tasks ≡ s.tasks ++ first_task child process parent.number ∷ []
-    → outcome s (by_fork s task child process) ≡ (Sealed parent.number parent.slot, record s { tasks = tasks })
-fork_leads s task child process owner parent tasks can unused ts =
+pub fork_leads : (s : State) (task child process : ℕ) (owner : Task) (parent : Numbered) (tasks : List Task) (flags : List ProcessFlag) (dumpable : Bool)
+    → CanCreate s task child owner parent → find (is_thread_of process) s.tasks ≡ None
+    → tasks ≡ s.tasks ++ first_task child process parent.number ∷ []
+    → flags ≡ with_flag s.dumpable process dumpable → dumpable ≡ is_dumpable s.dumpable owner.process
+    → outcome s (by_fork s task child process) ≡ (Sealed parent.number parent.slot, record s { tasks = tasks; dumpable = flags })
+unfolding with_parts
+fork_leads s task child process owner parent tasks flags dumpable can unused ts fs is =
     forked s task child process owner parent can unused
-    ∙ ap (λ (us : List Task). (Sealed parent.number parent.slot, record s { tasks = us })) (sym ts)
+    ∙ ap (λ (r : State). (Sealed parent.number parent.slot, r)) (sym (same_parts s ts refl refl (fs ∙ ap (with_flag s.dumpable process) is)))
 
 -- there is room for a task more
 pub not_full : (few full : Bool) → full ≡ not few → full ≡ false → few ≡ true
@@ -112,27 +128,28 @@ can_prepare s label task hold held whose looked among alive used is lives same i
       few = few;
     }
 
-pub init_leads : (s : State) (task process user group ns root number slot : ℕ) (sweep : Bool) (c : Credential) (tasks : List Task) (late : List ℕ) (old creds : List SealedCred)
+pub init_leads : (s : State) (task process user group ns root number slot : ℕ) (sweep : Bool) (c : Credential) (tasks : List Task) (late : List ℕ) (flags : List ProcessFlag) (old creds : List SealedCred)
     → not_busy (cast_in s process) ≡ Ok tt → task_of s task ≡ None → nat_lt (length s.tasks) TASKS ≡ true
     → free s ≡ Some slot → sweep ≡ not (is_some (least_free s)) → number ≡ length old → old ≡ s.creds → c ≡ first_credential user group ns root
     → tasks ≡ s.tasks ++ first_task task process number ∷ [] → creds ≡ old ++ record { cred = c; slot = slot } ∷ []
-    → late ≡ (if sweep then [] else s.deferred)
-    → outcome s (by_init s task process user group ns root) ≡ (Sealed number slot, record s { tasks = tasks; creds = creds; deferred = late })
-init_leads s task process user group ns root number slot sweep c tasks late old creds idle new few found is many same first ts cs ls =
+    → late ≡ (if sweep then [] else s.deferred) → flags ≡ flags_begun s process
+    → outcome s (by_init s task process user group ns root) ≡ (Sealed number slot, record s { tasks = tasks; creds = creds; deferred = late; dumpable = flags })
+init_leads s task process user group ns root number slot sweep c tasks late flags old creds idle new few found is many same first ts cs ls fs =
     init_tests s task process user group ns root idle new few
     ∙ in_free s table_full
-    (λ r at. (Sealed (length r.creds) at, created r (first_task task process (length r.creds)) (first_credential user group ns root) at)) sweep slot found is
+    (λ r at. (Sealed (length r.creds) at, record (created r (first_task task process (length r.creds)) (first_credential user group ns root) at) { dumpable = flags_begun r process })) sweep slot found is
     ∙ done sweep
-    ∙ rw (ts, cs, ls, many, same, first) refl
+    ∙ rw (ts, cs, ls, fs, many, same, first) refl
   where
     done : (b : Bool)
         → ◌≡◌ {A = Answer × State}
-        (Sealed (length (swept_if b s).creds) slot, created (swept_if b s) (first_task task process (length (swept_if b s).creds)) (first_credential user group ns root) slot) (
+        (Sealed (length (swept_if b s).creds) slot, record (created (swept_if b s) (first_task task process (length (swept_if b s).creds)) (first_credential user group ns root) slot) { dumpable = flags_begun (swept_if b s) process }) (
           Sealed (length s.creds) slot,
           record s {
             tasks = s.tasks ++ first_task task process (length s.creds) ∷ [];
             creds = s.creds ++ record { cred = first_credential user group ns root; slot = slot } ∷ [];
             deferred = if b then [] else s.deferred;
+            dumpable = flags_begun s process;
           },
         )
     done true = refl

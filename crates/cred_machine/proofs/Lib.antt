@@ -21,5 +21,6 @@ pub mod Free
 pub mod Threads
 pub mod Refusals
 pub mod Leads
+pub mod Unflagged
 pub mod Live
 pub mod Steps

@@ -12,7 +12,8 @@ use Rattle.cred_event.specs.declared.answer.Answer.{Answer}
 use Rattle.cred_event.specs.declared.answer.AbortCause.TheVariants.{Perm, Full}
 use Rattle.cred_event.specs.declared.answer.Answer.TheVariants.{Aborted, Acted, NoBroadcast}
 use Rattle.cred_model.specs.Casts.{waits_no_more}
-use Rattle.cred_model.specs.State.{State, SealedCred, Prepared, Task, Broadcast, Numbered, cast_of, numbered, task_of}
+use Rattle.cred_model.specs.Dumpable.{differs, renewed}
+use Rattle.cred_model.specs.State.{State, SealedCred, Prepared, ProcessFlag, Task, Broadcast, Numbered, cast_of, numbered, task_of}
 use Rattle.cred_model.specs.Change.{by_rule}
 use Rattle.cred_model.specs.Like.{IsLike}
 use Rattle.cred_model.specs.Moves.{◌>>=◌, replaced, updated, with_current}
@@ -135,9 +136,9 @@ module _ (s : State) (sound : IsSound s) (task slot : ℕ) (owner : Task) (made 
   new_cred = record { cred = made; slot = slot }
 
   -- where the number that is sealed last stands, all others stand where they did
-  pub live_replaced : (casts : List Broadcast) (k : ℕ)
-      → is_live (record (replaced s task owner.current made slot) { casts = casts }) k ≡ (is_live s k || (slot == k))
-  live_replaced casts k =
+  pub live_replaced : (casts : List Broadcast) (flags : List ProcessFlag) (k : ℕ)
+      → is_live (record (replaced s task owner.current made slot) { casts = casts; dumpable = flags }) k ≡ (is_live s k || (slot == k))
+  live_replaced casts flags k =
       let p = stands_in (s.creds ++ new_cred ∷ []) k in
       let new = length s.creds in
       let after = with_current s.tasks task new in
@@ -174,8 +175,9 @@ pub record IsActed (s : State) (task slot : ℕ) (after : State) : Type 0 where
   pub owner : Task
   pub made : Credential
   pub casts : List Broadcast
+  pub flags : List ProcessFlag
   pub lives : task_of s task ≡ Some owner
-  pub leads : after ≡ record (replaced s task owner.current made slot) { casts = casts }
+  pub leads : after ≡ record (replaced s task owner.current made slot) { casts = casts; dumpable = flags }
 
 abbrev task_in : Answer → ℕ
 task_in (Acted task cred slot left) = task
@@ -192,17 +194,23 @@ number_is creds n c is = by (slice_get creds n) is
     by None none = cc
     by (Some x) some = sym (ap (λ (o : Option Numbered). option_map_or (λ d. d.number) o n) some)
 
-followed : (s after : State) (cast : Broadcast) (t old task cred slot left : ℕ) (made : Result Credential Answer) → is_some (least_free s) ≡ true
-    → follow s cast t old made ≡ (Acted task cred slot left, after)
-    → (c : Credential) × (t ≡ task) × (after ≡ record (replaced s t old c slot) { casts = waits_no_more t s.casts })
-followed s after cast t old task cred slot left (Err e) some is = let never : Aborted t Perm ≡ Acted task cred slot left = ap (λ (g : Answer × State). g.0) is in cc
-followed s after cast t old task cred slot left (Ok c) some is = by (least_free s) refl
+-- the state after a step that took this slot
+stepped : (s : State) (t : ℕ) (owner : Task) (old : Numbered) (c : Credential) (slot : ℕ) → State
+stepped s t owner old c slot =
+    record (replaced s t old.number c slot) { casts = waits_no_more t s.casts; dumpable = renewed s.dumpable owner.process (differs old.cred c) }
+
+followed : (s after : State) (cast : Broadcast) (t : ℕ) (owner : Task) (old : Numbered) (task cred slot left : ℕ) (made : Result Credential Answer)
+    → is_some (least_free s) ≡ true → follow s cast t owner old made ≡ (Acted task cred slot left, after)
+    → (c : Credential) × (t ≡ task) × (after ≡ stepped s t owner old c slot)
+unfolding stepped
+followed s after cast t owner old task cred slot left (Err e) some is = let never : Aborted t Perm ≡ Acted task cred slot left = ap (λ (g : Answer × State). g.0) is in cc
+followed s after cast t owner old task cred slot left (Ok c) some is = by (least_free s) refl
   where
     does : State → ℕ → Answer × State
-    does r place = (Acted t (length r.creds) place (length cast.waiting - 1), record (replaced r t old c place) { casts = waits_no_more t r.casts })
+    does r place = (Acted t (length r.creds) place (length cast.waiting - 1), stepped r t owner old c place)
 
     by : (o : Option ℕ) → least_free s ≡ o
-        → (c' : Credential) × (t ≡ task) × (after ≡ record (replaced s t old c' slot) { casts = waits_no_more t s.casts })
+        → (c' : Credential) × (t ≡ task) × (after ≡ stepped s t owner old c' slot)
     by None none = let never : false ≡ true = ap (λ (o : Option ℕ). is_some o) (sym none) ∙ some in cc
     by (Some place) at =
         let here : free s ≡ Some place = sym (free_now s (least_free s) refl some) ∙ at in
@@ -212,11 +220,12 @@ followed s after cast t old task cred slot left (Ok c) some is = by (least_free 
         let same : place ≡ slot = ap (λ (g : Answer × State). slot_in g.0) made in (
           c,
           ap (λ (g : Answer × State). task_in g.0) made,
-          sym (ap (λ (g : Answer × State). g.1) made) ∙ ap (λ (n : ℕ). record (replaced s t old c n) { casts = waits_no_more t s.casts }) same,
+          sym (ap (λ (g : Answer × State). g.1) made) ∙ ap (stepped s t owner old c) same,
         )
 
 pub acted : (s after : State) (number task cred slot left : ℕ) → is_some (least_free s) ≡ true
     → outcome s (by_act s number) ≡ (Acted task cred slot left, after) → IsActed s task slot after
+unfolding stepped
 acted s after number task cred slot left some is =
     let answer = Acted task cred slot left in
     let refusal = NoBroadcast number in
@@ -224,24 +233,25 @@ acted s after number task cred slot left some is =
     let b = past s (slice_get a.0.waiting 0) refusal _ answer after (λ same. cc) a.2 in
     let c = past s (task_of s b.0) refusal _ answer after (λ same. cc) b.2 in
     let d = past s (numbered s.creds c.0.current) refusal _ answer after (λ same. cc) c.2 in
-    let e = followed s after a.0 b.0 d.0.number task cred slot left (by_rule (set_id d.0.cred a.0.call)) some d.2 in
+    let e = followed s after a.0 b.0 c.0 d.0 task cred slot left (by_rule (set_id d.0.cred a.0.call)) some d.2 in
     let own : d.0.number ≡ c.0.current = number_is s.creds c.0.current d.0 d.1 in
     record {
       owner = c.0;
       made = e.0;
       casts = waits_no_more b.0 s.casts;
+      flags = renewed s.dumpable c.0.process (differs d.0.cred e.0);
       lives = subst (λ (t : ℕ). task_of s t ≡ Some c.0) e.1 c.1;
       leads =
           e.2
-          ∙ ap (λ (n : ℕ). record (replaced s b.0 n e.0 slot) { casts = waits_no_more b.0 s.casts }) own
-          ∙ ap (λ (t : ℕ). record (replaced s t c.0.current e.0 slot) { casts = waits_no_more b.0 s.casts }) e.1;
+          ∙ ap (λ (n : ℕ). record (replaced s b.0 n e.0 slot) { casts = waits_no_more b.0 s.casts; dumpable = renewed s.dumpable c.0.process (differs d.0.cred e.0) }) own
+          ∙ ap (λ (t : ℕ). record (replaced s t c.0.current e.0 slot) { casts = waits_no_more b.0 s.casts; dumpable = renewed s.dumpable c.0.process (differs d.0.cred e.0) }) e.1;
     }
 
 -- what is live after a step that took its slot without a sweep
 pub live_acted : (s after : State) → IsSound s → (task slot : ℕ) → IsActed s task slot after → (k : ℕ) → is_live after k ≡ (is_live s k || (slot == k))
 live_acted s after sound task slot step k =
     ap (λ (t : State). is_live t k) step.leads
-    ∙ live_replaced s sound task slot step.owner step.made step.lives step.casts k
+    ∙ live_replaced s sound task slot step.owner step.made step.lives step.casts step.flags k
 
 found_unswept : (found sweep : Bool) → sweep ≡ not found → sweep ≡ false → found ≡ true
 found_unswept true sweep is unswept = refl
@@ -260,29 +270,30 @@ known_after s after sound number answer marks sweep (Some now) live is gives tak
 
 -- so it is after an id call
 pub known_opened : (s after : State) → IsSound s → (task old slot : ℕ) (made : Credential)
-    (marks : List Bool) (sweep : Bool) (casts : List Broadcast) (known : Option (List Bool))
-    → AreLive marks s → IsCurrentOf s task old
+    (marks : List Bool) (sweep : Bool) (casts : List Broadcast) (flags : List ProcessFlag)
+    (known : Option (List Bool)) → AreLive marks s → IsCurrentOf s task old
     → after ≡ replaced (swept_if sweep (record s { casts = casts })) task old made slot
     → IfSome known (λ now. (sweep ≡ false) × HasTaken marks slot now)
-    → IfSome known (λ now. AreLive now after)
-known_opened s after sound task old slot made marks sweep casts None live own leads takes = tt
-known_opened s after sound task old slot made marks sweep casts (Some now) live own leads takes =
+    → IfSome known (λ now. AreLive now (record after { dumpable = flags }))
+known_opened s after sound task old slot made marks sweep casts flags None live own leads takes = tt
+known_opened s after sound task old slot made marks sweep casts flags (Some now) live own leads takes =
     at (task_of s task) refl own
   where
     at : (o : Option Task) → task_of s task ≡ o → option_map (λ t. t.current) o ≡ Some old
-        → AreLive now after
+        → AreLive now (record after { dumpable = flags })
     at None lives is = λ k h. cc
     at (Some owner) lives is = λ k h.
         let current : owner.current ≡ old = cc in
-        let to : after ≡ record (replaced s task owner.current made slot) { casts = casts }
+        let to : after
+        ≡ record (replaced s task owner.current made slot) { casts = casts; dumpable = s.dumpable }
         = leads
         ∙ ap (λ b. replaced (swept_if b (record s { casts = casts })) task old made slot) takes.0
         ∙ ap (λ (n : ℕ). record (replaced s task n made slot) { casts = casts }) (sym current) in
         takes.1 k h
         ∙ ap (λ b. b || (slot == k)) (live k h)
         ∙ sym
-        (ap (λ (t : State). is_live t k) to
-        ∙ live_replaced s sound task slot owner made lives casts k)
+        (ap (λ (t : State). is_live (record t { dumpable = flags }) k) to
+        ∙ live_replaced s sound task slot owner made lives casts flags k)
 
 -- where a credential stands, by the list of slots
 stands_by : (creds : List SealedCred) (slot n : ℕ) → stands_in creds slot n ≡ option_map_or (λ k. k == slot) (slice_get (slots_of creds) n) false

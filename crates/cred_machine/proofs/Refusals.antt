@@ -1,5 +1,5 @@
 -- What the events answer where one of their tests refuses.
-use Rattle.std.proofs.Common.{◌≡◌, ℕ, ◌==◌, ◌||◌, nat_lt, not, Bool, find, is_some, length, true, false, Option, Some, None, Ok, Err, refl, sym, ◌∙◌}
+use Rattle.std.proofs.Common.{◌≡◌, ℕ, ◌==◌, ◌||◌, nat_lt, not, Bool, cond, find, is_some, length, true, false, Option, Some, None, Ok, Err, refl, sym, ap, ◌∙◌}
 use Rattle.cred_ids.specs.Limits.{TASKS}
 use Rattle.cred_event.specs.declared.answer.Answer.{Answer}
 use Rattle.cred_event.specs.declared.answer.Answer.TheVariants.{Done, Eperm, Exists, NoHold, NoTask, TooMany}
@@ -10,7 +10,11 @@ use Rattle.cred_model.specs.State.{State, Task, Numbered, begun_by, held_by, num
 use Rattle.cred_model.specs.Casts.{not_busy}
 use Rattle.cred_model.specs.Ends.{is_thread_of}
 use Rattle.cred_model.specs.Moves.{not_overridden}
-use Rattle.cred_model.specs.Step.{by_exit, by_fork, by_prepare, by_signal, by_spawn, outcome}
+use Rattle.cred_model.specs.Step.{by_exit, by_fork, by_prepare, by_ptrace, by_signal, by_spawn, outcome}
+use Rattle.cred_model.specs.Dumpable.{is_dumpable}
+use Rattle.cred_model.specs.Ptrace.{may_trace}
+use Rattle.cred_model.specs.Script.{Script, reaches}
+use Rattle.cred_event.specs.declared.event.Mode.{Mode}
 
 pub exit_busy : (s : State) (task : ℕ) (owner : Task) (answer : Answer) → task_of s task ≡ Some owner → not_busy (begun_by s task) ≡ Err answer
     → outcome s (by_exit s task) ≡ (answer, s)
@@ -86,6 +90,45 @@ module _ (s : State) (from hold to target : ℕ) (sender receiver : Task) (sends
 
     pub signal_may_not : may ≡ false → outcome s (by_signal s from hold to target) ≡ (Eperm, s)
     signal_may_not not_so = let test : may_signal own.cred other.cred (sender.process == receiver.process) ≡ false = sym is ∙ not_so in rw (sends, receives, has, there, test) refl
+
+-- a task that would look into another
+module _ (script : Script) (s : State) (from hold to target : ℕ) (mode : Mode) (sender receiver : Task)
+    (sends : task_of s from ≡ Some sender) (receives : task_of s to ≡ Some receiver) where
+  pub trace_own : held_by s hold ≡ None → outcome s (by_ptrace script s from hold to target mode) ≡ (NoHold hold, s)
+  trace_own none = rw (sends, receives, none) refl
+
+  pub trace_other : (own : Numbered) → held_by s hold ≡ Some own → held_by s target ≡ None
+      → outcome s (by_ptrace script s from hold to target mode) ≡ (NoHold target, s)
+  trace_other own has none = rw (sends, receives, has, none) refl
+
+  module _ (own other : Numbered) (has : held_by s hold ≡ Some own) (there : held_by s target ≡ Some other) where
+    -- what is tested
+    may : Bool
+    may =
+        may_trace own.cred other.cred (sender.process == receiver.process) (reaches script.namespaces own.cred.ns other.cred.ns)
+        (is_dumpable s.dumpable receiver.process) mode
+
+    tested : outcome s (by_ptrace script s from hold to target mode) ≡ cond may (Done, s) (Eperm, s)
+    unfolding may
+    tested =
+        rw (sends, receives, has, there)
+        (elim (may_trace own.cred other.cred (sender.process == receiver.process) (reaches script.namespaces own.cred.ns other.cred.ns)
+        (is_dumpable s.dumpable receiver.process) mode) as (λ b. outcome s (cond b (Ok (Done, s)) (Err Eperm)) ≡ cond b (Done, s) (Eperm, s)) [
+          | true ↦ refl
+          | false ↦ refl
+        ])
+
+    pub traces : (reach dumpable so answer : Bool) → reach ≡ reaches script.namespaces own.cred.ns other.cred.ns
+        → dumpable ≡ is_dumpable s.dumpable receiver.process
+        → so ≡ may_trace own.cred other.cred (sender.process == receiver.process) reach dumpable mode → so ≡ answer
+        → outcome s (by_ptrace script s from hold to target mode) ≡ cond answer (Done, s) (Eperm, s)
+    unfolding may
+    traces reach dumpable so answer r d is same =
+        let all : may ≡ answer
+        = ap (λ (b : Bool). may_trace own.cred other.cred (sender.process == receiver.process) b (is_dumpable s.dumpable receiver.process) mode) (sym r)
+        ∙ ap (λ (b : Bool). may_trace own.cred other.cred (sender.process == receiver.process) reach b mode) (sym d)
+        ∙ sym is ∙ same in
+        tested ∙ ap (λ (b : Bool). cond b (Done, s) (Eperm, s)) all
 
 -- what is there by a test
 pub some_of : {X : Type 0} (found : Option X) → is_some found ≡ true → (x : X) × (found ≡ Some x)

@@ -15,6 +15,7 @@ seen_state s = record {
   holds = s.holds.items;
   prepared = s.prepared.items;
   deferred = s.deferred.items;
+  dumpable = s.dump;
   creds = s.creds.list;
 }
 

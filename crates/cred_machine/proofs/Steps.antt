@@ -6,8 +6,9 @@ use Rattle.std.proofs.lemmas.Option.{slice_get_within}
 use Rattle.cred_record.specs.Credential.{Credential}
 use Rattle.cred_rules.specs.SetId.{set_id}
 use Rattle.cred_event.specs.declared.answer.Answer.TheVariants.{Acted}
-use Rattle.cred_model.specs.State.{State, Task, Broadcast, Numbered, numbered, task_of}
+use Rattle.cred_model.specs.State.{State, Task, Broadcast, ProcessFlag, Numbered, numbered, task_of}
 use Rattle.cred_model.specs.Casts.{waits_no_more}
+use Rattle.cred_model.specs.Dumpable.{differs, renewed}
 use Rattle.cred_model.specs.Moves.{replaced, with_current}
 use Rattle.cred_model.specs.Slots.{free, least_free}
 use Rattle.cred_model.specs.Step.{by_act, outcome}
@@ -98,21 +99,23 @@ module _ (s : State) (old : ℕ) (made : Credential) (slot : ℕ) where
 module _ (s : State) (sound : IsSound s) (number task cast_at : ℕ) (cast : Broadcast)
     (owner : Task) (old : Numbered) (next : IsNext s number task cast_at cast owner old)
     (made : Credential) (rule : set_id old.cred cast.call ≡ Ok made) where
-  pub steps_there : (after : State) (tasks : List Task) (casts : List Broadcast) (sweep : Bool)
-      (slot left given at : ℕ) → free s ≡ Some slot → sweep ≡ not (is_some (least_free s))
+  pub steps_there : (after : State) (tasks : List Task) (casts : List Broadcast)
+      (flags : List ProcessFlag) (other sweep : Bool) (slot left given at : ℕ) → free s ≡ Some slot → sweep ≡ not (is_some (least_free s))
       → left + 1 ≡ length cast.waiting → given ≡ length s.creds → IsTaskAt s.tasks task at
       → after ≡ sealed_for (swept_if sweep s) old.number made slot
       → (AllPairs (λ a b. a.number ≢ b.number) after.tasks
       → IfSome (slice_get after.tasks at) (λ t. tasks ≡ with_current after.tasks t.number given))
       → casts ≡ waits_no_more task after.casts
+      → other ≡ differs old.cred made → flags ≡ renewed after.dumpable owner.process other
       → outcome s (by_act s number)
-      ≡ (Acted task given slot left, record after { tasks = tasks; casts = casts })
-  steps_there after tasks casts sweep slot left given at is for many counted stands leads set cs =
+      ≡ (Acted task given slot left, record after { tasks = tasks; casts = casts; dumpable = flags })
+  steps_there after tasks casts flags other sweep slot left given at is for many counted stands leads
+      set cs ids fs =
       let n = old.number in
       let current : tasks ≡ with_current after.tasks task given
       = set_there after.tasks tasks task given at
       (stands_still s n made slot sound sweep after leads task at stands)
       (set (apart_still s n made slot sound sweep after leads)) in
       steps s number task cast_at cast owner old next made rule (record after { tasks = tasks })
-      casts sweep slot left given is for many counted
-      (replaces s n made slot sweep after task given tasks leads counted current) cs
+      casts flags other sweep slot left given is for many counted
+      (replaces s n made slot sweep after task given tasks leads counted current) cs ids fs

@@ -137,6 +137,15 @@ impl State {
                 process,
             } => self.fork(*task, *child, *process),
             Event::Exit { task } => self.exit(*task),
+            Event::Dumpable { task, value } => Ok(self.set_dumpable(*task, *value)),
+            Event::Dumped { task } => Ok(self.dumped(*task)),
+            Event::Ptrace {
+                from,
+                hold,
+                to,
+                target,
+                mode,
+            } => Ok(self.trace(script, *from, *hold, *to, *target, *mode)),
             Event::Sweep => {
                 self.sweep();
                 Ok(Answer::Done)

@@ -4,11 +4,13 @@
 #![tactic(auto)]
 
 mod cached;
+mod flags;
 mod machine;
 mod on_casts;
 mod on_files;
 mod on_labels;
 mod on_overrides;
+mod on_ptrace;
 mod on_tasks;
 mod slots;
 mod state;

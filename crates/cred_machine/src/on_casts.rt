@@ -19,6 +19,7 @@ use cred_event::{AbortCause, Answer, Named};
 use cred_ids::NoMemory;
 use cred_plain::casts::{acted, cast_of, cast_place, drop_cast, open_cast, open_in};
 use cred_plain::{Cast, Ending};
+use cred_ptrace::differs;
 use cred_record::{Cred, IdCall, Refusal, copy};
 use cred_setid::apply_to;
 use std::alloc::Global;
@@ -79,6 +80,7 @@ impl State {
             Err(Refusal::Invalid) => return Ok(Answer::Einval),
             Err(Refusal::Memory) => return Err(NoMemory),
         };
+        let other = differs(old.cred, &cred);
         let (number, waiting) = (old.number, self.tasks.others(process, task)?);
         let cast = Cast {
             number: line,
@@ -87,17 +89,19 @@ impl State {
             call: call.copy()?,
             waiting,
         };
-        self.open(live, cast, number, cred)
+        self.open(live, cast, number, cred, other)
     }
 
     /// The caller of a broadcast has made this credential of its current one, of this number. That
-    /// takes a slot, and the broadcast is open if anybody waits in it.
+    /// takes a slot, and the broadcast is open if anybody waits in it. `other` says that an
+    /// effective or a filesystem id is another one in it.
     fn open(
         &mut self,
         live: &mut Option<Marks>,
         cast: Cast,
         old: u64,
         cred: Cred,
+        other: bool,
     ) -> Result<Answer, NoMemory>
         requires waiting { length cast.waiting ≤ TASKS }
         requires caller { IsCurrentOf self.old cast.caller old }
@@ -105,7 +109,7 @@ impl State {
         requires known { IfSome live.old (λ marks. AreLive marks self.old) }
         ensures live { IfSome live.new (λ marks. AreLive marks self.new) }
         ensures ok { IfOk result (λ answer. in_slot self.old table_full
-            (λ s slot. begun s cast old cred slot) ≡ (answer, self.new)) }
+            (λ s slot. begun s cast old cred other slot) ≡ (answer, self.new)) }
         ensures err { OnErr result (self.new ≡ self.old) }
     {
         let mut marks = live_slots(self, live.take())?;
@@ -113,7 +117,8 @@ impl State {
         let Some(slot) = slot else {
             return Ok(self.table_full());
         };
-        let (task, left) = (cast.caller, cast.waiting.len() as u32);
+        let (task, process) = (cast.caller, cast.process);
+        let left = cast.waiting.len() as u32;
         let before = self.casts.len();
         open_cast(&mut self.casts, cast)?;
         let number = match self.replace(task, old, cred, slot, swept) {
@@ -123,6 +128,7 @@ impl State {
                 return Err(err);
             }
         };
+        self.dump.renew(process, other);
         *live = marks.after_call(slot, swept);
         Ok(Answer::Began {
             cred: number,
@@ -158,6 +164,7 @@ impl State {
             return Ok(Answer::NoBroadcast(line));
         };
         let (process, left, number) = (cast.process, cast.others(), current.number);
+        let own = owner.process;
         let cred = match called(self.alloc, current.cred, &cast.call) {
             Ok(cred) => cred,
             // Whether a call is valid is the call's alone, and its caller has made it: what the
@@ -167,12 +174,14 @@ impl State {
             }
             Err(Refusal::Memory) => return Err(NoMemory),
         };
+        let other = differs(current.cred, &cred);
         let Some(slot) = room.slot else {
             return self.end_process(process, task, AbortCause::Full);
         };
         let cred = self.seal(number, cred, slot, room.swept)?;
         self.tasks.set_current_at(task_at, cred);
         acted(&mut self.casts, cast_at, task);
+        self.dump.renew(own, other);
         Ok(Answer::Acted {
             task,
             cred,
@@ -232,6 +241,7 @@ impl State {
         defer_left(&mut self.deferred, swept, &self.tasks, ending)?;
         self.tasks.end(ending);
         drop_cast(&mut self.casts, process);
+        self.dump.gone(process);
         Ok(Answer::Aborted { task, cause })
     }
 }

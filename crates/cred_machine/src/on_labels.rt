@@ -11,7 +11,7 @@ ghost use Rattle.cred_machine.specs.Labels.{IsOnCurrent};
 ghost use Rattle.cred_plain.specs.Tasks.{ending_of};
 
 use crate::slots::{Room, make_room, sweep_if};
-use crate::state::{State, overridden};
+use crate::state::{State, differs_from, overridden};
 use cred_access::may_signal;
 use cred_decide::{Made, change as change_of, reply};
 use cred_declared::{asked_file, chain_of, executed_file};
@@ -247,6 +247,7 @@ impl State {
         let last = own.changed.as_ref().unwrap();
         let owner = self.tasks.get(own.task).unwrap();
         let (task, process, slot) = (own.task, owner.process, own.slot);
+        let other = differs_from(&self.creds, owner.current, &last.cred);
         let ending = ends_with(last.change, process, task);
         let ended = self.tasks.count(ending);
         let mut numbers = self.tasks.left(ending)?;
@@ -257,6 +258,7 @@ impl State {
         drop_with(&mut self.casts, last.change, process);
         let number = self.creds.seal(cred, slot);
         self.tasks.set_current(task, number);
+        self.dump.commit(last.change, &last.gains, process, other);
         let answer = committed_by(last.change, &last.gains, number, slot, ended);
         drop(self.prepared.remove(place));
         Ok(answer)

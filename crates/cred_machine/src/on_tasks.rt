@@ -4,6 +4,7 @@ ghost use Rattle.cred_model.specs.Like.{Gives};
 ghost use Rattle.cred_model.specs.Step.{by_exit, by_fork, by_init, by_spawn};
 ghost use Rattle.cred_sound.specs.Sound.{IsSound};
 
+use crate::flags;
 use crate::slots::{Room, defer_left, sweep_if};
 use crate::state::{State, overridden};
 use cred_event::{Answer, Counted, Named};
@@ -24,6 +25,7 @@ impl State {
         ns: u32,
         root: Id,
     ) -> Result<Answer, NoMemory>
+        requires sound { IsSound self.old }
         ensures ok { IfOk result (λ answer.
             Gives self.old (by_init self.old number process user group ns root) answer self.new) }
         ensures err { OnErr result (self.new ≡ self.old) }
@@ -47,8 +49,8 @@ impl State {
         self.creds.reserve()?;
         let cred = first(self.alloc, user, group, ns, root)?;
         let next = self.creds.next_number();
-        self.tasks
-            .push(Task::first(self.alloc, number, process, next))?;
+        let task = Task::first(self.alloc, number, process, next);
+        flags::enter(&mut self.tasks, &mut self.dump, task)?;
         sweep_if(&mut self.deferred, swept);
         self.creds.seal(cred, slot);
         Ok(Answer::Sealed { cred: next, slot })
@@ -92,9 +94,10 @@ impl State {
         Ok(Answer::Sealed { cred: number, slot })
     }
 
-    /// A task creates a process (fork(2)), whose one thread shares its current credential. The
-    /// refusals leave the state.
+    /// A task creates a process (fork(2)), whose one thread shares its current credential. It is
+    /// dumpable where the task's is. The refusals leave the state.
     pub(crate) fn fork(&mut self, task: u32, child: u32, process: u32) -> Result<Answer, NoMemory>
+        requires sound { IsSound self.old }
         ensures ok { IfOk result (λ answer.
             Gives self.old (by_fork self.old task child process) answer self.new) }
         ensures err { OnErr result (self.new ≡ self.old) }
@@ -126,8 +129,9 @@ impl State {
         if self.tasks.full() {
             return Ok(Answer::TooMany(Counted::Tasks));
         }
-        self.tasks
-            .push(Task::first(self.alloc, child, process, number))?;
+        let dumpable = self.dump.is_dumpable(owner.process);
+        let thread = Task::first(self.alloc, child, process, number);
+        flags::begin_process(&mut self.tasks, &mut self.dump, thread, dumpable)?;
         Ok(Answer::Sealed { cred: number, slot })
     }
 
@@ -148,10 +152,13 @@ impl State {
         if let Some(depth) = overridden(owner) {
             return Ok(Answer::Overridden(depth));
         }
+        let process = owner.process;
+        let other = self.tasks.has_other(process, task);
         let ending = Ending::Task(task);
         defer_left(&mut self.deferred, false, &self.tasks, ending)?;
         self.tasks.end(ending);
         leave(&mut self.casts, task);
+        self.dump.leave(process, other);
         Ok(Answer::Done)
     }
 }

@@ -1,10 +1,11 @@
 //! The state of the machine.
 ghost use Rattle.std.specs.Prelude.{◌≡◌, ◌||◌, false, is_some, length, IfOk, MatchOption, Ok};
 ghost use Rattle.std.specs.Prelude.{Err};
-ghost use Rattle.std.specs.Option.{option_map};
+ghost use Rattle.std.specs.Option.{option_map, option_map_or};
 ghost use Rattle.cred_event.specs.declared.answer.Answer.TheVariants.{Overridden};
-ghost use Rattle.cred_model.specs.State.{opening, credential_of, held_by, hold_of};
+ghost use Rattle.cred_model.specs.State.{opening, credential_of, held_by, hold_of, numbered};
 ghost use Rattle.cred_model.specs.State.{prepared_of};
+ghost use Rattle.cred_model.specs.Dumpable.{differs};
 ghost use Rattle.cred_model.specs.Like.{IsLike};
 ghost use Rattle.cred_model.specs.Moves.{not_overridden};
 ghost use Rattle.cred_plain.specs.Creds.{seen_numbered};
@@ -14,11 +15,14 @@ use cred_event::Side;
 use cred_ids::NoMemory;
 use cred_plain::labels::{hold_of, prepared_of};
 use cred_plain::{Cast, Creds, Hold, Numbered, OpenFile, Prepared, References, Task, Tasks};
+use cred_ptrace::{Dump, differs};
+use cred_record::Cred;
 use std::alloc::Global;
 use std::marker::Model;
 
 /// The live tasks, the open broadcasts, the open files, the holds, the prepared labels, the numbers
-/// that were given up since the last sweep, and the credentials by their numbers.
+/// that were given up since the last sweep, which processes are dumpable, and the credentials by
+/// their numbers.
 #[derive(Drop)]
 pub struct State {
     pub(crate) tasks: Tasks,
@@ -27,6 +31,7 @@ pub struct State {
     pub(crate) holds: Vec<Hold>,
     pub(crate) prepared: Vec<Prepared>,
     pub(crate) deferred: Vec<u64>,
+    pub(crate) dump: Dump,
     pub(crate) creds: Creds,
     pub(crate) alloc: Global,
 }
@@ -43,6 +48,7 @@ impl Model for State {
       holds = s.holds.items;
       prepared = s.prepared.items;
       deferred = s.deferred.items;
+      dumpable = s.dump;
       creds = s.creds.list;
     } };
 }
@@ -63,6 +69,7 @@ impl State {
             holds: Vec::new(alloc),
             prepared: Vec::new(alloc),
             deferred: Vec::new(alloc),
+            dump: Dump::new(alloc)?,
             creds: Creds::new(alloc)?,
             alloc,
         })
@@ -127,6 +134,18 @@ impl State {
         if swept {
             self.forget();
         }
+    }
+}
+
+/// Whether an effective or a filesystem id of this credential is another one than in the sealed one
+/// of this number.
+pub fn differs_from(creds: &Creds, number: u64, new: &Cred) -> bool
+    ensures { result ≡ option_map_or (λ old. differs old.cred new.now)
+        (numbered creds.now.list number) false }
+{
+    match creds.get(number) {
+        Some(old) => differs(old.cred, new),
+        None => false,
     }
 }
 

@@ -6,11 +6,11 @@ use Rattle.std.proofs.lemmas.List.Sums.{fold_push}
 use Rattle.std.proofs.lemmas.Bool.Decides.{nat_tests}
 use Rattle.cred_ids.specs.Limits.{TRIES}
 use Rattle.cred_event.specs.declared.content.Stage.{Stage}
-use Rattle.cred_event.specs.declared.content.Stage.TheVariants.{First, Acting, Asking, Opening, TakingTarget, Signalling, ReleasingTarget, Preparing, Altering, Committing, Aborting, Overriding, TakingAccess, ReleasingAccess, Reverting, Releasing, Retrying}
+use Rattle.cred_event.specs.declared.content.Stage.TheVariants.{First, Acting, Asking, Opening, TakingTarget, Signalling, Tracing, ReleasingTarget, Preparing, Altering, Committing, Aborting, Overriding, TakingAccess, ReleasingAccess, Reverting, Releasing, Retrying}
 use Rattle.cred_event.specs.declared.answer.Answer.{Answer}
 use Rattle.cred_event.specs.declared.answer.Answer.TheVariants.{Stale}
 use Rattle.cred_event.specs.declared.content.Content.{Content}
-use Rattle.cred_event.specs.declared.content.Content.TheVariants.{Nothing, One, Id, Question, Open, Fcap, Signal, Change, Access}
+use Rattle.cred_event.specs.declared.content.Content.TheVariants.{Nothing, One, Id, Question, Open, Fcap, Signal, Ptrace, Change, Access}
 use Rattle.cred_model.specs.Answers.{is_ok}
 use Rattle.cred_model.specs.Course.{Course, start, event_in, event_at, either, some_wait}
 use Rattle.cred_model.specs.Course.{next_stage, is_stale, next_try, after, most, left, is_bounded}
@@ -62,6 +62,10 @@ next_falls (Signal task to) First answer is = or_ends (Signal task to) First (is
 next_falls (Signal task to) TakingTarget answer is = or_else (Signal task to) TakingTarget answer Signalling Releasing ((λ line. refl), omega arith) ((λ line. refl), omega arith)
 next_falls (Signal task to) Signalling answer is = ((λ line. refl), omega arith)
 next_falls (Signal task to) ReleasingTarget answer is = ((λ line. refl), omega arith)
+next_falls (Ptrace task to mode) First answer is = or_ends (Ptrace task to mode) First (is_ok answer) TakingTarget ((λ line. refl), omega arith)
+next_falls (Ptrace task to mode) TakingTarget answer is = or_else (Ptrace task to mode) TakingTarget answer Tracing Releasing ((λ line. refl), omega arith) ((λ line. refl), omega arith)
+next_falls (Ptrace task to mode) Tracing answer is = ((λ line. refl), omega arith)
+next_falls (Ptrace task to mode) ReleasingTarget answer is = ((λ line. refl), omega arith)
 next_falls (Change task change) First answer is = or_ends (Change task change) First (is_ok answer) Preparing ((λ line. refl), omega arith)
 next_falls (Change task change) Preparing answer is = or_else (Change task change) Preparing answer Altering Releasing ((λ line. refl), omega arith) ((λ line. refl), omega arith)
 next_falls (Change task change) Altering answer is = or_else (Change task change) Altering answer Committing Aborting ((λ line. refl), omega arith) ((λ line. refl), omega arith)

@@ -3,6 +3,7 @@ pub mod Courses
 pub mod Lines
 pub mod Order
 pub mod Lists
+pub mod Overwritten
 pub mod Places
 pub mod Rising
 pub mod Waiting

@@ -1,7 +1,7 @@
 -- Each event does the same in two states that are alike.
-use Rattle.std.proofs.Common.{◌≡◌, ◌==◌, ◌-◌, ℕ, List, [], ◌∷◌, ◌++◌, length, drop, position, slice_get, None, Result, Ok, Err, ok_or, true, false, cond, refl, sym, ap, ◌∙◌, subst}
+use Rattle.std.proofs.Common.{◌≡◌, ◌==◌, ◌-◌, ℕ, List, [], ◌∷◌, ◌++◌, length, drop, position, slice_get, Option, None, Result, Ok, Err, ok_or, true, false, cond, refl, sym, ap, ◌∙◌, subst}
 use Rattle.std.specs.List.{All, count_by, find, remove}
-use Rattle.std.specs.Option.{option_and_then}
+use Rattle.std.specs.Option.{option_and_then, option_map_or}
 use Rattle.std.proofs.lemmas.List.Elements.{All-append, All-cons, All-drop, All-push, All-nil}
 use Rattle.cred_ids.specs.Limits.{TASKS, OPEN_FILES, HOLDS, PREPARED, DEPTH}
 use Rattle.cred_record.specs.Credential.{Credential, first_credential}
@@ -10,19 +10,23 @@ use Rattle.cred_record.specs.declared.want.Want.{Want}
 use Rattle.cred_rules.specs.Access.{may_signal}
 use Rattle.cred_rules.specs.SetId.{set_id}
 use Rattle.cred_event.specs.declared.answer.Answer.{Answer}
-use Rattle.cred_event.specs.declared.answer.Answer.TheVariants.{Done, Sealed, Kept, Began, Acted, Ebadf, Eperm, NoTask, NoHold, NoPrepared, NoBroadcast, NotOverridden, Stale, Aborted}
+use Rattle.cred_event.specs.declared.answer.Answer.TheVariants.{Done, Sealed, Kept, Began, Acted, Told, Ebadf, Eperm, Einval, NoTask, NoHold, NoPrepared, NoBroadcast, NotOverridden, Stale, Aborted}
+use Rattle.cred_event.specs.declared.answer.Told.TheVariants as told
 use Rattle.cred_event.specs.declared.answer.AbortCause.{AbortCause}
 use Rattle.cred_event.specs.declared.answer.AbortCause.TheVariants as cause
 use Rattle.cred_event.specs.declared.event.Change.{Change}
 use Rattle.cred_event.specs.declared.event.Change.TheVariants.{Exec}
 use Rattle.cred_event.specs.declared.event.Event.{Event}
+use Rattle.cred_event.specs.declared.event.Mode.{Mode}
 use Rattle.cred_event.specs.declared.event.Side.{Side}
 use Rattle.cred_event.specs.declared.event.Query.{Query}
-use Rattle.cred_event.specs.declared.event.Event.TheVariants.{Init, Take, TakeFile, Release, Ask, Signal, Prepare, Alter, Commit, Abort, Override, Revert, Begin, Act, OpenFile, CloseFile, Spawn, Fork, Exit, Sweep}
-use Rattle.cred_model.specs.Script.{Script, info_of, chain_of, root_of}
+use Rattle.cred_event.specs.declared.event.Event.TheVariants.{Init, Take, TakeFile, Release, Ask, Signal, Prepare, Alter, Commit, Abort, Override, Revert, Begin, Act, OpenFile, CloseFile, Spawn, Fork, Exit, Sweep, Dumpable, Dumped, Ptrace}
+use Rattle.cred_model.specs.Script.{Script, info_of, chain_of, root_of, reaches}
 use Rattle.cred_model.specs.Named.{change_files}
-use Rattle.cred_model.specs.State.{State, SealedCred, Task, Broadcast, OpenFile as Open, Hold, Prepared, Changed, Numbered, numbered, task_of, cast_of, cast_in, begun_by, open_of, hold_of, prepared_of, held_by}
+use Rattle.cred_model.specs.State.{State, SealedCred, Task, Broadcast, OpenFile as Open, Hold, Prepared, Changed, ProcessFlag, Numbered, numbered, task_of, cast_of, cast_in, begun_by, open_of, hold_of, prepared_of, held_by}
 use Rattle.cred_model.specs.Slots.{swept}
+use Rattle.cred_model.specs.Ptrace.{may_trace}
+use Rattle.cred_model.specs.Dumpable.{is_dumpable, with_flag, set_flag, without_flag, differs, renewed, flags_by, flags_committed, flags_begun, flags_left, flag_of_value}
 use Rattle.cred_model.specs.Answers.{checked}
 use Rattle.cred_model.specs.Change.{by_change, by_rule}
 use Rattle.cred_model.specs.Ends.{is_task, is_thread_of, ended}
@@ -34,9 +38,9 @@ use Rattle.cred_model.specs.Moves.{given_up, committed, altered, preparing, crea
 use Rattle.cred_model.specs.Step.{try_commit, done, ends_with, casts_after, commit_answer, aborted, follow, take_hold, for_task, for_access, override_held, override_prepared}
 use Rattle.cred_model.specs.Like.{IsLike, AreAlike}
 use Rattle.cred_model.proofs.Lists.{All-remove, find_each, get_each}
-use Rattle.cred_model.proofs.Referred.{EachRef, each_updated, each_overriding, each_changed, each_tasks, each_casts, each_files, each_holds, each_prepared, each_deferred, each_ended}
+use Rattle.cred_model.proofs.Referred.{EachRef, each_updated, each_overriding, each_changed, each_tasks, each_casts, each_flags, each_files, each_holds, each_prepared, each_deferred, each_ended}
 use Rattle.cred_model.proofs.LikeReads.{with, Same, slots_of, each_same, same_numbered, same_credential, same_opener, same_held, numbered_by, credential_by, opener_by, held_by_each}
-use Rattle.cred_model.proofs.LikeTests.{BothAre, tested, read, found, either, like_with, like_casts, like_sealed, same_next, gave, full_like, in_slots}
+use Rattle.cred_model.proofs.LikeTests.{BothAre, tested, read, found, either, like_with, like_casts, like_flags, like_sealed, same_next, gave, full_like, in_slots}
 
 -- ---- the events
 
@@ -87,11 +91,13 @@ module _ (script : Script) (s : State) (cs : List SealedCred) (line : ℕ) (like
       tested (not_busy (cast_in s process)) _ _
       (λ idle. tested (none_or (task_of s task) _) _ _
       (λ free. tested (fewer_or (length s.tasks) TASKS _) _ _
-      (λ few. in_slots s cs table_full (λ now slot. (Sealed (length now.creds) slot, created now (new (length now.creds)) cred slot)) like (full_like s cs like.slots)
-      (λ gone each slot. like_sealed (λ n. Sealed n slot) (λ n. record (gave s gone) { tasks = s.tasks ++ new n ∷ [] })
+      (λ few. in_slots s cs table_full
+      (λ now slot. (Sealed (length now.creds) slot, record (created now (new (length now.creds)) cred slot) { dumpable = flags_begun now process })) like (full_like s cs like.slots)
+      (λ gone each slot. like_sealed (λ n. Sealed n slot) (λ n. record (gave s gone) { tasks = s.tasks ++ new n ∷ []; dumpable = flags_begun s process })
       s.creds cs (record { cred = cred; slot = slot }) like.slots
+      (each_flags
       (each_tasks each _ (All-push (λ (t : Task). Here t.current) s.tasks _ each.currents next)
-      (All-push OfOverrides s.tasks _ each.overrides (All-nil Here)))))))
+      (All-push OfOverrides s.tasks _ each.overrides (All-nil Here))) _)))))
 
   take_hold_like : (label : ℕ) (taken : Numbered) → Here taken.number → BothAre (take_hold s label taken) (take_hold (with s cs) label taken)
   take_hold_like label taken here =
@@ -190,15 +196,27 @@ module _ (script : Script) (s : State) (cs : List SealedCred) (line : ℕ) (like
       record { answers = alike.answers; states = like_casts (dropped owner.process) alike.states }
   casts_like change owner a b alike = alike
 
+  -- what an execve, or a change of ids, makes of the flag
+  flags_like : (a b : Answer × State) (flags others : List ProcessFlag) → flags ≡ others → AreAlike a b
+      → AreAlike (a.0, record a.1 { dumpable = flags }) (b.0, record b.1 { dumpable = others })
+  flags_like a b flags others same alike =
+      subst (λ others. AreAlike (a.0, record a.1 { dumpable = flags }) (b.0, record b.1 { dumpable = others })) same
+      (record { answers = alike.answers; states = like_flags flags alike.states })
+
+  same_flags : (owner : Task) (last : Changed) → Here owner.current → flags_committed s owner last ≡ flags_committed (with s cs) owner last
+  same_flags owner last now =
+      ap (λ (o : Option Numbered). flags_by last.change last.gains s.dumpable owner.process (option_map_or (λ old. differs old.cred last.cred) o false))
+      (same_numbered s.creds cs owner.current now)
+
   try_commit_like : (place : ℕ) (p : Prepared) (owner : Task) (last : Changed) → Here p.base → Here owner.current
       → AreAlike (try_commit s place p owner last) (try_commit (with s cs) place p owner last)
   try_commit_like place p owner last here now =
       let ends = ends_with last.change owner in
       let count = count_by ends s.tasks in
       let stale = Stale p.base owner.current in
-      let after = casts_after last.change owner in
-      elim (owner.current == p.base) as (λ b. AreAlike (cond b (commit_answer last (length s.creds) p.slot count, after (committed (ended ends s) place p owner.current last.cred)) (stale, given_up s place p)) (cond b (commit_answer last (length cs) p.slot count, after (committed (ended ends (with s cs)) place p owner.current last.cred)) (stale, given_up (with s cs) place p))) [
-        | true ↦ casts_like last.change owner _ _ (committed_like place p owner last here now)
+      let after : State → State → State = λ now before. record (casts_after last.change owner now) { dumpable = flags_committed before owner last } in
+      elim (owner.current == p.base) as (λ b. AreAlike (cond b (commit_answer last (length s.creds) p.slot count, after (committed (ended ends s) place p owner.current last.cred) s) (stale, given_up s place p)) (cond b (commit_answer last (length cs) p.slot count, after (committed (ended ends (with s cs)) place p owner.current last.cred) (with s cs)) (stale, given_up (with s cs) place p))) [
+        | true ↦ flags_like _ _ _ _ (same_flags owner last now) (casts_like last.change owner _ _ (committed_like place p owner last here now))
         | false ↦ ended_like stale place p here
       ]
 
@@ -300,52 +318,68 @@ module _ (script : Script) (s : State) (cs : List SealedCred) (line : ℕ) (like
       let others = others_of owner s.tasks in
       let cast : Broadcast = record { number = line; process = owner.process; caller = task; call = call; waiting = others } in
       in_slots s cs table_full
-      (λ now slot. (Began (length now.creds) slot (length others), record (replaced now task old.number new slot) { casts = with_cast now.casts cast }))
+      (λ now slot. (
+        Began (length now.creds) slot (length others),
+        record (replaced now task old.number new slot) { casts = with_cast now.casts cast; dumpable = renewed now.dumpable owner.process (differs old.cred new) },
+      ))
       like (full_like s cs like.slots)
       (λ gone each slot. like_sealed (λ n. Began n slot (length others))
-      (λ n. record s { tasks = with_current s.tasks task n; casts = with_cast s.casts cast; deferred = gone ++ old.number ∷ [] })
+      (λ n. record s {
+        tasks = with_current s.tasks task n;
+        casts = with_cast s.casts cast;
+        deferred = gone ++ old.number ∷ [];
+        dumpable = renewed s.dumpable owner.process (differs old.cred new);
+      })
       s.creds cs (record { cred = new; slot = slot }) like.slots
-      (each_casts
+      (each_flags (each_casts
       (each_deferred (each_updated each task (length s.creds) next) _ (All-push Here gone old.number each.deferred here))
-      _)))))))
+      _) _)))))))
 
   -- the process ends
   aborted_like : (cause : AbortCause) (task : ℕ) (cast : Broadcast) (gone : List ℕ) → EachRef Here (gave s gone)
       → AreAlike (Aborted task cause, aborted cast (gave s gone)) (Aborted task cause, aborted cast (with (gave s gone) cs))
   aborted_like cause task cast gone each =
-      leaves _ (aborted cast (gave s gone)) refl (each_casts (each_ended each (is_thread_of cast.process)) _)
+      leaves _ (aborted cast (gave s gone)) refl (each_flags (each_casts (each_ended each (is_thread_of cast.process)) _) _)
 
-  follow_like : (cast : Broadcast) (task old : ℕ) (made : Result Credential Answer) → Here old
-      → AreAlike (follow s cast task old made) (follow (with s cs) cast task old made)
-  follow_like cast task old (Err refusal) here = aborted_like cause.Perm task cast s.deferred refs
-  follow_like cast task old (Ok new) here =
+  follow_like : (cast : Broadcast) (task : ℕ) (owner : Task) (old : Numbered) (made : Result Credential Answer) → Here old.number
+      → AreAlike (follow s cast task owner old made) (follow (with s cs) cast task owner old made)
+  follow_like cast task owner old (Err refusal) here = aborted_like cause.Perm task cast s.deferred refs
+  follow_like cast task owner old (Ok new) here =
       let left = length cast.waiting - 1 in
       in_slots s cs (λ now. (Aborted task cause.Full, aborted cast now))
-      (λ now slot. (Acted task (length now.creds) slot left, record (replaced now task old new slot) { casts = waits_no_more task now.casts })) like
+      (λ now slot. (
+        Acted task (length now.creds) slot left,
+        record (replaced now task old.number new slot) { casts = waits_no_more task now.casts; dumpable = renewed now.dumpable owner.process (differs old.cred new) },
+      )) like
       (aborted_like cause.Full task cast)
       (λ gone each slot. like_sealed (λ n. Acted task n slot left)
-      (λ n. record s { tasks = with_current s.tasks task n; casts = waits_no_more task s.casts; deferred = gone ++ old ∷ [] })
+      (λ n. record s {
+        tasks = with_current s.tasks task n;
+        casts = waits_no_more task s.casts;
+        deferred = gone ++ old.number ∷ [];
+        dumpable = renewed s.dumpable owner.process (differs old.cred new);
+      })
       s.creds cs (record { cred = new; slot = slot }) like.slots
-      (each_casts
-      (each_deferred (each_updated each task (length s.creds) next) _ (All-push Here gone old each.deferred here))
-      _))
+      (each_flags (each_casts
+      (each_deferred (each_updated each task (length s.creds) next) _ (All-push Here gone old.number each.deferred here))
+      _) _))
 
   pub act_like : (number : ℕ) → DoneAlike (Act number)
   act_like number =
       tested (ok_or (cast_of s number) (NoBroadcast number)) _ _
       (λ cast. tested (ok_or (slice_get cast.waiting 0) (NoBroadcast number)) _ _
       (λ task. own_like task (NoBroadcast number) _ _
-      (λ owner old here. follow_like cast task old.number (by_rule (set_id old.cred cast.call)) here)))
+      (λ owner old here. follow_like cast task owner old (by_rule (set_id old.cred cast.call)) here)))
 
   -- a task more, which shares this credential
-  child_like : (answer : Answer) (child process number : ℕ) (casts : List Broadcast) → Here number
-      → let after = record s { tasks = s.tasks ++ first_task child process number ∷ []; casts = casts } in
+  child_like : (answer : Answer) (child process number : ℕ) (casts : List Broadcast) (flags : List ProcessFlag) → Here number
+      → let after = record s { tasks = s.tasks ++ first_task child process number ∷ []; casts = casts; dumpable = flags } in
       AreAlike (answer, after) (answer, with after cs)
-  child_like answer child process number casts here =
-      leaves answer (record s { tasks = s.tasks ++ first_task child process number ∷ []; casts = casts }) refl
-      (each_casts
+  child_like answer child process number casts flags here =
+      leaves answer (record s { tasks = s.tasks ++ first_task child process number ∷ []; casts = casts; dumpable = flags }) refl
+      (each_flags (each_casts
       (each_tasks refs _ (All-push OfTask s.tasks _ refs.currents here)
-      (All-push OfOverrides s.tasks _ refs.overrides (All-nil Here))) casts)
+      (All-push OfOverrides s.tasks _ refs.overrides (All-nil Here))) casts) flags)
 
   pub spawn_like : (task child : ℕ) → DoneAlike (Spawn task child)
   spawn_like task child =
@@ -354,7 +388,7 @@ module _ (script : Script) (s : State) (cs : List SealedCred) (line : ℕ) (like
       (λ idle. tested (none_or (task_of s child) _) _ _
       (λ new. tested (not_overridden owner) _ _
       (λ own. tested (fewer_or (length s.tasks) TASKS _) _ _
-      (λ few. child_like _ child owner.process parent.number (joined task child s.casts) here)))))
+      (λ few. child_like _ child owner.process parent.number (joined task child s.casts) s.dumpable here)))))
 
   pub fork_like : (task child process : ℕ) → DoneAlike (Fork task child process)
   fork_like task child process =
@@ -364,15 +398,38 @@ module _ (script : Script) (s : State) (cs : List SealedCred) (line : ℕ) (like
       (λ new. tested (none_or (find (is_thread_of process) s.tasks) _) _ _
       (λ unused. tested (not_overridden owner) _ _
       (λ own. tested (fewer_or (length s.tasks) TASKS _) _ _
-      (λ few. child_like _ child process parent.number s.casts here))))))
+      (λ few. child_like _ child process parent.number s.casts (with_flag s.dumpable process (is_dumpable s.dumpable owner.process)) here))))))
 
   pub exit_like : (task : ℕ) → DoneAlike (Exit task)
   exit_like task =
       tested (ok_or (task_of s task) _) _ _
       (λ owner. tested (not_busy (begun_by s task)) _ _
       (λ idle. tested (not_overridden owner) _ _
-      (λ own. leaves Done (record (ended (is_task task) s) { casts = waits_no_more task s.casts }) refl
-      (each_casts (each_ended refs (is_task task)) _))))
+      (λ own. leaves Done (record (ended (is_task task) s) { casts = waits_no_more task s.casts; dumpable = flags_left s owner }) refl
+      (each_flags (each_casts (each_ended refs (is_task task)) _) _))))
+
+  -- ---- who may look into whom
+
+  pub dumpable_like : (task value : ℕ) → DoneAlike (Dumpable task value)
+  dumpable_like task value =
+      tested (ok_or (task_of s task) _) _ _
+      (λ owner. tested (ok_or (flag_of_value value) Einval) _ _
+      (λ flag. leaves Done (record s { dumpable = set_flag s.dumpable owner.process flag }) refl (each_flags refs _)))
+
+  pub dumped_like : (task : ℕ) → DoneAlike (Dumped task)
+  dumped_like task = tested (ok_or (task_of s task) _) _ _ (λ owner. record { answers = refl; states = like })
+
+  pub ptrace_like : (from hold to target : ℕ) (mode : Mode) → DoneAlike (Ptrace from hold to target mode)
+  ptrace_like from hold to target mode =
+      tested (ok_or (task_of s from) _) _ _
+      (λ sender. tested (ok_or (task_of s to) _) _ _
+      (λ receiver. read _ _ (NoHold hold) _ _ (same_held s cs hold like)
+      (λ own. read _ _ (NoHold target) _ _ (same_held s cs target like)
+      (λ other.
+      elim (may_trace own.cred other.cred (sender.process == receiver.process) (reaches script.namespaces own.cred.ns other.cred.ns) (is_dumpable s.dumpable receiver.process) mode) as (λ b. BothAre (cond b (Ok (Done, s)) (Err Eperm)) (cond b (Ok (Done, with s cs)) (Err Eperm))) [
+        | true ↦ record { answers = refl; states = like }
+        | false ↦ refl
+      ]))))
 
   pub done_like : (event : Event) → DoneAlike event
   done_like (Init task process user group ns) = init_like task process user group ns
@@ -394,4 +451,7 @@ module _ (script : Script) (s : State) (cs : List SealedCred) (line : ℕ) (like
   done_like (Spawn task child) = spawn_like task child
   done_like (Fork task child process) = fork_like task child process
   done_like (Exit task) = exit_like task
+  done_like (Dumpable task value) = dumpable_like task value
+  done_like (Dumped task) = dumped_like task
+  done_like (Ptrace from hold to target mode) = ptrace_like from hold to target mode
   done_like Sweep = leaves Done (swept s) refl (each_deferred refs _ (All-nil Here))

@@ -5,7 +5,7 @@ use Rattle.std.proofs.lemmas.List.{map-append}
 use Rattle.std.proofs.lemmas.List.Elements.{All-nil, All-weaker}
 use Rattle.std.proofs.lemmas.Option.{slice_get_past}
 use Rattle.cred_event.specs.declared.answer.Answer.{Answer}
-use Rattle.cred_model.specs.State.{State, Broadcast, SealedCred}
+use Rattle.cred_model.specs.State.{State, Broadcast, ProcessFlag, SealedCred}
 use Rattle.cred_model.specs.Slots.{refs, least_free, swept}
 use Rattle.cred_model.specs.Moves.{◌>>=◌, in_slot, table_full}
 use Rattle.cred_model.specs.Step.{outcome}
@@ -72,6 +72,7 @@ like_with t cs slots each = record {
   holds = refl;
   prepared = refl;
   deferred = refl;
+  dumpable = refl;
   slots = slots;
   creds = refs_each (Same t.creds cs) t each;
 }
@@ -86,6 +87,22 @@ like_casts f like = record {
   holds = like.holds;
   prepared = like.prepared;
   deferred = like.deferred;
+  dumpable = like.dumpable;
+  slots = like.slots;
+  creds = like.creds;
+}
+
+-- the same processes are dumpable in both
+pub like_flags : {a b : State} (flags : List ProcessFlag) → IsLike a b
+    → IsLike (record a { dumpable = flags }) (record b { dumpable = flags })
+like_flags flags like = record {
+  tasks = like.tasks;
+  casts = like.casts;
+  files = like.files;
+  holds = like.holds;
+  prepared = like.prepared;
+  deferred = like.deferred;
+  dumpable = refl;
   slots = like.slots;
   creds = like.creds;
 }
@@ -112,6 +129,7 @@ like_sealed answer t bs cs x same each =
         holds = refl;
         prepared = refl;
         deferred = refl;
+        dumpable = refl;
         slots = slots_past bs cs x same;
         creds = All-weaker (Same bs cs) (Same (bs ++ x ∷ []) (cs ++ x ∷ [])) (λ n. same_past bs cs n x long)
             (refs (t (length bs))) (refs_each (Same bs cs) (t (length bs)) each);

@@ -22,6 +22,7 @@ like_self s =
       holds = refl;
       prepared = refl;
       deferred = refl;
+      dumpable = refl;
       slots = refl;
       creds = λ k d lt. refl;
     }
@@ -31,8 +32,9 @@ refs_same a b like =
     ap (λ ts. refs (record a { tasks = ts })) like.tasks
     ∙ ap (λ fs. refs (record a { tasks = b.tasks; files = fs })) like.files
     ∙ ap (λ hs. refs (record a { tasks = b.tasks; files = b.files; holds = hs })) like.holds
-    ∙ ap (λ ps. refs (record b { prepared = ps; deferred = a.deferred; creds = a.creds })) like.prepared
-    ∙ ap (λ ds. refs (record b { deferred = ds })) like.deferred
+    ∙ ap (λ ps. refs (record b { prepared = ps; deferred = a.deferred; dumpable = a.dumpable; creds = a.creds })) like.prepared
+    ∙ ap (λ ds. refs (record b { deferred = ds; dumpable = a.dumpable })) like.deferred
+    ∙ ap (λ fs. refs (record b { dumpable = fs })) like.dumpable
 
 pub like_sym : (a b : State) → IsLike a b → IsLike b a
 like_sym a b like = record {
@@ -42,6 +44,7 @@ like_sym a b like = record {
   holds = sym like.holds;
   prepared = sym like.prepared;
   deferred = sym like.deferred;
+  dumpable = sym like.dumpable;
   slots = sym like.slots;
   creds = subst (All (λ n. slice_get b.creds n ≡ slice_get a.creds n)) (refs_same a b like) (λ k d lt. sym (like.creds k d lt));
 }
@@ -57,6 +60,7 @@ like_trans a b c first second =
       holds = first.holds ∙ second.holds;
       prepared = first.prepared ∙ second.prepared;
       deferred = first.deferred ∙ second.deferred;
+      dumpable = first.dumpable ∙ second.dumpable;
       slots = first.slots ∙ second.slots;
       creds = λ k d lt. first.creds k d lt ∙ on k d lt;
     }
@@ -70,9 +74,10 @@ like_step script a b line event like =
     = ap (λ ts. record a { tasks = ts; creds = b.creds }) like.tasks
     ∙ ap (λ xs. record a { tasks = b.tasks; casts = xs; creds = b.creds }) like.casts
     ∙ ap (λ fs. record a { tasks = b.tasks; casts = b.casts; files = fs; creds = b.creds }) like.files
-    ∙ ap (λ hs. record b { holds = hs; prepared = a.prepared; deferred = a.deferred }) like.holds
-    ∙ ap (λ ps. record b { prepared = ps; deferred = a.deferred }) like.prepared
-    ∙ ap (λ ds. record b { deferred = ds }) like.deferred in
+    ∙ ap (λ hs. record b { holds = hs; prepared = a.prepared; deferred = a.deferred; dumpable = a.dumpable }) like.holds
+    ∙ ap (λ ps. record b { prepared = ps; deferred = a.deferred; dumpable = a.dumpable }) like.prepared
+    ∙ ap (λ ds. record b { deferred = ds; dumpable = a.dumpable }) like.deferred
+    ∙ ap (λ fs. record b { dumpable = fs }) like.dumpable in
     let with_creds : IsLike a (record a { creds = b.creds })
     = record {
       tasks = refl;
@@ -81,6 +86,7 @@ like_step script a b line event like =
       holds = refl;
       prepared = refl;
       deferred = refl;
+      dumpable = refl;
       slots = like.slots;
       creds = like.creds;
     } in

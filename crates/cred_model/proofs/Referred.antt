@@ -5,7 +5,7 @@ use Rattle.std.specs.Option.{unwrap_or}
 use Rattle.std.proofs.lemmas.List.Elements.{All-append, All-cons, All-filter, All-head, All-map, All-nil}
 use Rattle.cred_event.specs.declared.event.Side.{Side}
 use Rattle.cred_event.specs.declared.event.Side.TheVariants.{Subjective, Objective}
-use Rattle.cred_model.specs.State.{State, number_on, Task, Broadcast, OpenFile, Hold, Prepared, Changed}
+use Rattle.cred_model.specs.State.{State, number_on, Task, Broadcast, OpenFile, Hold, Prepared, Changed, ProcessFlag}
 use Rattle.cred_model.specs.Slots.{places, in_use, refs}
 use Rattle.cred_model.specs.Ends.{numbers_of, survivors, left_by, ended}
 use Rattle.cred_model.specs.Moves.{updated, with_current, overriding, with_overrides, changed, with_change}
@@ -110,6 +110,18 @@ each_files each fs openers =
 -- broadcasts refer to nothing
 pub each_casts : {P : ℕ → Type 0} {s : State} → EachRef P s → (casts : List Broadcast) → EachRef P (record s { casts = casts })
 each_casts each casts =
+    record {
+      currents = each.currents;
+      overrides = each.overrides;
+      openers = each.openers;
+      holds = each.holds;
+      bases = each.bases;
+      deferred = each.deferred;
+    }
+
+-- nor does what is dumpable
+pub each_flags : {P : ℕ → Type 0} {s : State} → EachRef P s → (flags : List ProcessFlag) → EachRef P (record s { dumpable = flags })
+each_flags each flags =
     record {
       currents = each.currents;
       overrides = each.overrides;

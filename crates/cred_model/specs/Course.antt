@@ -6,7 +6,7 @@ use Rattle.std.specs.Option.{option_and_then, option_map_or}
 use Rattle.cred_ids.specs.Limits.{FIRST_LINE_LABEL, LABELS_A_LINE, TRIES}
 use Rattle.cred_event.specs.declared.content.Stage.{Stage}
 use Rattle.cred_event.specs.declared.content.Stage.TheVariants.{First, Acting, Asking, Opening}
-use Rattle.cred_event.specs.declared.content.Stage.TheVariants.{TakingTarget, Signalling}
+use Rattle.cred_event.specs.declared.content.Stage.TheVariants.{TakingTarget, Signalling, Tracing}
 use Rattle.cred_event.specs.declared.content.Stage.TheVariants.{ReleasingTarget, Preparing}
 use Rattle.cred_event.specs.declared.content.Stage.TheVariants.{Altering, Committing, Aborting}
 use Rattle.cred_event.specs.declared.content.Stage.TheVariants.{Overriding, TakingAccess}
@@ -24,11 +24,13 @@ use Rattle.cred_event.specs.declared.answer.Answer.{Answer}
 use Rattle.cred_event.specs.declared.answer.Answer.TheVariants.{Began, Acted, Stale}
 use Rattle.cred_event.specs.declared.content.Content.{Content}
 use Rattle.cred_event.specs.declared.content.Content.TheVariants.{Nothing, One, Id, Question, Open}
-use Rattle.cred_event.specs.declared.content.Content.TheVariants.{Fcap, Signal, Change, Access}
+use Rattle.cred_event.specs.declared.content.Content.TheVariants.{Fcap, Signal, Ptrace, Change}
+use Rattle.cred_event.specs.declared.content.Content.TheVariants.{Access}
 use Rattle.cred_model.specs.Answers.{is_ok}
 
 -- The labels that a line takes for itself: for what it holds first; for the new credential that it
--- prepares, or the credential of the task that it signals; and for what access(2) asks by.
+-- prepares, or the credential of the task that it signals or looks into; and for what access(2)
+-- asks by.
 abbrev pub hold_label : ℕ → ℕ
 hold_label line = FIRST_LINE_LABEL + LABELS_A_LINE * line
 
@@ -87,6 +89,13 @@ event_in line (Signal task to) Signalling =
     Some (event.Signal task (hold_label line) to (target_label line))
 event_in line (Signal task to) ReleasingTarget = Some (Release (target_label line))
 event_in line (Signal task to) Releasing = Some (Release (hold_label line))
+-- a question whether the task may look into another is decided on the same two
+event_in line (Ptrace task to mode) First = Some (Take (hold_label line) task Subjective)
+event_in line (Ptrace task to mode) TakingTarget = Some (Take (target_label line) to Objective)
+event_in line (Ptrace task to mode) Tracing =
+    Some (event.Ptrace task (hold_label line) to (target_label line) mode)
+event_in line (Ptrace task to mode) ReleasingTarget = Some (Release (target_label line))
+event_in line (Ptrace task to mode) Releasing = Some (Release (hold_label line))
 -- a new credential is prepared from the hold, changed, and committed
 event_in line (Change task change) First = Some (Take (hold_label line) task Subjective)
 event_in line (Change task change) Preparing =
@@ -142,6 +151,10 @@ next_stage (Signal task to) First answer = if is_ok answer then Some TakingTarge
 next_stage (Signal task to) TakingTarget answer = either answer Signalling Releasing
 next_stage (Signal task to) Signalling answer = Some ReleasingTarget
 next_stage (Signal task to) ReleasingTarget answer = Some Releasing
+next_stage (Ptrace task to mode) First answer = if is_ok answer then Some TakingTarget else None
+next_stage (Ptrace task to mode) TakingTarget answer = either answer Tracing Releasing
+next_stage (Ptrace task to mode) Tracing answer = Some ReleasingTarget
+next_stage (Ptrace task to mode) ReleasingTarget answer = Some Releasing
 next_stage (Change task change) First answer = if is_ok answer then Some Preparing else None
 next_stage (Change task change) Preparing answer = either answer Altering Releasing
 next_stage (Change task change) Altering answer = either answer Committing Aborting
@@ -193,6 +206,7 @@ most ReleasingAccess = 3
 most Reverting = 2
 most TakingTarget = 4
 most Signalling = 3
+most Tracing = 3
 most ReleasingTarget = 2
 most Committing = 3
 most Opening = 2

@@ -3,6 +3,8 @@ pub mod Named
 pub mod State
 pub mod Slots
 pub mod Ends
+pub mod Ptrace
+pub mod Dumpable
 pub mod Casts
 pub mod Answers
 pub mod Change

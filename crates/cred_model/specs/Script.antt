@@ -1,8 +1,8 @@
 -- What a script is.
-use Rattle.std.specs.Prelude.{◌≡◌, ℕ, ◌==◌, List, [], ◌∷◌, find, slice_get, Some, None}
+use Rattle.std.specs.Prelude.{◌≡◌, ℕ, ◌==◌, Bool, List, [], ◌∷◌, find, slice_get, Some, None}
 use Rattle.std.specs.Prelude.{if◌then◌else◌, slice_index_or}
 use Rattle.std.specs.declared.option.Option.{Option}
-use Rattle.std.specs.List.{AllPairs}
+use Rattle.std.specs.List.{AllPairs, list_any}
 use Rattle.std.specs.Option.{option_map, option_map_or}
 use Rattle.cred_record.specs.File.{File}
 use Rattle.cred_event.specs.declared.content.Content.{Content}
@@ -17,11 +17,12 @@ pub record Line : Type 0 where
   pub lane : ℕ
   pub content : Content
 
--- A declared user namespace has a number, and the root ids of itself and of its ancestors, its own
--- first (user_namespaces(7)).
+-- A declared user namespace has a number, the root ids of itself and of its ancestors, its own
+-- first, and the numbers of the same (user_namespaces(7)).
 pub record Namespace : Type 0 where
   pub number : ℕ
   pub chain : List ℕ
+  pub lineage : List ℕ
 
 -- The files and the namespaces that a script declares, and its lines, each in its order. An event
 -- names a file by its place. A line's number is its place, counted from 1.
@@ -55,6 +56,17 @@ chain_of script number = option_map_or (λ chain. chain) (chain_in script.namesp
 -- declared it is that of the initial namespace.
 abbrev pub root_of : Script → ℕ → ℕ
 root_of script number = slice_index_or (chain_of script number) 0 INITIAL_ROOT
+
+-- the numbers of a namespace and of its ancestors; none where it isn't declared
+abbrev pub lineage_in : List Namespace → ℕ → List ℕ
+lineage_in declared number =
+    if number == 0 then number ∷ []
+    else option_map_or (λ ns. ns.lineage) (find (λ ns. ns.number == number) declared) []
+
+-- The outer namespace is the inner one or an ancestor of it: what a task of the outer one is
+-- capable of it is capable of in the inner one too (user_namespaces(7), "Capabilities").
+abbrev pub reaches : List Namespace → ℕ → ℕ → Bool
+reaches declared outer inner = list_any (λ ns. ns == outer) (lineage_in declared inner)
 
 -- A line of the setup has none but such lines before it.
 abbrev pub SetupBefore : Line → Line → Type 0

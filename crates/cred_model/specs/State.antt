@@ -1,5 +1,5 @@
 -- The state of a run (credentials(7); Documentation/security/credentials.rst).
-use Rattle.std.specs.Prelude.{ℕ, ◌==◌, List, [], find, slice_get}
+use Rattle.std.specs.Prelude.{ℕ, ◌==◌, Bool, List, [], find, slice_get}
 use Rattle.std.specs.declared.option.Option.{Option}
 use Rattle.std.specs.Option.{option_map, option_and_then, unwrap_or}
 use Rattle.cred_record.specs.Credential.{Credential}
@@ -56,14 +56,19 @@ pub record Broadcast : Type 0 where
   pub call : IdCall
   pub waiting : List ℕ
 
+-- A process is dumpable or isn't (prctl(2), PR_SET_DUMPABLE), as `mm->dumpable` of Linux says.
+pub record ProcessFlag : Type 0 where
+  pub process : ℕ
+  pub dumpable : Bool
+
 -- A sealed credential stands in a slot.
 pub record SealedCred : Type 0 where
   pub cred : Credential
   pub slot : ℕ
 
 -- The live tasks, the open broadcasts, the open files, the holds, the prepared labels, the numbers
--- that were given up since the last sweep, and all credentials that were ever sealed. The place of
--- a credential in that list is its number.
+-- that were given up since the last sweep, which processes are dumpable, and all credentials that
+-- were ever sealed. The place of a credential in that list is its number.
 pub record State : Type 0 where
   pub tasks : List Task
   pub casts : List Broadcast
@@ -71,6 +76,7 @@ pub record State : Type 0 where
   pub holds : List Hold
   pub prepared : List Prepared
   pub deferred : List ℕ
+  pub dumpable : List ProcessFlag
   pub creds : List SealedCred
 
 -- the state before the first event
@@ -82,6 +88,7 @@ opening = record {
   holds = [];
   prepared = [];
   deferred = [];
+  dumpable = [];
   creds = [];
 }
 

@@ -14,23 +14,27 @@ use Rattle.cred_rules.specs.SetId.{set_id}
 use Rattle.cred_event.specs.declared.event.Change.{Change}
 use Rattle.cred_event.specs.declared.event.Change.TheVariants.{Exec, Access}
 use Rattle.cred_event.specs.declared.event.Event.{Event}
+use Rattle.cred_event.specs.declared.event.Mode.{Mode}
 use Rattle.cred_event.specs.declared.event.Query.{Query}
 use Rattle.cred_event.specs.declared.event.Side.{Side}
 use Rattle.cred_event.specs.declared.event.Event.TheVariants.{Init, Take, TakeFile, Release, Ask}
 use Rattle.cred_event.specs.declared.event.Event.TheVariants.{Signal, Prepare, Alter, Commit, Abort}
 use Rattle.cred_event.specs.declared.event.Event.TheVariants.{Override, Revert, Begin, Act}
 use Rattle.cred_event.specs.declared.event.Event.TheVariants.{OpenFile, CloseFile, Spawn, Fork}
-use Rattle.cred_event.specs.declared.event.Event.TheVariants.{Exit, Sweep}
+use Rattle.cred_event.specs.declared.event.Event.TheVariants.{Exit, Sweep, Dumpable, Dumped}
+use Rattle.cred_event.specs.declared.event.Event.TheVariants.{Ptrace}
 use Rattle.cred_event.specs.declared.answer.Answer.{Answer}
 use Rattle.cred_event.specs.declared.answer.Answer.TheVariants.{Done, Sealed, Kept, Executed, Began}
-use Rattle.cred_event.specs.declared.answer.Answer.TheVariants.{Acted, Eperm, Ebadf, NoTask, NoHold}
+use Rattle.cred_event.specs.declared.answer.Answer.TheVariants.{Acted, Told, Eperm, Einval, Ebadf}
+use Rattle.cred_event.specs.declared.answer.Answer.TheVariants.{NoTask, NoHold}
 use Rattle.cred_event.specs.declared.answer.Answer.TheVariants.{NoPrepared, NoBroadcast, Exists}
 use Rattle.cred_event.specs.declared.answer.Answer.TheVariants.{NotOverridden, TooDeep, Stale}
 use Rattle.cred_event.specs.declared.answer.Answer.TheVariants.{TooMany, Aborted}
 use Rattle.cred_event.specs.declared.answer.Named.TheVariants as named
 use Rattle.cred_event.specs.declared.answer.Counted.TheVariants as counted
 use Rattle.cred_event.specs.declared.answer.AbortCause.TheVariants as cause
-use Rattle.cred_model.specs.Script.{Script, info_of, chain_of, root_of}
+use Rattle.cred_event.specs.declared.answer.Told.TheVariants as told
+use Rattle.cred_model.specs.Script.{Script, info_of, chain_of, root_of, reaches}
 use Rattle.cred_model.specs.Named.{query_files, change_files}
 use Rattle.cred_model.specs.State.{State, Task, Prepared, Changed, Broadcast, Numbered, task_of}
 use Rattle.cred_model.specs.State.{cast_of, cast_in, begun_by, open_of, hold_of, prepared_of}
@@ -38,6 +42,10 @@ use Rattle.cred_model.specs.State.{numbered, credential_of, opener_of, held_by}
 use Rattle.cred_model.specs.Slots.{swept}
 use Rattle.cred_model.specs.Ends.{is_task, is_thread_of, is_beside, ended}
 use Rattle.cred_model.specs.Casts.{not_busy, others_of, with_cast, waits_no_more, joined, dropped}
+use Rattle.cred_model.specs.Ptrace.{may_trace}
+use Rattle.cred_model.specs.Dumpable.{is_dumpable, with_flag, set_flag, without_flag, differs}
+use Rattle.cred_model.specs.Dumpable.{renewed, flags_committed, flags_begun, flags_left}
+use Rattle.cred_model.specs.Dumpable.{flag_of_value}
 use Rattle.cred_model.specs.Answers.{checked, reply}
 use Rattle.cred_model.specs.Change.{by_change, by_rule}
 use Rattle.cred_model.specs.Moves.{◌>>=◌, none_or, fewer_or}
@@ -71,10 +79,11 @@ commit_answer last number slot count = committed_by last.change last.gains numbe
 abbrev pub try_commit : State → ℕ → Prepared → Task → Changed → Answer × State
 try_commit s place p owner last =
     let ends = ends_with last.change owner in
+    let now = committed (ended ends s) place p owner.current last.cred in
     if owner.current == p.base
     then (
       commit_answer last (length s.creds) p.slot (count_by ends s.tasks),
-      casts_after last.change owner (committed (ended ends s) place p owner.current last.cred),
+      record (casts_after last.change owner now) { dumpable = flags_committed s owner last },
     )
     else (Stale p.base owner.current, given_up s place p)
 
@@ -87,7 +96,8 @@ by_init s task process user group ns root = do
   Ok (in_slot s table_full (λ s slot.
       let number = length s.creds in
       let first = first_task task process number in
-      (Sealed number slot, created s first (first_credential user group ns root) slot)))
+      let now = created s first (first_credential user group ns root) slot in
+      (Sealed number slot, record now { dumpable = flags_begun s process })))
 
 -- a label takes hold of this credential
 abbrev pub take_hold : State → ℕ → Numbered → Result (Answer × State) Answer
@@ -253,22 +263,32 @@ by_begin s line task call = do
       } in
       Ok (in_slot s table_full (λ s slot. (
         Began (length s.creds) slot (length others),
-        record (replaced s task old.number made slot) { casts = with_cast s.casts cast },
+        record (replaced s task old.number made slot) {
+          casts = with_cast s.casts cast;
+          dumpable = renewed s.dumpable owner.process (differs old.cred made);
+        },
       )))
 
 -- A thread of the process can't follow: all its threads end, and the broadcast is dropped.
 abbrev pub aborted : Broadcast → State → State
 aborted cast s =
-    record (ended (is_thread_of cast.process) s) { casts = dropped cast.process s.casts }
+    record (ended (is_thread_of cast.process) s) {
+      casts = dropped cast.process s.casts;
+      dumpable = without_flag s.dumpable cast.process;
+    }
 
 -- The waiting thread makes the same call on its own current credential. A refusal, and a want of a
 -- slot, end the process.
-abbrev pub follow : State → Broadcast → ℕ → ℕ → Result Credential Answer → Answer × State
-follow s cast task old (Err refusal) = (Aborted task cause.Perm, aborted cast s)
-follow s cast task old (Ok made) =
+abbrev pub follow : State → Broadcast → ℕ → Task → Numbered → Result Credential Answer
+    → Answer × State
+follow s cast task owner old (Err refusal) = (Aborted task cause.Perm, aborted cast s)
+follow s cast task owner old (Ok made) =
     in_slot s (λ s. (Aborted task cause.Full, aborted cast s)) (λ s slot. (
       Acted task (length s.creds) slot (length cast.waiting - 1),
-      record (replaced s task old made slot) { casts = waits_no_more task s.casts },
+      record (replaced s task old.number made slot) {
+        casts = waits_no_more task s.casts;
+        dumpable = renewed s.dumpable owner.process (differs old.cred made);
+      },
     ))
 
 -- the least of the threads that wait in a broadcast makes its step
@@ -278,7 +298,7 @@ by_act s number = do
   task ← ok_or (slice_get cast.waiting 0) (NoBroadcast number)
   owner ← ok_or (task_of s task) (NoBroadcast number)
   old ← ok_or (numbered s.creds owner.current) (NoBroadcast number)
-  Ok (follow s cast task old.number (by_rule (set_id old.cred cast.call)))
+  Ok (follow s cast task owner old (by_rule (set_id old.cred cast.call)))
 
 -- A file is opened under a descriptor: the credential that a label holds decides, and stays with it
 -- (open(2)).
@@ -319,7 +339,7 @@ by_spawn s task child = do
   )
 
 -- fork: a new process, whose only thread shares the credential of the task that makes it, and waits
--- nowhere
+-- nowhere. It is dumpable where the task's process is.
 abbrev pub by_fork : State → ℕ → ℕ → ℕ → Result (Answer × State) Answer
 by_fork s task child process = do
   owner ← ok_or (task_of s task) (NoTask task)
@@ -331,7 +351,10 @@ by_fork s task child process = do
   few ← fewer_or (length s.tasks) TASKS (TooMany counted.Tasks)
   Ok (
     Sealed parent.number parent.slot,
-    record s { tasks = s.tasks ++ first_task child process parent.number ∷ [] },
+    record s {
+      tasks = s.tasks ++ first_task child process parent.number ∷ [];
+      dumpable = with_flag s.dumpable process (is_dumpable s.dumpable owner.process);
+    },
   )
 
 -- exit: the task ends, and waits no longer
@@ -340,7 +363,39 @@ by_exit s task = do
   owner ← ok_or (task_of s task) (NoTask task)
   idle ← not_busy (begun_by s task)
   own ← not_overridden owner
-  Ok (Done, record (ended (is_task task) s) { casts = waits_no_more task s.casts })
+  Ok (
+    Done,
+    record (ended (is_task task) s) {
+      casts = waits_no_more task s.casts;
+      dumpable = flags_left s owner;
+    },
+  )
+
+-- A task makes its process dumpable, or not, by 1 or 0 (prctl(2), PR_SET_DUMPABLE).
+abbrev pub by_dumpable : State → ℕ → ℕ → Result (Answer × State) Answer
+by_dumpable s task value = do
+  owner ← ok_or (task_of s task) (NoTask task)
+  flag ← ok_or (flag_of_value value) Einval
+  Ok (Done, record s { dumpable = set_flag s.dumpable owner.process flag })
+
+-- whether a task's process is dumpable (PR_GET_DUMPABLE)
+abbrev pub by_dumped : State → ℕ → Result (Answer × State) Answer
+by_dumped s task = do
+  owner ← ok_or (task_of s task) (NoTask task)
+  Ok (Told (told.Flag (is_dumpable s.dumpable owner.process)), s)
+
+-- A task asks to look into another: its credential and the target's decide, whether both are of one
+-- process, and whether the target's process is dumpable (ptrace(2), "Ptrace access mode checking").
+abbrev pub by_ptrace : Script → State → ℕ → ℕ → ℕ → ℕ → Mode → Result (Answer × State) Answer
+by_ptrace script s from hold to target mode = do
+  sender ← ok_or (task_of s from) (NoTask from)
+  receiver ← ok_or (task_of s to) (NoTask to)
+  own ← ok_or (held_by s hold) (NoHold hold)
+  other ← ok_or (held_by s target) (NoHold target)
+  let same = sender.process == receiver.process in
+      let reach = reaches script.namespaces own.cred.ns other.cred.ns in
+      let dumpable = is_dumpable s.dumpable receiver.process in
+      if may_trace own.cred other.cred same reach dumpable mode then Ok (Done, s) else Err Eperm
 
 -- what an event of a line does if nothing refuses it, with its answer
 abbrev pub done : Script → State → ℕ → Event → Result (Answer × State) Answer
@@ -365,6 +420,9 @@ done script s line (Spawn task child) = by_spawn s task child
 done script s line (Fork task child process) = by_fork s task child process
 done script s line (Exit task) = by_exit s task
 done script s line Sweep = Ok (Done, swept s)
+done script s line (Dumpable task value) = by_dumpable s task value
+done script s line (Dumped task) = by_dumped s task
+done script s line (Ptrace from hold to target mode) = by_ptrace script s from hold to target mode
 
 -- A refusal leaves the state.
 abbrev pub outcome : State → Result (Answer × State) Answer → Answer × State

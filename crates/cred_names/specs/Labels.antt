@@ -3,7 +3,7 @@ use Rattle.std.specs.Prelude.{ℕ, List, [], ◌∷◌}
 use Rattle.cred_event.specs.declared.event.Event.{Event}
 use Rattle.cred_event.specs.declared.event.Event.TheVariants.{Take, TakeFile, Release, Ask, Signal}
 use Rattle.cred_event.specs.declared.event.Event.TheVariants.{Prepare, Alter, Commit, Abort}
-use Rattle.cred_event.specs.declared.event.Event.TheVariants.{Override, OpenFile}
+use Rattle.cred_event.specs.declared.event.Event.TheVariants.{Override, OpenFile, Ptrace}
 use Rattle.cred_event.specs.declared.content.Content.{Content}
 use Rattle.cred_event.specs.declared.content.Content.TheVariants.{One}
 
@@ -20,6 +20,7 @@ event_labels (Commit label) = label ∷ []
 event_labels (Abort label) = label ∷ []
 event_labels (Override task label) = label ∷ []
 event_labels (OpenFile hold file want fd) = hold ∷ []
+event_labels (Ptrace from hold to target mode) = hold ∷ target ∷ []
 event_labels event = []
 
 -- the labels that a line names

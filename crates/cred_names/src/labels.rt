@@ -21,7 +21,9 @@ fn event_labels(event: &Event) -> (Option<u32>, Option<u32>)
 {
     match event {
         Event::Prepare { label, hold, .. } => (Some(*label), Some(*hold)),
-        Event::Signal { hold, target, .. } => (Some(*hold), Some(*target)),
+        Event::Signal { hold, target, .. } | Event::Ptrace { hold, target, .. } => {
+            (Some(*hold), Some(*target))
+        }
         Event::Take { label, .. }
         | Event::TakeFile { label, .. }
         | Event::Release { label }

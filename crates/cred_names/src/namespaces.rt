@@ -1,7 +1,8 @@
 //! The user namespaces that a script declares (user_namespaces(7)).
-ghost use Rattle.std.specs.Prelude.{◌≡◌, ◌==◌, [], IsSome, OnErr, OnOk, find, is_some};
+ghost use Rattle.std.specs.Prelude.{◌≡◌, ◌==◌, [], ◌++◌, IsSome, OnErr, OnOk, find, is_some};
+ghost use Rattle.std.specs.List.{list_any};
 ghost use Rattle.std.specs.Option.{option_map};
-ghost use Rattle.cred_model.specs.Script.{chain_in};
+ghost use Rattle.cred_model.specs.Script.{chain_in, lineage_in, reaches};
 ghost use Rattle.cred_names.specs.Namespaces as spec;
 
 use cred_ids::{Id, NoMemory};
@@ -14,6 +15,8 @@ struct Namespace {
     number: u32,
     /// The root ids of the namespace and of its ancestors, its own first.
     chain: Vec<Id>,
+    /// The numbers of the same.
+    lineage: Vec<u32>,
 }
 
 impl Model for Namespace {
@@ -21,7 +24,11 @@ impl Model for Namespace {
 
     ghost Value = { Namespace };
 
-    ghost view = { λ n. record { number = n.number; chain = n.chain.items } };
+    ghost view = { λ n. record {
+      number = n.number;
+      chain = n.chain.items;
+      lineage = n.lineage.items;
+    } };
 }
 
 /// The namespaces that are declared, in the order of their lines, beside the initial one.
@@ -75,11 +82,24 @@ impl Namespaces {
         self.chain(number).is_some()
     }
 
+    /// Whether the outer namespace is the inner one or an ancestor of it (user_namespaces(7)).
+    pub fn reaches(&self, outer: u32, inner: u32) -> bool
+        ensures { result ≡ reaches self.now outer inner }
+    {
+        if inner == 0 {
+            return outer == 0;
+        }
+        match numbered(&self.declared, inner) {
+            Some(namespace) => namespace.lineage.contains(&outer),
+            None => false,
+        }
+    }
+
     /// One namespace more, with its root id and its parent, which is declared.
     ///
     /// # Errors
     ///
-    /// `NoMemory` where there is no memory for its root ids; then nothing changes.
+    /// `NoMemory` where there is no memory for its root ids and numbers; then nothing changes.
     pub fn add(&mut self, alloc: Global, number: u32, root: Id, parent: u32) -> Result<(), NoMemory>
         requires { IsSome (chain_in self.old parent) }
         ensures ok { OnOk result (self.new ≡ spec.with_namespace self.old number root parent) }
@@ -88,7 +108,29 @@ impl Namespaces {
         let mut chain = Vec::new(alloc);
         chain.push(root)?;
         chain.extend_from_slice(self.chain(parent).unwrap())?;
-        self.declared.push(Namespace { number, chain })?;
+        let mut lineage = Vec::new(alloc);
+        lineage.push(number)?;
+        self.add_lineage(parent, &mut lineage)?;
+        self.declared.push(Namespace {
+            number,
+            chain,
+            lineage,
+        })?;
+        Ok(())
+    }
+
+    /// Appends the numbers of a namespace and of its ancestors.
+    fn add_lineage(&self, number: u32, lineage: &mut Vec<u32>) -> Result<(), NoMemory>
+        ensures { OnOk result (lineage.new.items
+            ≡ lineage.old.items ++ lineage_in self.now number) }
+    {
+        if number == 0 {
+            lineage.push(number)?;
+            return Ok(());
+        }
+        if let Some(namespace) = numbered(&self.declared, number) {
+            lineage.extend_from_slice(&namespace.lineage)?;
+        }
         Ok(())
     }
 }

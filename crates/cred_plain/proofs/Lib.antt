@@ -1,5 +1,4 @@
 pub mod Joined
-pub mod Overwritten
 pub mod Passing
 pub mod Sealed
 pub mod Places

@@ -9,7 +9,7 @@ ghost use Rattle.cred_model.specs.State.{acting};
 ghost use Rattle.cred_model.specs.Ends.{is_thread_of, left_by, numbers_of, survivors};
 ghost use Rattle.cred_model.specs.Moves.{first_task, updated, with_current};
 ghost use Rattle.cred_model.specs.Moves.{with_overrides};
-ghost use Rattle.cred_plain.specs.Tasks.{ends_by, others_in, IsTaskAt, OfOneTask};
+ghost use Rattle.cred_plain.specs.Tasks.{ends_by, is_other, others_in, IsTaskAt, OfOneTask};
 
 use cred_ids::{NoMemory, limits};
 use std::alloc::Global;
@@ -268,6 +268,22 @@ impl Tasks {
         ensures { option_map (λ t. t.now) result ≡ find (λ t. t.process == process) self.now }
     {
         self.list.iter().find(|task| task.process == process)
+    }
+
+    /// Whether a process has another thread than this one.
+    pub fn has_other(&self, process: u32, task: u32) -> bool
+        ensures { result ≡ is_some (find (is_other process task) self.now) }
+    {
+        self.other_of(process, task).is_some()
+    }
+
+    /// The oldest thread of a process but for one.
+    fn other_of(&self, process: u32, task: u32) -> Option<&Task>
+        ensures { option_map (λ t. t.now) result ≡ find (is_other process task) self.now }
+    {
+        self.list
+            .iter()
+            .find(|other| other.process == process && other.number != task)
     }
 
     /// A task more, where fewer than 64 are alive.

@@ -319,6 +319,28 @@ sweep_agrees (Told (Bits bits nnp)) h = absurd (cc)
 sweep_agrees (Told (Flag flag)) h = absurd (cc)
 sweep_agrees answer h = refl
 
+dumped_agrees : (answer : Answer) → rows.dumped_row answer ≡ true → agrees tells.Flag answer ≡ true
+dumped_agrees Done h = absurd (cc)
+dumped_agrees (Sealed cred slot) h = absurd (cc)
+dumped_agrees (Kept slot) h = absurd (cc)
+dumped_agrees (Was previous) h = absurd (cc)
+dumped_agrees (Executed cred slot ended gains) h = absurd (cc)
+dumped_agrees (Began cred slot left) h = absurd (cc)
+dumped_agrees (Acted task cred slot left) h = absurd (cc)
+dumped_agrees (Told (Ids uid gid)) h = absurd (cc)
+dumped_agrees (Told (Caps perm inh eff bound amb)) h = absurd (cc)
+dumped_agrees (Told (Groups groups)) h = absurd (cc)
+dumped_agrees (Told (Bits bits nnp)) h = absurd (cc)
+dumped_agrees answer h = refl
+
+dumpable_agrees : (value : ℕ) (answer : Answer) → rows.dumpable_row value answer ≡ true → agrees tells.Nothing answer ≡ true
+dumpable_agrees value (Told (Ids uid gid)) h = absurd (cc)
+dumpable_agrees value (Told (Caps perm inh eff bound amb)) h = absurd (cc)
+dumpable_agrees value (Told (Groups groups)) h = absurd (cc)
+dumpable_agrees value (Told (Bits bits nnp)) h = absurd (cc)
+dumpable_agrees value (Told (Flag flag)) h = absurd (cc)
+dumpable_agrees value answer h = refl
+
 tell_agrees : (label : ℕ) (query : Query) (answer : Answer) → rows.may_tell query answer ≡ true → agrees (told_by (event.Ask label query)) answer ≡ true
 tell_agrees label query.Ids answer h = ids_agrees answer h
 tell_agrees label query.Caps answer h = caps_agrees answer h
@@ -357,3 +379,6 @@ can_agree (event.Spawn task child) answer h = spawn_agrees answer h
 can_agree (event.Fork task child process) answer h = fork_agrees answer h
 can_agree (event.Exit task) answer h = exit_agrees answer h
 can_agree event.Sweep answer h = sweep_agrees answer h
+can_agree (event.Dumpable task value) answer h = dumpable_agrees value answer h
+can_agree (event.Dumped task) answer h = dumped_agrees answer h
+can_agree (event.Ptrace from hold to target mode) answer h = signal_agrees answer h

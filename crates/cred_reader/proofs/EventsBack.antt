@@ -4,6 +4,7 @@ use Rattle.std.proofs.lemmas.List.{append-nil}
 use Rattle.cred_record.specs.declared.want.Want.{Want}
 use Rattle.cred_record.specs.declared.id_call.IdCall.{IdCall}
 use Rattle.cred_event.specs.declared.event.Side.TheVariants.{Subjective, Objective}
+use Rattle.cred_event.specs.declared.event.Mode.TheVariants.{Fs, Real}
 use Rattle.cred_event.specs.declared.event.Change.{Change}
 use Rattle.cred_event.specs.declared.event.Query.{Query}
 use Rattle.cred_event.specs.declared.event.Event.{Event}
@@ -11,6 +12,7 @@ use Rattle.cred_event.specs.declared.event.Event.TheVariants as event
 use Rattle.cred_model.specs.Named.{query_files, change_files, event_files}
 use Rattle.cred_model.specs.Script.{Script}
 use Rattle.cred_spelling.specs.Words as words
+use Rattle.cred_forms.specs.Modes as modes
 use Rattle.cred_report.specs.Questions.{file_text, want_text}
 use Rattle.cred_report.specs.Events.{event_text}
 use Rattle.cred_reader.specs.Events as spec
@@ -211,6 +213,42 @@ sweep_back : (script : Script) → FitsEvent (event.Sweep)
 unfolding spec.event_of spec.event_names spec.event_named
 sweep_back script fits = bare (codes "sweep") refl refl
 
+dumpable_back : (script : Script) (task : ℕ) (value : ℕ) → FitsEvent (event.Dumpable task value)
+    → EventBack script (event.Dumpable task value)
+unfolding spec.event_of spec.event_names spec.event_named spec.task_event words.two_of
+dumpable_back script task value fits =
+    with_two (codes "dumpable") (codes "t" ++ decimal task) (decimal value) (simp (append_assoc, append-nil))
+    refl (rw (decimal_inner task (long_number task fits.0)) refl) (decimal_plain value (long_number value fits.1))
+    (rw (number_back task fits.0, number_back value fits.1) refl)
+
+dumped_back : (script : Script) (task : ℕ) → FitsEvent (event.Dumped task)
+    → EventBack script (event.Dumped task)
+unfolding spec.event_of spec.event_names spec.event_named spec.task_event
+dumped_back script task fits =
+    with_word (codes "dumped") (codes "t" ++ decimal task) refl (rw (decimal_inner task (long_number task fits)) refl) (rw (number_back task fits) refl)
+
+ptrace_fs_back : (script : Script) (from : ℕ) (hold : ℕ) (to : ℕ) (target : ℕ) → FitsEvent (event.Ptrace from hold to target Fs)
+    → EventBack script (event.Ptrace from hold to target Fs)
+unfolding spec.event_of spec.event_names spec.event_named spec.ptrace_of modes.modes words.two_of
+ptrace_fs_back script from hold to target fits = record {
+  first = codes "ptrace";
+  rest = codes "fs" ∷ (codes "t" ++ decimal from) ∷ (codes "h" ++ decimal hold) ∷ (codes "t" ++ decimal to) ∷ (codes "h" ++ decimal target) ∷ [];
+  spaced = simp (append_assoc, append-nil);
+  plain = rw (decimal_inner from (long_number from fits.0), decimal_inner hold (long_number hold fits.1), decimal_inner to (long_number to fits.2), decimal_inner target (long_number target fits.3)) refl;
+  read = rw (number_back from fits.0, number_back hold fits.1, number_back to fits.2, number_back target fits.3) refl;
+}
+
+ptrace_real_back : (script : Script) (from : ℕ) (hold : ℕ) (to : ℕ) (target : ℕ) → FitsEvent (event.Ptrace from hold to target Real)
+    → EventBack script (event.Ptrace from hold to target Real)
+unfolding spec.event_of spec.event_names spec.event_named spec.ptrace_of modes.modes words.two_of
+ptrace_real_back script from hold to target fits = record {
+  first = codes "ptrace";
+  rest = codes "real" ∷ (codes "t" ++ decimal from) ∷ (codes "h" ++ decimal hold) ∷ (codes "t" ++ decimal to) ∷ (codes "h" ++ decimal target) ∷ [];
+  spaced = simp (append_assoc, append-nil);
+  plain = rw (decimal_inner from (long_number from fits.0), decimal_inner hold (long_number hold fits.1), decimal_inner to (long_number to fits.2), decimal_inner target (long_number target fits.3)) refl;
+  read = rw (number_back from fits.0, number_back hold fits.1, number_back to fits.2, number_back target fits.3) refl;
+}
+
 pub event_back : (script : Script) (event : Event) → FitsEvent event → All (IsFile script) (event_files event) → EventBack script event
 event_back script (event.Init task process user group ns) fits own = init_back script task process user group ns fits
 event_back script (event.Take label task Subjective) fits own = take_back script label task fits
@@ -233,3 +271,7 @@ event_back script (event.Spawn task child) fits own = spawn_back script task chi
 event_back script (event.Fork task child process) fits own = fork_back script task child process fits
 event_back script (event.Exit task) fits own = exit_back script task fits
 event_back script event.Sweep fits own = sweep_back script fits
+event_back script (event.Dumpable task value) fits own = dumpable_back script task value fits
+event_back script (event.Dumped task) fits own = dumped_back script task fits
+event_back script (event.Ptrace from hold to target Fs) fits own = ptrace_fs_back script from hold to target fits
+event_back script (event.Ptrace from hold to target Real) fits own = ptrace_real_back script from hold to target fits

@@ -20,6 +20,7 @@ use Rattle.cred_spelling.specs.declared.names.QueryName.TheVariants as query_nam
 use Rattle.cred_spelling.specs.Names as names
 use Rattle.cred_spelling.specs.Spellings as spelling
 use Rattle.cred_spelling.specs.Words.{word_of, no_words, bare, one_of, two_of, three_of, five_of}
+use Rattle.cred_forms.specs.Modes.{mode_of}
 use Rattle.cred_forms.specs.Changes as changes
 use Rattle.cred_forms.specs.Files.{file_at}
 use Rattle.cred_forms.specs.IdCalls as calls
@@ -199,6 +200,18 @@ task_event_fits by_task.Begin words = begin_fits words
 task_event_fits by_task.Spawn words = then_holds _ FitsEvent (two_of kinds.task_of kinds.task_of words) _ (two_holds IsNumber IsNumber kinds.task_of kinds.task_of task_fits task_fits words) (λ v h. h)
 task_event_fits by_task.Fork words = then_holds _ FitsEvent (three_of kinds.task_of kinds.task_of kinds.process_of words) _ (three_holds IsNumber IsNumber IsNumber kinds.task_of kinds.task_of kinds.process_of task_fits task_fits process_fits words) (λ v h. h)
 task_event_fits by_task.Exit words = then_holds IsNumber FitsEvent (one_of kinds.task_of words) _ (one_holds IsNumber kinds.task_of task_fits words) (λ v h. h)
+task_event_fits by_task.Dumpable words = then_holds _ FitsEvent (two_of kinds.task_of spelling.number_of words) _ (two_holds IsNumber IsNumber kinds.task_of spelling.number_of task_fits number_fits words) (λ v h. h)
+task_event_fits by_task.Dumped words = then_holds IsNumber FitsEvent (one_of kinds.task_of words) _ (one_holds IsNumber kinds.task_of task_fits words) (λ v h. h)
+
+ptrace_fits : (words : List (List ℕ)) → Holds FitsEvent (spec.ptrace_of words)
+unfolding spec.ptrace_of
+ptrace_fits [] = tt
+ptrace_fits (asked ∷ []) = tt
+ptrace_fits (asked ∷ from ∷ []) = tt
+ptrace_fits (asked ∷ from ∷ hold ∷ words) =
+    then_holds (λ mode. Unit {0}) FitsEvent (word_of mode_of asked) _ (any_holds (word_of mode_of asked)) (λ mode u.
+    then_holds _ FitsEvent (two_of kinds.task_of kinds.label_of (from ∷ hold ∷ [])) _ (two_holds IsNumber IsNumber kinds.task_of kinds.label_of task_fits label_fits (from ∷ hold ∷ [])) (λ sender s.
+    then_holds _ FitsEvent (two_of kinds.task_of kinds.label_of words) _ (two_holds IsNumber IsNumber kinds.task_of kinds.label_of task_fits label_fits words) (λ other o. (s.0, s.1, o.0, o.1))))
 
 named_event_fits : (files : List NamedFile) (kind : EventName) (words : List (List ℕ)) → Holds FitsEvent (spec.event_named files kind words)
 unfolding spec.event_named
@@ -207,6 +220,7 @@ named_event_fits files (name.Task kind) words = task_event_fits kind words
 named_event_fits files name.Act words = then_holds IsNumber FitsEvent (one_of spelling.number_of words) _ (one_holds IsNumber spelling.number_of number_fits words) (λ v h. h)
 named_event_fits files name.CloseFile words = then_holds IsNumber FitsEvent (one_of kinds.fd_of words) _ (one_holds IsNumber kinds.fd_of fd_fits words) (λ v h. h)
 named_event_fits files name.Sweep words = then_holds (λ end. Unit {0}) FitsEvent (no_words words) _ (any_holds (no_words words)) (λ end h. tt)
+named_event_fits files name.Ptrace words = ptrace_fits words
 
 pub event_fits : (files : List NamedFile) (words : List (List ℕ)) → Holds FitsEvent (spec.event_of files words)
 unfolding spec.event_of

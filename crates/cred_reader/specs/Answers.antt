@@ -42,6 +42,7 @@ query_tells (query.Check file want) = Nothing
 -- what an event is told
 abbrev pub told_by : Event → Tells
 told_by (event.Ask label query) = query_tells query
+told_by (event.Dumped task) = Flag
 told_by event = Nothing
 
 -- ids of users and ids of groups, four of each

@@ -15,6 +15,7 @@ use Rattle.cred_spelling.specs.Spellings.{id_of, number_of, namespace_of, want_o
 use Rattle.cred_spelling.specs.Table.{named}
 use Rattle.cred_spelling.specs.Words.{◌>>=◌, word_of, no_words, one_of, two_of, three_of, five_of}
 use Rattle.cred_forms.specs.Changes.{change_of}
+use Rattle.cred_forms.specs.Modes.{mode_of}
 use Rattle.cred_forms.specs.Files.{file_at}
 use Rattle.cred_forms.specs.Questions.{query_named}
 use Rattle.cred_forms.specs.IdCalls.{id_call_of}
@@ -50,6 +51,9 @@ event_names =
     (codes "fork", name.Task by_task.Fork) ∷
     (codes "exit", name.Task by_task.Exit) ∷
     (codes "sweep", name.Sweep) ∷
+    (codes "dumpable", name.Task by_task.Dumpable) ∷
+    (codes "dumped", name.Task by_task.Dumped) ∷
+    (codes "ptrace", name.Ptrace) ∷
     []
 
 abbrev pub event_name : List ℕ → Option EventName
@@ -152,6 +156,19 @@ task_event by_task.Fork words = do
   word ← three_of task_of task_of process_of words
   Ok (event.Fork word.0 word.1 word.2)
 task_event by_task.Exit words = one_of task_of words >>= λ task. Ok (event.Exit task)
+task_event by_task.Dumpable words = do
+  word ← two_of task_of number_of words
+  Ok (event.Dumpable word.0 word.1)
+task_event by_task.Dumped words = one_of task_of words >>= λ task. Ok (event.Dumped task)
+
+-- how it is asked for, and then two tasks, each with the label that holds its credential
+unfoldable pub ptrace_of : List (List ℕ) → Result Event Reason
+ptrace_of (asked ∷ from ∷ hold ∷ words) = do
+  mode ← word_of mode_of asked
+  sender ← two_of task_of label_of (from ∷ hold ∷ [])
+  other ← two_of task_of label_of words
+  Ok (event.Ptrace sender.0 sender.1 other.0 other.1 mode)
+ptrace_of words = Err Count
 
 -- an event, by its name and the words behind it
 unfoldable pub event_named : List NamedFile → EventName → List (List ℕ) → Result Event Reason
@@ -160,6 +177,7 @@ event_named files (name.Task kind) words = task_event kind words
 event_named files name.Act words = one_of number_of words >>= λ cast. Ok (event.Act cast)
 event_named files name.CloseFile words = one_of fd_of words >>= λ fd. Ok (event.CloseFile fd)
 event_named files name.Sweep words = no_words words >>= λ end. Ok event.Sweep
+event_named files name.Ptrace words = ptrace_of words
 
 -- the event that the words are the text of
 unfoldable pub event_of : List NamedFile → List (List ℕ) → Result Event Reason

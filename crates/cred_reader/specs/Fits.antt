@@ -28,7 +28,8 @@ use Rattle.cred_event.specs.declared.event.Event.TheVariants.{Init, Take, TakeFi
 use Rattle.cred_event.specs.declared.event.Event.TheVariants.{Signal, Prepare, Alter, Commit, Abort}
 use Rattle.cred_event.specs.declared.event.Event.TheVariants.{Override, Revert, Begin, Act}
 use Rattle.cred_event.specs.declared.event.Event.TheVariants.{OpenFile, CloseFile, Spawn, Fork}
-use Rattle.cred_event.specs.declared.event.Event.TheVariants.{Exit, Sweep}
+use Rattle.cred_event.specs.declared.event.Event.TheVariants.{Exit, Sweep, Dumpable, Dumped}
+use Rattle.cred_event.specs.declared.event.Event.TheVariants.{Ptrace}
 use Rattle.cred_event.specs.declared.answer.Told.{Told}
 use Rattle.cred_event.specs.declared.answer.Told.TheVariants as told
 use Rattle.cred_event.specs.declared.answer.Answer.{Answer}
@@ -127,6 +128,10 @@ FitsEvent (Spawn task child) = IsNumber task × IsNumber child
 FitsEvent (Fork task child process) = IsNumber task × IsNumber child × IsNumber process
 FitsEvent (Exit task) = IsNumber task
 FitsEvent Sweep = ⊤
+FitsEvent (Dumpable task value) = IsNumber task × IsNumber value
+FitsEvent (Dumped task) = IsNumber task
+FitsEvent (Ptrace from hold to target mode) =
+    IsNumber from × IsNumber hold × IsNumber to × IsNumber target
 
 abbrev pub FitsIds : Ids4 → Type 0
 FitsIds ids = IsId ids.real × IsId ids.effective × IsId ids.saved × IsId ids.fs

@@ -38,6 +38,7 @@ pub(crate) fn told_by(event: &Event) -> Tells
 {
     match event {
         Event::Ask { query, .. } => query_tells(*query),
+        Event::Dumped { .. } => Tells::Flag,
         _ => Tells::Nothing,
     }
 }

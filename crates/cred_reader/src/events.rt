@@ -6,7 +6,7 @@ ghost use Rattle.cred_reader.specs.Events as spec;
 use crate::kinds::{Fd, Label, Process, Task};
 use crate::names::{EventName, LabelEvent, TaskEvent, event_name};
 use cred_event::{Change, Event, Side};
-use cred_forms::{LineRefusal, change_of, file_at, id_call_of, query_named};
+use cred_forms::{AccessMode, LineRefusal, change_of, file_at, id_call_of, query_named};
 use cred_ids::Id;
 use cred_record::{IdCall, Want};
 use cred_script::Script;
@@ -206,6 +206,35 @@ fn task_event(alloc: Global, name: TaskEvent, words: &[&[u8]]) -> Result<Event, 
         TaskEvent::Exit => Ok(Event::Exit {
             task: one::<Task>(words)?,
         }),
+        TaskEvent::Dumpable => {
+            let (task, value) = two::<Task, Number>(words)?;
+            Ok(Event::Dumpable { task, value })
+        }
+        TaskEvent::Dumped => Ok(Event::Dumped {
+            task: one::<Task>(words)?,
+        }),
+    }
+}
+
+/// How it is asked for, and then two tasks, each with the label that holds its credential.
+#[tactic(auto, unfolding(crate::specs::Events::ptrace_of))]
+fn ptrace_of(words: &[&[u8]]) -> Result<Event, Reason>
+    ensures { Says (λ event. event) result (spec.ptrace_of (nows words.now)) }
+{
+    match words {
+        [asked, from, hold, words @ ..] => {
+            let mode = word::<AccessMode>(asked)?;
+            let (from, hold) = two::<Task, Label>(&[*from, *hold])?;
+            let (to, target) = two::<Task, Label>(words)?;
+            Ok(Event::Ptrace {
+                from,
+                hold,
+                to,
+                target,
+                mode,
+            })
+        }
+        _ => Err(Reason::Count),
     }
 }
 
@@ -233,6 +262,7 @@ fn event_named(
             no_words(words)?;
             Ok(Event::Sweep)
         }
+        EventName::Ptrace => Ok(ptrace_of(words)?),
     }
 }
 

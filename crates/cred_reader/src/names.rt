@@ -14,6 +14,8 @@ pub enum EventName {
     Act,
     CloseFile,
     Sweep,
+    /// How it is asked for stands behind the word.
+    Ptrace,
 }
 
 /// The events whose text has a label behind its first word.
@@ -42,9 +44,11 @@ pub enum TaskEvent {
     Spawn,
     Fork,
     Exit,
+    Dumpable,
+    Dumped,
 }
 
-static EVENT_NAMES: [(&str, EventName); 21] = [
+static EVENT_NAMES: [(&str, EventName); 24] = [
     ("init", EventName::Task(TaskEvent::Init)),
     ("take", EventName::Label(LabelEvent::Take)),
     ("takereal", EventName::Label(LabelEvent::TakeReal)),
@@ -66,6 +70,9 @@ static EVENT_NAMES: [(&str, EventName); 21] = [
     ("fork", EventName::Task(TaskEvent::Fork)),
     ("exit", EventName::Task(TaskEvent::Exit)),
     ("sweep", EventName::Sweep),
+    ("dumpable", EventName::Task(TaskEvent::Dumpable)),
+    ("dumped", EventName::Task(TaskEvent::Dumped)),
+    ("ptrace", EventName::Ptrace),
 ];
 
 /// The event that the word names.

@@ -8,7 +8,10 @@ use Rattle.cred_event.specs.declared.event.Event.TheVariants.{Init, Take, TakeFi
 use Rattle.cred_event.specs.declared.event.Event.TheVariants.{Signal, Prepare, Alter, Commit, Abort}
 use Rattle.cred_event.specs.declared.event.Event.TheVariants.{Override, Revert, Begin, Act}
 use Rattle.cred_event.specs.declared.event.Event.TheVariants.{OpenFile, CloseFile, Spawn, Fork}
-use Rattle.cred_event.specs.declared.event.Event.TheVariants.{Exit, Sweep}
+use Rattle.cred_event.specs.declared.event.Event.TheVariants.{Exit, Sweep, Dumpable, Dumped}
+use Rattle.cred_event.specs.declared.event.Event.TheVariants.{Ptrace}
+use Rattle.cred_event.specs.declared.event.Mode.{Mode}
+use Rattle.cred_event.specs.declared.event.Mode.TheVariants.{Fs, Real}
 use Rattle.cred_model.specs.Script.{Script}
 use Rattle.cred_report.specs.Questions.{file_text, want_text, query_text}
 use Rattle.cred_report.specs.Calls.{call_text, change_text}
@@ -17,6 +20,11 @@ use Rattle.cred_report.specs.Calls.{call_text, change_text}
 abbrev pub take_text : Side → List ℕ
 take_text Subjective = codes "take h"
 take_text Objective = codes "takereal h"
+
+-- what the task that asks to look into another follows
+abbrev pub trace_text : Mode → List ℕ
+trace_text Fs = codes "ptrace fs t"
+trace_text Real = codes "ptrace real t"
 
 abbrev pub event_text : Script → Event → List ℕ
 event_text script (Init task process user group ns) =
@@ -55,3 +63,9 @@ event_text script (Fork task child process) =
     codes "fork t" ++ decimal task ++ codes " t" ++ decimal child ++ codes " p" ++ decimal process
 event_text script (Exit task) = codes "exit t" ++ decimal task
 event_text script Sweep = codes "sweep"
+event_text script (Dumpable task value) =
+    codes "dumpable t" ++ decimal task ++ codes " " ++ decimal value
+event_text script (Dumped task) = codes "dumped t" ++ decimal task
+event_text script (Ptrace from hold to target mode) =
+    trace_text mode ++ decimal from ++ codes " h" ++ decimal hold ++ codes " t" ++ decimal to ++
+    codes " h" ++ decimal target

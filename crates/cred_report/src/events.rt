@@ -1,12 +1,12 @@
 //! Events.
 ghost use Rattle.std.specs.Prelude.{◌≡◌, ◌≤◌, ◌+◌, ◌++◌, OnOk, codes, decimal, length};
 ghost use Rattle.cred_report.specs.Calls.{call_text};
-ghost use Rattle.cred_report.specs.Events.{take_text, event_text};
+ghost use Rattle.cred_report.specs.Events.{take_text, trace_text, event_text};
 ghost use Rattle.cred_report.specs.Room.{EVENT, BEFORE_EVENT};
 
 use crate::calls::{prepend_call, prepend_change};
 use crate::questions::{prepend_file, prepend_letters, prepend_query};
-use cred_event::{Change, Event, Query, Side};
+use cred_event::{Change, Event, Mode, Query, Side};
 use cred_ids::{Id, NoMemory};
 use cred_pen::{Pen, prepend_label, prepend_number, prepend_three, prepend_two, prepend_word};
 use cred_record::{IdCall, Want};
@@ -67,6 +67,23 @@ fn prepend_signal(out: &mut Pen, from: u32, hold: u32, to: u32, target: u32)
 {
     prepend_two(out, (" t", to), (" h", target));
     prepend_two(out, ("signal t", from), (" h", hold))
+}
+
+/// Writes the question whether a task may look into another, each followed by the label that holds
+/// its credential.
+fn prepend_ptrace(out: &mut Pen, from: u32, hold: u32, to: u32, target: u32, mode: Mode)
+    requires { EVENT ≤ out.old.room }
+    ensures text { out.new.text
+        ≡ (trace_text mode ++ decimal from ++ codes " h" ++ decimal hold
+        ++ codes " t" ++ decimal to ++ codes " h" ++ decimal target) ++ out.old.text }
+    ensures room { out.old.room ≤ out.new.room + EVENT }
+{
+    prepend_two(out, (" t", to), (" h", target));
+    prepend_two(out, ("", from), (" h", hold));
+    match mode {
+        Mode::Fs => prepend_word(out, "ptrace fs t"),
+        Mode::Real => prepend_word(out, "ptrace real t"),
+    }
 }
 
 /// Writes the preparation of a new credential for a task.
@@ -194,6 +211,15 @@ pub(crate) fn prepend_event(out: &mut Pen, script: &Script, event: &Event) -> Re
         } => { prepend_three(out, ("fork t", *task), (" t", *child), (" p", *process)) }
         Event::Exit { task } => prepend_number(out, "exit t", *task),
         Event::Sweep => prepend_word(out, "sweep"),
+        Event::Dumpable { task, value } => prepend_two(out, ("dumpable t", *task), (" ", *value)),
+        Event::Dumped { task } => prepend_number(out, "dumped t", *task),
+        Event::Ptrace {
+            from,
+            hold,
+            to,
+            target,
+            mode,
+        } => prepend_ptrace(out, *from, *hold, *to, *target, *mode),
     }
     Ok(())
 }

@@ -15,6 +15,8 @@ pub fn event_actor(event: &Event) -> Option<u32>
         | Event::Begin { task, .. }
         | Event::Spawn { task, .. }
         | Event::Fork { task, .. }
+        | Event::Dumpable { task, .. }
+        | Event::Dumped { task }
         | Event::Exit { task } => Some(*task),
         _ => None,
     }

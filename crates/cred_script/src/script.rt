@@ -4,7 +4,7 @@ ghost use Rattle.std.specs.Option.{option_map};
 ghost use Rattle.cred_ids.specs.Limits.{LINE_LIMIT, FILES};
 ghost use Rattle.cred_ids.specs.Limits.{LAST_LANE};
 ghost use Rattle.cred_model.specs.Named.{IsContentOf};
-ghost use Rattle.cred_model.specs.Script.{SetupFirst, chain_in};
+ghost use Rattle.cred_model.specs.Script.{SetupFirst, chain_in, reaches};
 ghost use Rattle.cred_script.specs.Files as spec;
 ghost use Rattle.cred_script.specs.Lanes.{lanes};
 ghost use Rattle.cred_script.specs.Lines.{line_at, seen};
@@ -134,6 +134,14 @@ impl Script {
         ensures { option_map (λ chain. chain.now) result ≡ chain_in self.now.namespaces ns }
     {
         self.namespaces.chain(ns)
+    }
+
+    /// Whether the outer user namespace is the inner one or an ancestor of it: then what a task of
+    /// the outer one is capable of it is capable of in the inner one too (user_namespaces(7)).
+    pub fn reaches(&self, outer: u32, inner: u32) -> bool
+        ensures { result ≡ reaches self.now.namespaces outer inner }
+    {
+        self.namespaces.reaches(outer, inner)
     }
 
     /// The lane and the content of the line of this number; none for 0 and past the last line.

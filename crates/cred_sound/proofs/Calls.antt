@@ -18,6 +18,7 @@ use Rattle.cred_model.specs.State.{State, Task, Broadcast, Numbered, numbered, t
 use Rattle.cred_model.specs.Slots.{refs}
 use Rattle.cred_model.specs.Change.{by_rule}
 use Rattle.cred_model.specs.Ends.{is_task, is_thread_of, survivors, ended}
+use Rattle.cred_model.specs.Dumpable.{is_dumpable, with_flag, without_flag, differs, renewed, flags_left}
 use Rattle.cred_model.specs.Casts.{others_of, with_cast, waits_no_more, joined, dropped}
 use Rattle.cred_model.specs.Moves.{table_full, with_current, first_task, replaced}
 use Rattle.cred_model.specs.Step.{aborted, follow, step}
@@ -25,7 +26,7 @@ use Rattle.cred_model.proofs.Numbers.{owner_number}
 use Rattle.cred_model.proofs.Referred.{all_survive, each_ended}
 use Rattle.cred_sound.proofs.References.{own_refs, current_stands}
 use Rattle.cred_sound.proofs.Tests.{outcome_has, if_some, if_none, if_fewer, if_idle, if_own, if_rule, in_slots}
-use Rattle.cred_sound.proofs.Parts.{with_left, Changes, ByBegin, ByAct, BySpawn, ByFork, ByExit, ByAbort, Shares, Renews, Fewer}
+use Rattle.cred_sound.proofs.Parts.{with_left, Changes, OfCall, ByBegin, ByAct, BySpawn, ByFork, ByExit, ByAbort, Shares, Renews, Fewer}
 use Rattle.cred_sound.proofs.OnePart.{still_left, gives_up, still, refused, with_tasks, only_tasks}
 
 -- what the tasks that end referred to
@@ -57,15 +58,19 @@ begin_changes script s line task call =
     let others = others_of owner s.tasks in
     let by : ℕ → Broadcast = λ caller. record { number = line; process = owner.process; caller = caller; call = call; waiting = others } in
     in_slots Q s table_full
-    (λ s slot. (Began (length s.creds) slot (length others), record (replaced s task old.number new slot) { casts = with_cast s.casts (by task) }))
+    (λ s slot. (
+      Began (length s.creds) slot (length others),
+      record (replaced s task old.number new slot) { casts = with_cast s.casts (by task); dumpable = renewed s.dumpable owner.process (differs old.cred new) },
+    ))
     (still script s event TableFull)
     (λ left slot fewer free.
     let is = own_is s task owner old found at in
     with_tasks script s event (Began (length s.creds) slot (length others)) left (with_current s.tasks task (length s.creds))
-    (with_cast s.casts (by task)) new slot (left ++ old.number ∷ []) fewer free
+    (with_cast s.casts (by task)) (renewed s.dumpable owner.process (differs old.cred new)) new slot (left ++ old.number ∷ []) fewer free
+    (OfCall task old call is ruled)
     (Renews task slot owner new (λ t. false) (renewed_all s task) refl found
     (ByBegin call old line slot refl is ruled unused idle refl
-    (ap (λ caller. with_cast s.casts (by caller)) (sym (owner_number s task owner found))) refl))
+    (ap (λ caller. with_cast s.casts (by caller)) (sym (owner_number s task owner found))) refl refl))
     (gives_up (with_left s left) old.number (current_stands (with_left s left) task old is))))))))))
 
 -- all threads of the process end
@@ -74,26 +79,30 @@ process_ends : (script : Script) (s : State) (number task : ℕ) (cause : AbortC
 process_ends script s number task cause cast left fewer =
     let ends = is_thread_of cast.process in
     let after = ended ends (with_left s left) in
-    only_tasks script s (Act number) (Aborted task cause) left after.tasks (dropped cast.process s.casts) after.deferred fewer
-    (Fewer ends refl refl (ByAbort number task cause cast refl refl refl refl)) (ended_stay (with_left s left) ends)
+    only_tasks script s (Act number) (Aborted task cause) left after.tasks (dropped cast.process s.casts) (without_flag s.dumpable cast.process) after.deferred fewer
+    (Fewer ends refl refl (ByAbort number task cause cast refl refl refl refl refl)) (ended_stay (with_left s left) ends)
 
 follow_changes : (script : Script) (s : State) (number task : ℕ) (cast : Broadcast) (owner : Task) (old : Numbered)
     (made : Result Credential Denial) → cast_of s number ≡ Some cast → slice_get cast.waiting 0 ≡ Some task
     → task_of s task ≡ Some owner → current_of s task ≡ Some old → set_id old.cred cast.call ≡ made
-    → Changes script s (Act number) (follow s cast task old.number (by_rule made))
+    → Changes script s (Act number) (follow s cast task owner old (by_rule made))
 follow_changes script s number task cast owner old (Err refusal) opened first found is ruled =
     process_ends script s number task cause.Perm cast s.deferred (All-contains_itself s.deferred)
 follow_changes script s number task cast owner old (Ok new) opened first found is ruled =
     let event = Act number in
     let left_waiting = length cast.waiting - 1 in
     in_slots (Changes script s event) s (λ now. (Aborted task cause.Full, aborted cast now))
-    (λ now slot. (Acted task (length now.creds) slot left_waiting, record (replaced now task old.number new slot) { casts = waits_no_more task now.casts }))
+    (λ now slot. (
+      Acted task (length now.creds) slot left_waiting,
+      record (replaced now task old.number new slot) { casts = waits_no_more task now.casts; dumpable = renewed now.dumpable owner.process (differs old.cred new) },
+    ))
     (process_ends script s number task cause.Full cast)
     (λ left slot fewer free.
     with_tasks script s event (Acted task (length s.creds) slot left_waiting) left (with_current s.tasks task (length s.creds))
-    (waits_no_more task s.casts) new slot (left ++ old.number ∷ []) fewer free
+    (waits_no_more task s.casts) (renewed s.dumpable owner.process (differs old.cred new)) new slot (left ++ old.number ∷ []) fewer free
+    (OfCall task old cast.call is ruled)
     (Renews task slot owner new (λ t. false) (renewed_all s task) refl found
-    (ByAct number slot cast old refl opened first is ruled refl refl refl))
+    (ByAct number slot cast old refl opened first is ruled refl refl refl refl))
     (gives_up (with_left s left) old.number (current_stands (with_left s left) task old is)))
 
 pub act_changes : (script : Script) (s : State) (line number : ℕ) → Changes script s (Act number) (step script s line (Act number))
@@ -119,8 +128,8 @@ spawn_changes script s line task child =
     (λ new. if_own Q owner _
     (if_fewer Q (length s.tasks) TASKS _ _
     (only_tasks script s event (Sealed parent.number parent.slot) s.deferred (s.tasks ++ first_task child owner.process parent.number ∷ [])
-    (joined task child s.casts) s.deferred (All-contains_itself s.deferred)
-    (Shares task child owner.process parent refl refl (own_is s task owner parent found at) new (BySpawn owner refl found refl refl))
+    (joined task child s.casts) s.dumpable s.deferred (All-contains_itself s.deferred)
+    (Shares task child owner.process parent refl refl (own_is s task owner parent found at) new (BySpawn owner refl found refl refl refl))
     (still_left s s.deferred))))))))
 
 pub fork_changes : (script : Script) (s : State) (line task child process : ℕ)
@@ -137,8 +146,8 @@ fork_changes script s line task child process =
     (λ unused. if_own Q owner _
     (if_fewer Q (length s.tasks) TASKS _ _
     (only_tasks script s event (Sealed parent.number parent.slot) s.deferred (s.tasks ++ first_task child process parent.number ∷ []) s.casts
-    s.deferred (All-contains_itself s.deferred)
-    (Shares task child process parent refl refl (own_is s task owner parent found at) new (ByFork refl unused refl))
+    (with_flag s.dumpable process (is_dumpable s.dumpable owner.process)) s.deferred (All-contains_itself s.deferred)
+    (Shares task child process parent refl refl (own_is s task owner parent found at) new (ByFork owner refl found unused refl refl))
     (still_left s s.deferred)))))))))
 
 pub exit_changes : (script : Script) (s : State) (line task : ℕ) → Changes script s (Exit task) (step script s line (Exit task))
@@ -147,8 +156,8 @@ exit_changes script s line task =
     let Q = Changes script s event in
     outcome_has Q s _ (refused script s event)
     (if_some Q (task_of s task) _ _
-    (λ owner is. if_idle Q (begun_by s task) _
+    (λ owner found. if_idle Q (begun_by s task) _
     (λ idle. if_own Q owner _
     (let after = ended (is_task task) s in
-    only_tasks script s event Done s.deferred after.tasks (waits_no_more task s.casts) after.deferred (All-contains_itself s.deferred)
-    (Fewer (is_task task) refl refl (ByExit task refl refl idle refl)) (ended_stay s (is_task task))))))
+    only_tasks script s event Done s.deferred after.tasks (waits_no_more task s.casts) (flags_left s owner) after.deferred (All-contains_itself s.deferred)
+    (Fewer (is_task task) refl refl (ByExit task owner refl found refl idle refl refl)) (ended_stay s (is_task task))))))

@@ -1,5 +1,5 @@
 -- What each event changes.
-use Rattle.std.proofs.Common.{◌≡◌, ◌==◌, ◌⊎◌, inl, inr, ℕ, List, [], ◌∷◌, ◌++◌, length, slice_get, drop, Option, Some, None, true, false, cond, refl, sym, subst, position}
+use Rattle.std.proofs.Common.{◌≡◌, ◌==◌, ◌&&◌, ◌⊎◌, inl, inr, Bool, ℕ, List, [], ◌∷◌, ◌++◌, length, slice_get, drop, Option, Some, None, true, false, cond, refl, sym, subst, position}
 use Rattle.std.specs.List.{All, Contains, count_by, remove}
 use Rattle.std.specs.Option.{option_and_then}
 use Rattle.std.proofs.lemmas.Bool.{eqb-true}
@@ -9,19 +9,23 @@ use Rattle.cred_record.specs.Credential.{first_credential}
 use Rattle.cred_record.specs.declared.want.Want.{Want}
 use Rattle.cred_rules.specs.Access.{may_signal}
 use Rattle.cred_event.specs.declared.event.Event.{Event}
-use Rattle.cred_event.specs.declared.event.Event.TheVariants.{Init, Take, TakeFile, Release, Ask, Signal, Prepare, Alter, Commit, Abort, Override, Revert, Begin, Act, OpenFile, CloseFile, Spawn, Fork, Exit, Sweep}
+use Rattle.cred_event.specs.declared.event.Event.TheVariants.{Init, Take, TakeFile, Release, Ask, Signal, Prepare, Alter, Commit, Abort, Override, Revert, Begin, Act, OpenFile, CloseFile, Spawn, Fork, Exit, Sweep, Dumpable, Dumped, Ptrace}
 use Rattle.cred_event.specs.declared.event.Change.{Change}
 use Rattle.cred_event.specs.declared.event.Change.TheVariants.{Exec}
+use Rattle.cred_event.specs.declared.event.Mode.{Mode}
 use Rattle.cred_event.specs.declared.event.Side.{Side}
 use Rattle.cred_event.specs.declared.answer.Answer.{Answer}
-use Rattle.cred_event.specs.declared.answer.Answer.TheVariants.{Done, Sealed, Kept, Stale, TableFull}
-use Rattle.cred_model.specs.Script.{Script, info_of, chain_of, root_of}
+use Rattle.cred_event.specs.declared.answer.Answer.TheVariants.{Done, Sealed, Kept, Told, Einval, Stale, TableFull}
+use Rattle.cred_event.specs.declared.answer.Told.TheVariants as told
+use Rattle.cred_model.specs.Script.{Script, info_of, chain_of, root_of, reaches}
 use Rattle.cred_model.specs.State.{State, Task, OpenFile as Open, Hold, Prepared, Changed, Numbered, numbered, task_of, cast_in, begun_by, open_of, hold_of, prepared_of, held_by, opener_of, credential_of}
 use Rattle.cred_model.specs.Slots.{refs}
 use Rattle.cred_model.specs.Named.{change_files}
 use Rattle.cred_model.specs.Answers.{checked}
 use Rattle.cred_model.specs.Change.{by_change}
 use Rattle.cred_model.specs.Ends.{ended}
+use Rattle.cred_model.specs.Ptrace.{may_trace}
+use Rattle.cred_model.specs.Dumpable.{is_dumpable, set_flag, flags_begun, flags_committed, flag_of_value}
 use Rattle.cred_model.specs.Moves.{table_full, with_overrides, lent, overridden, with_change}
 use Rattle.cred_model.specs.Moves.{first_task, created, preparing, committed, given_up}
 use Rattle.cred_model.specs.Step.{ends_with, casts_after, commit_answer, try_commit, take_hold, is_access, for_task, for_access, override_held, override_prepared, step}
@@ -29,7 +33,7 @@ use Rattle.cred_model.proofs.Lists.{All-at}
 use Rattle.cred_sound.specs.Ledger.{SealsOf}
 use Rattle.cred_sound.proofs.References.{owner_stands, overrides_stand, credential_stands, opener_stands, held_by_stands, file_stands, found_stands, held_stands, base_stands}
 use Rattle.cred_sound.proofs.Tests.{IfAllowed, outcome_has, if_some, if_none, if_either, if_fewer, if_passed, if_idle, if_own, if_last, if_ok, in_slots}
-use Rattle.cred_sound.proofs.Parts.{with_left, Old, OldOrNew, grows, casts_left, Changes, Seals, ByCommit, Creates, Renews, Overrides, Stays, Adds, Removes, Prepares, Alters, Ends}
+use Rattle.cred_sound.proofs.Parts.{with_left, Old, OldOrNew, grows, casts_left, Changes, Seals, OfFirst, OfLabel, ByCommit, SetsFlag, Creates, Renews, Overrides, Stays, Adds, Removes, Prepares, Alters, Ends}
 use Rattle.cred_sound.proofs.OnePart.{still_left, gives_up, fits_own, still, refused, with_tasks, only_tasks, with_lists, with_prepared}
 use Rattle.cred_sound.proofs.Calls.{ended_stay, begin_changes, act_changes, spawn_changes, fork_changes, exit_changes}
 
@@ -46,11 +50,13 @@ init_changes script s line task process user group ns =
     (if_idle Q (cast_in s process) _
     (λ idle. if_none Q (task_of s task) _ _
     (λ new. if_fewer Q (length s.tasks) TASKS _ _
-    (in_slots Q s table_full (λ s slot. (Sealed (length s.creds) slot, created s (first_task task process (length s.creds)) c slot))
+    (in_slots Q s table_full
+    (λ s slot. (Sealed (length s.creds) slot, record (created s (first_task task process (length s.creds)) c slot) { dumpable = flags_begun s process }))
     (still script s event TableFull)
     (λ left slot fewer free.
-    with_tasks script s event (Sealed (length s.creds) slot) left (s.tasks ++ first ∷ []) s.casts c slot left fewer free
-    (Creates task process user group ns slot refl refl refl new idle refl) (still_left s left))))))
+    with_tasks script s event (Sealed (length s.creds) slot) left (s.tasks ++ first ∷ []) s.casts (flags_begun s process) c slot left fewer free
+    (OfFirst user group ns (root_of script ns) refl)
+    (Creates task process user group ns slot refl refl refl new idle refl refl) (still_left s left))))))
 
 -- a label takes hold of what is referred to
 takes_hold : (script : Script) (s : State) (event : Event) (label : ℕ) (taken : Numbered) → Contains (refs s) taken.number
@@ -182,23 +188,26 @@ commit_fresh : (script : Script) (s : State) (label place : ℕ) (p : Prepared) 
     → position (λ p. p.label == label) s.prepared ≡ Some place → slice_get s.prepared place ≡ Some p
     → p.changed ≡ Some last → task_of s p.task ≡ Some owner → owner.current ≡ p.base
     → let ends = ends_with last.change owner in
-    Changes script s (Commit label)
-    (commit_answer last (length s.creds) p.slot (count_by ends s.tasks), casts_after last.change owner (committed (ended ends s) place p owner.current last.cred))
+    Changes script s (Commit label) (
+      commit_answer last (length s.creds) p.slot (count_by ends s.tasks),
+      record (casts_after last.change owner (committed (ended ends s) place p owner.current last.cred)) { dumpable = flags_committed s owner last },
+    )
 commit_fresh script s label place p last owner at is changed found same =
     let Has = Contains (refs s) in
     let ends = ends_with last.change owner in
     let now = committed (ended ends s) place p owner.current last.cred in
     let answer = commit_answer last (length s.creds) p.slot (count_by ends s.tasks) in
-    let t = record now { casts = casts_left last.change owner now.casts } in
-    subst (λ t. Changes script s (Commit label) (answer, t)) (sym (only_casts last.change owner now)) (record {
+    let flags = flags_committed s owner last in
+    let t = record now { casts = casts_left last.change owner now.casts; dumpable = flags } in
+    subst (λ t. Changes script s (Commit label) (answer, record t { dumpable = flags })) (sym (only_casts last.change owner now)) (record {
       left = s.deferred;
       fewer = All-contains_itself s.deferred;
       tasks = Renews p.task p.slot owner last.cred ends refl refl found
-          (ByCommit label place p.slot (count_by ends s.tasks) p last refl is changed same refl refl refl refl);
+          (ByCommit label place p.slot (count_by ends s.tasks) p last refl at is refl changed same refl refl refl refl refl);
       files = Stays refl;
       holds = Stays refl;
       prepared = Ends label place p (inl refl) refl at is;
-      creds = Seals last.cred p.slot refl (fits_own s (Commit label) t label place p refl refl at is);
+      creds = Seals last.cred p.slot refl (fits_own s (Commit label) t label place p refl refl at is) (OfLabel place p last is changed refl);
       deferred = All-append Has (ended ends s).deferred (owner.current ∷ p.base ∷ []) (ended_stay s ends)
           (All-cons Has owner.current (p.base ∷ []) (owner_stands s p.task owner found)
           (All-cons Has p.base [] (base_stands s place p is) (All-nil Has)));
@@ -210,7 +219,7 @@ try_commit_changes : (script : Script) (s : State) (label place : ℕ) (p : Prep
     → Changes script s (Commit label) (try_commit s place p owner last)
 try_commit_changes script s label place p last owner at is changed found =
     let ends = ends_with last.change owner in
-    elim (owner.current == p.base) as (λ b. (b ≡ true → owner.current ≡ p.base) → Changes script s (Commit label) (cond {A = Answer × State} b (commit_answer last (length s.creds) p.slot (count_by ends s.tasks), casts_after last.change owner (committed (ended ends s) place p owner.current last.cred)) (Stale p.base owner.current, given_up s place p))) [
+    elim (owner.current == p.base) as (λ b. (b ≡ true → owner.current ≡ p.base) → Changes script s (Commit label) (cond {A = Answer × State} b (commit_answer last (length s.creds) p.slot (count_by ends s.tasks), record (casts_after last.change owner (committed (ended ends s) place p owner.current last.cred)) { dumpable = flags_committed s owner last }) (Stale p.base owner.current, given_up s place p))) [
       | true ↦ λ same. commit_fresh script s label place p last owner at is changed found (same refl)
       | false ↦ λ same. gives_up_prepared script s (Commit label) (Stale p.base owner.current) label place p (inl refl) at is
     ] (eqb-true owner.current p.base)
@@ -259,11 +268,24 @@ override_held_has script s event task label owner held found is =
     let Q = Changes script s event in
     let t = lent s owner held.number in
     if_fewer Q (length owner.overrides) DEPTH _ _
-    (only_tasks script s event (Sealed held.number held.slot) s.deferred t.tasks s.casts s.deferred (All-contains_itself s.deferred)
+    (only_tasks script s event (Sealed held.number held.slot) s.deferred t.tasks s.casts s.dumpable s.deferred (All-contains_itself s.deferred)
     (Overrides owner.number (held.number ∷ owner.overrides) refl
     (λ left. All-cons (OldOrNew s left t) held.number owner.overrides (inl (held_by_stands (with_left s left) label held is))
-    (own_overrides s t task owner found left)) refl)
+    (own_overrides s t task owner found left)) refl refl)
     (still_left s s.deferred))
+
+-- what is lent for access(2) is what was changed last
+kept_some : (test : Changed → Bool) (changed : Option Changed) (last : Changed)
+    → option_and_then (λ x. cond (test x) (Some x) None) changed ≡ Some last → changed ≡ Some last
+kept_some test None last is = cc
+kept_some test (Some x) last is =
+    elim (test x) as (λ b. cond b (Some x) None ≡ Some last → Some x ≡ Some last) [
+      | true ↦ λ same. same
+      | false ↦ λ none. absurd (cc)
+    ] is
+
+changed_for_access : (task : ℕ) (p : Prepared) (last : Changed) → for_access task p ≡ Some last → p.changed ≡ Some last
+changed_for_access task p last = kept_some (λ x. (p.task == task) && is_access x.change) p.changed last
 
 override_prepared_has : (script : Script) (s : State) (task label : ℕ) (owner : Task) → task_of s task ≡ Some owner
     → IfAllowed (Changes script s (Override task label)) (override_prepared s owner label)
@@ -280,11 +302,12 @@ override_prepared_has script s task label owner found =
       fewer = All-contains_itself s.deferred;
       tasks = Overrides owner.number (length s.creds ∷ owner.overrides) refl
           (λ left. All-cons (OldOrNew s left t) (length s.creds) owner.overrides (inr (grows s t _ refl))
-          (own_overrides s t task owner found left)) refl;
+          (own_overrides s t task owner found left)) refl refl;
       files = Stays refl;
       holds = Stays refl;
       prepared = Ends label place p (inl refl) refl at is;
-      creds = Seals last.cred p.slot refl (fits_own s event t label place p refl refl at is);
+      creds = Seals last.cred p.slot refl (fits_own s event t label place p refl refl at is)
+          (OfLabel place p last is (changed_for_access owner.number p last changed) refl);
       deferred = gives_up s p.base (base_stands s place p is);
     }))))
 
@@ -310,10 +333,42 @@ revert_changes script s line task =
     let tasks = with_overrides s.tasks task (drop 1 owner.overrides) in
     let deferred = s.deferred ++ newest ∷ [] in
     let t = record s { tasks = tasks; deferred = deferred } in
-    only_tasks script s event Done s.deferred tasks s.casts deferred (All-contains_itself s.deferred)
+    only_tasks script s event Done s.deferred tasks s.casts s.dumpable deferred (All-contains_itself s.deferred)
     (Overrides task (drop 1 owner.overrides) refl
-    (λ left. All-drop (OldOrNew s left t) 1 owner.overrides (own_overrides s t task owner found left)) refl)
+    (λ left. All-drop (OldOrNew s left t) 1 owner.overrides (own_overrides s t task owner found left)) refl refl)
     (gives_up s newest (All-at (Contains (refs s)) owner.overrides 0 newest is (overrides_stand s task owner found))))))
+
+dumpable_changes : (script : Script) (s : State) (line task value : ℕ)
+    → Changes script s (Dumpable task value) (step script s line (Dumpable task value))
+dumpable_changes script s line task value =
+    let event = Dumpable task value in
+    let Q = Changes script s event in
+    outcome_has Q s _ (refused script s event)
+    (if_some Q (task_of s task) _ _
+    (λ owner found. if_some Q (flag_of_value value) _ _
+    (λ flag is.
+    only_tasks script s event Done s.deferred s.tasks s.casts (set_flag s.dumpable owner.process flag) s.deferred (All-contains_itself s.deferred)
+    (SetsFlag task value owner flag refl found is refl refl refl) (still_left s s.deferred))))
+
+dumped_changes : (script : Script) (s : State) (line task : ℕ) → Changes script s (Dumped task) (step script s line (Dumped task))
+dumped_changes script s line task =
+    let event = Dumped task in
+    outcome_has (Changes script s event) s _ (refused script s event)
+    (if_some _ (task_of s task) _ _ (λ owner found. refused script s event _))
+
+ptrace_changes : (script : Script) (s : State) (line from hold to target : ℕ) (mode : Mode)
+    → Changes script s (Ptrace from hold to target mode) (step script s line (Ptrace from hold to target mode))
+ptrace_changes script s line from hold to target mode =
+    let event = Ptrace from hold to target mode in
+    let Q = Changes script s event in
+    outcome_has Q s _ (refused script s event)
+    (if_some Q (task_of s from) _ _
+    (λ sender is. if_some Q (task_of s to) _ _
+    (λ receiver there. if_some Q (held_by s hold) _ _
+    (λ own held. if_some Q (held_by s target) _ _
+    (λ other at.
+    if_last Q (may_trace own.cred other.cred (sender.process == receiver.process) (reaches script.namespaces own.cred.ns other.cred.ns) (is_dumpable s.dumpable receiver.process) mode) _ _
+    (refused script s event Done))))))
 
 -- what an event changes
 pub changes : (script : Script) (s : State) (line : ℕ) (event : Event) → Changes script s event (step script s line event)
@@ -338,4 +393,7 @@ changes script s line (CloseFile fd) = close_changes script s line fd
 changes script s line (Spawn task child) = spawn_changes script s line task child
 changes script s line (Fork task child process) = fork_changes script s line task child process
 changes script s line (Exit task) = exit_changes script s line task
+changes script s line (Dumpable task value) = dumpable_changes script s line task value
+changes script s line (Dumped task) = dumped_changes script s line task
+changes script s line (Ptrace from hold to target mode) = ptrace_changes script s line from hold to target mode
 changes script s line Sweep = still script s Sweep Done [] (All-nil (Contains s.deferred))

@@ -13,13 +13,14 @@ use Rattle.cred_event.specs.declared.answer.Answer.TheVariants.{Sealed}
 use Rattle.cred_event.specs.declared.entry.Entry.{Entry}
 use Rattle.cred_model.specs.Script.{Script, root_of}
 use Rattle.cred_model.specs.State.{State, Task, opening, numbered, task_of, cast_in, begun_by}
+use Rattle.cred_model.specs.Dumpable.{flags_begun}
 use Rattle.cred_model.specs.Ends.{is_thread_of, survivors}
 use Rattle.cred_model.specs.Moves.{◌>>=◌, fewer_or, table_full, first_task, created, updated}
 use Rattle.cred_model.specs.Moves.{overriding}
 use Rattle.cred_model.specs.Step.{step}
 use Rattle.cred_sound.specs.Few.{TasksAreFew}
 use Rattle.cred_sound.proofs.Tests.{IfAllowed, outcome_has, if_some, if_none, if_idle, if_own, in_slots}
-use Rattle.cred_sound.proofs.Parts.{TasksChange, Creation, BySpawn, ByFork, SameTasks, Creates, Shares, Renews, Overrides, Fewer}
+use Rattle.cred_sound.proofs.Parts.{TasksChange, Creation, BySpawn, ByFork, SameTasks, SetsFlag, Creates, Shares, Renews, Overrides, Fewer}
 use Rattle.cred_sound.proofs.Events.{changes}
 
 abbrev AreFew : Answer × State → Type 0
@@ -45,7 +46,8 @@ init_few script s line task process user group ns few =
     (if_idle AreFew (cast_in s process) _
     (λ idle. if_none AreFew (task_of s task) _ _
     (λ new. if_room AreFew (length s.tasks) TASKS _ _
-    (λ room. in_slots AreFew s table_full (λ s slot. (Sealed (length s.creds) slot, created s (first_task task process (length s.creds)) c slot))
+    (λ room. in_slots AreFew s table_full
+    (λ s slot. (Sealed (length s.creds) slot, record (created s (first_task task process (length s.creds)) c slot) { dumpable = flags_begun s process }))
     (λ left fewer. few)
     (λ left slot fewer free. omega (arith, length_push s.tasks first, room))))))
 
@@ -83,23 +85,25 @@ fewer_live ends tasks =
 
 created_few : (script : Script) (s : State) (line : ℕ) (event : Event) (task child process : ℕ) → length s.tasks ≤ TASKS
     → Creation s event task child process (step script s line event) → AreFew (step script s line event)
-created_few script s line event task child process few (BySpawn owner is found of casts) =
+created_few script s line event task child process few (BySpawn owner is found of casts flags) =
     subst (λ e. AreFew (step script s line e)) (sym is) (spawn_few script s line task child few)
-created_few script s line event task child process few (ByFork is unused casts) =
+created_few script s line event task child process few (ByFork by is known unused casts flags) =
     subst (λ e. AreFew (step script s line e)) (sym is) (fork_few script s line task child process few)
 
 kept_few : (script : Script) (s : State) (line : ℕ) (event : Event) → length s.tasks ≤ TASKS
     → TasksChange script s event (step script s line event) → AreFew (step script s line event)
-kept_few script s line event few (SameTasks same casts) =
+kept_few script s line event few (SameTasks same casts flags) =
     let long = ap (λ (ts : List Task). length ts) same in omega (arith, long, few)
-kept_few script s line event few (Creates task process user group ns slot is tasks creds new idle casts) =
+kept_few script s line event few (SetsFlag task value owner flag is found known same casts flags) =
+    let long = ap (λ (ts : List Task). length ts) same in omega (arith, long, few)
+kept_few script s line event few (Creates task process user group ns slot is tasks creds new idle casts flags) =
     subst (λ e. AreFew (step script s line e)) (sym is) (init_few script s line task process user group ns few)
 kept_few script s line event few (Shares task child process parent tasks creds current new creation) =
     created_few script s line event task child process few creation
 kept_few script s line event few (Renews task slot owner c ends tasks creds found cause) =
     let long = ap (λ (ts : List Task). length ts) tasks ∙ length-map (survivors ends s.tasks) (updated task (length s.creds)) in
     omega (arith, long, fewer_live ends s.tasks, few)
-kept_few script s line event few (Overrides task numbers tasks refer casts) =
+kept_few script s line event few (Overrides task numbers tasks refer casts flags) =
     let long = ap (λ (ts : List Task). length ts) tasks ∙ length-map s.tasks (overriding task numbers) in
     omega (arith, long, few)
 kept_few script s line event few (Fewer ends tasks creds death) =

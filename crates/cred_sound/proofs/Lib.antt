@@ -8,6 +8,8 @@ pub mod Events
 pub mod Unique
 pub mod Threads
 pub mod Opened
+pub mod Flags
+pub mod Dumpable
 pub mod Sound
 pub mod Survivors
 pub mod Few

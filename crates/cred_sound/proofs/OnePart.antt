@@ -9,13 +9,13 @@ use Rattle.cred_record.specs.Credential.{Credential}
 use Rattle.cred_event.specs.declared.event.Event.{Event}
 use Rattle.cred_event.specs.declared.answer.Answer.{Answer}
 use Rattle.cred_model.specs.Script.{Script}
-use Rattle.cred_model.specs.State.{State, Task, Broadcast, OpenFile as Open, Hold, Prepared}
+use Rattle.cred_model.specs.State.{State, Task, Broadcast, OpenFile as Open, Hold, Prepared, ProcessFlag}
 use Rattle.cred_model.specs.Slots.{refs, kept, free}
 use Rattle.cred_model.proofs.Lists.{All-at, All-unmap, AllPairs-unmap, alone, at_place, others_differ}
 use Rattle.cred_sound.specs.Ledger.{IsClear, IsOrderly, SealsOf, ledger}
 use Rattle.cred_sound.proofs.Moves.{Apart}
 use Rattle.cred_sound.proofs.References.{IsFree, own_refs}
-use Rattle.cred_sound.proofs.Parts.{with_left, sealed_cred, Fits, Changes, TasksChange, FilesChange, HoldsChange, PreparedChange, SameCreds, Seals, SameTasks, Stays, SamePrepared}
+use Rattle.cred_sound.proofs.Parts.{with_left, sealed_cred, Fits, Origin, Changes, TasksChange, FilesChange, HoldsChange, PreparedChange, SameCreds, Seals, SameTasks, Stays, SamePrepared}
 
 -- ---- the references that are left
 
@@ -67,7 +67,7 @@ pub still : (script : Script) (s : State) (event : Event) (answer : Answer) (lef
 still script s event answer left fewer = record {
   left = left;
   fewer = fewer;
-  tasks = SameTasks refl refl;
+  tasks = SameTasks refl refl refl;
   files = Stays refl;
   holds = Stays refl;
   prepared = SamePrepared refl;
@@ -80,12 +80,12 @@ refused script s event answer = still script s event answer s.deferred (All-cont
 
 -- a task is created, or has another credential, which is sealed in a free slot
 pub with_tasks : (script : Script) (s : State) (event : Event) (answer : Answer) (left : List ℕ) (tasks : List Task)
-    (casts : List Broadcast) (c : Credential) (slot : ℕ) (deferred : List ℕ)
-    → let t = record s { tasks = tasks; casts = casts; deferred = deferred; creds = s.creds ++ sealed_cred c slot ∷ [] } in
-    All (Contains s.deferred) left → IsFree (with_left s left) slot → TasksChange script s event (answer, t)
+    (casts : List Broadcast) (flags : List ProcessFlag) (c : Credential) (slot : ℕ) (deferred : List ℕ)
+    → let t = record s { tasks = tasks; casts = casts; deferred = deferred; dumpable = flags; creds = s.creds ++ sealed_cred c slot ∷ [] } in
+    All (Contains s.deferred) left → IsFree (with_left s left) slot → Origin s c → TasksChange script s event (answer, t)
     → All (Contains (refs (with_left s left))) deferred → Changes script s event (answer, t)
-with_tasks script s event answer left tasks casts c slot deferred fewer free change refer =
-    let t : State = record s { tasks = tasks; casts = casts; deferred = deferred; creds = s.creds ++ sealed_cred c slot ∷ [] } in
+with_tasks script s event answer left tasks casts flags c slot deferred fewer free origin change refer =
+    let t : State = record s { tasks = tasks; casts = casts; deferred = deferred; dumpable = flags; creds = s.creds ++ sealed_cred c slot ∷ [] } in
     record {
       left = left;
       fewer = fewer;
@@ -93,17 +93,17 @@ with_tasks script s event answer left tasks casts c slot deferred fewer free cha
       files = Stays refl;
       holds = Stays refl;
       prepared = SamePrepared refl;
-      creds = Seals c slot refl (λ order. fits_free s event left t slot refl free);
+      creds = Seals c slot refl (λ order. fits_free s event left t slot refl free) origin;
       deferred = refer;
     }
 
 -- tasks are created or end, and nothing is sealed
 pub only_tasks : (script : Script) (s : State) (event : Event) (answer : Answer) (left : List ℕ) (tasks : List Task) (casts : List Broadcast)
-    (deferred : List ℕ)
-    → let t = record s { tasks = tasks; casts = casts; deferred = deferred } in
+    (flags : List ProcessFlag) (deferred : List ℕ)
+    → let t = record s { tasks = tasks; casts = casts; deferred = deferred; dumpable = flags } in
     All (Contains s.deferred) left → TasksChange script s event (answer, t) → All (Contains (refs (with_left s left))) deferred
     → Changes script s event (answer, t)
-only_tasks script s event answer left tasks casts deferred fewer change refer = record {
+only_tasks script s event answer left tasks casts flags deferred fewer change refer = record {
   left = left;
   fewer = fewer;
   tasks = change;
@@ -122,7 +122,7 @@ pub with_lists : (script : Script) (s : State) (event : Event) (answer : Answer)
 with_lists script s event answer files holds deferred file hold refer = record {
   left = s.deferred;
   fewer = All-contains_itself s.deferred;
-  tasks = SameTasks refl refl;
+  tasks = SameTasks refl refl refl;
   files = file;
   holds = hold;
   prepared = SamePrepared refl;
@@ -138,7 +138,7 @@ pub with_prepared : (script : Script) (s : State) (event : Event) (answer : Answ
 with_prepared script s event answer left prepared deferred fewer change refer = record {
   left = left;
   fewer = fewer;
-  tasks = SameTasks refl refl;
+  tasks = SameTasks refl refl refl;
   files = Stays refl;
   holds = Stays refl;
   prepared = change;

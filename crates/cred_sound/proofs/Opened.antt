@@ -15,7 +15,7 @@ use Rattle.cred_model.specs.Step.{ends_with}
 use Rattle.cred_model.proofs.Numbers.{overriding_as, overriding_number, owner_number, updated_as, updated_number}
 use Rattle.cred_sound.specs.Casts.{IsThread}
 use Rattle.cred_sound.specs.Sound.{IsSound}
-use Rattle.cred_sound.proofs.Parts.{TasksChange, Cause, Creation, Death, casts_left, ByBegin, ByAct, ByCommit, BySpawn, ByFork, ByExit, ByAbort, SameTasks, Creates, Shares, Renews, Overrides, Fewer}
+use Rattle.cred_sound.proofs.Parts.{TasksChange, Cause, Creation, Death, casts_left, ByBegin, ByAct, ByCommit, BySpawn, ByFork, ByExit, ByAbort, SameTasks, SetsFlag, Creates, Shares, Renews, Overrides, Fewer}
 use Rattle.cred_sound.proofs.Threads.{AreOpen, is_thread, thread_among, thread_kept, thread_stays, open_with, open_begun, open_left, open_joined, open_dropped}
 use Rattle.cred_sound.proofs.Unique.{none_has}
 
@@ -72,38 +72,38 @@ commit_open s owner ends task n change is opened =
 renewed_open : (s : State) (event : Event) (task : ℕ) (owner : Task) (ends : Task → Bool) (made : Answer × State) (c : Credential)
     → Cause s event task owner ends c made → task_of s task ≡ Some owner → IsSound s
     → AreOpen (with_current (survivors ends s.tasks) task (length s.creds)) made.1.casts
-renewed_open s event task owner ends made c (ByBegin call before number slot is has ruled new idle none casts answer) found sound =
+renewed_open s event task owner ends made c (ByBegin call before number slot is has ruled new idle none casts answer flags) found sound =
     let now = with_current (survivors ends s.tasks) task (length s.creds) in
     let own : find (λ t. t.number == owner.number) s.tasks ≡ Some owner
     = ap (λ n. find (λ (t : Task). t.number == n) s.tasks) (owner_number s task owner found) ∙ found in
     subst (AreOpen now) (sym casts)
     (open_with s.tasks now _ (all_stay ends s.tasks task (length s.creds) none)
     (open_begun s.tasks s.casts owner number call sound.tasks own new idle (sound_open s sound)))
-renewed_open s event task owner ends made c (ByAct number slot cast before is opened first has ruled none casts answer) found sound =
+renewed_open s event task owner ends made c (ByAct number slot cast before is opened first has ruled none casts answer flags) found sound =
     let now = with_current (survivors ends s.tasks) task (length s.creds) in
     let stays = all_stay ends s.tasks task (length s.creds) none in
     subst (AreOpen now) (sym casts)
     (open_left s.tasks now s.casts task (λ k d lt. stays _ _ (sound.under_way k d lt).caller)
     (λ process number other. stays process number) (sound_open s sound))
-renewed_open s event task owner ends made c (ByCommit label place slot count p last is at changed same cred ending casts answer) found sound =
+renewed_open s event task owner ends made c (ByCommit label place slot count p last is first at own changed same cred ending casts answer flags) found sound =
     let now = with_current (survivors ends s.tasks) task (length s.creds) in
     subst (AreOpen now) (sym casts) (commit_open s owner ends task (length s.creds) last.change ending (sound_open s sound))
 
 created_open : (s : State) (event : Event) (task child process n : ℕ) (made : Answer × State) → Creation s event task child process made
     → task_of s child ≡ None → IsSound s → AreOpen (s.tasks ++ first_task child process n ∷ []) made.1.casts
-created_open s event task child process n made (BySpawn owner is found of casts) none sound =
+created_open s event task child process n made (BySpawn owner is found of casts flags) none sound =
     let new = first_task child process n in
     subst (AreOpen (s.tasks ++ new ∷ [])) (sym casts)
     (open_joined s.tasks s.casts task new none
     (is_thread s.tasks process task (record { task = owner; is = found; of = sym of })) (sound_open s sound))
-created_open s event task child process n made (ByFork is unused casts) none sound =
+created_open s event task child process n made (ByFork by is known unused casts flags) none sound =
     let new = first_task child process n in
     subst (AreOpen (s.tasks ++ new ∷ [])) (sym casts)
     (open_with s.tasks (s.tasks ++ new ∷ []) s.casts (thread_among s.tasks (new ∷ [])) (sound_open s sound))
 
 fewer_open : (s : State) (event : Event) (ends : Task → Bool) (made : Answer × State) → Death s event ends made → IsSound s
     → AreOpen (survivors ends s.tasks) made.1.casts
-fewer_open s event ends made (ByExit task is ending idle casts) sound =
+fewer_open s event ends made (ByExit task gone is known ending idle casts flags) sound =
     let now = survivors ends s.tasks in
     let stays : (process number : ℕ) → number ≢ task → IsThread s.tasks process number → IsThread now process number
     = λ process number other. thread_stays ends s.tasks process number
@@ -112,7 +112,7 @@ fewer_open s event ends made (ByExit task is ending idle casts) sound =
     let callers = none_has (λ (c : Broadcast). c.caller) s.casts task idle in
     subst (AreOpen now) (sym casts)
     (open_left s.tasks now s.casts task (λ k d lt. stays _ _ (callers k d lt) (sound.under_way k d lt).caller) stays (sound_open s sound))
-fewer_open s event ends made (ByAbort number task cause cast is ending casts answer) sound =
+fewer_open s event ends made (ByAbort number task cause cast is ending casts answer flags) sound =
     let now = survivors ends s.tasks in
     subst (AreOpen now) (sym casts)
     (open_dropped s.tasks now s.casts cast.process
@@ -123,8 +123,10 @@ fewer_open s event ends made (ByAbort number task cause cast is ending casts ans
 
 pub casts_open : {script : Script} → (s : State) (event : Event) (made : Answer × State) → TasksChange script s event made → IsSound s
     → AreOpen made.1.tasks made.1.casts
-casts_open s event made (SameTasks same casts) sound = settled s.tasks s.casts made.1 same casts (sound_open s sound)
-casts_open s event made (Creates task process user group ns slot is tasks creds new idle casts) sound =
+casts_open s event made (SameTasks same casts flags) sound = settled s.tasks s.casts made.1 same casts (sound_open s sound)
+casts_open s event made (SetsFlag task value owner flag is found known same casts flags) sound =
+    settled s.tasks s.casts made.1 same casts (sound_open s sound)
+casts_open s event made (Creates task process user group ns slot is tasks creds new idle casts flags) sound =
     let more = first_task task process (length s.creds) ∷ [] in
     settled (s.tasks ++ more) s.casts made.1 tasks casts
     (open_with s.tasks (s.tasks ++ more) s.casts (thread_among s.tasks more) (sound_open s sound))
@@ -132,7 +134,7 @@ casts_open s event made (Shares task child process parent tasks creds current ne
     settled _ made.1.casts made.1 tasks refl (created_open s event task child process parent.number made creation new sound)
 casts_open s event made (Renews task slot owner c ends tasks creds found cause) sound =
     settled _ made.1.casts made.1 tasks refl (renewed_open s event task owner ends made c cause found sound)
-casts_open s event made (Overrides task numbers tasks refer casts) sound =
+casts_open s event made (Overrides task numbers tasks refer casts flags) sound =
     settled (map (overriding task numbers) s.tasks) s.casts made.1 tasks casts
     (open_with s.tasks (map (overriding task numbers) s.tasks) s.casts
     (thread_kept (overriding task numbers) (overriding_number task numbers)

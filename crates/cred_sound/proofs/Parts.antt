@@ -7,7 +7,7 @@ use Rattle.cred_record.specs.Credential.{Credential, first_credential}
 use Rattle.cred_record.specs.declared.id_call.IdCall.{IdCall}
 use Rattle.cred_rules.specs.SetId.{set_id}
 use Rattle.cred_event.specs.declared.event.Event.{Event}
-use Rattle.cred_event.specs.declared.event.Event.TheVariants.{Init, Release, Commit, Abort, Begin, Act, CloseFile, Spawn, Fork, Exit}
+use Rattle.cred_event.specs.declared.event.Event.TheVariants.{Init, Release, Commit, Abort, Begin, Act, CloseFile, Spawn, Fork, Exit, Dumpable}
 use Rattle.cred_event.specs.declared.event.Change.{Change}
 use Rattle.cred_event.specs.declared.event.Change.TheVariants.{Exec}
 use Rattle.cred_event.specs.declared.answer.Answer.{Answer}
@@ -19,6 +19,7 @@ use Rattle.cred_model.specs.Slots.{refs, kept}
 use Rattle.cred_model.specs.Named.{change_files}
 use Rattle.cred_model.specs.Change.{by_change}
 use Rattle.cred_model.specs.Ends.{is_task, is_thread_of, survivors}
+use Rattle.cred_model.specs.Dumpable.{is_dumpable, with_flag, set_flag, without_flag, differs, renewed, flags_committed, flags_begun, flags_left, flag_of_value}
 use Rattle.cred_model.specs.Casts.{others_of, with_cast, waits_no_more, joined, dropped}
 use Rattle.cred_model.specs.Moves.{with_change, with_current, with_overrides, first_task}
 use Rattle.cred_model.specs.Step.{commit_answer, ends_with}
@@ -41,11 +42,19 @@ pub record Fits (s : State) (event : Event) (left : List ℕ) (t : State) (slot 
   pub unkept : All (λ k. k ≢ slot) (kept t)
   pub own : All (λ p. p.slot ≡ slot → SealsOf event p.label) s.prepared
 
+-- Where a new credential comes from: a first task has it, a call makes it of a task's current one,
+-- or a label prepared it.
+pub data Origin (s : State) (c : Credential) : Type 0 where
+  OfFirst : (user group ns root : ℕ) → c ≡ first_credential user group ns root → Origin s c
+  OfCall : (task : ℕ) (before : Numbered) (call : IdCall) → current_of s task ≡ Some before → set_id before.cred call ≡ Ok c → Origin s c
+  OfLabel : (place : ℕ) (p : Prepared) (last : Changed) → slice_get s.prepared place ≡ Some p → p.changed ≡ Some last → c ≡ last.cred
+      → Origin s c
+
 -- The sealed credentials: as they were, or one more.
 pub data CredsChange (s : State) (event : Event) (left : List ℕ) (t : State) : Type 0 where
   SameCreds : t.creds ≡ s.creds → CredsChange s event left t
   Seals : (c : Credential) (slot : ℕ) → t.creds ≡ s.creds ++ sealed_cred c slot ∷ []
-      → (IsOrderly (ledger s) → Fits s event left t slot) → CredsChange s event left t
+      → (IsOrderly (ledger s) → Fits s event left t slot) → Origin s c → CredsChange s event left t
 
 -- one of the references before the event, or the number of a credential that it sealed
 abbrev pub Old : State → List ℕ → ℕ → Type 0
@@ -76,48 +85,56 @@ abbrev pub casts_left : Change → Task → List Broadcast → List Broadcast
 casts_left (Exec file) owner casts = dropped owner.process casts
 casts_left change owner casts = casts
 
--- Why a task's new credential comes in the place of its old one, and what becomes of the
--- broadcasts: it is what a call makes of that, the task's own or one that it follows, or what a
+-- Why a task's new credential comes in the place of its old one, and what becomes of the broadcasts
+-- and of its process's flag: it is what a call makes of that, the task's own or one that it follows, or what a
 -- label prepared.
 pub data Cause (s : State) (event : Event) (task : ℕ) (owner : Task) (ends : Task → Bool) (c : Credential) (made : Answer × State) : Type 0 where
   ByBegin : (call : IdCall) (before : Numbered) (number slot : ℕ) → event ≡ Begin task call → current_of s task ≡ Some before
       → set_id before.cred call ≡ Ok c → cast_of s number ≡ None → cast_in s owner.process ≡ None → ends ≡ (λ t. false)
       → made.1.casts ≡ with_cast s.casts (begun number owner call s.tasks)
-      → made.0 ≡ Began (length s.creds) slot (length (others_of owner s.tasks)) → Cause s event task owner ends c made
+      → made.0 ≡ Began (length s.creds) slot (length (others_of owner s.tasks))
+      → made.1.dumpable ≡ renewed s.dumpable owner.process (differs before.cred c) → Cause s event task owner ends c made
   ByAct : (number slot : ℕ) (cast : Broadcast) (before : Numbered) → event ≡ Act number → cast_of s number ≡ Some cast
       → slice_get cast.waiting 0 ≡ Some task → current_of s task ≡ Some before → set_id before.cred cast.call ≡ Ok c
       → ends ≡ (λ t. false) → made.1.casts ≡ waits_no_more task s.casts
-      → made.0 ≡ Acted task (length s.creds) slot (length cast.waiting - 1) → Cause s event task owner ends c made
-  ByCommit : (label place slot count : ℕ) (p : Prepared) (last : Changed) → event ≡ Commit label → slice_get s.prepared place ≡ Some p
+      → made.0 ≡ Acted task (length s.creds) slot (length cast.waiting - 1)
+      → made.1.dumpable ≡ renewed s.dumpable owner.process (differs before.cred c) → Cause s event task owner ends c made
+  ByCommit : (label place slot count : ℕ) (p : Prepared) (last : Changed) → event ≡ Commit label
+      → position (λ p. p.label == label) s.prepared ≡ Some place → slice_get s.prepared place ≡ Some p → p.task ≡ task
       → p.changed ≡ Some last → owner.current ≡ p.base → c ≡ last.cred → ends ≡ ends_with last.change owner
       → made.1.casts ≡ casts_left last.change owner s.casts → made.0 ≡ commit_answer last (length s.creds) slot count
-      → Cause s event task owner ends c made
+      → made.1.dumpable ≡ flags_committed s owner last → Cause s event task owner ends c made
 
 -- How a task is created that shares its parent's credential: as a thread of its process, which
 -- waits where it waits, or as the first of another process.
 pub data Creation (s : State) (event : Event) (task child process : ℕ) (made : Answer × State) : Type 0 where
   BySpawn : (owner : Task) → event ≡ Spawn task child → task_of s task ≡ Some owner → process ≡ owner.process
-      → made.1.casts ≡ joined task child s.casts → Creation s event task child process made
-  ByFork : event ≡ Fork task child process → find (is_thread_of process) s.tasks ≡ None → made.1.casts ≡ s.casts
+      → made.1.casts ≡ joined task child s.casts → made.1.dumpable ≡ s.dumpable → Creation s event task child process made
+  ByFork : (owner : Task) → event ≡ Fork task child process → task_of s task ≡ Some owner → find (is_thread_of process) s.tasks ≡ None
+      → made.1.casts ≡ s.casts → made.1.dumpable ≡ with_flag s.dumpable process (is_dumpable s.dumpable owner.process)
       → Creation s event task child process made
 
 -- How tasks end, and no other has a new credential: a task exits, or all threads of a process end,
 -- as one of them can't follow.
 pub data Death (s : State) (event : Event) (ends : Task → Bool) (made : Answer × State) : Type 0 where
-  ByExit : (task : ℕ) → event ≡ Exit task → ends ≡ is_task task → begun_by s task ≡ None
-      → made.1.casts ≡ waits_no_more task s.casts → Death s event ends made
+  ByExit : (task : ℕ) (owner : Task) → event ≡ Exit task → task_of s task ≡ Some owner → ends ≡ is_task task → begun_by s task ≡ None
+      → made.1.casts ≡ waits_no_more task s.casts → made.1.dumpable ≡ flags_left s owner → Death s event ends made
   ByAbort : (number task : ℕ) (cause : AbortCause) (cast : Broadcast) → event ≡ Act number → ends ≡ is_thread_of cast.process
-      → made.1.casts ≡ dropped cast.process s.casts → made.0 ≡ Aborted task cause → Death s event ends made
+      → made.1.casts ≡ dropped cast.process s.casts → made.0 ≡ Aborted task cause
+      → made.1.dumpable ≡ without_flag s.dumpable cast.process → Death s event ends made
 
--- The tasks and the broadcasts: as they were, a first task more, one more that shares its parent's
--- credential, one of them with a new credential, perhaps after others have ended, one that acts
--- with other credentials, or fewer.
+-- The tasks, the broadcasts and the flags of the processes: as they were, one flag that a task sets,
+-- a first task more, one more that shares its parent's credential, one of them with a new
+-- credential, perhaps after others have ended, one that acts with other credentials, or fewer.
 pub data TasksChange (script : Script) (s : State) (event : Event) (made : Answer × State) : Type 0 where
-  SameTasks : made.1.tasks ≡ s.tasks → made.1.casts ≡ s.casts → TasksChange script s event made
+  SameTasks : made.1.tasks ≡ s.tasks → made.1.casts ≡ s.casts → made.1.dumpable ≡ s.dumpable → TasksChange script s event made
+  SetsFlag : (task value : ℕ) (owner : Task) (flag : Bool) → event ≡ Dumpable task value → task_of s task ≡ Some owner
+      → flag_of_value value ≡ Some flag → made.1.tasks ≡ s.tasks → made.1.casts ≡ s.casts
+      → made.1.dumpable ≡ set_flag s.dumpable owner.process flag → TasksChange script s event made
   Creates : (task process user group ns slot : ℕ) → event ≡ Init task process user group ns
       → made.1.tasks ≡ s.tasks ++ first_task task process (length s.creds) ∷ []
       → made.1.creds ≡ s.creds ++ sealed_cred (first_credential user group ns (root_of script ns)) slot ∷ [] → task_of s task ≡ None
-      → cast_in s process ≡ None → made.1.casts ≡ s.casts → TasksChange script s event made
+      → cast_in s process ≡ None → made.1.casts ≡ s.casts → made.1.dumpable ≡ flags_begun s process → TasksChange script s event made
   Shares : (task child process : ℕ) (parent : Numbered)
       → made.1.tasks ≡ s.tasks ++ first_task child process parent.number ∷ [] → made.1.creds ≡ s.creds
       → current_of s task ≡ Some parent → task_of s child ≡ None → Creation s event task child process made → TasksChange script s event made
@@ -126,7 +143,8 @@ pub data TasksChange (script : Script) (s : State) (event : Event) (made : Answe
       → made.1.creds ≡ s.creds ++ sealed_cred c slot ∷ [] → task_of s task ≡ Some owner
       → Cause s event task owner ends c made → TasksChange script s event made
   Overrides : (task : ℕ) (numbers : List ℕ) → made.1.tasks ≡ with_overrides s.tasks task numbers
-      → ((left : List ℕ) → All (OldOrNew s left made.1) numbers) → made.1.casts ≡ s.casts → TasksChange script s event made
+      → ((left : List ℕ) → All (OldOrNew s left made.1) numbers) → made.1.casts ≡ s.casts → made.1.dumpable ≡ s.dumpable
+      → TasksChange script s event made
   Fewer : (ends : Task → Bool) → made.1.tasks ≡ survivors ends s.tasks → made.1.creds ≡ s.creds → Death s event ends made
       → TasksChange script s event made
 

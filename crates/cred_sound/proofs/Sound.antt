@@ -22,10 +22,12 @@ use Rattle.cred_sound.specs.Sound.{IsSound, StatesAreSound}
 use Rattle.cred_sound.proofs.Moves.{Apart, fewer, keeps, seals}
 use Rattle.cred_model.proofs.Referred.{refs_each, each_deferred}
 use Rattle.cred_sound.proofs.References.{own_refs, current_stands}
-use Rattle.cred_sound.proofs.Parts.{with_left, Old, OldOrNew, grows, Changes, CredsChange, TasksChange, ListChange, PreparedChange, SameCreds, Seals, SameTasks, Creates, Shares, Renews, Overrides, Fewer, Stays, Adds, Removes, SamePrepared, Prepares, Alters, Ends}
+use Rattle.cred_sound.proofs.Parts.{with_left, Old, OldOrNew, grows, Changes, CredsChange, TasksChange, ListChange, PreparedChange, SameCreds, Seals, SameTasks, SetsFlag, Creates, Shares, Renews, Overrides, Fewer, Stays, Adds, Removes, SamePrepared, Prepares, Alters, Ends}
 use Rattle.cred_sound.proofs.Events.{changes}
 use Rattle.cred_sound.specs.Casts.{IsUnderWay}
+use Rattle.cred_sound.specs.Flags.{AreFlagged}
 use Rattle.cred_sound.proofs.Opened.{casts_open}
+use Rattle.cred_sound.proofs.Dumpable.{flags_after}
 use Rattle.cred_sound.proofs.Unique.{tasks_differ, list_differs, labels_differ, labels_unheld}
 
 -- ---- what is referred to after an event: what was before it, and the number of what it sealed
@@ -37,8 +39,10 @@ record Refers (P : ℕ → Type 0) (t : Task) : Type 0 where
 
 tasks_refer : {script : Script} → (s : State) (event : Event) (left : List ℕ) (made : Answer × State) → TasksChange script s event made
     → All (Refers (OldOrNew s left made.1)) s.tasks → All (Refers (OldOrNew s left made.1)) made.1.tasks
-tasks_refer s event left made (SameTasks same casts) old = subst (All (Refers (OldOrNew s left made.1))) (sym same) old
-tasks_refer s event left made (Creates task process user group ns slot is tasks creds new idle casts) old =
+tasks_refer s event left made (SameTasks same casts flags) old = subst (All (Refers (OldOrNew s left made.1))) (sym same) old
+tasks_refer s event left made (SetsFlag task value owner flag is found known same casts flags) old =
+    subst (All (Refers (OldOrNew s left made.1))) (sym same) old
+tasks_refer s event left made (Creates task process user group ns slot is tasks creds new idle casts flags) old =
     subst (All (Refers (OldOrNew s left made.1))) (sym tasks)
     (All-push (Refers (OldOrNew s left made.1)) s.tasks _ old
     (record { current = inr (grows s made.1 _ creds); overrides = All-nil (OldOrNew s left made.1) }))
@@ -53,7 +57,7 @@ tasks_refer s event left made (Renews task slot owner c ends tasks creds found c
     (All-kept P (updated task (length s.creds)) rest
     (λ t one. updated_as P task (length s.creds) t (record { current = inr (grows s made.1 _ creds); overrides = one.overrides }) one)
     (All-filter (λ t. not (ends t)) P s.tasks old))
-tasks_refer s event left made (Overrides task numbers tasks refer casts) old =
+tasks_refer s event left made (Overrides task numbers tasks refer casts flags) old =
     let P = Refers (OldOrNew s left made.1) in
     subst (All P) (sym tasks)
     (All-kept P (overriding task numbers) s.tasks
@@ -164,7 +168,7 @@ creds_orderly s event left t (SameCreds same) before refer order =
     (fewer now (in_use t) t.deferred (kept t)
     (All-weaker (OldOrNew s left t) (Old s left) (λ n has. not_new s t left n same has) (refs t) refer)
     (All-contains_itself (kept t)) order.own order)
-creds_orderly s event left t (Seals c slot creds fits) before refer order =
+creds_orderly s event left t (Seals c slot creds fits origin) before refer order =
     let now = with_kept (ledger (with_left s left)) (kept t) in
     let fit = fits before in
     subst (λ slots. IsOrderly (record (ledger t) { slots = slots }))
@@ -190,6 +194,7 @@ changes_sound script s event made c sound =
       casts = open_now.apart.numbers;
       processes = open_now.apart.processes;
       under_way = open_now.under_way;
+      flags = flags_after s event made c.tasks sound;
       files = list_differs (λ (f : OpenFile). f.fd) _ _ s.files made.1.files c.files sound.files;
       holds = list_differs (λ (h : Hold). h.label) _ _ s.holds made.1.holds c.holds sound.holds;
       prepared = labels_differ script s event c.left made.1 c.prepared sound.prepared;
@@ -207,6 +212,7 @@ opening_sound = record {
   casts = λ i j d lt within. absurd (omega arith);
   processes = λ i j d lt within. absurd (omega arith);
   under_way = λ k d lt. absurd (omega arith);
+  flags = record { apart = λ i j d lt within. absurd (omega arith); own = λ process. refl };
   files = λ i j d lt within. absurd (omega arith);
   holds = λ i j d lt within. absurd (omega arith);
   prepared = λ i j d lt within. absurd (omega arith);
@@ -240,6 +246,7 @@ same_sound a b like same sound = record {
   processes = subst (AllPairs (λ a b. a.process ≢ b.process)) (sym like.casts) sound.processes;
   under_way = subst (λ ts. All (IsUnderWay ts) a.casts) (sym like.tasks)
       (subst (All (IsUnderWay b.tasks)) (sym like.casts) sound.under_way);
+  flags = subst (λ ts. AreFlagged ts a.dumpable) (sym like.tasks) (subst (AreFlagged b.tasks) (sym like.dumpable) sound.flags);
   files = subst (AllPairs (λ a b. a.fd ≢ b.fd)) (sym like.files) sound.files;
   holds = subst (AllPairs (λ a b. a.label ≢ b.label)) (sym like.holds) sound.holds;
   prepared = subst (AllPairs (λ a b. a.label ≢ b.label)) (sym like.prepared) sound.prepared;
@@ -253,8 +260,8 @@ same_ledger a b like =
     ap (λ ts. ledger (record a { tasks = ts })) like.tasks
     ∙ ap (λ fs. ledger (record a { tasks = b.tasks; files = fs })) like.files
     ∙ ap (λ hs. ledger (record a { tasks = b.tasks; files = b.files; holds = hs })) like.holds
-    ∙ ap (λ ps. ledger (record b { prepared = ps; deferred = a.deferred; creds = a.creds })) like.prepared
-    ∙ ap (λ ds. ledger (record b { deferred = ds; creds = a.creds })) like.deferred
+    ∙ ap (λ ps. ledger (record b { prepared = ps; deferred = a.deferred; dumpable = a.dumpable; creds = a.creds })) like.prepared
+    ∙ ap (λ ds. ledger (record b { deferred = ds; dumpable = a.dumpable; creds = a.creds })) like.deferred
     ∙ ap (λ slots. record (ledger b) { slots = slots }) like.slots
 
 pub like_sound : (a b : State) → IsLike a b → IsSound b → IsSound a

@@ -17,14 +17,14 @@ use Rattle.cred_model.specs.Ends.{survivors}
 use Rattle.cred_model.specs.Moves.{updated, overriding, changed, first_task}
 use Rattle.cred_model.proofs.Lists.{All-kept, All-remove, AllPairs-map, AllPairs-weaker, Differ, found_none, none_found}
 use Rattle.cred_model.proofs.Numbers.{updated_number, overriding_number, changed_as, changed_label}
-use Rattle.cred_sound.proofs.Parts.{ListChange, TasksChange, HoldsChange, PreparedChange, SameTasks, Creates, Shares, Renews, Overrides, Fewer, Stays, Adds, Removes, SamePrepared, Prepares, Alters, Ends}
+use Rattle.cred_sound.proofs.Parts.{ListChange, TasksChange, HoldsChange, PreparedChange, SameTasks, SetsFlag, Creates, Shares, Renews, Overrides, Fewer, Stays, Adds, Removes, SamePrepared, Prepares, Alters, Ends}
 
 -- where none is found of a number, each has another
 pub none_has : {X : Type 0} (f : X → ℕ) (xs : List X) (n : ℕ) → find (λ x. f x == n) xs ≡ None → All (λ x. f x ≢ n) xs
 none_has f xs n none = All-weaker (λ x. (f x == n) ≡ false) (λ x. f x ≢ n) (λ x. eqb-false (f x) n) xs (found_none (λ x. f x == n) xs none)
 
 -- a change of the elements that leaves their numbers
-differ-map : {X : Type 0} (f : X → ℕ) (g : X → X) (xs : List X) → ((x : X) → f (g x) ≡ f x) → AllPairs (Differ f) xs
+pub differ-map : {X : Type 0} (f : X → ℕ) (g : X → X) (xs : List X) → ((x : X) → f (g x) ≡ f x) → AllPairs (Differ f) xs
     → AllPairs (Differ f) (map g xs)
 differ-map f g xs same each =
     AllPairs-map (Differ f) g xs
@@ -38,8 +38,9 @@ prepared_as p = p.label
 
 pub tasks_differ : {script : Script} → (s : State) (event : Event) (made : Answer × State) → TasksChange script s event made
     → AllPairs (Differ number_of) s.tasks → AllPairs (Differ number_of) made.1.tasks
-tasks_differ s event made (SameTasks same casts) differ = subst (AllPairs (Differ number_of)) (sym same) differ
-tasks_differ s event made (Creates task process user group ns slot is tasks creds new idle casts) differ =
+tasks_differ s event made (SameTasks same casts flags) differ = subst (AllPairs (Differ number_of)) (sym same) differ
+tasks_differ s event made (SetsFlag task value owner flag is found known same casts flags) differ = subst (AllPairs (Differ number_of)) (sym same) differ
+tasks_differ s event made (Creates task process user group ns slot is tasks creds new idle casts flags) differ =
     subst (AllPairs (Differ number_of)) (sym tasks)
     (all_pairs_push (Differ number_of) s.tasks (first_task task process _) differ (none_has number_of s.tasks task new))
 tasks_differ s event made (Shares task child process parent tasks creds current new creation) differ =
@@ -49,7 +50,7 @@ tasks_differ s event made (Renews task slot owner c ends tasks creds found cause
     subst (AllPairs (Differ number_of)) (sym tasks)
     (differ-map number_of (updated task _) (survivors ends s.tasks) (updated_number task _)
     (AllPairs-filter (Differ number_of) (λ t. not (ends t)) s.tasks differ))
-tasks_differ s event made (Overrides task numbers tasks refer casts) differ =
+tasks_differ s event made (Overrides task numbers tasks refer casts flags) differ =
     subst (AllPairs (Differ number_of)) (sym tasks)
     (differ-map number_of (overriding task numbers) s.tasks (overriding_number task numbers) differ)
 tasks_differ s event made (Fewer ends tasks creds death) differ =

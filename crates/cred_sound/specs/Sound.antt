@@ -7,16 +7,18 @@ use Rattle.cred_model.specs.State.{State, hold_of}
 use Rattle.cred_model.specs.Journal.{replay}
 use Rattle.cred_sound.specs.Ledger.{ledger, IsOrderly}
 use Rattle.cred_sound.specs.Casts.{IsUnderWay}
+use Rattle.cred_sound.specs.Flags.{AreFlagged}
 
 -- No two tasks have one number, no two open files one descriptor, no two holds one label, and no
 -- two prepared labels one label; nor is a prepared label a hold's. A process has one open broadcast
--- at most, no two broadcasts have one number, and each is under way. The references and the slots
--- are in order.
+-- at most, no two broadcasts have one number, and each is under way. Each process that has threads
+-- has one flag, and no other has any. The references and the slots are in order.
 pub record IsSound (s : State) : Type 0 where
   pub tasks : AllPairs (λ a b. a.number ≢ b.number) s.tasks
   pub casts : AllPairs (λ a b. a.number ≢ b.number) s.casts
   pub processes : AllPairs (λ a b. a.process ≢ b.process) s.casts
   pub under_way : All (IsUnderWay s.tasks) s.casts
+  pub flags : AreFlagged s.tasks s.dumpable
   pub files : AllPairs (λ a b. a.fd ≢ b.fd) s.files
   pub holds : AllPairs (λ a b. a.label ≢ b.label) s.holds
   pub prepared : AllPairs (λ a b. a.label ≢ b.label) s.prepared

@@ -23,6 +23,9 @@ ghost use Rattle.cred_sound.specs.Sound.{StatesAreSound};
 /// somebody waits: live threads of its process, in rising order. Its caller is a live thread of
 /// that process, and doesn't wait (nptl(7)).
 ///
+/// Each process that has threads has one flag that says whether it is dumpable (prctl(2)), and no
+/// other process has any.
+///
 /// It makes no premise on the journal's answers, and says nothing of them.
 pub fn states_are_sound()
     ensures { StatesAreSound }

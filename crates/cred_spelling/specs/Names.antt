@@ -98,6 +98,9 @@ other_names =
     (codes "spawn", other.Spawn) ∷
     (codes "fork", other.Fork) ∷
     (codes "exit", other.Exit) ∷
+    (codes "dumpable", other.Dumpable) ∷
+    (codes "dumped", other.Dumped) ∷
+    (codes "ptrace", other.Ptrace) ∷
     []
 
 -- what a line is by its first word: a call or a question of a task is named by the task

@@ -113,6 +113,12 @@ pub enum OtherName {
     Spawn,
     Fork,
     Exit,
+    /// The task's process is dumpable, or isn't.
+    Dumpable,
+    /// Whether it is.
+    Dumped,
+    /// Whether the task may look into another.
+    Ptrace,
 }
 
 /// What a task may do on a line of its own.
@@ -182,7 +188,7 @@ static QUERY_NAMES: [(&str, QueryName); 8] = [
     ("check", QueryName::Check),
 ];
 
-static OTHER_NAMES: [(&str, OtherName); 8] = [
+static OTHER_NAMES: [(&str, OtherName); 11] = [
     ("open", OtherName::Open),
     ("close", OtherName::Close),
     ("fcap", OtherName::Fcap),
@@ -191,6 +197,9 @@ static OTHER_NAMES: [(&str, OtherName); 8] = [
     ("spawn", OtherName::Spawn),
     ("fork", OtherName::Fork),
     ("exit", OtherName::Exit),
+    ("dumpable", OtherName::Dumpable),
+    ("dumped", OtherName::Dumped),
+    ("ptrace", OtherName::Ptrace),
 ];
 
 /// The form that a line's first word names: a call or a question of a task is named by the task.

@@ -1,5 +1,5 @@
 -- A thread that waits makes its step in a broadcast, or its process ends.
-use Rattle.std.proofs.Common.{◌≡◌, ℕ, ◌+◌, ◌-◌, ◌<◌, ◌==◌, List, ◌++◌, ◌⊎◌, length, slice_get, slice_set, Option, None, Some, is_some, true, Result, Ok, Err, IfOk, OnOk, inl, inr, refl, sym, ap, ◌∙◌, subst, arith}
+use Rattle.std.proofs.Common.{◌≡◌, ℕ, Bool, ◌+◌, ◌-◌, ◌<◌, ◌==◌, List, ◌++◌, ◌⊎◌, length, slice_get, slice_set, Option, None, Some, is_some, true, Result, Ok, Err, IfOk, OnOk, inl, inr, refl, sym, ap, ◌∙◌, subst, arith}
 use Rattle.std.specs.Option.{IfSome, IsSome, IsSomeAnd, option_and_then, option_map}
 use Rattle.std.proofs.lemmas.Option.{slice_get_within}
 use Rattle.cred_ids.specs.Limits.{SLOTS}
@@ -14,8 +14,9 @@ use Rattle.cred_event.specs.declared.answer.AbortCause.{AbortCause}
 use Rattle.cred_event.specs.declared.answer.AbortCause.TheVariants.{Perm, Full}
 use Rattle.cred_event.specs.declared.answer.Answer.{Answer}
 use Rattle.cred_event.specs.declared.answer.Answer.TheVariants.{Acted, Aborted, NoBroadcast}
-use Rattle.cred_model.specs.State.{State, Task, Broadcast, Numbered, numbered, cast_of, current_of, task_of}
+use Rattle.cred_model.specs.State.{State, Task, Broadcast, Numbered, ProcessFlag, numbered, cast_of, current_of, task_of}
 use Rattle.cred_model.specs.Casts.{dropped, waits_in, waits_no_more}
+use Rattle.cred_model.specs.Dumpable.{differs, renewed, without_flag}
 use Rattle.cred_model.specs.Ends.{is_thread_of, survivors, left_by}
 use Rattle.cred_model.specs.Like.{IsOutcomeLike}
 use Rattle.cred_model.specs.Moves.{in_slot, with_current, replaced}
@@ -32,7 +33,7 @@ use Rattle.cred_slots.specs.Table as table
 use Rattle.cred_tables.specs.Begin.{at_abort, table_at}
 use Rattle.cred_tables.specs.Kept.{Parts, state_of, IsKept, Seals}
 use Rattle.cred_state.proofs.Begins.{replaced_kept, replaced_made, counts_next}
-use Rattle.cred_state.proofs.Broadcasts.{kept_casts}
+use Rattle.cred_state.proofs.Broadcasts.{kept_beside}
 use Rattle.cred_tables.proofs.Ending.{DropsAll, drops_all, ended_kept, ended_is}
 use Rattle.cred_tables.proofs.Filled.{filled_same, no_more_swept}
 use Rattle.cred_tables.proofs.InUse.{Differ}
@@ -134,9 +135,15 @@ act_none s number none = does_same _ _ _ (by (cast_of s number) refl none)
     by None at none = rw at refl
     by (Some cast) at none = rw (at, ← none) refl
 
-act_does : (task old : ℕ) (new : Credential) (cast : Broadcast) → State → ℕ → Answer × State
-act_does task old new cast s slot =
-    (Acted task (length s.creds) slot (length cast.waiting - 1), record (replaced s task old new slot) { casts = waits_no_more task s.casts })
+act_does : (task process old : ℕ) (new : Credential) (cast : Broadcast) (other : Bool) → State → ℕ
+    → Answer × State
+act_does task process old new cast other s slot = (
+  Acted task (length s.creds) slot (length cast.waiting - 1),
+  record (replaced s task old new slot) {
+    casts = waits_no_more task s.casts;
+    dumpable = renewed s.dumpable process other;
+  },
+)
 
 module _ (s : State) (number task : ℕ) (next : IsNext s number task) where
   own_of : (found : Option Numbered) → current_of s task ≡ found → numbered s.creds next.owner.current ≡ found
@@ -150,7 +157,9 @@ module _ (s : State) (number task : ℕ) (next : IsNext s number task) where
     act_refused denial rule = rw (next.found, next.least, next.lives, own_of (Some old) has, rule) refl
 
     act_tests : (new : Credential) → set_id old.cred next.cast.call ≡ Ok new
-        → outcome s (by_act s number) ≡ in_slot s (λ r. (Aborted task Full, aborted next.cast r)) (act_does task old.number new next.cast)
+        → outcome s (by_act s number)
+        ≡ in_slot s (λ r. (Aborted task Full, aborted next.cast r))
+        (act_does task next.owner.process old.number new next.cast (differs old.cred new))
     unfolding act_does
     act_tests new rule = rw (next.found, next.least, next.lives, own_of (Some old) has, rule) refl
 
@@ -216,17 +225,24 @@ ends_all cause t {swept = swept} is same held made = drops_all (table_at cause t
 module _ {parts : Parts} {store : List (Option Credential)} {t : Table} (is : IsKept parts store t) (cause : AbortCause) (process : ℕ)
     (after : Table) (all : DropsAll (table_at cause t) after (left_by (is_thread_of process) parts.tasks)) where
   abbrev left : Parts
-  left = record parts { tasks = survivors (is_thread_of process) parts.tasks; casts = dropped process parts.casts }
+  left = record parts {
+    tasks = survivors (is_thread_of process) parts.tasks;
+    casts = dropped process parts.casts;
+    dumpable = without_flag parts.dumpable process;
+  }
 
   pub process_kept : IsKept left store after
-  process_kept = kept_casts (ended_kept (abort_keeps cause is) (is_thread_of process) after all) (dropped process parts.casts)
+  process_kept =
+      kept_beside (ended_kept (abort_keeps cause is) (is_thread_of process) after all)
+      (dropped process parts.casts) (without_flag parts.dumpable process)
 
   pub process_ended : (cast : Broadcast) → cast.process ≡ process → state_of left store after ≡ aborted cast (at_abort cause (state_of parts store t))
   process_ended cast of =
       let ends : ℕ → State → State = λ p r. aborted (record cast { process = p }) r in
       sym (ap (λ (r : State). aborted cast r) (abort_table cause parts store t)
       ∙ ap (λ (p : ℕ). ends p (state_of parts store (table_at cause t))) of
-      ∙ ap (λ (r : State). record r { casts = dropped process parts.casts }) (ended_is (abort_keeps cause is) (is_thread_of process) after all))
+      ∙ ap (λ (r : State). record r { casts = left.casts; dumpable = left.dumpable })
+      (ended_is (abort_keeps cause is) (is_thread_of process) after all))
 
 -- ---- a step
 
@@ -238,26 +254,42 @@ module _ {parts : Parts} {store : List (Option Credential)} {t : Table} (is : Is
   pub act_full : table.free t ≡ None → outcome s (by_act s number) ≡ (Aborted task Full, aborted next.cast (at_abort Full s))
   act_full none =
       act_tests s number task next old current new rule
-      ∙ in_none_or is (λ r. (Aborted task Full, aborted next.cast r)) (act_does task old.number new next.cast) none
+      ∙ in_none_or is (λ r. (Aborted task Full, aborted next.cast r))
+      (act_does task next.owner.process old.number new next.cast (differs old.cred new)) none
 
   -- the new credential is sealed in the table `between`, and the old one is given up after it
   module _ {between after : Table} {sealed slot : ℕ} (long : length store ≡ SLOTS) (seals : Seals t between sealed slot) (distinct : Differ parts.tasks)
       (late : Drops between after old.number) where
+    abbrev pub flags : List ProcessFlag
+    flags = renewed parts.dumpable next.owner.process (differs old.cred new)
+
     abbrev pub end : Parts
-    end = record parts { tasks = with_current parts.tasks task sealed; casts = waits_no_more task parts.casts }
+    end = record parts {
+      tasks = with_current parts.tasks task sealed;
+      casts = waits_no_more task parts.casts;
+      dumpable = flags;
+    }
 
     pub act_kept : IsKept end (slice_set store slot (Some new)) after
-    act_kept = replaced_kept is after task old new current long seals distinct late (waits_no_more task parts.casts)
+    act_kept =
+        replaced_kept is after task old new current long seals distinct late
+        (waits_no_more task parts.casts) flags
 
     pub act_sealed : (left : ℕ) → left + 1 ≡ length next.cast.waiting
         → IsOutcomeLike (outcome s (by_act s number)) (Acted task sealed slot left) (state_of end (slice_set store slot (Some new)) after)
     unfolding act_does
     act_sealed left many =
         let casts = waits_no_more task parts.casts in
-        let made : ℕ → State = λ n. record (replaced (roomy is) task old.number new slot) { tasks = with_current parts.tasks task n; casts = casts } in
+        let made : ℕ → State = λ n. record (replaced (roomy is) task old.number new slot) {
+          tasks = with_current parts.tasks task n;
+          casts = casts;
+          dumpable = flags;
+        } in
         let fewer : length next.cast.waiting - 1 ≡ left = omega (arith, many) in
-        replaced_made is after task old new current long seals distinct late casts
+        replaced_made is after task old new current long seals distinct late casts flags
         (act_tests s number task next old current new rule
-        ∙ in_free_or is (λ r. (Aborted task Full, aborted next.cast r)) (act_does task old.number new next.cast) slot seals.takes
+        ∙ in_free_or is (λ r. (Aborted task Full, aborted next.cast r))
+        (act_does task next.owner.process old.number new next.cast (differs old.cred new)) slot
+        seals.takes
         ∙ ap (λ (n : ℕ). (Acted task n slot (length next.cast.waiting - 1), made n)) (counts_next is after task old new current long seals distinct late)
         ∙ ap (λ (k : ℕ). (Acted task sealed slot k, made sealed)) fewer)

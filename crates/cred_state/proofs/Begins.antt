@@ -1,5 +1,5 @@
 -- A task makes an id call, and the other threads of its process wait.
-use Rattle.std.proofs.Common.{◌≡◌, ◌≢◌, ◌==◌, ℕ, true, filter, find, is_some, List, [], ◌∷◌, ◌++◌, length, slice_set, Option, None, Some, Ok, Err, refl, sym, ap, ◌∙◌, subst, arith}
+use Rattle.std.proofs.Common.{◌≡◌, ◌≢◌, ◌==◌, ℕ, Bool, true, filter, find, is_some, List, [], ◌∷◌, ◌++◌, length, slice_set, Option, None, Some, Ok, Err, refl, sym, ap, ◌∙◌, subst, arith}
 use Rattle.std.specs.List.{All, AllPairs}
 use Rattle.std.specs.Option.{option_and_then}
 use Rattle.std.proofs.lemmas.List.Elements.{All-map}
@@ -12,10 +12,11 @@ use Rattle.cred_rules.specs.SetId.{set_id}
 use Rattle.cred_event.specs.declared.answer.Answer.{Answer}
 use Rattle.cred_event.specs.declared.answer.Answer.TheVariants.{Began, Busy, Exists, NoTask, Overridden, TableFull}
 use Rattle.cred_event.specs.declared.answer.Named.TheVariants as named
-use Rattle.cred_model.specs.State.{State, Task, Broadcast, Numbered, numbered, task_of, current_of, cast_in, cast_of}
+use Rattle.cred_model.specs.State.{State, Task, Broadcast, Numbered, ProcessFlag, numbered, task_of, current_of, cast_in, cast_of}
 use Rattle.cred_model.specs.Ends.{is_beside}
 use Rattle.cred_model.specs.Answers.{refusal}
 use Rattle.cred_model.specs.Casts.{not_busy, with_cast}
+use Rattle.cred_model.specs.Dumpable.{differs, renewed}
 use Rattle.cred_model.specs.Like.{IsOutcomeLike}
 use Rattle.cred_model.specs.Moves.{in_slot, table_full, not_overridden, with_current, replaced}
 use Rattle.cred_model.specs.Step.{by_begin, outcome}
@@ -35,15 +36,21 @@ use Rattle.cred_tables.specs.Begin.{MayBegin, MayWait, cast_begun}
 use Rattle.cred_tables.specs.Kept.{Parts, state_of, IsKept, Seals}
 use Rattle.cred_tables.proofs.Filled.{filled_put, no_more_dropped, no_more_sealed}
 use Rattle.cred_tables.proofs.Bags.{bag-other}
-use Rattle.cred_state.proofs.Broadcasts.{kept_casts, like_casts}
+use Rattle.cred_state.proofs.Broadcasts.{kept_beside, like_beside}
 use Rattle.cred_tables.proofs.Owners.{own_none}
 use Rattle.cred_tables.proofs.Sealing.{roomy, in_free, in_none, keeps_same, Drops, alone_later}
 use Rattle.cred_tables.proofs.InUse.{Differ, in_use-updated}
 use Rattle.cred_tables.proofs.Stored.{does_made, length-creds_in, stored_like}
 
-begin_does : (task old : ℕ) (new : Credential) (cast : Broadcast) → State → ℕ → Answer × State
-begin_does task old new cast s slot =
-    (Began (length s.creds) slot (length cast.waiting), record (replaced s task old new slot) { casts = with_cast s.casts cast })
+begin_does : (task old : ℕ) (new : Credential) (cast : Broadcast) (other : Bool) → State → ℕ
+    → Answer × State
+begin_does task old new cast other s slot = (
+  Began (length s.creds) slot (length cast.waiting),
+  record (replaced s task old new slot) {
+    casts = with_cast s.casts cast;
+    dumpable = renewed s.dumpable cast.process other;
+  },
+)
 
 -- ---- the others, who wait
 
@@ -89,7 +96,9 @@ module _ (s : State) (line task : ℕ) (call : IdCall) (old : Numbered) (may : M
 
   begin_tests : (new : Credential) → set_id old.cred call ≡ Ok new
       → outcome s (by_begin s line task call)
-      ≡ in_slot s table_full (begin_does task old.number new (cast_begun line task call may.owner s.tasks))
+      ≡ in_slot s table_full
+      (begin_does task old.number new (cast_begun line task call may.owner s.tasks)
+      (differs old.cred new))
   unfolding begin_does
   begin_tests new rule = rw (may.lives, own_number, may.idle, may.new, may.own, rule) refl
 
@@ -124,7 +133,9 @@ module _ {parts : Parts} {store : List (Option Credential)} {t : Table} (is : Is
   begin_full line call may rule none makes =
       does_same _ _ _
       (begin_tests s line task call old may new rule
-      ∙ in_none is (begin_does task old.number new (cast_begun line task call may.owner parts.tasks)) after none makes)
+      ∙ in_none is
+      (begin_does task old.number new (cast_begun line task call may.owner parts.tasks)
+      (differs old.cred new)) after none makes)
 
   -- the new credential is sealed in the table `between`, and the old one is given up after it
   module _ {between : Table} {number slot : ℕ} (long : length store ≡ SLOTS) (seals : Seals t between number slot) (distinct : Differ parts.tasks)
@@ -151,22 +162,31 @@ module _ {parts : Parts} {store : List (Option Credential)} {t : Table} (is : Is
               (λ n ne some. no_more_sealed seals n ne (no_more_dropped between after (old.number ∷ []) late.held late.deferred n some)) is.filled;
         }
 
-    pub replaced_kept : (casts : List Broadcast) → IsKept (record parts { tasks = updated; casts = casts }) put after
-    replaced_kept casts = kept_casts updated_kept casts
+    pub replaced_kept : (casts : List Broadcast) (flags : List ProcessFlag)
+        → IsKept (record parts { tasks = updated; casts = casts; dumpable = flags }) put after
+    replaced_kept casts flags = kept_beside updated_kept casts flags
 
-    -- the state in which the credential is sealed under this number, if these broadcasts are open
-    abbrev made : List Broadcast → ℕ → State
-    made casts n = record (replaced (roomy is) task old.number new slot) { tasks = with_current parts.tasks task n; casts = casts }
+    -- the state in which the credential is sealed under this number, if these broadcasts are open,
+    -- and these are the flags of the processes
+    abbrev made : List Broadcast → List ProcessFlag → ℕ → State
+    made casts flags n = record (replaced (roomy is) task old.number new slot) {
+      tasks = with_current parts.tasks task n;
+      casts = casts;
+      dumpable = flags;
+    }
 
-    pub replaced_made : {gives : Answer × State} {answer : Answer} (casts : List Broadcast) → gives ≡ (answer, made casts number)
-        → IsOutcomeLike gives answer (state_of (record parts { tasks = updated; casts = casts }) put after)
-    replaced_made casts gives =
+    pub replaced_made : {gives : Answer × State} {answer : Answer} (casts : List Broadcast)
+        (flags : List ProcessFlag) → gives ≡ (answer, made casts flags number)
+        → IsOutcomeLike gives answer
+        (state_of (record parts { tasks = updated; casts = casts; dumpable = flags }) put after)
+    replaced_made casts flags gives =
         does_made gives
-        (like_casts
-        (stored_like store after t.sealed new slot (made parts.casts number) updated_kept sealed_is (omega (arith, long, seals.in_table))
+        (like_beside
+        (stored_like store after t.sealed new slot (made parts.casts parts.dumpable number)
+        updated_kept sealed_is (omega (arith, long, seals.in_table))
         (subst (λ (n : ℕ). IsAlone after n slot) seals.counted (alone_later late seals.alone)) refl
         (late.deferred ∙ ap (λ (ds : List ℕ). ds ++ old.number ∷ []) seals.deferred) refl)
-        casts)
+        casts flags)
 
     -- the number that is sealed is the count of the credentials
     pub counts_next : length (roomy is).creds ≡ number
@@ -175,12 +195,19 @@ module _ {parts : Parts} {store : List (Option Credential)} {t : Table} (is : Is
     pub begin_sealed : (line : ℕ) (call : IdCall) (may : MayBegin s line task old) (count : ℕ) → set_id old.cred call ≡ Ok new
         → count ≡ length (cast_begun line task call may.owner parts.tasks).waiting
         → IsOutcomeLike (outcome s (by_begin s line task call)) (Began number slot count)
-        (state_of (record parts { tasks = updated; casts = with_cast parts.casts (cast_begun line task call may.owner parts.tasks) }) put after)
+        (state_of (record parts {
+          tasks = updated;
+          casts = with_cast parts.casts (cast_begun line task call may.owner parts.tasks);
+          dumpable = renewed parts.dumpable may.owner.process (differs old.cred new);
+        }) put after)
     unfolding begin_does
     begin_sealed line call may count rule many =
         let cast = cast_begun line task call may.owner parts.tasks in
         let casts = with_cast parts.casts cast in
-        replaced_made casts
-        (begin_tests s line task call old may new rule ∙ in_free is (begin_does task old.number new cast) slot seals.takes
-        ∙ ap (λ (n : ℕ). (Began n slot (length cast.waiting), made casts n)) counts_next
-        ∙ ap (λ (k : ℕ). (Began number slot k, made casts number)) (sym many))
+        let other = differs old.cred new in
+        let flags = renewed parts.dumpable may.owner.process other in
+        replaced_made casts flags
+        (begin_tests s line task call old may new rule
+        ∙ in_free is (begin_does task old.number new cast other) slot seals.takes
+        ∙ ap (λ (n : ℕ). (Began n slot (length cast.waiting), made casts flags n)) counts_next
+        ∙ ap (λ (k : ℕ). (Began number slot k, made casts flags number)) (sym many))

@@ -1,10 +1,11 @@
--- What the open broadcasts refuse, and what stays the same where only they change.
+-- What the open broadcasts refuse, and what stays the same where only they change, or the flags of
+-- the processes.
 use Rattle.std.proofs.Common.{◌≡◌, ℕ, true, is_some, List, Option, None, Some, Result, Ok, Err, refl, sym, ap, ◌∙◌}
 use Rattle.std.specs.Option.{MatchOption, option_map}
 use Rattle.cred_record.specs.Credential.{Credential}
 use Rattle.cred_event.specs.declared.answer.Answer.{Answer}
 use Rattle.cred_event.specs.declared.answer.Answer.TheVariants.{Busy}
-use Rattle.cred_model.specs.State.{State, Broadcast}
+use Rattle.cred_model.specs.State.{State, Broadcast, ProcessFlag}
 use Rattle.cred_model.specs.Casts.{not_busy}
 use Rattle.cred_model.specs.Like.{IsLike}
 use Rattle.cred_slots.specs.Table.{Table}
@@ -35,6 +36,28 @@ like_casts like casts = record {
   holds = like.holds;
   prepared = like.prepared;
   deferred = like.deferred;
+  dumpable = like.dumpable;
+  slots = like.slots;
+  creds = like.creds;
+}
+
+-- Nor do the flags of the processes.
+pub kept_beside : {parts : Parts} {store : List (Option Credential)} {t : Table}
+    → IsKept parts store t → (casts : List Broadcast) (flags : List ProcessFlag)
+    → IsKept (record parts { casts = casts; dumpable = flags }) store t
+kept_beside is casts flags = record { counted = is.counted; filled = is.filled }
+
+pub like_beside : {a b : State} → IsLike a b → (casts : List Broadcast) (flags : List ProcessFlag)
+    → IsLike (record a { casts = casts; dumpable = flags })
+    (record b { casts = casts; dumpable = flags })
+like_beside like casts flags = record {
+  tasks = like.tasks;
+  casts = refl;
+  files = like.files;
+  holds = like.holds;
+  prepared = like.prepared;
+  deferred = like.deferred;
+  dumpable = refl;
   slots = like.slots;
   creds = like.creds;
 }

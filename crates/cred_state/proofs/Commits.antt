@@ -11,8 +11,9 @@ use Rattle.cred_event.specs.declared.answer.Answer.{Answer}
 use Rattle.cred_event.specs.declared.answer.Answer.TheVariants.{Busy, NoTask, NoPrepared, Overridden, Stale}
 use Rattle.cred_event.specs.declared.event.Change.{Change}
 use Rattle.cred_event.specs.declared.event.Change.TheVariants.{Exec}
-use Rattle.cred_model.specs.State.{State, Task, Prepared, Changed, Broadcast, task_of, begun_by, prepared_of}
+use Rattle.cred_model.specs.State.{State, Task, Prepared, Changed, Broadcast, ProcessFlag, task_of, begun_by, prepared_of}
 use Rattle.cred_model.specs.Casts.{not_busy}
+use Rattle.cred_model.specs.Dumpable.{flags_committed}
 use Rattle.cred_model.specs.Slots.{in_use, kept}
 use Rattle.cred_model.specs.Ends.{survivors, ended}
 use Rattle.cred_model.specs.Like.{IsLike, IsOutcomeLike}
@@ -26,7 +27,7 @@ use Rattle.cred_tables.specs.Prepared.{changed_of}
 use Rattle.cred_tables.specs.Kept.{Parts, casts_left, creds_in, state_of, IsKept, SealsKept}
 use Rattle.cred_tables.proofs.Back.{set_same}
 use Rattle.cred_tables.proofs.Bags.{bag-at, counts_itself}
-use Rattle.cred_state.proofs.Broadcasts.{kept_casts, like_casts}
+use Rattle.cred_state.proofs.Broadcasts.{kept_beside, like_beside}
 use Rattle.cred_model.proofs.Places.{find-at, place-of_found}
 use Rattle.cred_state.proofs.Labelling.{abort_tests, slot-kept}
 use Rattle.cred_tables.proofs.Sealing.{Drops}
@@ -75,7 +76,10 @@ try_commit_current : (s : State) (place : ℕ) (p : Prepared) (owner : Task) (la
     → try_commit s place p owner last
     ≡ (
       commit_answer last (length s.creds) p.slot (count_by (ends_with last.change owner) s.tasks),
-      casts_after last.change owner (committed (ended (ends_with last.change owner) s) place p owner.current last.cred),
+      record
+          (casts_after last.change owner
+          (committed (ended (ends_with last.change owner) s) place p owner.current last.cred))
+          { dumpable = flags_committed s owner last },
     )
 try_commit_current s place p owner last same = rw same refl
 
@@ -202,11 +206,15 @@ module _ {parts : Parts} {after : List Task} {store : List (Option Credential)} 
       abbrev updated : List Task
       updated = with_current after p.task number
 
+      abbrev flags : List ProcessFlag
+      flags = flags_committed before e.owner last
+
       abbrev end : Parts
       end = record parts {
         tasks = updated;
         casts = casts_left change e.owner.process parts.casts;
         prepared = remove parts.prepared place;
+        dumpable = flags;
       }
 
       abbrev put : List (Option Credential)
@@ -227,7 +235,7 @@ module _ {parts : Parts} {after : List Task} {store : List (Option Credential)} 
       fewer : NoMore t' mid
       fewer = no_more_dropped t' mid (now ∷ []) drops.held drops.deferred
 
-      on_kept : IsKept (record end { casts = parts.casts }) put last_table
+      on_kept : IsKept (record end { casts = parts.casts; dumpable = parts.dumpable }) put last_table
       on_kept = finish_kept on_is place p there own updated last_table number drops.sealed drops.kept fewer refer (slice_get_within store p.slot _ words) seals last.cred
 
       -- what was prepared is in the words already
@@ -237,23 +245,27 @@ module _ {parts : Parts} {after : List Task} {store : List (Option Credential)} 
       pub commit_kept : IsKept end store last_table
       commit_kept =
           subst (λ (words : List (Option Credential)). IsKept end words last_table) put_same
-          (kept_casts on_kept (casts_left change e.owner.process parts.casts))
+          (kept_beside on_kept (casts_left change e.owner.process parts.casts) flags)
 
       -- the state that the commit leads to, if the tasks that end leave these, in this state
       abbrev made : List Task → State → State
       made ts gone = record (committed gone place p e.owner.current last.cred) {
         tasks = with_current ts p.task number;
         casts = casts_left change e.owner.process parts.casts;
+        dumpable = flags;
       }
 
       commit_like : IsLike (state_of end put last_table) (made after (state_of on store t'))
       commit_like =
-          like_casts
+          like_beside
           (finish_like on_is place p there own updated last_table number drops.sealed drops.kept fewer refer (slice_get_within store p.slot _ words) seals last.cred
-          (record (made after (state_of on store t')) { casts = parts.casts }) refl
+          (record (made after (state_of on store t')) {
+            casts = parts.casts;
+            dumpable = parts.dumpable;
+          }) refl
           (ap (λ (ds : List ℕ). ds ++ p.base ∷ []) drops.deferred ∙ append_assoc t'.deferred (now ∷ []) (p.base ∷ [])
           ∙ ap (λ (n : ℕ). t'.deferred ++ n ∷ p.base ∷ []) (sym e.current)) refl)
-          (casts_left change e.owner.process parts.casts)
+          (casts_left change e.owner.process parts.casts) flags
 
       pub commit_done : (label count : ℕ) → position (λ q. q.label == label) parts.prepared ≡ Some place → p.changed ≡ Some last → is_access last.change ≡ false
           → not_busy (begun_by before p.task) ≡ Ok tt → not_overridden e.owner ≡ Ok tt → last.change ≡ change → now ≡ p.base → count ≡ length ended_tasks
@@ -264,7 +276,12 @@ module _ {parts : Parts} {after : List Task} {store : List (Option Credential)} 
           let ends : Task → Bool = ends_with change e.owner in
           let left : List Task = survivors ends parts.tasks in
           let casts : List Broadcast = casts_left change e.owner.process parts.casts in
-          let numbered : ℕ → State = λ n. record (committed (ended ends before) place p e.owner.current last.cred) { tasks = with_current left p.task n; casts = casts } in
+          let numbered : ℕ → State
+          = λ n. record (committed (ended ends before) place p e.owner.current last.cred) {
+            tasks = with_current left p.task n;
+            casts = casts;
+            dumpable = flags;
+          } in
           subst
           (λ (words : List (Option Credential)). IsOutcomeLike (outcome before (by_commit before label)) (committed_by change last.gains number p.slot count) (state_of end words last_table))
           put_same
@@ -273,9 +290,16 @@ module _ {parts : Parts} {after : List Task} {store : List (Option Credential)} 
           ∙ try_commit_current before place p e.owner last (eq-eqb e.owner.current p.base (e.current ∙ base))
           ∙ ap (λ (c : Change). (
             committed_by c last.gains (length (creds_in store t.sealed)) p.slot (count_by (ends_with c e.owner) parts.tasks),
-            casts_after c e.owner (committed (ended (ends_with c e.owner) before) place p e.owner.current last.cred),
+            record
+                (casts_after c e.owner
+                (committed (ended (ends_with c e.owner) before) place p e.owner.current last.cred))
+                { dumpable = flags },
           )) by
-          ∙ ap (λ (r : State). (committed_by change last.gains (length (creds_in store t.sealed)) p.slot (count_by ends parts.tasks), r))
+          ∙ ap (λ (r : State). (
+            committed_by change last.gains (length (creds_in store t.sealed)) p.slot
+                (count_by ends parts.tasks),
+            record r { dumpable = flags },
+          ))
           (casts_are_left change e.owner (committed (ended ends before) place p e.owner.current last.cred))
           ∙ ap (λ (n : ℕ). (committed_by change last.gains n p.slot (count_by ends parts.tasks), numbered n)) counted
           ∙ ap (λ (k : ℕ). (committed_by change last.gains number p.slot k, numbered number)) (sym (many ∙ e.many))

@@ -5,8 +5,9 @@ use Rattle.cred_record.specs.Credential.{Credential}
 use Rattle.cred_event.specs.declared.answer.Answer.TheVariants.{Busy, Exists, NoTask, Overridden, Sealed, TooMany}
 use Rattle.cred_event.specs.declared.answer.Named.TheVariants as named
 use Rattle.cred_event.specs.declared.answer.Counted.TheVariants as counted
-use Rattle.cred_model.specs.State.{State, Task, Broadcast, Numbered, numbered, task_of, current_of, begun_by}
+use Rattle.cred_model.specs.State.{State, Task, Broadcast, Numbered, ProcessFlag, numbered, task_of, current_of, begun_by}
 use Rattle.cred_model.specs.Casts.{not_busy, joined}
+use Rattle.cred_model.specs.Dumpable.{is_dumpable, with_flag}
 use Rattle.cred_model.specs.Moves.{not_overridden, first_task}
 use Rattle.cred_model.specs.Step.{by_fork, by_spawn, outcome}
 use Rattle.cred_model.proofs.Numbers.{numbered_is}
@@ -82,15 +83,36 @@ module _ (parts : Parts) (store : List (Option Credential)) (t : Table) {r later
       ∙ (λ i. (Sealed now.number now.slot, state_of (record parts { tasks = sym is i; casts = sym joins i }) store t))
       ∙ ap (λ (x : State). (Sealed now.number now.slot, x)) (same (record parts { tasks = tasks; casts = casts }))
 
-  pub fork_done : (process : ℕ) → has_process parts.tasks process ≡ false → {tasks : List Task} → tasks ≡ forked parts.tasks task child process
-      → outcome s (by_fork s task child process) ≡ (Sealed now.number now.slot, state_of (record parts { tasks = tasks }) store later)
-  fork_done process unused {tasks = tasks} grown =
+  -- the flags of the processes, where the new one is dumpable as its creator's is
+  abbrev forked_flags : ℕ → List ProcessFlag
+  forked_flags process =
+      with_flag parts.dumpable process (is_dumpable parts.dumpable may.owner.process)
+
+  pub fork_done : (process : ℕ) → has_process parts.tasks process ≡ false → {tasks : List Task}
+      {flags : List ProcessFlag} → tasks ≡ forked parts.tasks task child process
+      → ((owner : Task) → task_of s task ≡ Some owner
+      → flags ≡ with_flag parts.dumpable process (is_dumpable parts.dumpable owner.process))
+      → outcome s (by_fork s task child process)
+      ≡ (
+        Sealed now.number now.slot,
+        state_of (record parts { tasks = tasks; dumpable = flags }) store later,
+      )
+  fork_done process unused {tasks = tasks} {flags = flags} grown begins =
       let with_new : ℕ → List Task = λ n. parts.tasks ++ first_task child process n ∷ [] in
       let is : tasks ≡ with_new now.number
       = grown ∙ ap (λ (o : Option Task). option_map_or (λ (u : Task). parts.tasks ++ first_task child process u.current ∷ []) o parts.tasks) may.lives
       ∙ ap with_new number in
-      let does : outcome s (by_fork s task child process) ≡ (Sealed now.number now.slot, record s { tasks = with_new now.number })
+      let has : flags ≡ forked_flags process = begins may.owner may.lives in
+      let does : outcome s (by_fork s task child process)
+      ≡ (
+        Sealed now.number now.slot,
+        record s { tasks = with_new now.number; dumpable = forked_flags process },
+      )
       = rw (may.lives, there, may.idle, may.new, unused, may.own, few_tasks (length parts.tasks) may.few) refl in
       does
-      ∙ (λ i. (Sealed now.number now.slot, state_of (record parts { tasks = sym is i }) store t))
-      ∙ ap (λ (x : State). (Sealed now.number now.slot, x)) (same (record parts { tasks = tasks }))
+      ∙ (λ i. (
+        Sealed now.number now.slot,
+        state_of (record parts { tasks = sym is i; dumpable = sym has i }) store t,
+      ))
+      ∙ ap (λ (x : State). (Sealed now.number now.slot, x))
+      (same (record parts { tasks = tasks; dumpable = flags }))

@@ -7,8 +7,9 @@ use Rattle.cred_event.specs.declared.answer.Answer.{Answer}
 use Rattle.cred_event.specs.declared.answer.Answer.TheVariants.{Busy, Exists, Sealed, TableFull, TooMany}
 use Rattle.cred_event.specs.declared.answer.Named.TheVariants as named
 use Rattle.cred_event.specs.declared.answer.Counted.TheVariants as counted
-use Rattle.cred_model.specs.State.{State, Task, Broadcast, cast_in, task_of}
+use Rattle.cred_model.specs.State.{State, Task, Broadcast, ProcessFlag, cast_in, task_of}
 use Rattle.cred_model.specs.Casts.{not_busy}
+use Rattle.cred_model.specs.Dumpable.{flags_begun}
 use Rattle.cred_model.specs.Slots.{in_use}
 use Rattle.cred_model.specs.Like.{IsOutcomeLike}
 use Rattle.cred_model.specs.Moves.{in_slot, table_full, first_task, created}
@@ -37,7 +38,12 @@ started tasks after task process next number is same = is ∙ ap (λ (n : ℕ). 
 init_does : (task process user group ns root : ℕ) → State → ℕ → Answer × State
 init_does task process user group ns root s slot =
     let number = length s.creds in
-    (Sealed number slot, created s (first_task task process number) (first_credential user group ns root) slot)
+    let first = first_credential user group ns root in (
+      Sealed number slot,
+      record (created s (first_task task process number) first slot) {
+        dumpable = flags_begun s process;
+      },
+    )
 
 pub few_tasks : (n : ℕ) → n < 64 → nat_lt n 64 ≡ true
 few_tasks n few = grind (arith, nat_tests)
@@ -73,8 +79,10 @@ module _ {parts : Parts} {store : List (Option Credential)} {t : Table} (is : Is
     abbrev pub first : List Task
     first = parts.tasks ++ first_task task process number ∷ []
 
-    pub init_kept : IsKept (record parts { tasks = first }) (slice_set store slot (Some cred)) after
-    init_kept = record {
+    pub init_kept : (flags : List ProcessFlag)
+        → IsKept (record parts { tasks = first; dumpable = flags })
+        (slice_set store slot (Some cred)) after
+    init_kept flags = record {
       counted = record {
         counts = bag-more is.counted.counts seals.held (in_use-task s (first_task task process number) refl);
         keeps = keeps_same t after _ is.counted.keeps seals.kept;
@@ -91,15 +99,23 @@ module _ {parts : Parts} {store : List (Option Credential)} {t : Table} (is : Is
 
     pub init_sealed : {number slot : ℕ} (long : length store ≡ SLOTS) (seals : Seals t after number slot)
         → IsOutcomeLike (outcome s (by_init s task process user group ns root)) (Sealed number slot)
-        (state_of (record parts { tasks = parts.tasks ++ first_task task process number ∷ [] }) (slice_set store slot (Some (first_credential user group ns root))) after)
+        (state_of (record parts {
+          tasks = parts.tasks ++ first_task task process number ∷ [];
+          dumpable = flags_begun s process;
+        }) (slice_set store slot (Some (first_credential user group ns root))) after)
     unfolding init_does
     init_sealed {number} {slot} long seals =
         let c = first_credential user group ns root in
         let count = length-creds_in store t.sealed ∙ sym seals.counted in
+        let flags = flags_begun s process in
+        let made : ℕ → State = λ n. record (created (roomy is) (first_task task process n) c slot) {
+          dumpable = flags;
+        } in
         does_made
         (init_tests s task process user group ns root idle new few ∙ in_free is (init_does task process user group ns root) slot seals.takes
-        ∙ ap (λ (n : ℕ). (Sealed n slot, created (roomy is) (first_task task process n) c slot)) count)
-        (stored_like store after t.sealed c slot (created (roomy is) (first_task task process number) c slot) (init_kept long seals c) seals.sealed (omega (arith, long, seals.in_table))
+        ∙ ap (λ (n : ℕ). (Sealed n slot, made n)) count)
+        (stored_like store after t.sealed c slot (made number) (init_kept long seals c flags)
+        seals.sealed (omega (arith, long, seals.in_table))
         (subst (λ (n : ℕ). IsAlone after n slot) seals.counted seals.alone) refl seals.deferred refl)
 
 -- ---- another task is created

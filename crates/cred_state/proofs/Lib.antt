@@ -23,3 +23,4 @@ pub mod Entering
 pub mod Lends
 pub mod Asking
 pub mod Deciding
+pub mod Traces

@@ -4,14 +4,14 @@ use Rattle.std.specs.List.{All}
 use Rattle.std.proofs.lemmas.Option.{same_Some}
 use Rattle.std.proofs.lemmas.List.Elements.{All-contains, All-cons, All-nil}
 use Rattle.cred_event.specs.declared.content.Stage.{Stage}
-use Rattle.cred_event.specs.declared.content.Stage.TheVariants.{First, Acting, Asking, Opening, TakingTarget, Signalling, ReleasingTarget, Preparing, Altering, Committing, Aborting, Overriding, TakingAccess, ReleasingAccess, Reverting, Releasing, Retrying}
+use Rattle.cred_event.specs.declared.content.Stage.TheVariants.{First, Acting, Asking, Opening, TakingTarget, Signalling, Tracing, ReleasingTarget, Preparing, Altering, Committing, Aborting, Overriding, TakingAccess, ReleasingAccess, Reverting, Releasing, Retrying}
 use Rattle.cred_event.specs.declared.event.Event.{Event}
 use Rattle.cred_event.specs.declared.event.Event.TheVariants.{Ask, Alter, OpenFile}
 use Rattle.cred_event.specs.declared.event.Event.TheVariants as event
 use Rattle.cred_event.specs.declared.event.Change.TheVariants as change
 use Rattle.cred_event.specs.declared.event.Query.TheVariants.{Capable, Check}
 use Rattle.cred_event.specs.declared.content.Content.{Content}
-use Rattle.cred_event.specs.declared.content.Content.TheVariants.{Nothing, One, Id, Question, Open, Fcap, Signal, Change, Access}
+use Rattle.cred_event.specs.declared.content.Content.TheVariants.{Nothing, One, Id, Question, Open, Fcap, Signal, Ptrace, Change, Access}
 use Rattle.cred_model.specs.Course.{event_in, hold_label, new_label, target_label, access_label}
 use Rattle.cred_model.specs.State.{State}
 use Rattle.cred_names.specs.Labels.{event_labels, labels}
@@ -65,6 +65,16 @@ names_at line (Signal task to) TakingTarget = one line (Signal task to) (target_
 names_at line (Signal task to) Signalling = two line (Signal task to) (hold_label line) (target_label line) (inl refl) (inr (inl refl))
 names_at line (Signal task to) ReleasingTarget = one line (Signal task to) (target_label line) (inr (inl refl))
 names_at line (Signal task to) Releasing = one line (Signal task to) (hold_label line) (inl refl)
+names_at line (Ptrace task to mode) First =
+    one line (Ptrace task to mode) (hold_label line) (inl refl)
+names_at line (Ptrace task to mode) TakingTarget =
+    one line (Ptrace task to mode) (target_label line) (inr (inl refl))
+names_at line (Ptrace task to mode) Tracing =
+    two line (Ptrace task to mode) (hold_label line) (target_label line) (inl refl) (inr (inl refl))
+names_at line (Ptrace task to mode) ReleasingTarget =
+    one line (Ptrace task to mode) (target_label line) (inr (inl refl))
+names_at line (Ptrace task to mode) Releasing =
+    one line (Ptrace task to mode) (hold_label line) (inl refl)
 names_at line (Change task change) First = one line (Change task change) (hold_label line) (inl refl)
 names_at line (Change task change) Preparing = two line (Change task change) (new_label line) (hold_label line) (inr (inl refl)) (inl refl)
 names_at line (Change task change) Altering = one line (Change task change) (new_label line) (inr (inl refl))
@@ -145,6 +155,11 @@ waiting_at line (Signal task to) TakingTarget = λ waits. cc
 waiting_at line (Signal task to) Signalling = λ waits. refl
 waiting_at line (Signal task to) ReleasingTarget = λ waits. cc
 waiting_at line (Signal task to) Releasing = λ waits. cc
+waiting_at line (Ptrace task to mode) First = λ waits. cc
+waiting_at line (Ptrace task to mode) TakingTarget = λ waits. cc
+waiting_at line (Ptrace task to mode) Tracing = λ waits. cc
+waiting_at line (Ptrace task to mode) ReleasingTarget = λ waits. cc
+waiting_at line (Ptrace task to mode) Releasing = λ waits. cc
 waiting_at line (Change task change) First = λ waits. cc
 waiting_at line (Change task change) Preparing = λ waits. cc
 waiting_at line (Change task change) Altering = λ waits. refl
@@ -200,4 +215,5 @@ same_event line content stage other a b one two waits wait label here there =
     by (Open task file want fd) is iz = same_Some _ _ (sym is ∙ iz)
     by (Fcap task fd cap) is iz = same_Some _ _ (sym is ∙ iz)
     by (Signal task to) is iz = same_Some _ _ (sym is ∙ iz)
+    by (Ptrace task to mode) is iz = cc
     by (Change task change) is iz = same_Some _ _ (sym is ∙ iz)

@@ -103,7 +103,7 @@ module _ (script : Script) (s : State) (line : ℕ) (event : Event) (label : ℕ
     where
       by : CredsChange s event made.left after → numbered after.creds n ≡ Some c
       by (SameCreds same) = ap (λ cs. numbered cs n) same ∙ is
-      by (Seals new slot same fits) = ap (λ cs. numbered cs n) same ∙ numbered_stays s.creds (sealed_cred new slot ∷ []) n c is
+      by (Seals new slot same fits origin) = ap (λ cs. numbered cs n) same ∙ numbered_stays s.creds (sealed_cred new slot ∷ []) n c is
 
   -- ---- what is lent stays the label's
 

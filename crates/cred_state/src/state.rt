@@ -1,6 +1,6 @@
 //! The state of a run: the tasks, the open broadcasts, the open files, the holds, the prepared
-//! labels, the master of the shared words that the credentials stand in, and a table of slots that
-//! counts the references to them.
+//! labels, which processes are dumpable, the master of the shared words that the credentials stand
+//! in, and a table of slots that counts the references to them.
 ghost use Rattle.std.specs.Prelude.{◌≡◌, ◌||◌, ℕ, [], Some, is_some, length, IfOk, OnErr};
 ghost use Rattle.std.specs.Option.{option_map};
 ghost use Rattle.cred_event.specs.declared.event.Event.TheVariants.{Sweep};
@@ -8,30 +8,33 @@ ghost use Rattle.cred_model.specs.Script.{Script as Declared};
 ghost use Rattle.cred_model.specs.State.{opening, hold_of, prepared_of, current_of, credential_of};
 ghost use Rattle.cred_model.specs.State.{held_by, numbered};
 ghost use Rattle.cred_model.specs.Slots as model;
-ghost use Rattle.cred_model.specs.Step.{by_release, by_take, done, take_hold};
+ghost use Rattle.cred_model.specs.Step.{done};
 ghost use Rattle.cred_model.specs.Named.{IsEventOf};
 ghost use Rattle.cred_model.specs.Like.{Gives, GivesLike};
 ghost use Rattle.cred_sound.specs.Sound.{IsSound};
-ghost use Rattle.cred_tables.specs.Kept.{cred_under, numbered_in, seen_in, AreInPlace, IsInUse};
+ghost use Rattle.cred_tables.specs.Kept.{cred_under, seen_in, AreInPlace, IsInUse};
 ghost use Rattle.cred_tables.specs.Out.{AreHome, AreOut};
 
 mod casts;
 mod decides;
 mod enters;
 mod files;
+mod holds;
 mod lends;
 mod overrides;
 mod prepare;
 mod returns;
 mod tasks;
+mod traces;
 
 use cred_cast::Casts;
 use cred_declared::root_of;
-use cred_event::{Answer, Counted, Event, Named, Side};
+use cred_event::{Answer, Event, Side};
 use cred_files::Files;
 use cred_hold::{Cells, Master, make};
-use cred_ids::{NoMemory, limits};
+use cred_ids::NoMemory;
 use cred_procs::Procs;
+use cred_ptrace::Dump;
 use cred_record::Cred;
 use cred_script::Script;
 use cred_slots::Slots;
@@ -48,6 +51,7 @@ pub struct State {
     files: Files,
     holds: Holds,
     prepared: Preparing,
+    dump: Dump,
     master: Master,
     slots: Slots,
     alloc: Global,
@@ -60,13 +64,14 @@ impl Model for State {
     ghost Value = { Standing };
 
     ghost view = { λ s. record {
-      state = state_of (parts_of s.tasks s.casts s.files s.holds s.prepared) s.master.slots s.slots;
+      state = state_of (parts_of s.tasks s.casts s.files s.holds s.prepared s.dump)
+          s.master.slots s.slots;
       words = record { id = s.master.id; out = s.master.entries };
       places = s.master.slots;
     } };
 
     ghost invariant = { λ s.
-        IsKept (parts_of s.tasks s.casts s.files s.holds s.prepared) s.master.slots s.slots
+        IsKept (parts_of s.tasks s.casts s.files s.holds s.prepared s.dump) s.master.slots s.slots
         × ArePut s.prepared s.master.entries s.master.slots };
 }
 
@@ -80,6 +85,7 @@ impl Drop for State {
             files,
             holds,
             prepared,
+            dump,
             master,
             slots,
             alloc: _,
@@ -89,6 +95,7 @@ impl Drop for State {
         drop(files);
         drop(holds);
         drop(prepared);
+        drop(dump);
         drop(master);
         drop(slots);
     }
@@ -100,7 +107,8 @@ impl State {
     ///
     /// # Errors
     ///
-    /// `NoMemory` if an allocation of the cells or of the slots fails.
+    /// `NoMemory` if an allocation of the cells, of the slots or of room for the flags of the
+    /// processes fails.
     pub fn new(alloc: Global) -> Result<(Cells, State), NoMemory>
         ensures state { IfOk result (λ made. made.1.state ≡ opening) }
         ensures own { IfOk result (λ made. made.1.words.id ≡ made.0) }
@@ -118,12 +126,14 @@ impl State {
         ensures out { IfOk result (λ state. state.words.out ≡ master.entries) }
     {
         let slots = Slots::new(alloc)?;
+        let dump = Dump::new(alloc)?;
         Ok(State {
             tasks: Procs::new(alloc),
             casts: Casts::new(alloc),
             files: Files::new(alloc),
             holds: Holds::new(alloc),
             prepared: Preparing::new(alloc),
+            dump,
             master,
             slots,
             alloc,
@@ -162,7 +172,7 @@ impl State {
             Event::Take { label, task, side } => self.take(*label, *task, *side),
             Event::Release { label } => Ok(self.release(*label)),
             Event::Prepare { label, task, hold } => self.prepare(cells, *label, *task, *hold),
-            Event::Commit { label } => self.commit(*label),
+            Event::Commit { label } => self.commit(cells, *label),
             Event::Begin { task, call } => self.begin(cells, line, *task, call),
             Event::Act { cast } => self.act(cells, *cast),
             _ => self.step_any(cells, script, line, event),
@@ -212,7 +222,7 @@ impl State {
             Event::Take { label, task, side } => self.take(*label, *task, *side),
             Event::Release { label } => Ok(self.release(*label)),
             Event::Prepare { label, task, hold } => self.prepare(cells, *label, *task, *hold),
-            Event::Commit { label } => self.commit(*label),
+            Event::Commit { label } => self.commit(cells, *label),
             Event::Begin { task, call } => self.begin(cells, line, *task, call),
             Event::Act { cast } => self.act(cells, *cast),
             Event::Init {
@@ -238,6 +248,15 @@ impl State {
             Event::Revert { task } => Ok(self.revert(*task)),
             Event::CloseFile { fd } => Ok(self.close_file(*fd)),
             Event::Sweep => Ok(self.sweep()),
+            Event::Dumpable { task, value } => Ok(self.set_dumpable(*task, *value)),
+            Event::Dumped { task } => Ok(self.dumped(*task)),
+            Event::Ptrace {
+                from,
+                hold,
+                to,
+                target,
+                mode,
+            } => Ok(self.trace(cells, script, *from, *hold, *to, *target, *mode)),
         }
     }
 
@@ -320,59 +339,6 @@ impl State {
             || is_some (prepared_of self.now.state label)) }
     {
         self.holds.get(label).is_some() || self.prepared.get(label).is_some()
-    }
-
-    /// A label holds the credential that a task acts with, or is acted on by.
-    #[inline(never)]
-    fn take(&mut self, label: u32, task: u32, side: Side) -> Result<Answer, NoMemory>
-        ensures ok { IfOk result (λ answer.
-            Gives self.old.state (by_take self.old.state label task side) answer self.new.state) }
-        ensures err { OnErr result (self.new ≡ self.old) }
-        ensures words { self.new.words ≡ self.old.words }
-    {
-        let Some(Numbered { number, slot }) = self.credential(task, side) else {
-            return Ok(Answer::NoTask(task));
-        };
-        self.take_hold(label, number, slot)
-    }
-
-    /// The label takes hold of the credential of this number, which stands in this slot.
-    #[inline(always)]
-    fn take_hold(&mut self, label: u32, number: u64, slot: u32) -> Result<Answer, NoMemory>
-        requires { IsInUse self.old.state number }
-        ensures ok { IfOk result (λ answer.
-            Gives self.old.state (take_hold self.old.state label (numbered_in number slot)) answer
-            self.new.state) }
-        ensures err { OnErr result (self.new ≡ self.old) }
-        ensures words { self.new.words ≡ self.old.words }
-    {
-        if self.has_label(label) {
-            return Ok(Answer::Exists {
-                what: Named::Label,
-                number: label,
-            });
-        }
-        if self.holds.len() >= limits::HOLDS {
-            return Ok(Answer::TooMany(Counted::Holds));
-        }
-        self.slots.reserve()?;
-        self.holds.take(label, number)?;
-        self.slots.add(number);
-        Ok(Answer::Sealed { cred: number, slot })
-    }
-
-    /// A label holds its credential no longer.
-    #[inline(never)]
-    fn release(&mut self, label: u32) -> Answer
-        ensures made { Gives self.old.state (by_release self.old.state label) result
-            self.new.state }
-        ensures words { self.new.words ≡ self.old.words }
-    {
-        let Some(number) = self.holds.release(label) else {
-            return Answer::NoHold(label);
-        };
-        self.slots.drop_later(number);
-        Answer::Done
     }
 
     /// All references that were given up since the last sweep are let go.

@@ -8,6 +8,7 @@ use Rattle.cred_event.specs.declared.answer.Answer.TheVariants.{Done}
 use Rattle.cred_event.specs.declared.event.Change.{Change}
 use Rattle.cred_model.specs.State.{State, Task, task_of, begun_by}
 use Rattle.cred_model.specs.Casts.{not_busy, waits_no_more}
+use Rattle.cred_model.specs.Dumpable.{flags_left}
 use Rattle.cred_model.specs.Slots.{in_use}
 use Rattle.cred_model.specs.Ends.{numbers_of, is_task, survivors, left_by, ended}
 use Rattle.cred_model.specs.Step.{by_exit, ends_with, outcome}
@@ -172,15 +173,32 @@ ended-held is change after ended numbers given held (Some owner) has ends same i
     left-held is (ends_with change owner) given held (same ∙ ends.gave_up) is_held
 
 exit_tests : (s : State) (task : ℕ) (owner : Task) → task_of s task ≡ Some owner → not_busy (begun_by s task) ≡ Ok tt → IsOwn s task
-    → outcome s (by_exit s task) ≡ (Done, record (ended (is_task task) s) { casts = waits_no_more task s.casts })
+    → outcome s (by_exit s task)
+    ≡ (
+      Done,
+      record (ended (is_task task) s) {
+        casts = waits_no_more task s.casts;
+        dumpable = flags_left s owner;
+      },
+    )
 exit_tests s task owner is idle own = rw (is, idle, own_owner s task owner is own) refl
+
+-- what the task has left
+abbrev pub exited : Parts → List (Option Credential) → Table → ℕ → Task → Parts
+exited parts store t task owner = record parts {
+  tasks = survivors (is_task task) parts.tasks;
+  casts = waits_no_more task parts.casts;
+  dumpable = flags_left (state_of parts store t) owner;
+}
 
 pub exit_done : {parts : Parts} {store : List (Option Credential)} {t : Table}
     (is : IsKept parts store t) (task : ℕ) (after : Table) (all : DropsAll t after (left_by (is_task task) parts.tasks))
     (owner : Task) → find (is_task task) parts.tasks ≡ Some owner → not_busy (begun_by (state_of parts store t) task) ≡ Ok tt
     → IsOwn (state_of parts store t) task
     → outcome (state_of parts store t) (by_exit (state_of parts store t) task)
-    ≡ (Done, state_of (record parts { tasks = survivors (is_task task) parts.tasks; casts = waits_no_more task parts.casts }) store after)
+    ≡ (Done, state_of (exited parts store t task owner) store after)
 exit_done {parts} {store} {t} is task after all owner lives idle own =
+    let left = exited parts store t task owner in
     exit_tests (state_of parts store t) task owner lives idle own
-    ∙ ap (λ (s : State). (Done, record s { casts = waits_no_more task parts.casts })) (ended_is is (is_task task) after all)
+    ∙ ap (λ (s : State). (Done, record s { casts = left.casts; dumpable = left.dumpable }))
+    (ended_is is (is_task task) after all)

@@ -11,6 +11,7 @@ pub mod Stored
 pub mod Sealing
 pub mod Ending
 pub mod Spawns
+pub mod Flagged
 pub mod Begun
 pub mod Back
 pub mod Cleared

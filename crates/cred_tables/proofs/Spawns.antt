@@ -8,7 +8,7 @@ use Rattle.cred_model.specs.Moves.{first_task}
 use Rattle.cred_procs.specs.Tasks.{spawned, task_in}
 
 -- The tasks are as they were where the one that came last is gone again.
-last_goes : (child : ℕ) (tasks : List Task) (new : Task) → is_task child new ≡ true → find (is_task child) tasks ≡ None
+pub last_goes : (child : ℕ) (tasks : List Task) (new : Task) → is_task child new ≡ true → find (is_task child) tasks ≡ None
     → survivors (is_task child) (tasks ++ new ∷ []) ≡ tasks
 last_goes child [] new is none = ap (λ (b : Bool). cond (not b) (new ∷ []) []) is
 last_goes child (t ∷ ts) new is none = by (is_task child t) none (λ rest. last_goes child ts new is rest)

@@ -1,6 +1,6 @@
--- How the state of a run is kept: the tasks, the open broadcasts, the open files, the holds and the
--- prepared labels as they are, the credentials in the shared words of their slots, and a table of
--- slots that counts references.
+-- How the state of a run is kept: the tasks, the open broadcasts, the open files, the holds, the
+-- prepared labels and the processes that are dumpable as they are, the credentials in the shared
+-- words of their slots, and a table of slots that counts references.
 use Rattle.std.specs.Prelude.{◌≡◌, ℕ, ◌<◌, ◌≤◌, ◌==◌, List, ◌∷◌, [], ◌++◌, count_by, length, map}
 use Rattle.std.specs.Prelude.{slice_get, slice_index_or, slice_set, false, Some, None}
 use Rattle.std.specs.declared.option.Option.{Option}
@@ -10,7 +10,7 @@ use Rattle.cred_ids.specs.Limits.{SLOTS}
 use Rattle.atomic_table.specs.Seated.{TableId}
 use Rattle.cred_record.specs.Credential.{Credential, first_credential}
 use Rattle.cred_model.specs.State.{State, Task, Broadcast, OpenFile, Hold, Prepared, SealedCred}
-use Rattle.cred_model.specs.State.{Numbered}
+use Rattle.cred_model.specs.State.{Numbered, ProcessFlag}
 use Rattle.cred_event.specs.declared.event.Change.{Change}
 use Rattle.cred_event.specs.declared.event.Change.TheVariants.{Exec}
 use Rattle.cred_model.specs.Casts.{dropped}
@@ -51,23 +51,25 @@ pub record AreFilled (store : List (Option Credential)) (t : Table) : Type 0 whe
   pub each : (n slot : ℕ) → slice_get t.sealed n ≡ Some slot → 0 < references_to t n
       → IsSome (slice_index_or store slot None)
 
--- What refers to credentials: a list for each kind of thing that does; and the open broadcasts,
--- which refer to none.
+-- What refers to credentials: a list for each kind of thing that does; and the open broadcasts and
+-- the flags of the processes, which refer to none.
 pub record Parts : Type 0 where
   pub tasks : List Task
   pub casts : List Broadcast
   pub files : List OpenFile
   pub holds : List Hold
   pub prepared : List Prepared
+  pub dumpable : List ProcessFlag
 
 abbrev pub parts_of : List Task → List Broadcast → List OpenFile → List Hold → List Prepared
-    → Parts
-parts_of tasks casts files holds prepared = record {
+    → List ProcessFlag → Parts
+parts_of tasks casts files holds prepared dumpable = record {
   tasks = tasks;
   casts = casts;
   files = files;
   holds = holds;
   prepared = prepared;
+  dumpable = dumpable;
 }
 
 -- the broadcasts that a commit of this change leaves open: an execve drops that of its process
@@ -102,6 +104,7 @@ state_of parts store table = record {
   holds = parts.holds;
   prepared = parts.prepared;
   deferred = table.deferred;
+  dumpable = parts.dumpable;
   creds = creds_in store table.sealed;
 }
 

@@ -10,7 +10,7 @@ syntax match credtraceDeclares /^ *\zs\%(file\|ns\|init\|lane\)\ze /
 syntax match credtraceEvent /\%(^ *\|^\d\+ \)\zs\%(init\|take\|takereal\|takefile\|drop\|ask\)\>/
 syntax match credtraceEvent /\%(^ *\|^\d\+ \)\zs\%(prepare\|change\|commit\|abort\)\>/
 syntax match credtraceEvent /\%(^ *\|^\d\+ \)\zs\%(override\|revert\|begin\|act\|sweep\)\>/
-syntax match credtraceEvent /^\d\+ \zs\%(signal\|open\|close\|spawn\|fork\|exit\)\>/
+syntax match credtraceEvent /^\d\+ \zs\%(signal\|ptrace\|dumpable\|dumped\|open\|close\|spawn\|fork\|exit\)\>/
 syntax match credtraceTask /\<t\d\+\>/ nextgroup=credtraceCall skipwhite
 syntax match credtraceLabel /\<h\d\+\>/ nextgroup=credtraceCall skipwhite
 syntax match credtraceOther /\<[pfnk]\d\+\>/
@@ -21,6 +21,7 @@ syntax match credtraceCall contained /\<set\%(gid\|egid\|regid\|resgid\)\>/
 syntax match credtraceCall contained /\<\%(setgroups\|setfsuid\|setfsgid\|capset\|capdrop\)\>/
 syntax match credtraceCall contained /\<\%(ambraise\|amblower\|ambclear\|securebits\|keepcaps\)\>/
 syntax match credtraceCall contained /\<\%(nonewprivs\|exec\|access\|open\|close\|fcap\|signal\)\>/
+syntax match credtraceCall contained /\<\%(ptrace\|dumpable\|dumped\)\>/
 syntax match credtraceCall contained /\<\%(spawn\|fork\|exit\|ids\|caps\|groups\|bits\)\>/
 syntax match credtraceCall contained /\<\%(capable\|bset\|ambis\|check\)\>/
 syntax match credtraceCap /\<CAP_[A-Z_]\+\>/

@@ -13,7 +13,7 @@ fn script(alloc: Global) -> Result<Script, &'static str> {
 }
 
 /// Each event once, and each answer.
-static TEXTS: [&str; 70] = [
+static TEXTS: [&str; 75] = [
     "1 init t1 p1 0 0 n0 -> ok c0 s0\n",
     "4294967295 init t4294967295 p0 4294967294 0 n3 -> exists t4294967295\n",
     "1 init t1 p1 0 0 n0 -> busy 3\n",
@@ -41,6 +41,11 @@ static TEXTS: [&str; 70] = [
     "4 ask h1 check log rwx -> eacces\n",
     "5 signal t1 h1 t2 h2 -> ok\n",
     "5 signal t1 h1 t2 h2 -> eperm\n",
+    "5 ptrace fs t1 h1 t2 h2 -> ok\n",
+    "5 ptrace real t1 h1 t2 h2 -> eperm\n",
+    "5 dumpable t1 1 -> ok\n",
+    "5 dumpable t1 2 -> einval\n",
+    "5 dumped t1 -> ok 0\n",
     "6 prepare h2 t1 h1 -> ok s5\n",
     "6 prepare h2 t1 h1 -> too many prepared\n",
     "7 change h2 setfsuid 1000 -> ok was 0\n",

@@ -11,6 +11,7 @@ ghost use Rattle.cred_record.specs.Credential.{AreValidSets, Credential};
 ghost use Rattle.cred_rules.specs.SetId.{set_id};
 ghost use Rattle.cred_model.specs.State.{Broadcast, begun_by, cast_in, cast_of, numbered, task_of};
 ghost use Rattle.cred_model.specs.Casts.{not_busy};
+ghost use Rattle.cred_model.specs.Dumpable.{differs};
 ghost use Rattle.cred_model.specs.Like.{Gives, GivesLike};
 ghost use Rattle.cred_model.specs.Step.{aborted, by_act, by_begin};
 ghost use Rattle.cred_sound.specs.Sound.{IsSound};
@@ -23,9 +24,10 @@ use crate::state::State;
 use cred_event::{AbortCause, Answer, Named};
 use cred_hold::Cells;
 use cred_ids::{Groups, NoMemory};
+use cred_ptrace::differs_by;
 use cred_record::{IdCall, Refusal};
 use cred_setid::{Parts, apply_parts};
-use cred_tables::{Numbered, begin_in, drop_all, seal_next, sweep_at};
+use cred_tables::{Numbered, begin_in, drop_all, renew_in, seal_next, sweep_at};
 
 /// A broadcast by its place among the open ones, the least thread that waits in it, that thread's
 /// place among the tasks, and its current credential.
@@ -68,8 +70,12 @@ impl State {
             Err(answer) => return Ok(answer),
         };
         let mut parts = self.look_parts(cells, now);
+        let old = parts;
         match apply_parts(self.alloc, &mut parts, call) {
-            Ok(groups) => self.begin_with(cells, line, task, call, now, &parts, &groups),
+            Ok(groups) => {
+                let other = differs_by(&old.uid, &old.gid, &parts.uid, &parts.gid);
+                self.begin_with(cells, line, task, call, now, &parts, &groups, other)
+            }
             Err(Refusal::Perm) => Ok(Answer::Eperm),
             Err(Refusal::Invalid) => Ok(Answer::Einval),
             Err(Refusal::Memory) => Err(NoMemory),
@@ -78,7 +84,7 @@ impl State {
 
     /// What an id call looks at of the credential that was found. Something refers to it.
     #[inline(always)]
-    fn look_parts(&mut self, cells: &Cells, found: Numbered) -> Parts
+    pub(super) fn look_parts(&mut self, cells: &Cells, found: Numbered) -> Parts
         requires own { self.old.words.id ≡ cells.now }
         requires found { numbered self.old.state.creds found.number
             ≡ Some (seen_in self.old.state.creds found) }
@@ -91,7 +97,8 @@ impl State {
     }
 
     /// The call of a task that may make it, which gives the task's current credential these parts,
-    /// and these groups where it sets them.
+    /// and these groups where it sets them. Where an effective or a filesystem id is another one in
+    /// these (`other`), the task's process is dumpable no longer.
     fn begin_with(
         &mut self,
         cells: &Cells,
@@ -101,6 +108,7 @@ impl State {
         now: Numbered,
         parts: &Parts,
         groups: &Option<Groups>,
+        other: bool,
     ) -> Result<Answer, NoMemory>
         requires own { self.old.words.id ≡ cells.now }
         requires out { AreOut self.old.state self.old.words.out }
@@ -110,6 +118,8 @@ impl State {
             set_id c call.now ≡ Ok (changed c parts.now groups.now) }
         requires valid { let c = cred_under self.old.state.creds now.number in
             AreValidSets parts.now.perm c.inh parts.now.eff parts.now.amb }
+        requires other { let c = cred_under self.old.state.creds now.number in
+            other ≡ differs c (changed c parts.now groups.now) }
         ensures ok { IfOk result (λ answer.
             GivesLike self.old.state (by_begin self.old.state line task call.now) answer
             self.new.state) }
@@ -123,6 +133,7 @@ impl State {
         };
         // The others wait before the credential is sealed, since that may want memory.
         let left = begin_in(&self.tasks, &mut self.casts, line, task, call)?;
+        renew_in(&self.tasks, &mut self.dump, task, other);
         let number = seal_next(&mut self.slots, slot);
         self.master.set_like(cells, now.slot, slot, parts, groups);
         self.tasks.set_current(task, number);
@@ -156,8 +167,12 @@ impl State {
             return Ok(Answer::NoBroadcast(number));
         };
         let mut parts = self.look_parts(cells, next.now);
+        let own = parts;
         match self.follow(next.cast, &mut parts) {
-            Ok(groups) => self.act_with(cells, number, next, &parts, &groups),
+            Ok(groups) => {
+                let other = differs_by(&own.uid, &own.gid, &parts.uid, &parts.gid);
+                self.act_with(cells, number, next, &parts, &groups, other)
+            }
             // Whether a call is valid is the call's alone, and its caller has made it: what the
             // thread lacks is the right.
             Err(Refusal::Perm | Refusal::Invalid) => {
@@ -187,7 +202,8 @@ impl State {
     }
 
     /// The step of the thread that is next, where the call gives its current credential these
-    /// parts, and these groups where it sets them.
+    /// parts, and these groups where it sets them. Where an effective or a filesystem id is another
+    /// one in these (`other`), its process is dumpable no longer.
     fn act_with(
         &mut self,
         cells: &Cells,
@@ -195,6 +211,7 @@ impl State {
         next: Next,
         parts: &Parts,
         groups: &Option<Groups>,
+        other: bool,
     ) -> Result<Answer, NoMemory>
         requires own { self.old.words.id ≡ cells.now }
         requires out { AreOut self.old.state self.old.words.out }
@@ -206,6 +223,8 @@ impl State {
             set_id c cast.call ≡ Ok (changed c parts.now groups.now)) }
         requires valid { let c = cred_under self.old.state.creds next.now.number in
             AreValidSets parts.now.perm c.inh parts.now.eff parts.now.amb }
+        requires other { let c = cred_under self.old.state.creds next.now.number in
+            other ≡ differs c (changed c parts.now groups.now) }
         ensures ok { IfOk result (λ answer.
             GivesLike self.old.state (by_act self.old.state number) answer self.new.state) }
         ensures err { OnErr result (self.new ≡ self.old) }
@@ -215,6 +234,7 @@ impl State {
         let Some(slot) = self.slots.free_slot() else {
             return self.end_process_of(next.task, AbortCause::Full);
         };
+        renew_in(&self.tasks, &mut self.dump, next.task, other);
         let new = seal_next(&mut self.slots, slot);
         self.master
             .set_like(cells, next.now.slot, slot, parts, groups);
@@ -275,6 +295,7 @@ impl State {
         sweep_at(&mut self.slots, cause);
         drop_all(&mut self.slots, ended.numbers.items());
         self.casts.dropped(process);
+        self.dump.gone(process);
         Ok(Answer::Aborted { task, cause })
     }
 

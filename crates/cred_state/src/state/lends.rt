@@ -126,7 +126,7 @@ impl State {
     }
 
     /// The user namespace of the credential that was found. Something refers to it.
-    fn look_ns(&mut self, cells: &Cells, found: Numbered) -> u32
+    pub(super) fn look_ns(&mut self, cells: &Cells, found: Numbered) -> u32
         requires own { self.old.words.id ≡ cells.now }
         requires found { numbered self.old.state.creds found.number
             ≡ Some (seen_in self.old.state.creds found) }

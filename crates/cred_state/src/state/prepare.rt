@@ -2,6 +2,7 @@
 ghost use Rattle.std.specs.Prelude.{◌≡◌, Ok, Some, IfOk, IfSome, MatchResult, OnErr};
 ghost use Rattle.std.specs.Option.{option_map, option_and_then};
 ghost use Rattle.cred_model.specs.State.{begun_by, numbered, prepared_of, task_of};
+ghost use Rattle.cred_model.specs.State.{Changed};
 ghost use Rattle.cred_model.specs.Casts.{not_busy};
 ghost use Rattle.cred_model.specs.Moves.{not_overridden};
 ghost use Rattle.cred_model.specs.Like.{Gives, GivesLike};
@@ -9,9 +10,10 @@ ghost use Rattle.cred_sound.specs.Sound.{IsSound};
 ghost use Rattle.cred_event.specs.declared.event.Event.TheVariants.{Commit};
 ghost use Rattle.cred_model.specs.Step.{by_abort, by_commit, by_prepare};
 ghost use Rattle.cred_tables.specs.Kept.{seen_in};
-ghost use Rattle.cred_tables.specs.Prepared.{IsReady};
+ghost use Rattle.cred_tables.specs.Prepared.{changed_of, IsReady};
 ghost use Rattle.cred_tables.specs.Out.{AreHome, AreOut};
 ghost use Rattle.cred_state.specs.Refusals.{MayPrepare};
+ghost use Rattle.cred_state.specs.Flags.{differs_from};
 
 use crate::state::State;
 use cred_event::{Answer, Change, Counted, Named};
@@ -108,12 +110,17 @@ impl State {
     /// than its current one, leave the state. `Stale` comes where the task's current credential
     /// isn't the base any more: then the label is given up.
     ///
+    /// Where an effective or a filesystem id is another one than before, the task's process is
+    /// dumpable no longer; otherwise an execve makes it dumpable, unless the permitted set grows
+    /// (prctl(2), PR_SET_DUMPABLE).
+    ///
     /// # Errors
     ///
     /// `NoMemory` if an allocation of room for the reference or of a list fails: the state is as it
     /// was.
     #[inline(never)]
-    pub fn commit(&mut self, label: u32) -> Result<Answer, NoMemory>
+    pub fn commit(&mut self, cells: &Cells, label: u32) -> Result<Answer, NoMemory>
+        requires own { self.old.words.id ≡ cells.now }
         requires out { AreOut self.old.state self.old.words.out }
         requires home { AreHome (Commit label) self.old.words.out }
         requires sound { IsSound self.old.state }
@@ -138,11 +145,12 @@ impl State {
             self.abort(label);
             return Ok(Answer::Stale { base, now });
         }
-        self.commit_ready(label, task, now, change)
+        let other = self.changes_ids(cells, label, task);
+        self.commit_ready(label, task, now, change, other)
     }
 
     /// What the label prepared becomes the current credential of its task, whose current one is the
-    /// base.
+    /// base. `other` says whether an effective or a filesystem id is another one in it.
     ///
     /// # Errors
     ///
@@ -154,6 +162,7 @@ impl State {
         task: u32,
         now: u64,
         change: Change,
+        other: bool,
     ) -> Result<Answer, NoMemory>
         requires out { AreOut self.old.state self.old.words.out }
         requires home { AreHome (Commit label) self.old.words.out }
@@ -163,6 +172,9 @@ impl State {
         requires idle { not_busy (begun_by self.old.state task) ≡ Ok tt }
         requires allowed { IfSome (task_of self.old.state task) (λ owner.
             not_overridden owner ≡ Ok tt) }
+        requires other { (last : Changed)
+            → changed_of self.old.state.prepared label ≡ Some last
+            → other ≡ differs_from self.old.state task last }
         ensures ok { IfOk result (λ answer.
             GivesLike self.old.state (by_commit self.old.state label) answer self.new.state) }
         ensures err { OnErr result (self.new ≡ self.old) }
@@ -176,12 +188,12 @@ impl State {
         self.slots.drop_later(now);
         let (kept, last) = self.prepared.finish(label);
         drop_cast(&mut self.casts, last.change, process);
-        let (change, gains) = (last.change, last.gains);
+        self.dump.commit(last.change, &last.gains, process, other);
         // What was prepared is in the words of its slot already.
         let number = seal_kept(&mut self.slots, kept);
         self.tasks.set_current(task, number);
         let ended = ended.tasks.items().len() as u32;
-        Ok(committed_by(change, &gains, number, kept.slot, ended))
+        Ok(committed_by(last.change, &last.gains, number, kept.slot, ended))
     }
 
     /// The label gives up what it prepared, with its slot and the reference to its base.

@@ -1,9 +1,11 @@
 //! The events by which tasks are created and end.
-ghost use Rattle.std.specs.Prelude.{◌≡◌, ◌<◌, ℕ, true, length, Ok, None, Some, IfOk, OnErr};
+ghost use Rattle.std.specs.Prelude.{◌≡◌, ◌<◌, ℕ, true, is_some, length, Ok, None, Some, IfOk};
+ghost use Rattle.std.specs.Prelude.{OnErr};
 ghost use Rattle.std.specs.Prelude.{MatchOption, MatchResult};
 ghost use Rattle.cred_ids.specs.Limits.{TASKS};
 ghost use Rattle.cred_record.specs.Credential.{first_credential};
 ghost use Rattle.cred_model.specs.Casts.{not_busy};
+ghost use Rattle.cred_model.specs.Dumpable.{flag_in};
 ghost use Rattle.cred_model.specs.Like.{Gives, GivesLike};
 ghost use Rattle.cred_model.specs.State.{cast_in, task_of};
 ghost use Rattle.cred_model.specs.Step.{by_exit, by_fork, by_init, by_spawn};
@@ -18,11 +20,12 @@ use cred_event::{Answer, Counted, Named};
 use cred_hold::Cells;
 use cred_ids::{Id, NoMemory};
 use cred_record::{Cred, first};
-use cred_tables::{Numbered, drop_all, seal_next, spawn_in};
+use cred_tables::{Numbered, drop_all, exit_in, fork_in, seal_next, spawn_in, start_in};
 
 impl State {
     /// A first task is created, with its first credential, in a namespace where root has the user
-    /// id `root`. `Busy`, `Exists` and `TooMany` leave the state; `TableFull` leaves it swept.
+    /// id `root`. A process that begins with it is dumpable. `Busy`, `Exists` and `TooMany` leave
+    /// the state; `TableFull` leaves it swept.
     ///
     /// # Errors
     ///
@@ -40,6 +43,7 @@ impl State {
     ) -> Result<Answer, NoMemory>
         requires own { self.old.words.id ≡ cells.now }
         requires out { AreOut self.old.state self.old.words.out }
+        requires sound { IsSound self.old.state }
         ensures ok { IfOk result (λ answer.
             GivesLike self.old.state (by_init self.old.state number process user group ns root)
             answer self.new.state) }
@@ -82,6 +86,8 @@ impl State {
         requires idle { not_busy (cast_in self.old.state process) ≡ Ok tt }
         requires new { task_of self.old.state number ≡ None }
         requires room { length self.old.state.tasks < TASKS }
+        requires flag { is_some (flag_in self.old.state.dumpable process)
+            ≡ has_process self.old.state.tasks process }
         ensures ok { (user group ns root : ℕ) → cred.now ≡ first_credential user group ns root
             → IfOk result (λ answer. GivesLike self.old.state
             (by_init self.old.state number process user group ns root) answer self.new.state) }
@@ -95,7 +101,7 @@ impl State {
         };
         // The task is entered before its credential is sealed, since that may want memory.
         let next = self.slots.next_number();
-        self.tasks.start(number, process, next)?;
+        start_in(&mut self.tasks, &mut self.dump, number, process, next)?;
         let current = seal_next(&mut self.slots, slot);
         self.master.set(cells, slot, cred);
         Ok(Answer::Sealed {
@@ -128,14 +134,15 @@ impl State {
         Ok(Answer::Sealed { cred: number, slot })
     }
 
-    /// A task creates a process (fork(2)), whose one thread shares its current credential. The
-    /// refusals leave the state.
+    /// A task creates a process (fork(2)), whose one thread shares its current credential. It is
+    /// dumpable where the task's is. The refusals leave the state.
     ///
     /// # Errors
     ///
     /// `NoMemory` if an allocation of room for the child or for its reference fails: the state is
     /// as it was.
     pub fn fork(&mut self, task: u32, child: u32, process: u32) -> Result<Answer, NoMemory>
+        requires { IsSound self.old.state }
         ensures ok { IfOk result (λ answer.
             Gives self.old.state (by_fork self.old.state task child process) answer
             self.new.state) }
@@ -147,7 +154,7 @@ impl State {
             Err(answer) => return Ok(answer),
         };
         self.slots.reserve()?;
-        self.tasks.fork(task, child, process)?;
+        fork_in(&mut self.tasks, &mut self.dump, task, child, process)?;
         self.slots.add(number);
         Ok(Answer::Sealed { cred: number, slot })
     }
@@ -201,8 +208,9 @@ impl State {
     }
 
     /// A task ends, and what it referred to is given up. It waits in no broadcast any more; its
-    /// holds and prepared labels stay. `NoTask`, `Busy`, and `Overridden` while it acts with
-    /// another credential than its current one, leave the state.
+    /// holds and prepared labels stay. Its process ends with it where it has no other thread.
+    /// `NoTask`, `Busy`, and `Overridden` while it acts with another credential than its current
+    /// one, leave the state.
     ///
     /// # Errors
     ///
@@ -222,7 +230,7 @@ impl State {
         if let Some(depth) = self.overridden(task) {
             return Ok(Answer::Overridden(depth));
         }
-        let numbers = self.tasks.exit(task)?;
+        let numbers = exit_in(&mut self.tasks, &mut self.dump, task)?;
         drop_all(&mut self.slots, numbers.items());
         self.casts.gone(task);
         Ok(Answer::Done)

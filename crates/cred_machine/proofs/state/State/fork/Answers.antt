@@ -1,11 +1,15 @@
-use Rattle.std.proofs.Common.{◌++◌, ◌∷◌, [], sym, ap, ◌∙◌}
+use Rattle.std.proofs.Common.{List, ◌++◌, ◌∷◌, [], sym, ap, ◌∙◌}
 use Rattle.cred_event.specs.declared.answer.Answer.TheVariants.{Busy, Overridden}
-use Rattle.cred_model.specs.State.{Task}
+use Rattle.cred_model.specs.State.{Task, ProcessFlag}
+use Rattle.cred_model.specs.Dumpable.{flag_in, with_flag}
+use Rattle.cred_sound.specs.Sound.{IsSound}
 use Rattle.cred_plain.specs.Creds.{seen_numbered}
 use Rattle.cred_model.proofs.Places.{none_by_test}
 use Rattle.cred_plain.proofs.Places.{none_is}
 use Rattle.cred_machine.proofs.Refusals.{fork_busy, fork_exists, fork_full, fork_none, fork_overridden, fork_unsealed, fork_used, is_full}
 use Rattle.cred_machine.proofs.Leads.{busy_at, can_create, fork_leads}
+use Rattle.cred_machine.proofs.Unflagged.{unflagged}
+use Rattle.cred_machine.proofs.Unchanged.{on_err}
 use Rattle.cred_machine.proofs.Seen.{seen_state, seen_task}
 use Rattle.cred_machine.proofs.state.State.fork.Goals as goal
 
@@ -39,9 +43,26 @@ returns-clause-ok c =
     let can = can_create s c.args.task c.args.child o _ parent _ c.alive.result c.full.result c.in-Some.ensures c.owner.view_is c.in-Some-get.ensures
     c.deref.ensures.value c.in_default-begun_by.ensures c.alive.ensures c.if-alive.false c.in_default-overridden.ensures c.full.ensures c.if-full.false in
     rw (← c.self.view_is)
-    (fork_leads s c.args.task c.args.child c.args.process o parent _ can
+    (fork_leads s c.args.task c.args.child c.args.process o parent _ _ c.is_dumpable-dumpable.result can
     (none_by_test _ c.has_process.result c.has_process.ensures c.if-has_process.false)
-    (c.in_ok-push.ensures.ok ∙ ap (λ (n : Task). s.tasks ++ n ∷ []) c.first.ensures))
+    (c.in_ok-begin_process.ensures.tasks ∙ ap (λ (n : Task). s.tasks ++ n ∷ []) c.first-thread.ensures)
+    (c.in_ok-begin_process.ensures.flags ∙ ap (λ (n : Task). with_flag s.dumpable n.process c.is_dumpable-dumpable.result) c.first-thread.ensures)
+    c.is_dumpable-dumpable.ensures)
+
+pub begin_process-requires-clause-unused : goal.begin_process-requires-clause-unused
+begin_process-requires-clause-unused c =
+    let s = seen_state c.self.inside in
+    let sound : IsSound s = rw (← c.self.view_is) at c.requires.sound in
+    ap (λ (n : Task). flag_in s.dumpable n.process) c.first-thread.ensures
+    ∙ unflagged s c.args.process sound (none_by_test _ c.has_process.result c.has_process.ensures c.if-has_process.false)
+
+pub returns-in_err-begin_process-clause-err : goal.returns-in_err-begin_process-clause-err
+returns-in_err-begin_process-clause-err c =
+    let s = seen_state c.self.inside in
+    rw (← c.self.view_is)
+    (on_err _
+    (ap (λ (l : List Task). record s { tasks = l; dumpable = c.begin_process.new.dump }) c.in_err-begin_process.ensures.same_tasks
+    ∙ ap (λ (l : List ProcessFlag). record s { dumpable = l }) c.in_err-begin_process.ensures.same_flags))
 
 pub returns-in_default-clause-ok : goal.returns-in_default-clause-ok
 returns-in_default-clause-ok c =

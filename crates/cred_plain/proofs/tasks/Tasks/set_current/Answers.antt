@@ -1,7 +1,7 @@
 use Rattle.std.proofs.Common.{◌≡◌, ◌∙◌, length, map, sym, ap}
 use Rattle.std.proofs.lemmas.List.Edits.{map_over_more}
 use Rattle.cred_model.specs.Moves.{updated}
-use Rattle.cred_plain.proofs.Overwritten.{written, changed_all}
+use Rattle.cred_model.proofs.Overwritten.{written, changed_all}
 use Rattle.cred_plain.proofs.tasks.Tasks.set_current.Goals as goal
 
 pub loop-other-preserved : goal.loop-other-preserved

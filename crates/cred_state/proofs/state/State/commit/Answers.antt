@@ -18,7 +18,7 @@ returns-in-Some-begun-clause-ok c =
     let ready = c.in-Some.ensures in
     let busy = rw (← c.self.view_is) at c.in-Some-begun.ensures in
     let t = c.self.inside in
-    let s = state_of (parts_of t.tasks t.casts t.files t.holds t.prepared) t.master.slots t.slots in
+    let s = state_of (parts_of t.tasks t.casts t.files t.holds t.prepared t.dump) t.master.slots t.slots in
     rw (← c.self.view_is)
     (let own = owner_of s c.in-Some.field-0.task c.in-Some-current.now c.in-Some-current.ensures in
     commit_busy s c.args.label _ ready.last ready.found refl (ap is_access ready.by ∙ ready.for_task) c.in-Some-begun.cast own.0 own.1 busy)
@@ -29,7 +29,7 @@ returns-in-Some-overridden-clause-ok c =
     let over = rw (← c.self.view_is) at c.in-Some-overridden.ensures in
     let idle = rw (← c.self.view_is) at c.in_default-begun.ensures in
     let t = c.self.inside in
-    let s = state_of (parts_of t.tasks t.casts t.files t.holds t.prepared) t.master.slots t.slots in
+    let s = state_of (parts_of t.tasks t.casts t.files t.holds t.prepared t.dump) t.master.slots t.slots in
     rw (← c.self.view_is)
     (let own = owner_of s c.in-Some.field-0.task c.in-Some-current.now c.in-Some-current.ensures in
     commit_overridden s c.args.label _ ready.last ready.found refl (ap is_access ready.by ∙ ready.for_task) c.in-Some-overridden.depth own.0 own.1 idle
@@ -42,20 +42,31 @@ returns-then-now-base-clause-ok c =
     let idle = rw (← c.self.view_is) at c.in_default-begun.ensures in
     let aborts = rw (← c.self.view_is) at c.abort.ensures.made in
     let t = c.self.inside in
-    let s = state_of (parts_of t.tasks t.casts t.files t.holds t.prepared) t.master.slots t.slots in
+    let s = state_of (parts_of t.tasks t.casts t.files t.holds t.prepared t.dump) t.master.slots t.slots in
     rw (← c.self.view_is)
     (let own = owner_of s c.in-Some.field-0.task c.in-Some-current.now c.in-Some-current.ensures in
     commit_stale s c.args.label _ ready.last ready.found refl (ap is_access ready.by ∙ ready.for_task) c.abort.new.self.state c.abort.result c.in-Some-current.now own.0 own.1 own.2 idle
     (own_owner s c.in-Some.field-0.task own.0 own.1 allowed) c.if-now-base.true aborts)
 
 pub commit_ready-requires-clause-ready : goal.commit_ready-requires-clause-ready
-commit_ready-requires-clause-ready c = rw (← c.self.view_is, c.if-now-base.false) c.in-Some.ensures
+commit_ready-requires-clause-ready c =
+    rw (c.changes_ids-other.ensures.same, ← c.self.view_is, c.if-now-base.false) c.in-Some.ensures
+
+pub commit_ready-requires-clause-home : goal.commit_ready-requires-clause-home
+commit_ready-requires-clause-home c = rw c.changes_ids-other.ensures.same c.requires.home
 
 pub commit_ready-requires-clause-current : goal.commit_ready-requires-clause-current
-commit_ready-requires-clause-current c = rw (← c.self.view_is) c.in-Some-current.ensures
+commit_ready-requires-clause-current c =
+    rw (c.changes_ids-other.ensures.same, ← c.self.view_is) c.in-Some-current.ensures
 
 pub commit_ready-requires-clause-idle : goal.commit_ready-requires-clause-idle
-commit_ready-requires-clause-idle c = c.in_default-begun.ensures
+commit_ready-requires-clause-idle c =
+    rw c.changes_ids-other.ensures.same c.in_default-begun.ensures
 
 pub commit_ready-requires-clause-allowed : goal.commit_ready-requires-clause-allowed
-commit_ready-requires-clause-allowed c = c.in_default-overridden.ensures
+commit_ready-requires-clause-allowed c =
+    rw c.changes_ids-other.ensures.same c.in_default-overridden.ensures
+
+pub commit_ready-requires-clause-other : goal.commit_ready-requires-clause-other
+commit_ready-requires-clause-other c =
+    rw c.changes_ids-other.ensures.same c.changes_ids-other.ensures.other

@@ -1,11 +1,14 @@
-use Rattle.std.proofs.Common.{◌≡◌, ℕ, length, is_some, refl, sym, ap, ◌∙◌, subst}
+use Rattle.std.proofs.Common.{◌≡◌, ◌==◌, ℕ, Some, length, is_some, refl, sym, ap, ◌∙◌, subst}
+use Rattle.std.specs.Option.{option_and_then}
 use Rattle.cred_event.specs.declared.event.Change.{Change}
-use Rattle.cred_model.specs.State.{Changed}
+use Rattle.cred_model.specs.State.{Changed, Prepared}
 use Rattle.cred_model.specs.Moves.{with_current}
 use Rattle.cred_model.specs.Step.{is_access}
+use Rattle.cred_model.proofs.Places.{find-at}
 use Rattle.cred_slots.specs.Table.{Table}
 use Rattle.cred_procs.specs.Tasks.{task_in}
 use Rattle.cred_tables.specs.Kept.{SealsKept, casts_left, parts_of, state_of}
+use Rattle.cred_tables.specs.Prepared.{changed_of}
 use Rattle.cred_state.proofs.Commits.{goes_on, owner-held, base-held_still, slot-kept_still, commit_kept, commit_done}
 use Rattle.cred_tables.proofs.Ending.{EndsWith, ends_so, ended-held}
 use Rattle.cred_tables.proofs.Labels.{same_label}
@@ -14,6 +17,7 @@ use Rattle.cred_tables.proofs.Sealing.{drops}
 use Rattle.cred_tables.proofs.Puts.{put_less}
 use Rattle.cred_state.proofs.Keeping.{committed_words}
 use Rattle.cred_state.proofs.Reserved.{kept_spare}
+use Rattle.cred_state.proofs.Traces.{flags_are}
 use Rattle.cred_state.proofs.state.State.commit_ready.Goals as goal
 
 pub unwrap-process-requires : goal.unwrap-process-requires
@@ -103,7 +107,17 @@ invariant_of-self-2 c =
     let process = owner_process t.tasks c.args.task c.unwrap-process.result e.owner e.lives c.unwrap-process.ensures c.process_of.ensures in
     let casts : c.drop_cast.new.casts ≡ casts_left c.args.change e.owner.process t.casts
     = c.drop_cast.ensures ∙ ap (λ (x : Change). casts_left x c.unwrap-process.result t.casts) change ∙ ap (λ (n : ℕ). casts_left c.args.change n t.casts) process in
-    rw (tasks, casts, gives.gives.left) (
+    let s = state_of (parts_of t.tasks t.casts t.files t.holds t.prepared t.dump) t.master.slots
+    t.slots in
+    let changed : changed_of t.prepared c.args.label ≡ Some c.finish-last.result.1
+    = ap (option_and_then (λ (p : Prepared). p.changed))
+    (find-at (λ (p : Prepared). p.label == c.args.label) t.prepared gives.gives.place _
+    gives.gives.found gives.gives.there) in
+    let flags = flags_are s c.args.task c.unwrap-process.result e.owner c.finish-last.result.1 _ _
+    c.args.other c.commit.new.self c.commit.ensures
+    (ap (λ (x : Changed). x.change) c.last.view_is) (ap (λ (x : Changed). x.gains) c.last.view_is)
+    process ((rw (← c.self.view_is) at c.requires.other) c.finish-last.result.1 changed) e.lives in
+    rw (tasks, casts, gives.gives.left, flags) (
       commit_kept c.self.invariant.0 gives.gives.place _ gives.gives.there c.args.change now own less c.seal_kept-number.new.slots
           c.finish-last.result.1 words seals sound.tasks sound.slots.own,
       put_less t.prepared gives.gives.place t.master.entries t.master.slots c.self.invariant.1,
@@ -137,10 +151,20 @@ returns-clause-ok c =
     let process = owner_process t.tasks c.args.task c.unwrap-process.result e.owner e.lives c.unwrap-process.ensures c.process_of.ensures in
     let casts : c.drop_cast.new.casts ≡ casts_left c.args.change e.owner.process t.casts
     = c.drop_cast.ensures ∙ ap (λ (x : Change). casts_left x c.unwrap-process.result t.casts) change ∙ ap (λ (n : ℕ). casts_left c.args.change n t.casts) process in
-    rw (← c.self.view_is, tasks, casts, gives.gives.left, c.committed_by.ensures, gains, change)
+    let s = state_of (parts_of t.tasks t.casts t.files t.holds t.prepared t.dump) t.master.slots
+    t.slots in
+    let changed : changed_of t.prepared c.args.label ≡ Some c.finish-last.result.1
+    = ap (option_and_then (λ (p : Prepared). p.changed))
+    (find-at (λ (p : Prepared). p.label == c.args.label) t.prepared gives.gives.place _
+    gives.gives.found gives.gives.there) in
+    let flags = flags_are s c.args.task c.unwrap-process.result e.owner c.finish-last.result.1 _ _
+    c.args.other c.commit.new.self c.commit.ensures
+    (ap (λ (x : Changed). x.change) c.last.view_is) (ap (λ (x : Changed). x.gains) c.last.view_is)
+    process ((rw (← c.self.view_is) at c.requires.other) c.finish-last.result.1 changed) e.lives in
+    rw (← c.self.view_is, tasks, casts, gives.gives.left, flags, c.committed_by.ensures, gains, change)
     (commit_done c.self.invariant.0 gives.gives.place _ gives.gives.there c.args.change now own less c.seal_kept-number.new.slots
     c.finish-last.result.1 words seals sound.tasks sound.slots.own c.args.label (length c.items-2.result.now) gives.gives.found refl
-    (ap is_access same.2 ∙ ready.for_task) (rw same.0 idle) (own_owner (state_of (parts_of t.tasks t.casts t.files t.holds t.prepared) t.master.slots t.slots) gives.task own.owner own.lives (rw same.0 allowed)) same.2 (sym same.1)
+    (ap is_access same.2 ∙ ready.for_task) (rw same.0 idle) (own_owner (state_of (parts_of t.tasks t.casts t.files t.holds t.prepared t.dump) t.master.slots t.slots) gives.task own.owner own.lives (rw same.0 allowed)) same.2 (sym same.1)
     (ap length c.items-2.ensures))
 
 pub invariant_of-self : goal.invariant_of-self

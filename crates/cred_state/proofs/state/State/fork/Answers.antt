@@ -5,30 +5,33 @@ use Rattle.cred_model.specs.Moves.{first_task}
 use Rattle.cred_model.proofs.Numbers.{current_is}
 use Rattle.cred_tables.specs.Kept.{parts_of, state_of}
 use Rattle.cred_tables.proofs.Sealing.{current-held, referred_to}
+use Rattle.cred_sound.proofs.Flags.{unflagged}
+use Rattle.cred_state.proofs.Broadcasts.{kept_beside}
 use Rattle.cred_state.proofs.Creating.{fork_done}
 use Rattle.cred_state.proofs.Inits.{kept_child}
 use Rattle.cred_state.proofs.Reserved.{kept_spare}
 use Rattle.cred_state.proofs.state.State.fork.Goals as goal
 
-pub fork-requires-clause-alive : goal.fork-requires-clause-alive
-fork-requires-clause-alive c =
+pub fork_in-requires-clause-alive : goal.fork_in-requires-clause-alive
+fork_in-requires-clause-alive c =
     let may = rw (← c.self.view_is) at c.in-Ok.ensures in
     ap is_some may.0.lives
 
-pub fork-requires-clause-new : goal.fork-requires-clause-new
-fork-requires-clause-new c =
+pub fork_in-requires-clause-new : goal.fork_in-requires-clause-new
+fork_in-requires-clause-new c =
     let may = rw (← c.self.view_is) at c.in-Ok.ensures in
     may.0.new
 
-pub fork-requires-clause-room : goal.fork-requires-clause-room
-fork-requires-clause-room c =
+pub fork_in-requires-clause-room : goal.fork_in-requires-clause-room
+fork_in-requires-clause-room c =
     let may = rw (← c.self.view_is) at c.in-Ok.ensures in
     may.0.few
 
-pub fork-requires-clause-new_process : goal.fork-requires-clause-new_process
-fork-requires-clause-new_process c =
+pub fork_in-requires-clause-unused : goal.fork_in-requires-clause-unused
+fork_in-requires-clause-unused c =
     let may = rw (← c.self.view_is) at c.in-Ok.ensures in
-    may.1
+    let sound = rw (← c.self.view_is) at c.requires in
+    unflagged c.args.process sound.flags may.1
 
 pub add-requires-clause-referred : goal.add-requires-clause-referred
 add-requires-clause-referred c =
@@ -38,19 +41,24 @@ add-requires-clause-referred c =
 pub invariant_of-self : goal.invariant_of-self
 invariant_of-self c = rw c.in_err-reserve.ensures.err c.self.invariant
 
-pub invariant_of-self-in_err-fork : goal.invariant_of-self-in_err-fork
-invariant_of-self-in_err-fork c = rw c.in_err-fork.ensures.err (kept_spare c.self.invariant.0 c.in_ok-reserve.ensures.ok, c.self.invariant.1)
+pub invariant_of-self-in_err-fork_in : goal.invariant_of-self-in_err-fork_in
+invariant_of-self-in_err-fork_in c =
+    rw (c.in_err-fork_in.ensures.no_tasks, c.in_err-fork_in.ensures.no_flags)
+    (kept_spare c.self.invariant.0 c.in_ok-reserve.ensures.ok, c.self.invariant.1)
 
 pub invariant_of-self-2 : goal.invariant_of-self-2
 invariant_of-self-2 c =
     let t = c.self.inside in
-    let s = state_of (parts_of t.tasks t.casts t.files t.holds t.prepared) t.master.slots t.slots in
+    let s = state_of (parts_of t.tasks t.casts t.files t.holds t.prepared t.dump) t.master.slots t.slots in
     let may = rw (← c.self.view_is) at c.in-Ok.ensures in
     let u = current_is s c.args.task _ may.0.has in
-    let grown = c.in_ok-fork.ensures.ok
+    let grown = c.in_ok-fork_in.ensures.tasks
     ∙ ap (λ (found : Option Task). option_map_or (λ o. t.tasks ++ first_task c.args.child c.args.process o.current ∷ []) found t.tasks) u.is in (
-      kept_child c.self.invariant.0 c.fork.new.self c.args.child c.args.process u.owner grown u.number c.in_ok-reserve.ensures.ok c.add.ensures.held c.add.ensures.table
-          (current-held c.self.invariant.0 c.args.task _ may.0.has) t.casts,
+      kept_beside
+          (kept_child c.self.invariant.0 c.fork_in.new.tasks c.args.child c.args.process u.owner grown
+          u.number c.in_ok-reserve.ensures.ok c.add.ensures.held c.add.ensures.table
+          (current-held c.self.invariant.0 c.args.task _ may.0.has) t.casts)
+          t.casts c.fork_in.new.dump,
       c.self.invariant.1,
     )
 
@@ -59,4 +67,5 @@ returns-clause-ok c =
     let may = rw (← c.self.view_is) at c.in-Ok.ensures in
     let t = c.self.inside in
     rw (← c.self.view_is)
-    (fork_done (parts_of t.tasks t.casts t.files t.holds t.prepared) t.master.slots t.slots c.in_ok-reserve.ensures.ok c.add.ensures.table c.args.task c.args.child _ may.0 c.args.process may.1 c.in_ok-fork.ensures.ok)
+    (fork_done (parts_of t.tasks t.casts t.files t.holds t.prepared t.dump) t.master.slots t.slots c.in_ok-reserve.ensures.ok c.add.ensures.table c.args.task c.args.child _ may.0 c.args.process may.1
+    c.in_ok-fork_in.ensures.tasks c.in_ok-fork_in.ensures.flags)

@@ -15,6 +15,9 @@ pub start_with-answer-requires-clause-room : goal.start_with-answer-requires-cla
 start_with-answer-requires-clause-room c =
     rw (← c.self.view_is) (few_by_test (length c.self.inside.tasks) c.full.result c.full.ensures.full c.if-full.false)
 
+pub start_with-answer-requires-clause-flag : goal.start_with-answer-requires-clause-flag
+start_with-answer-requires-clause-flag c = c.requires.sound.flags.own c.args.process
+
 pub returns-clause-ok : goal.returns-clause-ok
 returns-clause-ok c = c.start_with-answer.ensures.ok c.args.user c.args.group c.args.ns c.args.root c.in_ok-cred.ensures
 
@@ -24,14 +27,14 @@ returns-in-Some-clause-ok c = does_same _ _ _ (init_busy c.args.self.now.state c
 pub returns-then-alive-clause-ok : goal.returns-then-alive-clause-ok
 returns-then-alive-clause-ok c =
     let t = c.self.inside in
-    let s = state_of (parts_of t.tasks t.casts t.files t.holds t.prepared) t.master.slots t.slots in
+    let s = state_of (parts_of t.tasks t.casts t.files t.holds t.prepared t.dump) t.master.slots t.slots in
     let idle = rw (← c.self.view_is) at c.in_default.ensures in
     rw (← c.self.view_is) (does_same _ _ _ (init_exists s c.args.number c.args.process c.args.user c.args.group c.args.ns c.args.root idle (sym c.alive.ensures ∙ c.if-alive.true)))
 
 pub returns-then-full-clause-ok : goal.returns-then-full-clause-ok
 returns-then-full-clause-ok c =
     let t = c.self.inside in
-    let s = state_of (parts_of t.tasks t.casts t.files t.holds t.prepared) t.master.slots t.slots in
+    let s = state_of (parts_of t.tasks t.casts t.files t.holds t.prepared t.dump) t.master.slots t.slots in
     let idle = rw (← c.self.view_is) at c.in_default.ensures in
     let new = none_by_test _ c.alive.result c.alive.ensures c.if-alive.false in
     let many = many_by_test (length t.tasks) c.full.result c.full.ensures.full c.if-full.true in

@@ -15,21 +15,21 @@ none_set [] slot = refl
 none_set (x ∷ xs) zero = refl
 none_set (x ∷ xs) (suc slot) = none_set xs slot
 
-nothing-kept : (store : List (Option Credential)) → IsKept (parts_of [] [] [] [] []) store empty
+nothing-kept : (store : List (Option Credential)) → IsKept (parts_of [] [] [] [] [] []) store empty
 unfolding empty
 nothing-kept store = record {
   counted = record { counts = record { counts = λ test. refl }; keeps = none_set (range_with_len 0 SLOTS) };
   filled = record { each = λ n slot at some. absurd (cc) };
 }
 
-nothing-state_of : (store : List (Option Credential)) → state_of (parts_of [] [] [] [] []) store empty ≡ opening
+nothing-state_of : (store : List (Option Credential)) → state_of (parts_of [] [] [] [] [] []) store empty ≡ opening
 unfolding empty
 nothing-state_of store = refl
 
 pub invariant_of-result : goal.invariant_of-result
-invariant_of-result c = rw (c.new-2.ensures, c.new-3.ensures, c.new-4.ensures, c.new-5.ensures, c.new-6.ensures, c.in_ok-slots.ensures)
+invariant_of-result c = rw (c.new-3.ensures, c.new-4.ensures, c.new-5.ensures, c.new-6.ensures, c.new-7.ensures, c.in_ok-slots.ensures, c.in_ok-dump.ensures)
     (nothing-kept _, All-nil (λ (p : Prepared). IsAlone c.args.master.entries p.slot → slice_get c.args.master.slots p.slot ≡ Some (option_map (λ last. last.cred) p.changed)))
 
 pub returns-clause-state : goal.returns-clause-state
 unfolding empty
-returns-clause-state c = rw (c.new-2.ensures, c.new-3.ensures, c.new-4.ensures, c.new-5.ensures, c.new-6.ensures, c.in_ok-slots.ensures) (nothing-state_of c.args.master.slots)
+returns-clause-state c = rw (c.new-3.ensures, c.new-4.ensures, c.new-5.ensures, c.new-6.ensures, c.new-7.ensures, c.in_ok-slots.ensures, c.in_ok-dump.ensures) (nothing-state_of c.args.master.slots)

@@ -21,13 +21,16 @@ returns-in_default-clause-ok c = λ user group ns root is.
     rw (← c.self.view_is)
     (init_full c.self.invariant.0 c.sweep.new.self c.args.number c.args.process idle new room user group ns root
     (none_spare t.slots c.in_ok-reserve.ensures.ok none)
-    (roomy_spare (parts_of t.tasks t.casts t.files t.holds t.prepared) t.master.slots t.slots _ _ _ c.in_ok-reserve.ensures.ok (c.sweep.ensures ∙ sym (full_swept c.reserve.new.self none))))
+    (roomy_spare (parts_of t.tasks t.casts t.files t.holds t.prepared t.dump) t.master.slots t.slots _ _ _ c.in_ok-reserve.ensures.ok (c.sweep.ensures ∙ sym (full_swept c.reserve.new.self none))))
 
-pub start-requires-clause-new : goal.start-requires-clause-new
-start-requires-clause-new c = rw (← c.self.view_is) at c.requires.new
+pub start_in-requires-clause-new : goal.start_in-requires-clause-new
+start_in-requires-clause-new c = rw (← c.self.view_is) at c.requires.new
 
-pub start-requires-clause-room : goal.start-requires-clause-room
-start-requires-clause-room c = rw (← c.self.view_is) at c.requires.room
+pub start_in-requires-clause-room : goal.start_in-requires-clause-room
+start_in-requires-clause-room c = rw (← c.self.view_is) at c.requires.room
+
+pub start_in-requires-clause-own : goal.start_in-requires-clause-own
+start_in-requires-clause-own c = rw (← c.self.view_is) at c.requires.flag
 
 pub seal_next-current-requires-clause-free : goal.seal_next-current-requires-clause-free
 seal_next-current-requires-clause-free c = sym c.in-Some.ensures
@@ -41,10 +44,10 @@ pub invariant_of-self-2 : goal.invariant_of-self-2
 invariant_of-self-2 c =
     let t = c.self.inside in
     let seals = c.seal_next-current.ensures in
-    let tasks = started t.tasks c.start.new.self c.args.number c.args.process _ _ c.in_ok-start.ensures.ok (c.next_number-next.ensures ∙ sym seals.counted) in
+    let tasks = started t.tasks c.start_in.new.tasks c.args.number c.args.process _ _ c.in_ok-start_in.ensures.tasks (c.next_number-next.ensures ∙ sym seals.counted) in
     rw (tasks, c.set.ensures.made) (
       init_kept c.self.invariant.0 c.seal_next-current.new.slots c.args.number c.args.process c.set.ensures.long
-          (seals_spare c.in_ok-reserve.ensures.ok seals) c.args.cred.now,
+          (seals_spare c.in_ok-reserve.ensures.ok seals) c.args.cred.now c.start_in.new.dump,
       put_free t.prepared t.master.entries t.master.slots c.in-Some.slot (Some c.args.cred.now)
           (free_apart c.self.invariant.0 c.in-Some.slot (some_spare t.slots c.in_ok-reserve.ensures.ok (sym c.in-Some.ensures))) c.self.invariant.1,
     )
@@ -53,12 +56,12 @@ pub returns-clause-ok : goal.returns-clause-ok
 returns-clause-ok c = λ user group ns root is.
     let t = c.self.inside in
     let seals = c.seal_next-current.ensures in
-    let tasks = started t.tasks c.start.new.self c.args.number c.args.process _ _ c.in_ok-start.ensures.ok (c.next_number-next.ensures ∙ sym seals.counted) in
+    let tasks = started t.tasks c.start_in.new.tasks c.args.number c.args.process _ _ c.in_ok-start_in.ensures.tasks (c.next_number-next.ensures ∙ sym seals.counted) in
     let store = ap (λ (m : Mastered). m.slots) c.set.ensures.made ∙ ap (λ (x : Credential). slice_set t.master.slots c.in-Some.slot (Some x)) is in
     let idle = rw (← c.self.view_is) at c.requires.idle in
     let new = rw (← c.self.view_is) at c.requires.new in
     let room = rw (← c.self.view_is) at c.requires.room in
-    rw (← c.self.view_is, tasks, store)
+    rw (← c.self.view_is, tasks, store, c.in_ok-start_in.ensures.flags)
     (init_sealed c.self.invariant.0 c.seal_next-current.new.slots c.args.number c.args.process idle new room user group ns root
     c.set.ensures.long (seals_spare c.in_ok-reserve.ensures.ok seals))
 
@@ -68,5 +71,7 @@ invariant_of-self c = rw c.in_err-reserve.ensures.err c.self.invariant
 pub invariant_of-self-in_default : goal.invariant_of-self-in_default
 invariant_of-self-in_default c = (kept_swept (kept_spare c.self.invariant.0 c.in_ok-reserve.ensures.ok) c.sweep.ensures, c.self.invariant.1)
 
-pub invariant_of-self-in_err-start : goal.invariant_of-self-in_err-start
-invariant_of-self-in_err-start c = rw c.in_err-start.ensures.err (kept_spare c.self.invariant.0 c.in_ok-reserve.ensures.ok, c.self.invariant.1)
+pub invariant_of-self-in_err-start_in : goal.invariant_of-self-in_err-start_in
+invariant_of-self-in_err-start_in c =
+    rw (c.in_err-start_in.ensures.no_tasks, c.in_err-start_in.ensures.no_flags)
+    (kept_spare c.self.invariant.0 c.in_ok-reserve.ensures.ok, c.self.invariant.1)

@@ -65,3 +65,13 @@ returns-in-CloseFile-clause-ok c = rw c.in-CloseFile.is (does_same _ _ _ c.close
 
 pub returns-in-Sweep-clause-ok : goal.returns-in-Sweep-clause-ok
 returns-in-Sweep-clause-ok c = rw c.in-Sweep.is (does_same _ _ _ (c.sweep.ensures.made c.args.script.now c.args.line))
+
+pub returns-in-Dumpable-clause-ok : goal.returns-in-Dumpable-clause-ok
+returns-in-Dumpable-clause-ok c =
+    rw c.in-Dumpable.is (does_same _ _ _ c.set_dumpable.ensures.made)
+
+pub returns-in-Dumped-clause-ok : goal.returns-in-Dumped-clause-ok
+returns-in-Dumped-clause-ok c = rw c.in-Dumped.is (does_same _ _ _ c.dumped.ensures)
+
+pub returns-in-Ptrace-clause-ok : goal.returns-in-Ptrace-clause-ok
+returns-in-Ptrace-clause-ok c = rw c.in-Ptrace.is (does_same _ _ _ c.trace.ensures.made)

@@ -1,0 +1,141 @@
+//! What happens to the tasks and to the flags of their processes together.
+ghost use Rattle.std.specs.Prelude.{◌≡◌, ◌<◌, ◌++◌, ◌∷◌, [], None, Some, true, find, is_some};
+ghost use Rattle.std.specs.Prelude.{length, if◌then◌else◌, IfOk, OnOk, OnErr};
+ghost use Rattle.std.specs.Option.{IsSome};
+ghost use Rattle.cred_ids.specs.Limits.{TASKS};
+ghost use Rattle.cred_model.specs.Dumpable.{flag_in, is_dumpable, renewed, with_flag};
+ghost use Rattle.cred_model.specs.Dumpable.{without_flag};
+ghost use Rattle.cred_model.specs.Ends.{is_beside, is_task, left_by, survivors};
+ghost use Rattle.cred_model.specs.Moves.{first_task};
+ghost use Rattle.cred_model.specs.State.{Task};
+ghost use Rattle.cred_procs.specs.Tasks.{forked, has_process, task_in};
+
+use cred_ids::NoMemory;
+use cred_procs::{CredNumbers, Procs};
+use cred_ptrace::Dump;
+
+/// The first thread of a process is created, and the process is dumpable or isn't.
+///
+/// # Errors
+///
+/// `NoMemory` if an allocation fails: the tasks and the flags are as they were.
+fn begin_process(
+    tasks: &mut Procs,
+    dump: &mut Dump,
+    task: u32,
+    process: u32,
+    number: u64,
+    dumpable: bool,
+) -> Result<(), NoMemory>
+    requires new { task_in tasks.old task ≡ None }
+    requires room { length tasks.old < TASKS }
+    requires unused { flag_in dump.old process ≡ None }
+    ensures tasks { OnOk result (tasks.new ≡ tasks.old ++ first_task task process number ∷ []) }
+    ensures flags { OnOk result (dump.new ≡ with_flag dump.old process dumpable) }
+    ensures no_tasks { OnErr result (tasks.new ≡ tasks.old) }
+    ensures no_flags { OnErr result (dump.new ≡ dump.old) }
+{
+    tasks.start(task, process, number)?;
+    if let Err(err) = dump.start(process, dumpable) {
+        tasks.remove(task);
+        return Err(err);
+    }
+    Ok(())
+}
+
+/// A first task is created: it begins its process, which is dumpable then, or is one thread more of
+/// it.
+///
+/// # Errors
+///
+/// `NoMemory` if an allocation fails: the tasks and the flags are as they were.
+pub fn start_in(
+    tasks: &mut Procs,
+    dump: &mut Dump,
+    task: u32,
+    process: u32,
+    number: u64,
+) -> Result<(), NoMemory>
+    requires new { task_in tasks.old task ≡ None }
+    requires room { length tasks.old < TASKS }
+    requires own { is_some (flag_in dump.old process) ≡ has_process tasks.old process }
+    ensures tasks { OnOk result (tasks.new ≡ tasks.old ++ first_task task process number ∷ []) }
+    ensures flags { OnOk result (dump.new
+        ≡ (if has_process tasks.old process then dump.old else with_flag dump.old process true)) }
+    ensures no_tasks { OnErr result (tasks.new ≡ tasks.old) }
+    ensures no_flags { OnErr result (dump.new ≡ dump.old) }
+{
+    if tasks.has_process(process) {
+        return tasks.start(task, process, number);
+    }
+    begin_process(tasks, dump, task, process, number, true)
+}
+
+/// A task creates a process (fork(2)), which is dumpable where the task's is.
+///
+/// # Errors
+///
+/// `NoMemory` if an allocation fails: the tasks and the flags are as they were.
+pub fn fork_in(
+    tasks: &mut Procs,
+    dump: &mut Dump,
+    task: u32,
+    child: u32,
+    process: u32,
+) -> Result<(), NoMemory>
+    requires alive { IsSome (task_in tasks.old task) }
+    requires new { task_in tasks.old child ≡ None }
+    requires room { length tasks.old < TASKS }
+    requires unused { flag_in dump.old process ≡ None }
+    ensures tasks { OnOk result (tasks.new ≡ forked tasks.old task child process) }
+    ensures flags { OnOk result ((owner : Task) → task_in tasks.old task ≡ Some owner
+        → dump.new ≡ with_flag dump.old process (is_dumpable dump.old owner.process)) }
+    ensures no_tasks { OnErr result (tasks.new ≡ tasks.old) }
+    ensures no_flags { OnErr result (dump.new ≡ dump.old) }
+{
+    // Both are there: the task is alive.
+    let own = tasks.process_of(task).unwrap();
+    let number = tasks.current(task).unwrap();
+    let dumpable = dump.is_dumpable(own);
+    begin_process(tasks, dump, child, process, number, dumpable)
+}
+
+/// A task has another credential from now on. Where an effective or a filesystem id is another one
+/// in that (`other`), its process is dumpable no longer.
+pub fn renew_in(tasks: &Procs, dump: &mut Dump, task: u32, other: bool)
+    requires { IsSome (task_in tasks.now task) }
+    ensures { (owner : Task) → task_in tasks.now task ≡ Some owner
+        → dump.new ≡ renewed dump.old owner.process other }
+{
+    // Most calls leave these ids, and then the process isn't looked for.
+    if !other {
+        return;
+    }
+    // It is there: the task is alive.
+    let process = tasks.process_of(task).unwrap();
+    dump.set(process, false);
+}
+
+/// A task ends, and with the last of a process the process. Returns the numbers that the task
+/// referred to.
+///
+/// # Errors
+///
+/// `NoMemory` if an allocation fails: the tasks and the flags are as they were.
+pub fn exit_in(tasks: &mut Procs, dump: &mut Dump, task: u32) -> Result<CredNumbers, NoMemory>
+    requires { IsSome (task_in tasks.old task) }
+    ensures numbers { IfOk result (λ numbers. numbers ≡ left_by (is_task task) tasks.old) }
+    ensures tasks { OnOk result (tasks.new ≡ survivors (is_task task) tasks.old) }
+    ensures flags { OnOk result ((owner : Task) → task_in tasks.old task ≡ Some owner
+        → dump.new ≡ (if is_some (find (is_beside owner) tasks.old) then dump.old
+        else without_flag dump.old owner.process)) }
+    ensures no_tasks { OnErr result (tasks.new ≡ tasks.old) }
+    ensures no_flags { OnErr result (dump.new ≡ dump.old) }
+{
+    // It is there: the task is alive.
+    let process = tasks.process_of(task).unwrap();
+    let numbers = tasks.exit(task)?;
+    let other = tasks.has_process(process);
+    dump.leave(process, other);
+    Ok(numbers)
+}
