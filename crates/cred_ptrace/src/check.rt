@@ -158,6 +158,7 @@ pub fn differs(old: &Cred, new: &Cred) -> bool
 }
 
 /// The same, by the ids of the two.
+#[inline(always)]
 pub fn differs_by(old_uid: &Ids4, old_gid: &Ids4, new_uid: &Ids4, new_gid: &Ids4) -> bool
     ensures { (old new : Credential) → old.uid ≡ old_uid.now → old.gid ≡ old_gid.now
         → new.uid ≡ new_uid.now → new.gid ≡ new_gid.now → result ≡ differs old new }

@@ -102,6 +102,7 @@ pub fn fork_in(
 
 /// A task has another credential from now on. Where an effective or a filesystem id is another one
 /// in that (`other`), its process is dumpable no longer.
+#[inline(always)]
 pub fn renew_in(tasks: &Procs, dump: &mut Dump, task: u32, other: bool)
     requires { IsSome (task_in tasks.now task) }
     ensures { (owner : Task) → task_in tasks.now task ≡ Some owner
