@@ -72,3 +72,7 @@ PREPARED = 64
 -- the slots that credentials stand in
 abbrev pub SLOTS : ℕ
 SLOTS = 256
+
+-- the words of 64 bits that a credential is laid out in: 12, and one for each two groups
+abbrev pub WORDS : ℕ
+WORDS = 524

@@ -16,7 +16,7 @@ use Rattle.cred_model.specs.Step.{by_commit, committed_by, for_task, outcome, tr
 use Rattle.cred_model.proofs.Numbers.{owner_number}
 use Rattle.cred_machine.specs.Labels.{CanCommit, Commits, IsChanged, IsOnCurrent, casts_left}
 use Rattle.cred_plain.specs.Tasks.{ending_of, ends_by}
-use Rattle.cred_plain.specs.declared.tasks.Ending.{Ending}
+use Rattle.cred_plain.specs.declared.task.Ending.{Ending}
 use Rattle.cred_sound.proofs.Events.{changed_for_task}
 use Rattle.cred_machine.proofs.Commits.{settled, stale}
 use Rattle.cred_machine.proofs.Events.{commit_tests}

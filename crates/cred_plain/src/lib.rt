@@ -8,6 +8,7 @@ mod creds;
 pub mod files;
 pub mod labels;
 mod references;
+mod task;
 mod tasks;
 
 pub use casts::Cast;
@@ -15,4 +16,5 @@ pub use creds::{Creds, Numbered};
 pub use files::OpenFile;
 pub use labels::{Changed, Hold, Prepared};
 pub use references::References;
-pub use tasks::{Ending, Task, Tasks};
+pub use task::{Ending, Task};
+pub use tasks::Tasks;

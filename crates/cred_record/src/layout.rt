@@ -1,5 +1,7 @@
 //! Where each word of a credential stands, when a credential is laid out in words of 64 bits.
 //! `specs/Words.antt` says what each word holds.
+ghost use Rattle.std.specs.Prelude.{◌≡◌};
+ghost use Rattle.cred_ids.specs.Limits as limits;
 
 /// The number of words of a credential.
 pub const WORDS: usize = 524;
@@ -42,3 +44,8 @@ pub const ROOT: usize = 11;
 
 /// The first of the words of groups, which are the rest.
 pub const GROUPS: usize = 12;
+
+/// The number of words is the definitions'.
+pub fn words_are_the_definitions()
+    ensures { WORDS ≡ limits.WORDS }
+{}
