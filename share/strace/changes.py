@@ -9,7 +9,7 @@ from .files import Found
 from .log import Call
 from .moves import OPENS, open_flags
 from .paths import Paths
-from .places import Located, joined
+from .places import Located, is_below, joined
 from .tasks import Task
 
 # Where the path of each call stands, and the descriptor of its folder; a path alone; a descriptor.
@@ -71,11 +71,6 @@ def entries_of(paths: Paths, task: Task, path: str, base: Located | None) -> set
     folder, _, last = path.rstrip("/").rpartition("/")
     where = folder or ("/" if path.startswith("/") else ".")
     return {joined(place, last) for place in names_of(paths.both(task, where, base))}
-
-
-def is_below(place: str, folder: str) -> bool:
-    """Whether it is that place, or one in a folder there."""
-    return place == folder or place.startswith(folder.rstrip("/") + "/")
 
 
 def writes(call: Call) -> bool:
