@@ -7,6 +7,8 @@ slot. `aborted` ends the process". So a script with the refused line must be rep
 place a comment stands, but for the entries of that line; in the first two exceptions as the one
 where a `sweep` or an `abort` stands in its place.
 """
+from textwrap import shorten
+
 import suite
 
 INIT = "init t1 p1 0 0 n0"
@@ -35,7 +37,8 @@ def report_of(lines):
 def cases_of(name, before, after, refused):
     """The script without a refused line, and the same with each of these lines."""
     for line in (("#", ()), *refused):
-        yield suite.script(f"{name}: {line[0]}", *report_of([*before, line, *after]))
+        told = shorten(line[0], 60, placeholder=" ..")
+        yield suite.script(f"{name}: {told}", *report_of([*before, line, *after]))
 
 
 # Of a process of root's two threads, p1, the first has begun a call that the second has yet to
@@ -281,6 +284,78 @@ def of_overrides():
     yield from cases_of("overrides", before, after, refused)
 
 
+def of_execve():
+    """A program that isn't given all that its file permits. What a label has prepared before stays,
+    and is committed; what it has not prepared yet is not there.
+
+    capabilities(7), "Safety checking for capability-dumb binaries": "If the process did not obtain
+    the full set of file permitted capabilities, then execve(2) fails with the error EPERM".
+    """
+    # cap_net_raw=ep, which the bounding set lacks.
+    before = (
+        ("file a reg 0 0 0755 caps 0100000200200000000000000000000000000000", ()),
+        own(INIT, "ok c0 s0"),
+        own("take h1 t1", "ok c0 s0"),
+        own("prepare h2 t1 h1", "ok s1"),
+        own("change h2 capdrop 13", "ok"),
+        own("commit h2", "ok c1 s1"),
+        own("take h3 t1", "ok c1 s1"),
+        own("prepare h4 t1 h3", "ok s2"),
+        own("change h4 keepcaps 1", "ok"),
+        own("prepare h5 t1 h3", "ok s3"),
+    )
+    after = (
+        own("ask h3 bits", "ok 0 0"),
+        own("commit h5", "no prepared h5"),
+        own("change h5 setfsuid 7", "ok was 0"),
+        own("commit h4", "ok c2 s2"),
+        asking("t1 bits", "ok c2 s2", "ask {0} bits -> ok 16 0"),
+        own("commit h5", "stale c1 c2"),
+        own("drop h1", "ok"),
+        own("drop h3", "ok"),
+        own("sweep", "ok"),
+        own("begin t1 setuid 0", "ok c3 s0 left 0"),
+    )
+    in_a_call = ("prepare {1} t1 {0} -> ok s4", "change {1} exec a -> eperm", "abort {1} -> ok")
+    refused = (
+        own("change h4 exec a", "eperm"),
+        own("change h5 exec a", "eperm"),
+        asking("t1 exec a", "ok c1 s1", *in_a_call),
+    )
+    yield from cases_of("an execve", before, after, refused)
+
+
+def of_calls():
+    """Calls of ids whose arguments are invalid: neither of the process's threads gets anything.
+
+    setgroups(2): "EINVAL size is greater than NGROUPS_MAX"; docs/RULES.md: "more than 1,024 groups
+    are EINVAL", "`-1` is EINVAL for setuid and seteuid, tested before EPERM", and it is so for the
+    calls of group ids.
+    """
+    before = (
+        own(INIT, "ok c0 s0"),
+        ("t1 spawn t2", ("spawn t1 t2 -> ok c0 s0",)),
+        own("take h1 t1", "ok c0 s0"),
+    )
+    # The lines of the two calls that are made.
+    sets, leaves = len(before) + 3, len(before) + 8
+    after = (
+        asking("t2 groups", "ok c0 s0", "ask {0} groups -> ok"),
+        own("begin t1 setgroups 3 1 2", "ok c1 s1 left 1"),
+        own(f"act {sets}", "ok t2 c2 s2 left 0"),
+        asking("t2 groups", "ok c2 s2", "ask {0} groups -> ok 1 2 3"),
+        own("drop h1", "ok"),
+        own("sweep", "ok"),
+        own("begin t2 setresuid 5 5 5", "ok c3 s0 left 1"),
+        own(f"act {leaves}", "ok t1 c4 s3 left 0"),
+    )
+    many = "setgroups " + " ".join(str(it) for it in range(1, 1026))
+    calls = (many, "setuid -1", "seteuid -1", "setgid -1", "setegid -1")
+    refused = [own(f"begin t1 {call}", "einval") for call in calls]
+    refused.append((f"t2 {many}", (f"begin t2 {many} -> einval",)))
+    yield from cases_of("a call of ids", before, after, refused)
+
+
 def exceptions():
     """256 slots are live, of which a sweep frees none: `table full` has made it. Then a commit
     comes too late: what was prepared is given up, as by `abort`, and its slot is taken next."""
@@ -317,4 +392,5 @@ def cases():
     yield from cases_of("a call is open", BEFORE, AFTER, REFUSED)
     yield from at_first()
     yield from (*of_holds(), *of_prepared(), *of_tasks(), *of_files(), *of_overrides())
+    yield from (*of_execve(), *of_calls())
     yield from exceptions()
