@@ -1,9 +1,9 @@
 """An attribute that is cut off at each of its bytes: as it is told, and where a program that has it
 is executed.
 
-The source is docs/RULES.md. "File attributes": "Fewer than 4 bytes are a wrong length; then another
-revision is a wrong revision; then another length than the version's is a wrong length". "execve(2)":
-"bytes that spell nothing are EINVAL".
+The source is docs/RULES.md: "Fewer than 4 bytes are a wrong length; then another revision is a
+wrong revision; then another length than the version's is a wrong length"; and of execve(2): "bytes
+that spell nothing are EINVAL".
 """
 from suite import UNREAD, Case, script
 
