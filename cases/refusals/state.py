@@ -308,7 +308,7 @@ def of_execve():
     capabilities(7), "Safety checking for capability-dumb binaries": "If the process did not obtain
     the full set of file permitted capabilities, then execve(2) fails with the error EPERM".
     """
-    # cap_net_raw=ep, which the bounding set lacks.
+    # cap_net_raw=ep, which the bounding set lacks. The first credential is deferred.
     before = (
         ("file a reg 0 0 0755 caps 0100000200200000000000000000000000000000", ()),
         own(INIT, "ok c0 s0"),
@@ -317,6 +317,7 @@ def of_execve():
         own("prepare h2 t1 h1", "ok s1"),
         own("change h2 capdrop 13", "ok"),
         own("commit h2", "ok c1 s1"),
+        own("drop h1", "ok"),
         own("take h3 t1", "ok c1 s1"),
         own("prepare h4 t1 h3", "ok s2"),
         own("change h4 keepcaps 1", "ok"),
@@ -326,10 +327,10 @@ def of_execve():
         own("ask h3 bits", "ok 0 0"),
         own("commit h5", "no prepared h5"),
         own("change h5 setfsuid 7", "ok was 0"),
+        own("prepare h6 t1 h3", "ok s4"),
         own("commit h4", "ok c2 s2"),
         asking("t1 bits", "ok c2 s2", "ask {0} bits -> ok 16 0"),
         own("commit h5", "stale c1 c2"),
-        own("drop h1", "ok"),
         own("drop h3", "ok"),
         own("sweep", "ok"),
         own("begin t1 setuid 0", "ok c3 s0 left 0"),
@@ -350,23 +351,24 @@ def of_calls():
     are EINVAL", "`-1` is EINVAL for setuid and seteuid, tested before EPERM", and it is so for the
     calls of group ids.
     """
+    # The first credential is deferred.
     before = (
         own(INIT, "ok c0 s0"),
         SETUP_ENDS,
         ("t1 spawn t2", ("spawn t1 t2 -> ok c0 s0",)),
-        own("take h1 t1", "ok c0 s0"),
+        own("begin t1 setresgid 0 0 0", "ok c1 s1 left 1"),
+        own("act 4", "ok t2 c2 s2 left 0"),
     )
     # The lines of the two calls that are made.
-    sets, leaves = len(before) + 3, len(before) + 8
+    sets, leaves = len(before) + 3, len(before) + 7
     after = (
-        asking("t2 groups", "ok c0 s0", "ask {0} groups -> ok"),
-        own("begin t1 setgroups 3 1 2", "ok c1 s1 left 1"),
-        own(f"act {sets}", "ok t2 c2 s2 left 0"),
-        asking("t2 groups", "ok c2 s2", "ask {0} groups -> ok 1 2 3"),
-        own("drop h1", "ok"),
+        asking("t2 groups", "ok c2 s2", "ask {0} groups -> ok"),
+        own("begin t1 setgroups 3 1 2", "ok c3 s3 left 1"),
+        own(f"act {sets}", "ok t2 c4 s4 left 0"),
+        asking("t2 groups", "ok c4 s4", "ask {0} groups -> ok 1 2 3"),
         own("sweep", "ok"),
-        own("begin t2 setresuid 5 5 5", "ok c3 s0 left 1"),
-        own(f"act {leaves}", "ok t1 c4 s3 left 0"),
+        own("begin t2 setresuid 5 5 5", "ok c5 s0 left 1"),
+        own(f"act {leaves}", "ok t1 c6 s1 left 0"),
     )
     many = "setgroups " + " ".join(str(it) for it in range(1, 1026))
     calls = (many, "setuid -1", "seteuid -1", "setgid -1", "setegid -1")
