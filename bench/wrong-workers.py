@@ -21,8 +21,9 @@ TESTS = "crates/cred_rows/src/tests"
 TEST = "tests::gates::lanes_meet_at_their_decisions"
 # The modules that the meetings use. The tests of the others are left out of the copy.
 MODULES = ("cuts", "faults", "gate", "gates", "meetings", "runs")
-# How long the meetings may take, in seconds. A lane that waits in vain takes a few.
-LIMIT = 300
+# How long the meetings may take, in seconds. A lane that waits in vain takes some thirty; on a busy
+# machine many more.
+LIMIT = 1200
 WORKERS = "crates/cred_lanes/src/workers.rt"
 WORK = "crates/cred_work/src/work.rt"
 PROGRAM = "crates/cred_program/src/program.rt"
@@ -168,7 +169,11 @@ BODIES = (
     Wrong("no-gate-of-changes", "none for changes", passes_over("Altering")),
     Wrong("before-alone", "it comes to the place before alone", decides_as(BEFORE + PERFORM)),
     Wrong("after-alone", "it comes to the place after alone", decides_as(PERFORM + AFTER)),
-    Wrong("exchanged", "it comes to the places the other way round", decides_as(AFTER + PERFORM + BEFORE)),
+    Wrong(
+        "exchanged",
+        "it comes to the places the other way round",
+        decides_as(AFTER + PERFORM + BEFORE),
+    ),
     Wrong("next-line", "it comes with the next line", decides_as(BOTH.replace("line,", "line + 1,"))),
 )
 
@@ -205,21 +210,26 @@ def planted(folder, body):
 
 
 def held(folder):
-    """Holds the meetings: whether they pass, and what is told if not."""
+    """Holds the meetings: what is told of the one that fails, or nothing where all pass."""
     words = ["rt", "try", "--test", "--seconds", str(LIMIT)]
     done = subprocess.run(
-        words, cwd=folder / "crates/cred_rows", stdin=subprocess.DEVNULL, stdout=subprocess.PIPE,
-        stderr=subprocess.STDOUT, check=False, text=True, errors="replace",
+        words,
+        cwd=folder / "crates/cred_rows",
+        stdin=subprocess.DEVNULL,
+        stdout=subprocess.PIPE,
+        stderr=subprocess.STDOUT,
+        text=True,
+        errors="replace",
+        check=False,
     )
-    ended = re.search(rf"^test {TEST} \.\.\. (ok|FAILED)", done.stdout, re.M)
+    ended = re.search(rf"^test {TEST} \.\.\. (ok|FAILED)(?:\n *(.*))?", done.stdout, re.M)
     if not ended:
         raise Failure(f"the meetings weren't held:\n{done.stdout[-2000:]}")
-    told = re.search(r"(?:InVain|OutOfTurn|PassedBy|Without|Mixed|NotLegal|Ended).*", done.stdout)
-    return ended[1] == "ok", done.stdout
+    return None if ended[1] == "ok" else ended[2]
 
 
 def tried(body):
-    """Tries a body, or the crates as they are, in a copy of their own."""
+    """Holds the meetings with a wrong body, or with the crates as they are, in a copy."""
     with tempfile.TemporaryDirectory(prefix="wrong-workers-") as name:
         folder = Path(name)
         copied(folder)
@@ -228,13 +238,32 @@ def tried(body):
         return held(folder)
 
 
-def main():
+def given():
+    """The words of the command line."""
     parser = argparse.ArgumentParser(description="Tries wrong ways of running lanes.")
     parser.add_argument("--jobs", type=int, default=2, metavar="N", help="so many side by side")
-    parser.add_argument("names", nargs="*", metavar="NAME", help="these alone")
+    parser.add_argument("names", nargs="*", metavar="NAME", help="these of them alone")
     words = parser.parse_args()
+    known = [it.name for it in BODIES]
+    for it in words.names:
+        if it not in known:
+            parser.error(f"{it}: there is none of this name, but {', '.join(known)}")
+    return words
+
+
+def main():
+    """Tries them, so many side by side."""
+    words = given()
     bodies = [it for it in BODIES if not words.names or it.name in words.names]
-    print(tried(None))
+    with ThreadPoolExecutor(max(words.jobs, 1)) as pool:
+        # The crates as they are come first.
+        for body, told in zip([None, *bodies], pool.map(tried, [None, *bodies])):
+            name = f"{body.name} ({body.does})" if body else "the crates as they are"
+            if (told is None) == (body is not None):
+                pool.shutdown(cancel_futures=True)
+                raise Failure(f"{name}: {told or 'all meetings pass'}")
+            print(f"{name}: {told or 'all meetings pass'}", flush=True)
+    print(f"wrong-workers: {len(bodies)} refused")
 
 
 if __name__ == "__main__":
