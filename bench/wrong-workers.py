@@ -3,8 +3,8 @@
 No contract says that two lanes overlap, that a decision is made where the lock is free, or that a
 worker comes to the gate. The meetings of `cred_rows` (src/tests/meetings.rt) show it. Here each
 wrong body is put into a copy of the crates, and the meetings are held there, unproved, by `rt try
---test`: one of them at least must fail. First they are held by the crates as they are, and must pass.
-The first that goes otherwise is told, with status 1.
+--test`: one of them at least must fail. First they are held by the crates as they are, and must
+pass. The first that goes otherwise is told, with status 1.
 """
 import argparse
 import re
@@ -174,7 +174,11 @@ BODIES = (
         "it comes to the places the other way round",
         decides_as(AFTER + PERFORM + BEFORE),
     ),
-    Wrong("next-line", "it comes with the next line", decides_as(BOTH.replace("line,", "line + 1,"))),
+    Wrong(
+        "next-line",
+        "it comes with the next line",
+        decides_as(BOTH.replace("line,", "line + 1,")),
+    ),
 )
 
 
