@@ -199,6 +199,7 @@ fn text_of(alloc: Global, content: &Content) -> Result<String, NoMemory> {
         } => format!(in alloc; "Open {task} {file} {want:?} {fd}"),
         Content::Fcap { task, fd, cap } => format!(in alloc; "Fcap {task} {fd} {cap}"),
         Content::Signal { task, to } => format!(in alloc; "Signal {task} {to}"),
+        Content::Ptrace { task, to, mode } => format!(in alloc; "Ptrace {task} {to} {mode:?}"),
         Content::Change { task, change } => format!(in alloc; "Change {task} {change:?}"),
         Content::Access { task, file, want } => format!(in alloc; "Access {task} {file} {want:?}"),
     };
