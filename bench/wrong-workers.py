@@ -53,6 +53,7 @@ USES_MAP = "use std::thread;\n"
 DECIDED = """\
                 let Ok(()) = decide(alloc, kernel, gate, turn.lane(), work) else {
 """
+LINE = "    let line = work.line();\n"
 BEFORE = "    gate.pause(lane, line, Place::BeforeDecision);\n"
 PERFORM = "    kernel.do_work(alloc, work)?;\n"
 AFTER = "    gate.pause(lane, line, Place::AfterDecision);\n"
@@ -174,11 +175,7 @@ BODIES = (
         "it comes to the places the other way round",
         decides_as(AFTER + PERFORM + BEFORE),
     ),
-    Wrong(
-        "next-line",
-        "it comes with the next line",
-        decides_as(BOTH.replace("line,", "line + 1,")),
-    ),
+    Wrong("next-line", "it comes with the next line", ((WORKERS, LINE, LINE.replace(";", " + 1;")),)),
 )
 
 
