@@ -39,7 +39,8 @@ pub record More (s : Sets) (list : Caps) (op : Operator) (bytes : List ℕ) (x :
   pub value : x ≡ fold applied (fold (acted list) (fold (flagged list op) s letters) others) clauses
 
 -- behind an operator that needs a letter
-pub record Signed (s : Sets) (list : Caps) (op : Operator) (bytes : List ℕ) (x : Sets) : Type 0 where
+pub record Signed (s : Sets) (list : Caps) (op : Operator) (bytes : List ℕ) (x : Sets)
+    : Type 0 where
   pub first : Letter
   pub rest : List ℕ
   pub text : bytes ≡ letter_byte first ∷ rest

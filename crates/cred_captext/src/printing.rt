@@ -102,9 +102,9 @@ fn append_none(out: &mut Vec<u8>) -> Result<(), NoMemory>
     Ok(())
 }
 
-/// The text of an attribute (cap_text_formats(7)): at most three clauses with one space between two,
-/// of the capabilities that are permitted alone, in both sets, and inheritable alone, each in the
-/// order of their numbers. A clause without capabilities is left out, and where all three are,
+/// The text of an attribute (cap_text_formats(7)): at most three clauses with one space between
+/// two, of the capabilities that are permitted alone, in both sets, and inheritable alone, each in
+/// the order of their numbers. A clause without capabilities is left out, and where all three are,
 /// the text is `=`. A version or a root id stands in no text.
 ///
 /// # Errors
