@@ -1,3 +1,1 @@
-pub mod Modes
-pub mod Changes
 pub mod Exactly

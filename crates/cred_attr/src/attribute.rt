@@ -1,6 +1,6 @@
 //! setxattr(2) and removexattr(2) of a file's capability attribute.
 ghost use Rattle.std.specs.Prelude.{◌≡◌};
-ghost use Rattle.cred_attr.specs.Changes.{is_attr, set_attr};
+ghost use Rattle.cred_rules.specs.Files.{is_attr, set_attr};
 ghost use Rattle.cred_attr.specs.Exactly.{AnswersExactly};
 
 use crate::rights::{SETFCAP, capable};
@@ -24,7 +24,7 @@ fn is_attr(attr: &Option<Attr>) -> bool
 ///
 /// `Perm` without CAP_SETFCAP, also for the file's owner; then `Invalid` for bytes that are no
 /// attribute.
-#[tactic(auto, unfolding(crate::specs::Changes::set_attr))]
+#[tactic(auto, unfolding(cred_rules::specs::Files::set_attr))]
 pub fn set_attr(cred: &Cred, file: &FileInfo, attr: Option<Attr>) -> Result<FileInfo, Refusal>
     ensures { AnswersExactly result (set_attr cred.now file.now attr) }
 {

@@ -2,8 +2,8 @@
 ghost use Rattle.std.specs.Prelude.{◌≡◌, ◌≤◌, IfOk};
 ghost use Rattle.cred_record.specs.Answer.{AnswersBy};
 ghost use Rattle.cred_record.specs.File.{IsMode};
-ghost use Rattle.cred_attr.specs.Changes.{may_chmod, given_mode, chmod};
-ghost use Rattle.cred_attr.specs.Modes as modes;
+ghost use Rattle.cred_rules.specs.Files.{may_chmod, given_mode, chmod};
+ghost use Rattle.cred_rules.specs.Modes as modes;
 
 use crate::rights::{FOWNER, FSETID, capable, in_group, owns};
 use cred_ids::NoMemory;
@@ -81,7 +81,7 @@ fn given_mode(cred: &Cred, file: &FileInfo, mode: u16) -> u16
 ///
 /// `Perm` unless the task is the file's owner, by its filesystem user id, or has CAP_FOWNER; then
 /// `Memory` if the attribute could not be copied.
-#[tactic(auto, unfolding(crate::specs::Changes::chmod))]
+#[tactic(auto, unfolding(cred_rules::specs::Files::chmod))]
 pub fn chmod(cred: &Cred, file: &FileInfo, mode: u16) -> Result<FileInfo, Refusal>
     requires { IsMode mode }
     ensures { AnswersBy result (chmod cred.now file.now mode) }

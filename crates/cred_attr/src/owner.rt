@@ -2,7 +2,7 @@
 ghost use Rattle.std.specs.Prelude.{◌≡◌, IfOk, None, if◌then◌else◌};
 ghost use Rattle.cred_record.specs.Answer.{AnswersBy};
 ghost use Rattle.cred_record.specs.File.{IsMode};
-ghost use Rattle.cred_attr.specs.Changes as spec;
+ghost use Rattle.cred_rules.specs.Files as spec;
 
 use crate::mode::{EXECUTE, GROUP_EXECUTE, SET_GROUP, SET_USER, copied, has_any, without};
 use crate::rights::{CHOWN, capable, in_group, owns};
@@ -108,7 +108,7 @@ fn attr_left(file: &FileInfo, strips: bool) -> Result<Option<Attr>, NoMemory>
 /// `Perm` unless the task has CAP_CHOWN, or neither is given, or the task is the file's owner, by
 /// its filesystem user id, and the call keeps that owner, and keeps the group or gives one that the
 /// task is in; then `Memory` if the attribute could not be copied.
-#[tactic(auto, unfolding(crate::specs::Changes::chowned))]
+#[tactic(auto, unfolding(cred_rules::specs::Files::chowned))]
 pub fn chown(cred: &Cred, file: &FileInfo, owner: Arg, group: Arg) -> Result<FileInfo, Refusal>
     ensures { AnswersBy result (spec.chown cred.now file.now owner group) }
 {

@@ -3,7 +3,7 @@ ghost use Rattle.std.specs.Prelude.{◌≡◌};
 ghost use Rattle.cred_caps.specs.Caps.{IsCap};
 ghost use Rattle.cred_record.specs.Credential.{capable};
 ghost use Rattle.cred_rules.specs.Access.{in_group};
-ghost use Rattle.cred_attr.specs.Changes.{owns};
+ghost use Rattle.cred_rules.specs.Files.{owns};
 
 use cred_caps::Cap;
 use cred_ids::Id;

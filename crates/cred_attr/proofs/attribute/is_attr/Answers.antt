@@ -1,5 +1,5 @@
 use Rattle.std.proofs.Common.{◌≡◌, ap, sym, ◌∙◌, is_some}
-use Rattle.cred_attr.specs.Changes.{is_attr}
+use Rattle.cred_rules.specs.Files.{is_attr}
 use Rattle.cred_rules.specs.Attribute.{attribute_of}
 use Rattle.cred_attr.proofs.Decoded.{decided}
 use Rattle.cred_attr.proofs.attribute.is_attr.Goals as goal

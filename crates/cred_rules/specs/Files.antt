@@ -14,7 +14,7 @@ use Rattle.cred_record.specs.Credential.{Credential, capable}
 use Rattle.cred_record.specs.File.{File}
 use Rattle.cred_rules.specs.Access.{in_group}
 use Rattle.cred_rules.specs.Attribute.{attribute_of}
-use Rattle.cred_attr.specs.Modes.{SET_USER, SET_GROUP, GROUP_EXECUTE, EXECUTE, has_any, without}
+use Rattle.cred_rules.specs.Modes.{SET_USER, SET_GROUP, GROUP_EXECUTE, EXECUTE, has_any, without}
 
 -- the number of CAP_SETFCAP, by which a task may set a file's capabilities
 abbrev pub SETFCAP : ℕ
