@@ -49,7 +49,7 @@ all_made script s event left t sound creds (Prepares p prepared fresh unheld new
     subst (All (IsMade script t.creds)) (sym prepared)
     (All-push (IsMade script t.creds) s.prepared p made
     (subst (λ o. IfSome o (IsMadeOf script (numbered t.creds p.base))) (sym fresh) tt))
-all_made script s event left t sound creds (Alters label to p base answer prepared is at so) made =
+all_made script s event left t sound creds (Alters label to p base answer prepared is at so acts) made =
     let one = the_one s label p sound is in
     let lt = slice_get_within s.creds p.base (sealed_cred_of base) (numbered_is s.creds p.base base at).1 in
     let now = same_numbered s event left t creds p.base lt ∙ at in

@@ -1,6 +1,6 @@
 pub mod Script
 pub mod Named
-pub mod Fixed
+pub mod Changing
 pub mod State
 pub mod Slots
 pub mod Ends
