@@ -1,10 +1,10 @@
 -- The record that capget(2) and capset(2) take: its bytes, and what they spell (linux/capability.h,
 -- `struct __user_cap_header_struct` and `struct __user_cap_data_struct`). What stands between the
 -- two is a relation, which says what each bit means: no way to read bytes, and none to write them.
-use Rattle.std.specs.Prelude.{◌≡◌, ℕ, ◌+◌, ◌<◌, ◌^◌, ◌==◌, ◌||◌, not, Bool, false, IsTrue, List}
-use Rattle.std.specs.Prelude.{length, if◌then◌else◌, nat_lt}
+use Rattle.std.specs.Prelude.{◌≡◌, ℕ, ◌+◌, ◌<◌, ◌^◌, ◌==◌, ◌&&◌, ◌||◌, not, Bool, false}
+use Rattle.std.specs.Prelude.{IsTrue, List, Option, Some, None, length, if◌then◌else◌, nat_lt}
 use Rattle.cred_caps.specs.Numbers.{LAST}
-use Rattle.cred_rules.specs.Attribute.{word_at, high_in, SpellsSet}
+use Rattle.cred_rules.specs.Attribute.{word_at, high_in, set_in, SpellsSet}
 use Rattle.cred_rules.specs.Bits.{has_bit}
 use Rattle.cred_capdata.specs.declared.data.CapData.{CapData}
 use Rattle.cred_capdata.specs.declared.refusal.DataRefusal.{DataRefusal}
@@ -80,6 +80,30 @@ pub record Spells (bytes : List ℕ) (d : CapData) : Type 0 where
   pub eff : SpellsSet (eff_low bytes) (high_in d.version (eff_high bytes)) d.eff
   pub perm : SpellsSet (perm_low bytes) (high_in d.version (perm_high bytes)) d.perm
   pub inh : SpellsSet (inh_low bytes) (high_in d.version (inh_high bytes)) d.inh
+
+-- what bytes of this version say
+abbrev pub said : List ℕ → ℕ → CapData
+said bytes version = record {
+  version = version;
+  target = target bytes;
+  perm = set_in (perm_low bytes) (high_in version (perm_high bytes));
+  inh = set_in (inh_low bytes) (high_in version (inh_high bytes));
+  eff = set_in (eff_low bytes) (high_in version (eff_high bytes));
+}
+
+-- so many bytes, with the word of this version
+abbrev pub has_form : List ℕ → ℕ → Bool
+has_form bytes version =
+    (length bytes == size_of version) && (version_word bytes == word_of version)
+
+-- the record that the bytes spell, or none: `Spells` as a function, so that a grammar can compute
+-- with it
+unfoldable pub data_of : List ℕ → Option CapData
+data_of bytes =
+    if has_form bytes 1 then Some (said bytes 1)
+    else if has_form bytes 2 then Some (said bytes 2)
+    else if has_form bytes 3 then Some (said bytes 3)
+    else None
 
 -- every bit that spells nothing is zero: those above the last capability. Version 1 has no high
 -- words: what stands there, behind its bytes, is 0

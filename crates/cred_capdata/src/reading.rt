@@ -2,7 +2,8 @@
 ghost use Rattle.std.specs.Prelude.{◌≡◌, ◌≢◌, ◌+◌, ◌≤◌, Ok, IfOk, IfErr, length};
 ghost use Rattle.cred_rules.specs.Attribute.{SpellsSet, high_in, word_at};
 ghost use Rattle.cred_capdata.specs.declared.data.CapData.{CapData as Data};
-ghost use Rattle.cred_capdata.specs.Record.{Spells, refusal_of};
+ghost use Rattle.std.specs.Result.{result_ok};
+ghost use Rattle.cred_capdata.specs.Record.{Spells, data_of, refusal_of};
 
 use crate::data::CapData;
 use crate::refusal::DataRefusal;
@@ -43,6 +44,7 @@ pub fn read_data(bytes: &[u8]) -> Result<CapData, DataRefusal>
     // No bytes that spell a record are refused, or read as another.
     ensures each_value { (d : Data) → Spells bytes.now d → result ≡ Ok d }
     ensures refusal { IfErr result (λ e. e ≡ refusal_of bytes.now) }
+    ensures function { result_ok result ≡ data_of bytes.now }
 {
     if bytes.len() < 8 {
         return Err(DataRefusal::BadLength(bytes.len()));
