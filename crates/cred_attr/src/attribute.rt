@@ -7,8 +7,8 @@ use crate::rights::{SETFCAP, capable};
 use cred_filecap::decode;
 use cred_record::{Attr, Cred, FileInfo, Refusal};
 
-/// Whether the bytes are an attribute, or there are none.
-fn is_attr(attr: &Option<Attr>) -> bool
+/// Whether the bytes are an attribute, or there are none: then a file may have it.
+pub fn is_attr(attr: &Option<Attr>) -> bool
     ensures { result ≡ is_attr attr.now }
 {
     match attr {

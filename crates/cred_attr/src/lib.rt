@@ -8,7 +8,7 @@ mod owner;
 mod rights;
 mod table;
 
-pub use attribute::set_attr;
+pub use attribute::{is_attr, set_attr};
 pub use mode::chmod;
 pub use owner::chown;
 pub use table::FileTable;

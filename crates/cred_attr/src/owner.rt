@@ -3,6 +3,7 @@ ghost use Rattle.std.specs.Prelude.{◌≡◌, IfOk, None, if◌then◌else◌};
 ghost use Rattle.cred_record.specs.Answer.{AnswersBy};
 ghost use Rattle.cred_record.specs.File.{IsMode};
 ghost use Rattle.cred_rules.specs.Files as spec;
+ghost use Rattle.cred_rules.specs.SetId.{is_given};
 
 use crate::mode::{EXECUTE, GROUP_EXECUTE, SET_GROUP, SET_USER, copied, has_any, without};
 use crate::rights::{CHOWN, capable, in_group, owns};
@@ -21,7 +22,7 @@ fn chosen(old: Id, arg: &Arg) -> Id
 
 /// Whether an argument is an id.
 fn is_given(arg: &Arg) -> bool
-    ensures { result ≡ spec.is_given arg.now }
+    ensures { result ≡ is_given arg.now }
 {
     match arg {
         Arg::Keep => false,

@@ -54,11 +54,7 @@ pub(crate) fn event_in(
         (Content::Access { task, file, want }, _) => {
             access_event(line, *task, *file, *want, stage)
         }
-        (Content::OnFile { task, .. }, Stage::First) => take(hold_label(line), *task),
-        (Content::OnFile { call, .. }, Stage::Calling) => Some(calling(hold_label(line), call)?),
-        (Content::OnFile { .. }, Stage::Releasing) => Some(Event::Release {
-            label: hold_label(line),
-        }),
+        (Content::OnFile { task, call }, _) => file_event(line, *task, call, stage)?,
         _ => None,
     })
 }
@@ -249,6 +245,27 @@ fn change_event(line: u32, task: u32, change: Change, stage: Stage) -> Option<Ev
         Stage::Aborting => Some(Event::Abort { label }),
         Stage::Releasing | Stage::Retrying => Some(Event::Release { label: hold }),
         _ => None,
+    }
+}
+
+fn file_event(
+    line: u32,
+    task: u32,
+    call: &FileCall,
+    stage: Stage,
+) -> Result<Option<Event>, NoMemory>
+    requires { line ≤ LINE_LIMIT }
+    ensures event { IfOk result
+        (λ event. event ≡ spec.event_in line (content.OnFile task call.now) stage) }
+    ensures refusal { OnErr result
+        (IfSome (spec.event_in line (content.OnFile task call.now) stage) EventHoldsList) }
+{
+    let hold = hold_label(line);
+    match stage {
+        Stage::First => Ok(take(hold, task)),
+        Stage::Calling => Ok(Some(calling(hold, call)?)),
+        Stage::Releasing => Ok(Some(Event::Release { label: hold })),
+        _ => Ok(None),
     }
 }
 

@@ -27,7 +27,7 @@ use Rattle.cred_model.specs.Dumpable.{flag_in, is_dumpable, with_flag, flagged, 
 use Rattle.cred_model.specs.Step.{commit_answer, committed_by, by_ptrace, done, step}
 use Rattle.cred_model.proofs.Lists.{find_changed, none_found}
 use Rattle.cred_sound.specs.Sound.{IsSound}
-use Rattle.cred_sound.proofs.Parts.{TasksChange, Cause, Creation, ByBegin, ByAct, ByCommit, BySpawn, ByFork, ByExit, ByAbort, SameTasks, SetsFlag, Creates, Shares, Renews, Overrides, Fewer}
+use Rattle.cred_sound.proofs.Parts.{TasksChange, Cause, Creation, ByBegin, ByAct, ByRaw, ByCommit, BySpawn, ByFork, ByExit, ByAbort, SameTasks, SetsFlag, Creates, Shares, Renews, Overrides, Fewer}
 use Rattle.cred_sound.proofs.Events.{changes}
 use Rattle.cred_sound.proofs.Threads.{not_true}
 use Rattle.cred_laws.specs.Made.{AreMade}
@@ -297,6 +297,11 @@ cause_clears s event task owner ends c made before found is differ (ByAct number
     ap (λ fs. is_dumpable fs owner.process) flags
     ∙ ap (λ b. is_dumpable (renewed s.dumpable owner.process b) owner.process) (ap (λ (n : Numbered). differs n.cred c) (sym one) ∙ differ)
     ∙ set_clear s.dumpable owner.process
+cause_clears s event task owner ends c made before found is differ (ByRaw call old slot raws has ruled idle none casts answered flags) =
+    let one = one_found (current_of s task) before old is has in
+    ap (λ fs. is_dumpable fs owner.process) flags
+    ∙ ap (λ b. is_dumpable (renewed s.dumpable owner.process b) owner.process) (ap (λ (n : Numbered). differs n.cred c) (sym one) ∙ differ)
+    ∙ set_clear s.dumpable owner.process
 cause_clears s event task owner ends c made before found is differ (ByCommit label place slot count p last commits first at own changed same cred ending casts answered flags) =
     let here : numbered s.creds owner.current ≡ Some before = sym (ap (option_and_then (λ (t : Task). numbered s.creds t.current)) found) ∙ is in
     let other : differs_by s owner last ≡ true
@@ -370,6 +375,8 @@ module _ (script : Script) (s : State) (line : ℕ) (event : Event) (process : �
   renews task owner ends c found (ByBegin call old number slot begins has_old ruled new idle none casts answered flags) =
       ap (λ fs. is_dumpable fs process) flags ∙ renewed_stays s.dumpable owner.process process _ clear
   renews task owner ends c found (ByAct number slot cast old acts opened first has_old ruled none casts answered flags) =
+      ap (λ fs. is_dumpable fs process) flags ∙ renewed_stays s.dumpable owner.process process _ clear
+  renews task owner ends c found (ByRaw call old slot raws has_old ruled idle none casts answered flags) =
       ap (λ fs. is_dumpable fs process) flags ∙ renewed_stays s.dumpable owner.process process _ clear
   renews task owner ends c found (ByCommit label place slot count p last commits first at own changed same cred ending casts answered flags) =
       ap (λ fs. is_dumpable fs process) flags

@@ -13,6 +13,7 @@ use Rattle.cred_record.specs.declared.refusal.Denial.TheVariants.{Perm, Invalid}
 use Rattle.cred_record.specs.Credential.{Credential, capable}
 use Rattle.cred_record.specs.File.{File}
 use Rattle.cred_rules.specs.Access.{in_group}
+use Rattle.cred_rules.specs.SetId.{is_given}
 use Rattle.cred_rules.specs.Attribute.{attribute_of}
 use Rattle.cred_rules.specs.Modes.{SET_USER, SET_GROUP, GROUP_EXECUTE, EXECUTE, has_any, without}
 
@@ -26,10 +27,6 @@ SETFCAP = 31
 abbrev pub chosen : ℕ → Arg → ℕ
 chosen old Keep = old
 chosen old (Set id) = id
-
-abbrev pub is_given : Arg → Bool
-is_given Keep = false
-is_given (Set id) = true
 
 abbrev pub gives_one : Arg → Arg → Bool
 gives_one owner group = is_given owner || is_given group
