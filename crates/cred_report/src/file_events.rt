@@ -1,6 +1,6 @@
 //! Events on files.
-ghost use Rattle.std.specs.Prelude.{◌≡◌, ◌≤◌, ◌+◌, ◌++◌, OnOk};
-ghost use Rattle.hex.specs.Hex.{encode_lower};
+ghost use Rattle.std.specs.Prelude.{◌≡◌, ◌≤◌, ◌<◌, ◌+◌, ◌++◌, OnOk, slice_index};
+ghost use Rattle.hex.specs.Hex.{encode_lower, lower_digits};
 ghost use Rattle.cred_report.specs.Events.{event_text};
 ghost use Rattle.cred_report.specs.Room.{EVENT, BEFORE_EVENT, BEFORE_FILE};
 
@@ -12,19 +12,26 @@ use cred_pen::{PARTS, Pen, prepend_arg, prepend_number, prepend_word};
 use cred_record::Attr;
 use cred_script::Script;
 
-/// The digits of a byte.
+/// The digits, by their values.
 const DIGITS: &[u8; 16] = b"0123456789abcdef";
 
+/// The digit of a number below 16.
+fn digit(number: u8) -> u8
+    requires { number < 16 }
+    ensures { result ≡ slice_index lower_digits number }
+{
+    DIGITS[usize::from(number)]
+}
+
 /// Writes the bytes in hexadecimal digits, and makes room for the entry's other parts.
+#[tactic(auto, using(crate::proofs::Hex::encode_push))]
 fn prepend_hex(out: &mut Pen, bytes: &[u8]) -> Result<(), NoMemory>
     ensures text { OnOk result (out.new.text ≡ encode_lower bytes.now ++ out.old.text) }
     ensures room { OnOk result (PARTS ≤ out.new.room) }
 {
     out.reserve(PARTS)?;
     for byte in bytes.iter().rev() {
-        let high = DIGITS[usize::from(*byte / 16)];
-        let low = DIGITS[usize::from(*byte % 16)];
-        out.piece(&[high, low]);
+        out.piece(&[digit(*byte / 16), digit(*byte % 16)]);
         out.reserve(PARTS)?;
     }
     Ok(())
