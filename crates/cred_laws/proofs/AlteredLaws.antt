@@ -165,7 +165,7 @@ module _ (script : Script) (journal : List Entry) (k : ℕ) (entry : Entry) (is 
     altered_one : (p : Prepared) (base : Numbered) (to : Changed) (answer : Answer) → prepared_of s label ≡ Some p → numbered s.creds p.base ≡ Some base
         → to.change ≡ change → is_ok entry.answer ≡ true
         → by_change (info_of s.infos (change_files to.change)) (chain_of script base.cred.ns) base.cred to.change ≡ Ok (record { answer = answer; cred = to.cred; gains = to.gains })
-        → (q : Prepared) → (q.label == label ≡ true → q ≡ p) → IsOf k s.creds q → IsOf (k + 1) s.creds (changed label to q)
+        → (q : Prepared) → ((q.label == label) ≡ true → q ≡ p) → IsOf k s.creds q → IsOf (k + 1) s.creds (changed label to q)
     altered_one p base to answer found at same ok so q one old =
         elim (q.label == label) as (λ b. (q.label == label) ≡ b → IsOf (k + 1) s.creds (cond b (record q { changed = Some to }) q)) [
           | true ↦ λ test.
@@ -244,7 +244,9 @@ by_entry script journal k (Some entry) is answered made =
     (by_event script journal k entry is entry.event refl answered (sound_after script (take k journal)) made)
 by_entry script journal k None is answered made =
     subst (AreMadeFrom (IsFileOf script journal (k + 1)) script) (sym (past_end script journal k is))
-    (λ i d lt. past_changed script journal k is (state_at script journal k).creds _ _ _ (made i d lt))
+    (λ i d lt.
+    let p = get_or (state_at script journal k).prepared i d in
+    past_changed script journal k is (state_at script journal k).creds p.label p.base p.changed (made i d lt))
 
 -- In the state after so many entries each prepared credential is what the last of them that changed
 -- it made, with the file as it stood then.
