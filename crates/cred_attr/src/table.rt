@@ -1,5 +1,6 @@
 //! The files of a run, as they stand.
-ghost use Rattle.std.specs.Prelude.{◌≡◌, ◌<◌, IfOk, length, slice_get, slice_set};
+ghost use Rattle.std.specs.Prelude.{◌≡◌, ◌<◌, ◌∷◌, ◌++◌, [], IfOk, OnOk, OnErr, length, slice_get};
+ghost use Rattle.std.specs.Prelude.{slice_set};
 ghost use Rattle.std.specs.Option.{option_copied};
 
 use crate::mode::copied;
@@ -55,6 +56,29 @@ impl FileTable {
             copies.push(copy(file)?)?;
         }
         Ok(FileTable { files: copies })
+    }
+
+    /// No file.
+    pub fn new(alloc: Global) -> FileTable
+        ensures { result ≡ [] }
+    {
+        FileTable {
+            files: Vec::new(alloc),
+        }
+    }
+
+    /// One more, an equal file, which goes last.
+    ///
+    /// # Errors
+    ///
+    /// `NoMemory` if there is no memory for it; then nothing changes.
+    pub fn add(&mut self, file: &FileInfo) -> Result<(), NoMemory>
+        ensures ok { OnOk result (self.new ≡ self.old ++ file.now ∷ []) }
+        ensures err { OnErr result (self.new ≡ self.old) }
+    {
+        let file = copy(file)?;
+        self.files.push(file)?;
+        Ok(())
     }
 
     /// The file at a place. `None` exactly past the last one.
