@@ -42,8 +42,5 @@ pub(crate) fn set_attr_row(attr: &Option<Attr>, answer: &Answer) -> bool
 pub(crate) fn stat_row(answer: &Answer) -> bool
     ensures { result ≡ spec.stat_row answer.now }
 {
-    matches!(
-        answer,
-        Answer::NoHold(_) | Answer::Told(Told::File { .. })
-    )
+    matches!(answer, Answer::NoHold(_) | Answer::Told(Told::File { .. }))
 }

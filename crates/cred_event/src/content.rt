@@ -8,25 +8,13 @@ use cred_record::{Attr, IdCall, Want};
 #[derive(Drop)]
 pub enum FileCall {
     /// chown(2).
-    Chown {
-        file: u32,
-        owner: Arg,
-        group: Arg,
-    },
+    Chown { file: u32, owner: Arg, group: Arg },
     /// chmod(2), with a mode of at most octal 7777.
-    Chmod {
-        file: u32,
-        mode: u16,
-    },
+    Chmod { file: u32, mode: u16 },
     /// setxattr(2) of the capability attribute, or removexattr(2) of it.
-    SetAttr {
-        file: u32,
-        attr: Option<Attr>,
-    },
+    SetAttr { file: u32, attr: Option<Attr> },
     /// stat(2).
-    Stat {
-        file: u32,
-    },
+    Stat { file: u32 },
 }
 
 /// What a line of a script holds.

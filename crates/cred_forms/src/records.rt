@@ -15,7 +15,7 @@ use std::alloc::Global;
 /// `LineRefusal::Bad` with `Reason::Word` where the word spells no record, or one about another
 /// task; `LineRefusal::Memory` where there is no memory for its bytes.
 pub(crate) fn record_of(alloc: Global, task: u32, word: &[u8]) -> Result<CapData, LineRefusal>
-    ensures { GivesLine (λ data. data) result (word_of (spec.record_of task) word.now) }
+    ensures { GivesLine (λ made. made) result (word_of (spec.record_of task) word.now) }
 {
     let Some(bytes) = bytes_of(alloc, word)? else {
         return Err(LineRefusal::Bad(Reason::Word));

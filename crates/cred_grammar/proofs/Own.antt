@@ -277,7 +277,6 @@ own_other files task other.Exit words = skip (OwnContent (Some task)) (no_words 
 own_other files task other.Dumpable words = skip (OwnContent (Some task)) (one_of number_of words) _ (λ value. record { is = (none, refl, no_modes) })
 own_other files task other.Dumped words = skip (OwnContent (Some task)) (no_words words) _ (λ end. record { is = (none, refl, no_modes) })
 own_other files task other.Ptrace words = skip (OwnContent (Some task)) (two_of mode_of task_of words) _ (λ word. record { is = (none, refl, no_modes) })
-
 own_other files task other.CapsetRaw words = own_capset_raw task words
 own_other files task other.Raw words = own_raw task words
 

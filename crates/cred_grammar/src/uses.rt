@@ -76,11 +76,10 @@ fn named_file(content: &Content) -> Option<u32>
         )
         | Content::Open { file, .. }
         | Content::OnFile {
-            call:
-                FileCall::Chown { file, .. }
-                | FileCall::Chmod { file, .. }
-                | FileCall::SetAttr { file, .. }
-                | FileCall::Stat { file },
+            call: FileCall::Chown { file, .. }
+            | FileCall::Chmod { file, .. }
+            | FileCall::SetAttr { file, .. }
+            | FileCall::Stat { file },
             ..
         }
         | Content::Change {

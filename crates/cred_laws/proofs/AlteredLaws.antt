@@ -130,9 +130,9 @@ module _ (script : Script) (journal : List Entry) (k : ℕ) (entry : Entry) (is 
       (subst (λ o. IfSome o (λ last. IsMadeFrom (IsFileOf script journal (k + 1) p.label last.change) script (numbered t.creds p.base) last)) (sym fresh) tt))
   others event left t none plain (Alters label to p base answer prepared found at so acts) made =
       absurd (
-        let own : (label == label) ≡ true = grind (arith, nat_tests) in
-        let both : true ≡ false = sym own ∙ ap (λ e. alters e label) (sym acts) ∙ plain label in
-        cc)
+      let own : (label == label) ≡ true = grind (arith, nat_tests) in
+      let both : true ≡ false = sym own ∙ ap (λ e. alters e label) (sym acts) ∙ plain label in
+      cc)
   others event left t none plain (Ends label place p ends prepared at found) made =
       let after = IsOf (k + 1) t.creds in
       subst (All after) (sym prepared)

@@ -127,28 +127,30 @@ module _ (script : Script) (From : ℕ → Change → Option File → Type 0) (s
       let rest = survivors (is_beside owner) s.tasks in
       let named : (owner.number == p.task) ≡ true = (find_goes_on (is_beside owner) s.tasks p.task owner lives (stays_itself owner)).1 in
       let on = (find_goes_on (is_beside owner) s.tasks p.task owner lives (stays_itself owner)).0 in
-      let creds = s.creds ++ record { cred = last.cred; slot = p.slot } ∷ [] in
-      (record {
-        prepared = p;
-        last = last;
-        place = file;
-        file = rule.file;
-        task = owner;
-        old = old;
-        new = record { number = length s.creds; cred = last.cred; slot = p.slot };
-        commits = ap Commit (sym own);
-        stood = ap (λ n. find (λ (p : Prepared). p.label == n) s.prepared) own ∙ found_first s.prepared label place p at is;
-        changed = changed;
-        executes = executes;
-        lives = lives;
-        had = ap (option_and_then (λ (t : Task). numbered s.creds t.current)) lives ∙ ap (numbered s.creds) same ∙ base.1;
-        has = ap (option_and_then (λ (t : Task). numbered creds t.current)) (updated_task rest p.task (length s.creds) p.task ∙ ap (option_map (updated p.task (length s.creds))) on)
-            ∙ ap (numbered creds) (renewed_itself owner p.task (length s.creds) named)
-            ∙ numbered_last s.creds (record { cred = last.cred; slot = p.slot });
-        sealed = (sym at_number, sym at_slot);
-        rule = rule.rule ∙ ap (λ g. Ok (record { cred = last.cred; gains = g })) (sym at_gains);
-        alone = all_alone s.tasks owner p.task (length s.creds);
-      }, subst (λ change. From p.label change (Some rule.file)) executes (subst (From p.label last.change) rule.names by.3))
+      let creds = s.creds ++ record { cred = last.cred; slot = p.slot } ∷ [] in (
+        record {
+          prepared = p;
+          last = last;
+          place = file;
+          file = rule.file;
+          task = owner;
+          old = old;
+          new = record { number = length s.creds; cred = last.cred; slot = p.slot };
+          commits = ap Commit (sym own);
+          stood = ap (λ n. find (λ (p : Prepared). p.label == n) s.prepared) own ∙ found_first s.prepared label place p at is;
+          changed = changed;
+          executes = executes;
+          lives = lives;
+          had = ap (option_and_then (λ (t : Task). numbered s.creds t.current)) lives ∙ ap (numbered s.creds) same ∙ base.1;
+          has = ap (option_and_then (λ (t : Task). numbered creds t.current)) (updated_task rest p.task (length s.creds) p.task ∙ ap (option_map (updated p.task (length s.creds))) on)
+              ∙ ap (numbered creds) (renewed_itself owner p.task (length s.creds) named)
+              ∙ numbered_last s.creds (record { cred = last.cred; slot = p.slot });
+          sealed = (sym at_number, sym at_slot);
+          rule = rule.rule ∙ ap (λ g. Ok (record { cred = last.cred; gains = g })) (sym at_gains);
+          alone = all_alone s.tasks owner p.task (length s.creds);
+        },
+        subst (λ change. From p.label change (Some rule.file)) executes (subst (From p.label last.change) rule.names by.3),
+      )
 
   by_kind : (flags : List ProcessFlag) (place : ℕ) (p : Prepared) (owner : Task) (last : Changed) → position (λ p. p.label == label) s.prepared ≡ Some place
       → slice_get s.prepared place ≡ Some p → p.changed ≡ Some last → task_of s p.task ≡ Some owner → owner.current ≡ p.base

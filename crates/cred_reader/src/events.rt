@@ -15,7 +15,8 @@ use cred_ids::Id;
 use cred_record::{IdCall, Want};
 use cred_script::Script;
 use cred_spelling::{
-    FileCallName, Namespace, Number, Reason, altered_name, five, id_name, no_words, one, three, two, word,
+    FileCallName, Namespace, Number, Reason, altered_name, five, id_name, no_words, one, three,
+    two, word,
 };
 use std::alloc::Global;
 
