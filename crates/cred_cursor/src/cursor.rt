@@ -2,7 +2,7 @@
 ghost use Rattle.std.specs.Prelude.{◌≡◌, ◌≤◌, true, [], length, IfOk, IfSome, OnErr, is_some};
 ghost use Rattle.std.specs.Option.{option_and_then};
 ghost use Rattle.cred_ids.specs.Limits.{LINE_LIMIT};
-ghost use Rattle.cred_copies.specs.Lists.{BeginsSetGroups};
+ghost use Rattle.cred_copies.specs.Lists.{EventHoldsList};
 ghost use Rattle.cred_model.specs.Course as model;
 ghost use Rattle.cred_model.specs.Named.{IsEventOf};
 ghost use Rattle.cred_script.specs.Lines.{line_at};
@@ -37,7 +37,7 @@ pub fn next_event(script: &Script, course: Course) -> Result<Option<Event>, NoMe
         IfSome event (IsEventOf (length script.now.files) script.now.namespaces)) }
     ensures refusal { OnErr result (IfSome (option_and_then
         (λ line. model.event_at line.content course)
-        (line_at script.now course.line)) BeginsSetGroups) }
+        (line_at script.now course.line)) EventHoldsList) }
 {
     match script.line(course.line()) {
         Some((_, content)) => course.event(content),

@@ -6,6 +6,7 @@ pub mod FilesFit
 pub mod FormFits
 pub mod ParsedSound
 pub mod Ranges
+pub mod InfosFit
 pub mod RowLaws
 pub mod RuleRows
 pub mod ScriptFits

@@ -1,11 +1,13 @@
 -- What was read stays sound with a line more, and as lanes are opened and named.
-use Rattle.std.proofs.Common.{◌≡◌, ◌≢◌, ℕ, ◌==◌, ◌≤◌, ◌<◌, Bool, true, false, ◌&&◌, cond, List, [], ◌∷◌, ◌++◌, length, All, AllPairs, Option, Some, None, IfSome, refl, sym, subst, ◌∙◌, length-append, arith}
+use Rattle.std.proofs.Common.{◌≡◌, ◌≢◌, ℕ, ◌==◌, ◌≤◌, ◌<◌, Bool, true, false, not, ◌&&◌, ◌||◌, cond, List, [], ◌∷◌, ◌++◌, length, All, AllPairs, Option, Some, None, IfSome, refl, sym, subst, ◌∙◌, length-append, arith}
 use Rattle.std.specs.List.{cons_option}
+use Rattle.std.proofs.lemmas.Bool.{eqb-true}
 use Rattle.std.proofs.lemmas.Bool.Decides.{nat_tests}
 use Rattle.std.proofs.lemmas.List.Elements.{All-nil, All-cons, All-push, All-head, All-tail, All-weaker, All-contains}
 use Rattle.std.proofs.lemmas.List.Quantifiers.{all_pairs_push}
 use Rattle.cred_event.specs.declared.content.Content.{Content}
 use Rattle.cred_model.specs.Script.{Line, Namespace, SetupBefore}
+use Rattle.cred_model.specs.Changing.{line_changes}
 use Rattle.cred_script.specs.Acting.{actor}
 use Rattle.cred_names.specs.Labels.{labels}
 use Rattle.cred_names.specs.Owners.{Lanes, Owners, KeepsLanes, KeepsOwners, HasAll, owner_of, are_free, may_name, naming}
@@ -23,7 +25,7 @@ pushed reading lines content lines_are room old next =
     let line = next_line reading content in
     rw lines_are (record {
       few = rw (length-append reading.lines (line ∷ [])) (omega arith);
-      each = All-push (IsSound (length reading.files) reading.namespaces) reading.lines line old.each (record { lane = old.lane; labels = next.labels; content = next.named });
+      each = All-push (IsSound (length reading.files) reading.namespaces) reading.lines line old.each (record { lane = old.lane; labels = next.labels; content = next.named; fixed = next.fixed });
       lane = old.lane;
       setup = λ zero. All-push (λ l. l.lane ≡ 0) reading.lines line (old.setup zero) zero;
       first = all_pairs_push SetupBefore reading.lines line old.first (λ k d lt zero. old.setup zero k d lt);
@@ -86,11 +88,22 @@ stays_on false lanes tasks labels = refl
 current_stays : (lanes : Lanes) (by : Option ℕ) (content : Content) → (naming lanes by content).current ≡ lanes.current
 current_stays lanes by content = stays_on (lanes.current == 0) lanes _ _
 
+-- where a line that changes a file may stand, the lane is the setup
+in_setup : (lanes : Lanes) (b : Bool) → (lanes.current == 0 || not b) ≡ true → b ≡ true → lanes.current ≡ 0
+in_setup lanes b may changes =
+    let no : (lanes.current == 0 || false) ≡ true = ap (λ b. lanes.current == 0 || not b) (sym changes) ∙ may in
+    eqb-true lanes.current 0 (first_of_or (lanes.current == 0) no)
+  where
+    first_of_or : (a : Bool) → (a || false) ≡ true → a ≡ true
+    first_of_or true is = refl
+    first_of_or false is = cc
+
 -- a line that may stand is sound as the next one
 pub held_next : (reading : Reading) (by : Option ℕ) (content : Content) → IsHeld reading by content → IsNext (used_by reading by content) content
 held_next reading by content held = record {
   labels = held.labels;
   named = held.named;
+  fixed = λ changes. current_stays reading.lanes by content ∙ in_setup reading.lanes (line_changes content) held.fixed changes;
   owned = λ other.
       let same = current_stays reading.lanes by content in
       let has = named_by reading.lanes by content (reading.lanes.current == 0) (λ zero. other (same ∙ zero)) refl held.apart in
@@ -101,6 +114,7 @@ pub start_next : (reading : Reading) (content : Content) → IsStart reading con
 start_next reading content start = record {
   labels = rw start.labels (All-nil _);
   named = start.named;
+  fixed = λ changes. absurd (let both : true ≡ false = sym changes ∙ start.changes in cc);
   owned = λ other. (rw start.actor (All-nil _), rw start.labels (All-nil _));
 }
 

@@ -27,7 +27,9 @@ line_sound count declared ns line sound = record {
     namespaces =
         All-weaker (λ number. IsSome (chain_in declared number)) (λ number. IsSome (chain_in (declared ++ ns ∷ []) number)) (still_there declared ns) (namespaces line.content)
         sound.content.namespaces;
+    modes = sound.content.modes;
   };
+  fixed = sound.fixed;
 }
 
 -- what was read stays sound with a namespace more
@@ -49,7 +51,9 @@ file_sound count declared line sound = record {
   content = record {
     files = All-weaker (λ file. file < count) (λ file. file < count + 1) (λ file among. omega arith) (files line.content) sound.content.files;
     namespaces = sound.content.namespaces;
+    modes = sound.content.modes;
   };
+  fixed = sound.fixed;
 }
 
 -- and with a file more

@@ -1,12 +1,13 @@
 -- What was read of a script before a line, what that asks of the line, and what the line adds.
-use Rattle.std.specs.Prelude.{ℕ, Bool, true, false, not, ◌&&◌, nat_lt, List, [], ◌∷◌, ◌++◌}
-use Rattle.std.specs.Prelude.{length, is_some, Result, Ok, Err, if◌then◌else◌}
+use Rattle.std.specs.Prelude.{ℕ, Bool, true, false, not, ◌==◌, ◌&&◌, ◌||◌, nat_lt, List, [], ◌∷◌}
+use Rattle.std.specs.Prelude.{◌++◌, length, is_some, Result, Ok, Err, if◌then◌else◌}
 use Rattle.std.specs.declared.option.Option.{Option}
 use Rattle.std.specs.List.{list_all}
 use Rattle.cred_event.specs.declared.content.Content.{Content}
 use Rattle.cred_event.specs.declared.content.Content.TheVariants.{Nothing}
 use Rattle.cred_model.specs.Script.{Line, NamedFile, Namespace, Script, chain_in}
 use Rattle.cred_model.specs.Named as named
+use Rattle.cred_model.specs.Changing.{line_changes}
 use Rattle.cred_spelling.specs.declared.reason.Reason.{Reason}
 use Rattle.cred_spelling.specs.declared.reason.Reason.TheVariants.{Order, Name}
 use Rattle.cred_spelling.specs.declared.reason.Reason.TheVariants as reason
@@ -85,9 +86,15 @@ has_names reading (Holds by content) = uses_declared reading content
 abbrev pub names_declared : Reading → Parsed → Result (Unit {0}) Reason
 names_declared reading line = if has_names reading line then Ok tt else Err Name
 
--- No line of another lane but the setup has named the task that acts by the line, or a label of it.
+-- A file is changed by a line of the setup alone, so that it stays as it is while lanes run.
+abbrev pub may_change : Lanes → Content → Bool
+may_change lanes content = lanes.current == 0 || not (line_changes content)
+
+-- The line changes no file outside the setup, and no line of another lane but the setup has named
+-- the task that acts by it, or a label of it.
 abbrev pub is_apart : Reading → Parsed → Bool
-is_apart reading (Holds by content) = may_name reading.lanes by content
+is_apart reading (Holds by content) =
+    may_change reading.lanes content && may_name reading.lanes by content
 is_apart reading other = true
 
 abbrev pub lanes_apart : Reading → Parsed → Result (Unit {0}) Reason

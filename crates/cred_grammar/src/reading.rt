@@ -17,7 +17,7 @@ ghost use Rattle.cred_forms.specs.declared.forms.Parsed.TheVariants as parsed;
 ghost use Rattle.cred_event.specs.declared.content.Content.TheVariants.{Nothing};
 
 use crate::refusal::ScriptRefusal;
-use crate::uses::{has_files, has_namespaces};
+use crate::uses::{has_files, has_namespaces, may_change};
 use cred_event::Content;
 use cred_forms::{LineRefusal, Parsed, content_of, event_of, parse_form};
 use cred_names::{Lanes, Namespaces};
@@ -307,7 +307,7 @@ impl Reading {
     {
         if !has_namespaces(&self.namespaces, content) || !has_files(&self.files, content) {
             Err(Reason::Name)
-        } else if !self.lanes.may_name(by, content) {
+        } else if !may_change(&self.lanes, content) || !self.lanes.may_name(by, content) {
             Err(Reason::Lane)
         } else {
             Ok(())
@@ -330,13 +330,15 @@ impl Reading {
         }
     }
 
-    /// No line of another lane but the setup has named the task that acts by the line, or a label
-    /// of it.
+    /// The line changes no file outside the setup, and no line of another lane but the setup has
+    /// named the task that acts by it, or a label of it.
     fn is_apart(&self, line: &Parsed) -> bool
         ensures { result ≡ spec.is_apart self.now line.now }
     {
         match line {
-            Parsed::Holds { by, content } => self.lanes.may_name(*by, content),
+            Parsed::Holds { by, content } => {
+                may_change(&self.lanes, content) && self.lanes.may_name(*by, content)
+            }
             _ => true,
         }
     }

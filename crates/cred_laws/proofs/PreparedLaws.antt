@@ -56,7 +56,7 @@ still_prepared script s event left t label p (Prepares new prepared unchanged un
     ap (λ ps. option_map fresh (find (λ (p : Prepared). p.label == label) ps)) prepared
     ∙ ap (option_map fresh) (find-append (λ (p : Prepared). p.label == label) s.prepared (new ∷ []))
     ∙ first_stays (find (λ (p : Prepared). p.label == label) s.prepared) _ p is
-still_prepared script s event left t label p (Alters altered to q base answer prepared found at so) is other =
+still_prepared script s event left t label p (Alters altered to q base answer prepared found at so acts) is other =
     ap (λ ps. option_map fresh (find (λ (p : Prepared). p.label == label) ps)) prepared
     ∙ ap (option_map fresh) (find_changed (λ (p : Prepared). p.label) (changed altered to) s.prepared label (changed_label altered to))
     ∙ change_leaves (find (λ (p : Prepared). p.label == label) s.prepared) altered to ∙ is

@@ -27,7 +27,7 @@ use Rattle.cred_model.specs.Dumpable.{flag_in, is_dumpable, with_flag, flagged, 
 use Rattle.cred_model.specs.Step.{commit_answer, committed_by, by_ptrace, done, step}
 use Rattle.cred_model.proofs.Lists.{find_changed, none_found}
 use Rattle.cred_sound.specs.Sound.{IsSound}
-use Rattle.cred_sound.proofs.Parts.{TasksChange, Cause, Creation, ByBegin, ByAct, ByCommit, BySpawn, ByFork, ByExit, ByAbort, SameTasks, SetsFlag, Creates, Shares, Renews, Overrides, Fewer}
+use Rattle.cred_sound.proofs.Parts.{TasksChange, Cause, Creation, ByBegin, ByAct, ByRaw, ByCommit, BySpawn, ByFork, ByExit, ByAbort, SameTasks, SetsFlag, Creates, Shares, Renews, Overrides, Fewer}
 use Rattle.cred_sound.proofs.Events.{changes}
 use Rattle.cred_sound.proofs.Threads.{not_true}
 use Rattle.cred_laws.specs.Made.{AreMade}
@@ -211,10 +211,10 @@ set_stays : (flags : List ProcessFlag) (other process : ℕ) (dumpable : Bool) �
 set_stays flags other process dumpable clears clear =
     elim (other == process) as (λ b. (other == process) ≡ b → is_dumpable (set_flag flags other dumpable) process ≡ false) [
       | true ↦ λ test.
-      let same = eqb-true other process test in
-      ap (λ d. is_dumpable (set_flag flags other d) process) (clears same)
-      ∙ ap (λ p. is_dumpable (set_flag flags p false) process) same
-      ∙ set_clear flags process
+          let same = eqb-true other process test in
+          ap (λ d. is_dumpable (set_flag flags other d) process) (clears same)
+          ∙ ap (λ p. is_dumpable (set_flag flags p false) process) same
+          ∙ set_clear flags process
       | false ↦ λ test. set_other flags other process dumpable (eqb-false other process test) ∙ clear
     ] refl
 
@@ -244,10 +244,10 @@ find_kept test p (x ∷ xs) keeps =
     elim (p x) as (λ b. (test x ≡ true → b ≡ true) → find test (cond b (x ∷ filter p xs) (filter p xs)) ≡ cond (test x) (Some x) (find test xs)) [
       | true ↦ λ keep. ap (cond (test x) (Some x)) (find_kept test p xs keeps)
       | false ↦ λ keep.
-      elim (test x) as (λ a. (a ≡ true → false ≡ true) → find test (filter p xs) ≡ cond a (Some x) (find test xs)) [
-        | true ↦ λ passes. absurd (let no : false ≡ true = passes refl in cc)
-        | false ↦ λ passes. find_kept test p xs keeps
-      ] keep
+          elim (test x) as (λ a. (a ≡ true → false ≡ true) → find test (filter p xs) ≡ cond a (Some x) (find test xs)) [
+            | true ↦ λ passes. absurd (let no : false ≡ true = passes refl in cc)
+            | false ↦ λ passes. find_kept test p xs keeps
+          ] keep
     ] (keeps x)
 
 gone_clear : (flags : List ProcessFlag) (process : ℕ) → is_dumpable (without_flag flags process) process ≡ false
@@ -261,15 +261,15 @@ gone_stays : (flags : List ProcessFlag) (other process : ℕ) → is_dumpable fl
 gone_stays flags other process clear =
     elim (other == process) as (λ b. (other == process) ≡ b → is_dumpable (without_flag flags other) process ≡ false) [
       | true ↦ λ test.
-      let same = eqb-true other process test in
-      ap (λ p. is_dumpable (without_flag flags p) process) same ∙ gone_clear flags process
+          let same = eqb-true other process test in
+          ap (λ p. is_dumpable (without_flag flags p) process) same ∙ gone_clear flags process
       | false ↦ λ test.
-      let apart : other ≢ process = eqb-false other process test in
-      ap told (find_kept (λ (f : ProcessFlag). f.process == process) (λ f. not (f.process == other)) flags
-      (λ f is.
-      let own : f.process ≡ process = eqb-true f.process process is in
-      let no : (f.process == other) ≡ false = grind (arith, nat_tests) in ap not no))
-      ∙ clear
+          let apart : other ≢ process = eqb-false other process test in
+          ap told (find_kept (λ (f : ProcessFlag). f.process == process) (λ f. not (f.process == other)) flags
+          (λ f is.
+          let own : f.process ≡ process = eqb-true f.process process is in
+          let no : (f.process == other) ≡ false = grind (arith, nat_tests) in ap not no))
+          ∙ clear
     ] refl
 
 -- ---- a task whose ids change
@@ -293,6 +293,11 @@ cause_clears s event task owner ends c made before found is differ (ByBegin call
     ∙ ap (λ b. is_dumpable (renewed s.dumpable owner.process b) owner.process) (ap (λ (n : Numbered). differs n.cred c) (sym one) ∙ differ)
     ∙ set_clear s.dumpable owner.process
 cause_clears s event task owner ends c made before found is differ (ByAct number slot cast old acts opened first has ruled none casts answered flags) =
+    let one = one_found (current_of s task) before old is has in
+    ap (λ fs. is_dumpable fs owner.process) flags
+    ∙ ap (λ b. is_dumpable (renewed s.dumpable owner.process b) owner.process) (ap (λ (n : Numbered). differs n.cred c) (sym one) ∙ differ)
+    ∙ set_clear s.dumpable owner.process
+cause_clears s event task owner ends c made before found is differ (ByRaw call old slot raws has ruled idle none casts answered flags) =
     let one = one_found (current_of s task) before old is has in
     ap (λ fs. is_dumpable fs owner.process) flags
     ∙ ap (λ b. is_dumpable (renewed s.dumpable owner.process b) owner.process) (ap (λ (n : Numbered). differs n.cred c) (sym one) ∙ differ)
@@ -370,6 +375,8 @@ module _ (script : Script) (s : State) (line : ℕ) (event : Event) (process : �
   renews task owner ends c found (ByBegin call old number slot begins has_old ruled new idle none casts answered flags) =
       ap (λ fs. is_dumpable fs process) flags ∙ renewed_stays s.dumpable owner.process process _ clear
   renews task owner ends c found (ByAct number slot cast old acts opened first has_old ruled none casts answered flags) =
+      ap (λ fs. is_dumpable fs process) flags ∙ renewed_stays s.dumpable owner.process process _ clear
+  renews task owner ends c found (ByRaw call old slot raws has_old ruled idle none casts answered flags) =
       ap (λ fs. is_dumpable fs process) flags ∙ renewed_stays s.dumpable owner.process process _ clear
   renews task owner ends c found (ByCommit label place slot count p last commits first at own changed same cred ending casts answered flags) =
       ap (λ fs. is_dumpable fs process) flags

@@ -38,8 +38,7 @@ use Rattle.cred_event.specs.declared.event.Change.{Change}
 use Rattle.cred_event.specs.declared.event.Change.TheVariants as change
 use Rattle.cred_event.specs.declared.event.Event.{Event}
 use Rattle.cred_event.specs.declared.entry.Entry.{Entry}
-use Rattle.cred_model.specs.Script.{Script, info_of, chain_of}
-use Rattle.cred_model.specs.Named.{change_files}
+use Rattle.cred_model.specs.Script.{Script, chain_of}
 use Rattle.cred_model.specs.State.{State, SealedCred, Prepared, Numbered, numbered, opening}
 use Rattle.cred_model.specs.Change.{Made, made, made_by_exec, by_change}
 use Rattle.cred_model.specs.Step.{step}
@@ -296,8 +295,8 @@ origin_valid script s c sound are valid (OfLabel place p last is changed cred) =
     let made_of = subst (λ o. IfSome o (IsMadeOf script (numbered s.creds p.base))) changed (All-at (IsMade script s.creds) s.prepared place p is are) in
     let by = subst (λ found. IsMadeOf script found last) base.1 made_of in
     subst IsValid (sym cred)
-    (change_valid (info_of script (change_files last.change)) (chain_of script base.0.cred.ns) base.0.cred last.change (record { answer = by.0; cred = last.cred; gains = last.gains })
-    (numbered_valid s.creds p.base base.0 valid base.1) by.1)
+    (change_valid by.0 (chain_of script base.0.cred.ns) base.0.cred last.change (record { answer = by.1; cred = last.cred; gains = last.gains })
+    (numbered_valid s.creds p.base base.0 valid base.1) by.2)
 
 creds_valid : (script : Script) (s : State) (event : Event) (left : List ℕ) (t : State) → IsSound s → AreMade script s → AreValid s
     → CredsChange s event left t → AreValid t
@@ -318,4 +317,4 @@ valid_from script (entry ∷ journal) s sound are valid =
     (step_made script s entry.line entry.event sound are) (step_valid script s entry.line entry.event sound are valid)
 
 pub valid_journal : SealedAreValid
-valid_journal script journal = valid_from script journal opening opening_sound (λ k d lt. absurd (omega arith)) (λ k d lt. absurd (omega arith))
+valid_journal script journal = valid_from script journal (opening script) (opening_sound script) (λ k d lt. absurd (omega arith)) (λ k d lt. absurd (omega arith))

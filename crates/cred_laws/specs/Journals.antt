@@ -2,17 +2,26 @@
 use Rattle.std.specs.Prelude.{◌≡◌, ◌≢◌, ℕ, Bool, true, false, ◌+◌, ◌<◌, ◌≤◌, List, length, take}
 use Rattle.std.specs.Prelude.{slice_get, Some, None, IfSome}
 use Rattle.std.specs.Option.{option_map}
+use Rattle.std.specs.declared.option.Option.{Option}
+use Rattle.cred_ids.specs.declared.arg.Arg.{Arg}
 use Rattle.cred_ids.specs.declared.id.Kind.{Kind}
+use Rattle.cred_record.specs.File.{File}
+use Rattle.cred_rules.specs.Files.{strips}
 use Rattle.cred_record.specs.declared.gains.Gains as answer
 use Rattle.cred_record.specs.Credential.{Credential}
 use Rattle.cred_record.specs.declared.id_call.IdCall.{IdCall}
-use Rattle.cred_event.specs.declared.answer.Answer.TheVariants.{Done, Executed, Began}
-use Rattle.cred_event.specs.declared.event.Event.TheVariants.{Release, Begin, CloseFile}
+use Rattle.cred_event.specs.declared.answer.Answer.TheVariants.{Done, Executed, Began, Sealed}
+use Rattle.cred_event.specs.declared.event.Change.{Change}
+use Rattle.cred_event.specs.declared.event.Change.TheVariants.{Exec}
+use Rattle.cred_event.specs.declared.event.Event.TheVariants.{Release, Begin, CloseFile, Chown}
+use Rattle.cred_event.specs.declared.event.Event.TheVariants.{Raw}
 use Rattle.cred_event.specs.declared.event.Mode.{Mode}
 use Rattle.cred_event.specs.declared.entry.Entry.{Entry}
 use Rattle.cred_model.specs.Script.{Script}
 use Rattle.cred_model.specs.State.{State, Task, Prepared, Numbered, numbered, task_of, cast_in}
-use Rattle.cred_model.specs.State.{current_of, opener_of, held_by}
+use Rattle.cred_model.specs.State.{current_of, opener_of, held_by, info_of}
+use Rattle.cred_model.specs.Named.{change_files}
+use Rattle.cred_model.specs.Changing.{changed_file}
 use Rattle.cred_model.specs.Dumpable.{is_dumpable, differs}
 use Rattle.cred_model.specs.Journal.{replay, IsAnswered}
 use Rattle.cred_sound.specs.Sound.{IsSound}
@@ -21,6 +30,8 @@ use Rattle.cred_laws.specs.Held.{prepared_as, ends}
 use Rattle.cred_laws.specs.Made.{AreMade}
 use Rattle.cred_laws.specs.Overrides.{IsOverriding}
 use Rattle.cred_laws.specs.Execve.{IsExecve}
+use Rattle.cred_laws.specs.Files.{IsLastChange, HasStripped, resets}
+use Rattle.cred_laws.specs.Raw.{IsRaw}
 use Rattle.cred_laws.specs.Permitted.{GainsBy, IsCreatedWith}
 use Rattle.cred_laws.specs.Valid.{AreValid}
 use Rattle.cred_laws.specs.Trace.{IsOwn, AsksWithoutCap, HasThreads, IsAskedFor, IsExecuted}
@@ -104,15 +115,63 @@ GainsAsAnswered script journal =
     → current_of (state_at script journal (k + 1)) task ≡ Some after
     → IfSome (slice_get journal k) (λ entry. GainsBy entry.answer before after)
 
+-- Before entry k the label was changed last by this change, and this is the file that the change
+-- names, as it stood then.
+abbrev pub IsFileOf : Script → List Entry → ℕ → ℕ → Change → Option File → Type 0
+IsFileOf script journal k label change file =
+    (at : ℕ) × IsLastChange journal k label change at
+    × (info_of (state_at script journal at).infos (change_files change) ≡ file)
+
 -- An entry which answers that an execve is completed commits what the rule of execve makes of the
--- task's credential and of the file, with the gains that it answers.
+-- task's credential and of the file, as that stood at the last change of the label, with the gains
+-- that it answers.
 abbrev pub ExecvesByTheRule : Script → List Entry → Type 0
 ExecvesByTheRule script journal =
     (k number slot ended : ℕ) (gains : answer.Gains)
     → IfSome (slice_get journal k) (λ entry.
     entry.answer ≡ Executed number slot ended gains
-    → IsExecve script (state_at script journal k) entry.event number slot gains
+    → (x : IsExecve script (state_at script journal k) entry.event number slot gains
     (state_at script journal (k + 1)))
+    × IsFileOf script journal k x.prepared.label (Exec x.place) (Some x.file))
+
+-- A file changes only by an entry that is done of chown(2), chmod(2), or setxattr(2) or
+-- removexattr(2) of its attribute, on that file.
+abbrev pub FilesStay : Script → List Entry → Type 0
+FilesStay script journal =
+    (k place : ℕ) (old new : File)
+    → slice_get (state_at script journal k).infos place ≡ Some old
+    → slice_get (state_at script journal (k + 1)).infos place ≡ Some new → old ≢ new
+    → IfSome (slice_get journal k) (λ entry.
+    (changed_file entry.event ≡ Some place) × (entry.answer ≡ Done))
+
+-- After an entry of chown(2) that is done, and gives an owner or a group to an executable regular
+-- file, the file has no attribute and no set-user-ID bit, up to the next entry that sets its mode
+-- or its attribute.
+abbrev pub ChownsStrip : Script → List Entry → Type 0
+ChownsStrip script journal =
+    (k l place hold : ℕ) (owner group : Arg) (old : File) (entry : Entry) → k < l
+    → slice_get journal k ≡ Some entry → entry.event ≡ Chown hold place owner group
+    → entry.answer ≡ Done → slice_get (state_at script journal k).infos place ≡ Some old
+    → strips old owner group ≡ true
+    → ((i : ℕ) → k < i → i < l
+    → IfSome (slice_get journal i) (λ later. resets later.event place ≡ false))
+    → HasStripped (state_at script journal l).infos place
+
+-- An id call of one thread alone leaves every other task the current credential that it had.
+abbrev pub RawsLeave : Script → List Entry → Type 0
+RawsLeave script journal =
+    (k task other : ℕ) (call : IdCall) → other ≢ task
+    → IfSome (slice_get journal k) (λ entry. entry.event ≡ Raw task call
+    → option_map (λ t. t.current) (task_of (state_at script journal (k + 1)) other)
+    ≡ option_map (λ t. t.current) (task_of (state_at script journal k) other))
+
+-- Where it isn't refused, the task has what the rule makes of the credential that it had.
+abbrev pub RawsByTheRule : Script → List Entry → Type 0
+RawsByTheRule script journal =
+    (k task number slot : ℕ) (call : IdCall)
+    → IfSome (slice_get journal k) (λ entry.
+    entry.event ≡ Raw task call → entry.answer ≡ Sealed number slot
+    → IsRaw (state_at script journal k) task call number slot (state_at script journal (k + 1)))
 
 -- A task lives from the entry on that creates it, with the credential that this one gives it.
 abbrev pub CreatesTasks : Script → List Entry → Type 0
@@ -227,6 +286,10 @@ pub record IsLawful (script : Script) (journal : List Entry) : Type 0 where
   pub alike : KeepsAlike script journal
   pub looks : LooksIntoOwn script journal
   pub undumpable : StaysUndumpable script journal
+  pub files : FilesStay script journal
+  pub chowns : ChownsStrip script journal
+  pub raws : RawsLeave script journal
+  pub raw_rule : RawsByTheRule script journal
 
 -- They hold of every journal whose entries have the answers that the rules give.
 abbrev pub JournalsAreLawful : Type 0

@@ -3,9 +3,9 @@ use Rattle.std.proofs.Common.{◌≡◌, ℕ, ◌+◌, ◌*◌, ◌-◌, ◌<◌
 use Rattle.std.specs.Option.{IfSome, option_and_then, option_map_or}
 use Rattle.cred_ids.specs.Limits.{TRIES, TASKS}
 use Rattle.cred_event.specs.declared.content.Content.{Content}
-use Rattle.cred_event.specs.declared.content.Content.TheVariants.{One, Id, Question, Open, Fcap, Signal, Ptrace, Change, Access}
+use Rattle.cred_event.specs.declared.content.Content.TheVariants.{One, Id, Question, Open, Fcap, Signal, Ptrace, Change, Access, OnFile}
 use Rattle.cred_event.specs.declared.content.Stage.{Stage}
-use Rattle.cred_event.specs.declared.content.Stage.TheVariants.{First, Acting, Asking, Opening, TakingTarget, Signalling, Tracing, ReleasingTarget, Preparing, Altering, Committing, Aborting, Overriding, TakingAccess, ReleasingAccess, Reverting, Releasing, Retrying}
+use Rattle.cred_event.specs.declared.content.Stage.TheVariants.{First, Acting, Asking, Opening, Calling, TakingTarget, Signalling, Tracing, ReleasingTarget, Preparing, Altering, Committing, Aborting, Overriding, TakingAccess, ReleasingAccess, Reverting, Releasing, Retrying}
 use Rattle.cred_event.specs.declared.event.Event.{Event}
 use Rattle.cred_event.specs.declared.event.Event.TheVariants.{Begin, Act, Spawn}
 use Rattle.cred_event.specs.declared.answer.Answer.{Answer}
@@ -13,7 +13,9 @@ use Rattle.cred_event.specs.declared.entry.Entry.{Entry}
 use Rattle.cred_record.specs.declared.id_call.IdCall.{IdCall}
 use Rattle.cred_model.specs.Script.{Script, Line}
 use Rattle.cred_model.specs.Course as model
-use Rattle.cred_model.specs.Course.{Course, Leads, TRY_EVENTS, event_in, event_at, is_bounded}
+use Rattle.cred_event.specs.declared.content.FileCall.{FileCall}
+use Rattle.cred_event.specs.declared.content.FileCall.TheVariants.{Chown, Chmod, SetAttr, Stat}
+use Rattle.cred_model.specs.Course.{Course, Leads, TRY_EVENTS, hold_label, calling, event_in, event_at, is_bounded}
 use Rattle.cred_model.specs.Course.{is_stale, most, next_stage, next_try, some_wait}
 use Rattle.cred_model.specs.Journal.{entry_of, replay}
 use Rattle.cred_model.specs.Step.{step}
@@ -32,6 +34,12 @@ few_more : (event : Event) → more_wait event ≤ 64
 few_more (Begin task call) = omega arith
 few_more (Spawn task child) = omega arith
 few_more event = omega arith
+
+calling_more : (hold : ℕ) (call : FileCall) → more_wait (calling hold call) ≤ 0
+calling_more hold (Chown file owner group) = omega arith
+calling_more hold (Chmod file mode) = omega arith
+calling_more hold (SetAttr file attr) = omega arith
+calling_more hold (Stat file) = omega arith
 
 more_may : (line : ℕ) (content : Content) (stage : Stage) → IfSome (event_in line content stage) (λ event. more_wait event ≤ may_wait content (Some stage))
 more_may line (One event) First = few_more event
@@ -73,6 +81,9 @@ more_may line (Access task file want) ReleasingAccess = omega arith
 more_may line (Access task file want) Reverting = omega arith
 more_may line (Access task file want) Aborting = omega arith
 more_may line (Access task file want) Releasing = omega arith
+more_may line (OnFile task call) First = omega arith
+more_may line (OnFile task call) Calling = calling_more (hold_label line) call
+more_may line (OnFile task call) Releasing = omega arith
 more_may line content stage = tt
 
 -- ---- a course and those that wait

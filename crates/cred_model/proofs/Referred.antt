@@ -3,6 +3,7 @@ use Rattle.std.proofs.Common.{◌≡◌, refl, ap, ℕ, ◌==◌, not, Bool, Lis
 use Rattle.std.specs.List.{All, AllByRecursion, concat, filter}
 use Rattle.std.specs.Option.{unwrap_or}
 use Rattle.std.proofs.lemmas.List.Elements.{All-append, All-cons, All-filter, All-head, All-map, All-nil}
+use Rattle.cred_record.specs.File.{File}
 use Rattle.cred_event.specs.declared.event.Side.{Side}
 use Rattle.cred_event.specs.declared.event.Side.TheVariants.{Subjective, Objective}
 use Rattle.cred_model.specs.State.{State, number_on, Task, Broadcast, OpenFile, Hold, Prepared, Changed, ProcessFlag}
@@ -110,6 +111,18 @@ each_files each fs openers =
 -- broadcasts refer to nothing
 pub each_casts : {P : ℕ → Type 0} {s : State} → EachRef P s → (casts : List Broadcast) → EachRef P (record s { casts = casts })
 each_casts each casts =
+    record {
+      currents = each.currents;
+      overrides = each.overrides;
+      openers = each.openers;
+      holds = each.holds;
+      bases = each.bases;
+      deferred = each.deferred;
+    }
+
+-- nor do the files
+pub each_infos : {P : ℕ → Type 0} {s : State} → EachRef P s → (infos : List File) → EachRef P (record s { infos = infos })
+each_infos each infos =
     record {
       currents = each.currents;
       overrides = each.overrides;

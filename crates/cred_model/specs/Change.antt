@@ -32,7 +32,7 @@ abbrev pub made : Answer → Credential → Made
 made answer c = record { answer = answer; cred = c; gains = no_gains }
 
 -- what a rule gives, or its refusal
-abbrev pub by_rule : Result Credential Denial → Result Credential Answer
+abbrev pub by_rule : {X : Type 0} → Result X Denial → Result X Answer
 by_rule (Ok c) = Ok c
 by_rule (Err denial) = Err (refusal denial)
 

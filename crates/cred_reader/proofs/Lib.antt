@@ -14,6 +14,7 @@ pub mod AnswersBack
 pub mod EntryBack
 pub mod Spelled
 pub mod KindsFit
+pub mod FileWords
 pub mod EventsFit
 pub mod AnswersFit
 pub mod EntryFit

@@ -19,13 +19,13 @@ use Rattle.cred_event.specs.declared.answer.Answer.{Answer}
 use Rattle.cred_event.specs.declared.answer.Answer.TheVariants as answer
 use Rattle.cred_spelling.specs.declared.reason.Reason.{Reason}
 use Rattle.cred_spelling.specs.declared.reason.Reason.TheVariants.{Word, Count}
-use Rattle.cred_spelling.specs.Spellings.{letter, id_of, set_of, number_of}
+use Rattle.cred_spelling.specs.Spellings.{letter, id_of, mode_of, set_of, number_of}
 use Rattle.cred_spelling.specs.Table as table
 use Rattle.cred_spelling.specs.Words.{◌>>=◌, word_of, one_of, two_of, three_of, five_of}
 use Rattle.cred_forms.specs.IdCalls.{ids}
 use Rattle.cred_reader.specs.declared.answers.Tells.{Tells}
 use Rattle.cred_reader.specs.declared.answers.Tells.TheVariants.{Nothing, Ids, Caps, Groups, Bits}
-use Rattle.cred_reader.specs.declared.answers.Tells.TheVariants.{Flag}
+use Rattle.cred_reader.specs.declared.answers.Tells.TheVariants.{Flag, File}
 use Rattle.cred_reader.specs.Kinds.{task_of, label_of, cred_of, slot_of, flag_of, bits_of}
 
 -- what a question is told
@@ -43,6 +43,7 @@ query_tells (query.Check file want) = Nothing
 abbrev pub told_by : Event → Tells
 told_by (event.Ask label query) = query_tells query
 told_by (event.Dumped task) = Flag
+told_by (event.Stat hold file) = File
 told_by event = Nothing
 
 -- ids of users and ids of groups, four of each
@@ -91,6 +92,14 @@ plain (a ∷ b ∷ []) =
     else (two_of cred_of slot_of (a ∷ b ∷ []) >>= λ word. Ok (answer.Sealed word.0 word.1))
 plain words = longer words
 
+-- the owner, the group and the mode of a file, and whether it has an attribute
+unfoldable pub file_told : List (List ℕ) → Result Answer Reason
+file_told (owner ∷ group ∷ words) = do
+  id ← two_of id_of id_of (owner ∷ group ∷ [])
+  rest ← two_of mode_of flag_of words
+  Ok (answer.Told (told.File id.0 id.1 rest.0 rest.1))
+file_told words = Err Count
+
 -- what stands behind `ok`
 unfoldable pub ok_words : Tells → List (List ℕ) → Result Answer Reason
 ok_words Nothing words = plain words
@@ -107,6 +116,7 @@ ok_words Bits words = do
 ok_words Flag words = do
   flag ← one_of flag_of words
   Ok (answer.Told (told.Flag flag))
+ok_words File words = file_told words
 
 -- a refusal of one word
 abbrev pub one_word : List ℕ → Option Answer

@@ -8,6 +8,9 @@ use Rattle.cred_event.specs.declared.event.Change.{Change}
 use Rattle.cred_event.specs.declared.event.Event.{Event}
 use Rattle.cred_event.specs.declared.event.Event.TheVariants as event
 use Rattle.cred_model.specs.Script.{NamedFile}
+use Rattle.cred_model.specs.Course.{calling}
+use Rattle.cred_spelling.specs.declared.names.FileCallName.{FileCallName}
+use Rattle.cred_spelling.specs.declared.names.FileCallName.TheVariants as file_call
 use Rattle.cred_spelling.specs.declared.reason.Reason.{Reason}
 use Rattle.cred_spelling.specs.declared.reason.Reason.TheVariants.{Word, Count}
 use Rattle.cred_spelling.specs.Names.{id_name, altered_name}
@@ -15,6 +18,7 @@ use Rattle.cred_spelling.specs.Spellings.{id_of, number_of, namespace_of, want_o
 use Rattle.cred_spelling.specs.Table.{named}
 use Rattle.cred_spelling.specs.Words.{◌>>=◌, word_of, no_words, one_of, two_of, three_of, five_of}
 use Rattle.cred_forms.specs.Changes.{change_of}
+use Rattle.cred_forms.specs.FileCalls.{file_call_of}
 use Rattle.cred_forms.specs.Modes.{mode_of}
 use Rattle.cred_forms.specs.Files.{file_at}
 use Rattle.cred_forms.specs.Questions.{query_named}
@@ -54,6 +58,12 @@ event_names =
     (codes "dumpable", name.Task by_task.Dumpable) ∷
     (codes "dumped", name.Task by_task.Dumped) ∷
     (codes "ptrace", name.Ptrace) ∷
+    (codes "chown", name.File file_call.Chown) ∷
+    (codes "chmod", name.File file_call.Chmod) ∷
+    (codes "setattr", name.File file_call.SetAttr) ∷
+    (codes "clearattr", name.File file_call.ClearAttr) ∷
+    (codes "stat", name.File file_call.Stat) ∷
+    (codes "raw", name.Task by_task.Raw) ∷
     []
 
 abbrev pub event_name : List ℕ → Option EventName
@@ -113,6 +123,22 @@ begin_of (caller ∷ called ∷ words) = do
   Ok (event.Begin task call)
 begin_of words = Err Count
 
+-- the same of a thread alone
+unfoldable pub raw_of : List (List ℕ) → Result Event Reason
+raw_of (caller ∷ called ∷ words) = do
+  task ← word_of task_of caller
+  call ← call_named called words
+  Ok (event.Raw task call)
+raw_of words = Err Count
+
+-- a hold, and a call on a file
+unfoldable pub file_event : List NamedFile → FileCallName → List (List ℕ) → Result Event Reason
+file_event files named (hold ∷ words) = do
+  label ← word_of label_of hold
+  call ← file_call_of files named words
+  Ok (calling label call)
+file_event files named [] = Err Count
+
 -- a hold, a file, what is wanted of it, and a descriptor
 unfoldable pub open_of : List NamedFile → List (List ℕ) → Result Event Reason
 open_of files (hold ∷ name ∷ words) = do
@@ -160,6 +186,7 @@ task_event by_task.Dumpable words = do
   word ← two_of task_of number_of words
   Ok (event.Dumpable word.0 word.1)
 task_event by_task.Dumped words = one_of task_of words >>= λ task. Ok (event.Dumped task)
+task_event by_task.Raw words = raw_of words
 
 -- how it is asked for, and then two tasks, each with the label that holds its credential
 unfoldable pub ptrace_of : List (List ℕ) → Result Event Reason
@@ -178,6 +205,7 @@ event_named files name.Act words = one_of number_of words >>= λ cast. Ok (event
 event_named files name.CloseFile words = one_of fd_of words >>= λ fd. Ok (event.CloseFile fd)
 event_named files name.Sweep words = no_words words >>= λ end. Ok event.Sweep
 event_named files name.Ptrace words = ptrace_of words
+event_named files (name.File called) words = file_event files called words
 
 -- the event that the words are the text of
 unfoldable pub event_of : List NamedFile → List (List ℕ) → Result Event Reason

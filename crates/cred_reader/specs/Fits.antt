@@ -2,13 +2,15 @@
 -- their words is spelled as the grammar asks, and the event may be given the answer. Numbers of
 -- lines, tasks, processes, labels, descriptors and slots may be any of 32 bits, numbers of
 -- credentials any of 64.
-use Rattle.std.specs.Prelude.{◌≡◌, ℕ, ◌^◌, ◌<◌, ◌≤◌, ◌||◌, Some, IsTrue, All, ⊤}
+use Rattle.std.specs.Prelude.{◌≡◌, ℕ, ◌^◌, ◌<◌, ◌≤◌, ◌||◌, List, Some, IfSome, IsTrue, All, ⊤}
+use Rattle.std.specs.Prelude.{length}
 use Rattle.cred_ids.specs.declared.arg.Arg.{Arg}
 use Rattle.cred_ids.specs.declared.arg.Arg.TheVariants.{Keep, Set}
 use Rattle.cred_ids.specs.declared.id.Ids4.{Ids4}
 use Rattle.cred_ids.specs.Id.{IsId}
 use Rattle.cred_ids.specs.Limits.{LAST_NAMESPACE}
 use Rattle.cred_caps.specs.Caps.{IsCaps}
+use Rattle.cred_record.specs.File.{IsMode}
 use Rattle.cred_record.specs.declared.want.Want.{Want}
 use Rattle.cred_record.specs.declared.gains.Gains.{Gains}
 use Rattle.cred_record.specs.declared.id_call.IdCall.{IdCall}
@@ -29,7 +31,8 @@ use Rattle.cred_event.specs.declared.event.Event.TheVariants.{Signal, Prepare, A
 use Rattle.cred_event.specs.declared.event.Event.TheVariants.{Override, Revert, Begin, Act}
 use Rattle.cred_event.specs.declared.event.Event.TheVariants.{OpenFile, CloseFile, Spawn, Fork}
 use Rattle.cred_event.specs.declared.event.Event.TheVariants.{Exit, Sweep, Dumpable, Dumped}
-use Rattle.cred_event.specs.declared.event.Event.TheVariants.{Ptrace}
+use Rattle.cred_event.specs.declared.event.Event.TheVariants.{Ptrace, Chown, Chmod, SetAttr, Stat}
+use Rattle.cred_event.specs.declared.event.Event.TheVariants.{Raw}
 use Rattle.cred_event.specs.declared.answer.Told.{Told}
 use Rattle.cred_event.specs.declared.answer.Told.TheVariants as told
 use Rattle.cred_event.specs.declared.answer.Answer.{Answer}
@@ -104,6 +107,12 @@ FitsQuery (query.Bset cap) = IsNumber cap
 FitsQuery (query.AmbIs cap) = IsNumber cap
 FitsQuery (query.Check file want) = IsWant want
 
+-- bytes that a word may spell: at most 128 hexadecimal digits, two of each
+pub record AreBytes (bytes : List ℕ) : Type 0 where
+  pub some : 1 ≤ length bytes
+  pub few : length bytes ≤ 64
+  pub each : All (λ byte. byte < 256) bytes
+
 abbrev pub FitsEvent : Event → Type 0
 FitsEvent (Init task process user group ns) =
     IsNumber task × IsNumber process × IsId user × IsId group × IsNamespace ns
@@ -132,6 +141,11 @@ FitsEvent (Dumpable task value) = IsNumber task × IsNumber value
 FitsEvent (Dumped task) = IsNumber task
 FitsEvent (Ptrace from hold to target mode) =
     IsNumber from × IsNumber hold × IsNumber to × IsNumber target
+FitsEvent (Chown hold file owner group) = IsNumber hold × IsArg owner × IsArg group
+FitsEvent (Chmod hold file mode) = IsNumber hold × IsMode mode
+FitsEvent (SetAttr hold file attr) = IsNumber hold × IfSome attr AreBytes
+FitsEvent (Stat hold file) = IsNumber hold
+FitsEvent (Raw task call) = IsNumber task × FitsCall call
 
 abbrev pub FitsIds : Ids4 → Type 0
 FitsIds ids = IsId ids.real × IsId ids.effective × IsId ids.saved × IsId ids.fs
@@ -143,6 +157,7 @@ FitsTold (told.Caps perm inh eff bound amb) =
 FitsTold (told.Groups groups) = All IsId groups
 FitsTold (told.Bits bits nnp) = bits < 2 ^ 8
 FitsTold (told.Flag flag) = ⊤
+FitsTold (told.File owner group mode attr) = IsId owner × IsId group × IsMode mode
 
 abbrev pub FitsGains : Gains → Type 0
 FitsGains gains = IsCaps gains.file × IsCaps gains.inherit × IsCaps gains.root

@@ -4,7 +4,7 @@ ghost use Rattle.cred_spelling.specs.Read.{Says, nows};
 ghost use Rattle.cred_forms.specs.Read.{GivesLine};
 ghost use Rattle.cred_reader.specs.Answers as spec;
 
-use crate::kinds::{Bits, Cred, Flag, Slot, Task};
+use crate::kinds::{Bits, Cred, Flag, Mode, Slot, Task};
 use crate::refusals::refusal_of;
 use cred_caps::CapSet;
 use cred_event::{Answer, Event, Query, Told};
@@ -30,6 +30,8 @@ pub enum Tells {
     Bits,
     /// A flag.
     Flag,
+    /// How a file stands.
+    File,
 }
 
 /// What the event is told.
@@ -39,6 +41,7 @@ pub(crate) fn told_by(event: &Event) -> Tells
     match event {
         Event::Ask { query, .. } => query_tells(*query),
         Event::Dumped { .. } => Tells::Flag,
+        Event::Stat { .. } => Tells::File,
         _ => Tells::Nothing,
     }
 }
@@ -169,6 +172,26 @@ fn plain(words: &[&[u8]]) -> Result<Answer, Reason>
     }
 }
 
+/// The owner, the group and the mode of a file, and whether it has an attribute.
+#[tactic(auto, unfolding(crate::specs::Answers::file_told))]
+fn file_told(words: &[&[u8]]) -> Result<Answer, Reason>
+    ensures { Says (λ answer. answer) result (spec.file_told (nows words.now)) }
+{
+    match words {
+        [owner, group, words @ ..] => {
+            let (owner, group) = two::<Id, Id>(&[*owner, *group])?;
+            let (mode, attr) = two::<Mode, Flag>(words)?;
+            Ok(Answer::Told(Told::File {
+                owner,
+                group,
+                mode,
+                attr,
+            }))
+        }
+        _ => Err(Reason::Count),
+    }
+}
+
 /// What stands behind `ok`.
 #[tactic(auto, unfolding(crate::specs::Answers::ok_words))]
 fn ok_words(alloc: Global, told: Tells, words: &[&[u8]]) -> Result<Answer, LineRefusal>
@@ -198,6 +221,7 @@ fn ok_words(alloc: Global, told: Tells, words: &[&[u8]]) -> Result<Answer, LineR
             Ok(Answer::Told(Told::Bits { bits, nnp }))
         }
         Tells::Flag => Ok(Answer::Told(Told::Flag(one::<Flag>(words)?))),
+        Tells::File => Ok(file_told(words)?),
     }
 }
 

@@ -1,17 +1,22 @@
 //! The event that words are the text of.
 ghost use Rattle.cred_spelling.specs.Read.{Says, nows};
 ghost use Rattle.cred_forms.specs.Read.{GivesLine};
+ghost use Rattle.std.specs.Prelude.{◌≡◌};
+ghost use Rattle.cred_model.specs.Course.{calling};
 ghost use Rattle.cred_reader.specs.Events as spec;
 
 use crate::kinds::{Fd, Label, Process, Task};
 use crate::names::{EventName, LabelEvent, TaskEvent, event_name};
-use cred_event::{Change, Event, Side};
-use cred_forms::{AccessMode, LineRefusal, change_of, file_at, id_call_of, query_named};
+use cred_event::{Change, Event, FileCall, Side};
+use cred_forms::{
+    AccessMode, LineRefusal, change_of, file_at, file_call_of, id_call_of, query_named,
+};
 use cred_ids::Id;
 use cred_record::{IdCall, Want};
 use cred_script::Script;
 use cred_spelling::{
-    Namespace, Number, Reason, altered_name, five, id_name, no_words, one, three, two, word,
+    FileCallName, Namespace, Number, Reason, altered_name, five, id_name, no_words, one, three,
+    two, word,
 };
 use std::alloc::Global;
 
@@ -122,6 +127,59 @@ fn begin_of(alloc: Global, words: &[&[u8]]) -> Result<Event, LineRefusal>
     }
 }
 
+/// A task, and an id call of its own.
+#[tactic(auto, unfolding(crate::specs::Events::raw_of))]
+fn raw_of(alloc: Global, words: &[&[u8]]) -> Result<Event, LineRefusal>
+    ensures { GivesLine (λ event. event) result (spec.raw_of (nows words.now)) }
+{
+    match words {
+        [caller, called, words @ ..] => {
+            let task = word::<Task>(caller)?;
+            let call = call_named(alloc, called, words)?;
+            Ok(Event::Raw { task, call })
+        }
+        _ => Err(LineRefusal::Bad(Reason::Count)),
+    }
+}
+
+/// The event of a call on a file, which the hold decides.
+fn calling(hold: u32, call: FileCall) -> Event
+    ensures { result ≡ calling hold call }
+{
+    match call {
+        FileCall::Chown { file, owner, group } => Event::Chown {
+            hold,
+            file,
+            owner,
+            group,
+        },
+        FileCall::Chmod { file, mode } => Event::Chmod { hold, file, mode },
+        FileCall::SetAttr { file, attr } => Event::SetAttr { hold, file, attr },
+        FileCall::Stat { file } => Event::Stat { hold, file },
+    }
+}
+
+/// A hold, and a call on a file.
+#[tactic(auto, unfolding(crate::specs::Events::file_event))]
+fn file_event(
+    alloc: Global,
+    script: &Script,
+    name: FileCallName,
+    words: &[&[u8]],
+) -> Result<Event, LineRefusal>
+    ensures { GivesLine (λ event. event) result
+        (spec.file_event script.now.files name (nows words.now)) }
+{
+    match words {
+        [hold, words @ ..] => {
+            let hold = word::<Label>(hold)?;
+            let call = file_call_of(alloc, script.files(), name, words)?;
+            Ok(calling(hold, call))
+        }
+        [] => Err(LineRefusal::Bad(Reason::Count)),
+    }
+}
+
 /// A hold, a file, what is wanted of it, and a descriptor.
 #[tactic(auto, unfolding(crate::specs::Events::open_of))]
 fn open_of(script: &Script, words: &[&[u8]]) -> Result<Event, Reason>
@@ -213,6 +271,7 @@ fn task_event(alloc: Global, name: TaskEvent, words: &[&[u8]]) -> Result<Event, 
         TaskEvent::Dumped => Ok(Event::Dumped {
             task: one::<Task>(words)?,
         }),
+        TaskEvent::Raw => raw_of(alloc, words),
     }
 }
 
@@ -263,6 +322,7 @@ fn event_named(
             Ok(Event::Sweep)
         }
         EventName::Ptrace => Ok(ptrace_of(words)?),
+        EventName::File(name) => file_event(alloc, script, name, words),
     }
 }
 

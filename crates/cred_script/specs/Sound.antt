@@ -4,6 +4,7 @@ use Rattle.std.specs.List.{cons_option}
 use Rattle.cred_ids.specs.Limits.{LINE_LIMIT, LAST_LANE, LAST_NUMBER}
 use Rattle.cred_model.specs.Script.{Line, Namespace, SetupBefore}
 use Rattle.cred_model.specs.Named.{IsContentOf}
+use Rattle.cred_model.specs.Changing.{ChangesInSetup}
 use Rattle.cred_script.specs.Acting.{actor}
 use Rattle.cred_names.specs.Labels.{labels}
 
@@ -12,6 +13,7 @@ pub record IsSound (count : ℕ) (declared : List Namespace) (line : Line) : Typ
   pub lane : line.lane ≤ LAST_LANE
   pub labels : All (λ label. label ≤ LAST_NUMBER) (labels line.content)
   pub content : IsContentOf count declared line.content
+  pub fixed : ChangesInSetup line
 
 -- the lists have no number in common
 abbrev pub ShareNone : List ℕ → List ℕ → Type 0

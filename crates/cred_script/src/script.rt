@@ -4,6 +4,7 @@ ghost use Rattle.std.specs.Option.{option_map};
 ghost use Rattle.cred_ids.specs.Limits.{LINE_LIMIT, FILES};
 ghost use Rattle.cred_ids.specs.Limits.{LAST_LANE};
 ghost use Rattle.cred_model.specs.Named.{IsContentOf};
+ghost use Rattle.cred_model.specs.Changing.{FixesFiles};
 ghost use Rattle.cred_model.specs.Script.{SetupFirst, chain_in, reaches};
 ghost use Rattle.cred_script.specs.Files as spec;
 ghost use Rattle.cred_script.specs.Lanes.{lanes};
@@ -65,6 +66,7 @@ impl Script {
         ensures value { result
             ≡ record { files = files; namespaces = namespaces; lines = lines.items } }
         ensures setup { SetupFirst result }
+        ensures fixed { FixesFiles result }
     {
         Script {
             files,
@@ -80,11 +82,13 @@ impl Script {
         &self.files
     }
 
-    /// How many lines there are.
+    /// How many lines there are. The setup's come before all others, and those that change a file are
+    /// among them.
     pub fn lines(&self) -> u32
         ensures count { result ≡ length self.now.lines }
         ensures few { result ≤ LINE_LIMIT }
         ensures setup { SetupFirst self.now }
+        ensures fixed { FixesFiles self.now }
     {
         self.lines.len() as u32
     }

@@ -15,7 +15,7 @@ use Rattle.cred_model.proofs.Numbers.{overriding_as, updated_as}
 use Rattle.cred_model.proofs.Referred.{all_survive}
 use Rattle.cred_sound.specs.Flags.{AreFlagged}
 use Rattle.cred_sound.specs.Sound.{IsSound}
-use Rattle.cred_sound.proofs.Parts.{TasksChange, Cause, Creation, Death, ByBegin, ByAct, ByCommit, BySpawn, ByFork, ByExit, ByAbort, SameTasks, SetsFlag, Creates, Shares, Renews, Overrides, Fewer}
+use Rattle.cred_sound.proofs.Parts.{TasksChange, Cause, Creation, Death, ByBegin, ByAct, ByRaw, ByCommit, BySpawn, ByFork, ByExit, ByAbort, SameTasks, SetsFlag, Creates, Shares, Renews, Overrides, Fewer}
 use Rattle.cred_sound.proofs.Flags.{lives, flags_set, flags_renewed, flags_done, flags_kept, flags_joined, flags_more, flags_alone, flags_aborted, flags_exited, owner_lives}
 
 -- so it is with these tasks and flags
@@ -53,6 +53,9 @@ renewed_flags s event task owner ends made c (ByBegin call before number slot is
     let now = with_current (survivors ends s.tasks) task (length s.creds) in
     subst (AreFlagged now) (sym flags) (flags_renewed now s.dumpable owner.process _ (none_ends ends s.tasks s.dumpable task (length s.creds) none are))
 renewed_flags s event task owner ends made c (ByAct number slot cast before is opened first has ruled none casts answer flags) found are =
+    let now = with_current (survivors ends s.tasks) task (length s.creds) in
+    subst (AreFlagged now) (sym flags) (flags_renewed now s.dumpable owner.process _ (none_ends ends s.tasks s.dumpable task (length s.creds) none are))
+renewed_flags s event task owner ends made c (ByRaw call before slot is has ruled idle none casts answer flags) found are =
     let now = with_current (survivors ends s.tasks) task (length s.creds) in
     subst (AreFlagged now) (sym flags) (flags_renewed now s.dumpable owner.process _ (none_ends ends s.tasks s.dumpable task (length s.creds) none are))
 renewed_flags s event task owner ends made c (ByCommit label place slot count p last is first at own changed same cred ending casts answer flags) found are =

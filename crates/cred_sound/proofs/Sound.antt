@@ -83,7 +83,7 @@ bases_refer : (script : Script) (s : State) (event : Event) (left : List ℕ) (t
 bases_refer script s event left t (SamePrepared same) old = subst (All (OfBase s left)) (sym same) old
 bases_refer script s event left t (Prepares p prepared fresh unheld new has free) old =
     subst (All (OfBase s left)) (sym prepared) (All-push (OfBase s left) s.prepared p old has)
-bases_refer script s event left t (Alters label to p base answer prepared is at so) old =
+bases_refer script s event left t (Alters label to p base answer prepared is at so acts) old =
     let P = OfBase s left in
     subst (All P) (sym prepared)
     (All-kept P (changed label to) s.prepared (λ p one. changed_as P label to p (λ test. one) one) old)
@@ -133,7 +133,7 @@ kept_orderly script s event left t (Prepares p prepared fresh unheld new has fre
     subst (λ k. IsOrderly (with_kept (ledger (with_left s left)) k))
     (sym (ap (map slot_of) prepared ∙ map_push slot_of s.prepared p))
     (keeps (ledger (with_left s left)) p.slot free.below free.clear free.unkept order)
-kept_orderly script s event left t (Alters label to p base answer prepared is at so) order =
+kept_orderly script s event left t (Alters label to p base answer prepared is at so acts) order =
     subst (λ k. IsOrderly (with_kept (ledger (with_left s left)) k))
     (sym (ap (map slot_of) prepared ∙ map_same slot_of (changed label to) s.prepared (λ p. changed_as (λ q. q.slot ≡ p.slot) label to p (λ test. refl) refl)))
     order
@@ -206,8 +206,8 @@ pub step_sound : (script : Script) (s : State) (line : ℕ) (event : Event) → 
 step_sound script s line event sound =
     changes_sound script s event (step script s line event) (changes script s line event) sound
 
-pub opening_sound : IsSound opening
-opening_sound = record {
+pub opening_sound : (script : Script) → IsSound (opening script)
+opening_sound script = record {
   tasks = λ i j d lt within. absurd (omega arith);
   casts = λ i j d lt within. absurd (omega arith);
   processes = λ i j d lt within. absurd (omega arith);
@@ -234,7 +234,7 @@ sound_from script (entry ∷ journal) s sound =
     sound_from script journal (step script s entry.line entry.event).1 (step_sound script s entry.line entry.event sound)
 
 pub sound_after : StatesAreSound
-sound_after script journal = sound_from script journal opening opening_sound
+sound_after script journal = sound_from script journal (opening script) (opening_sound script)
 
 -- ---- states that are alike
 

@@ -71,7 +71,7 @@ labels_differ script s event left t (SamePrepared same) differ = subst (AllPairs
 labels_differ script s event left t (Prepares p prepared fresh unheld new stands free) differ =
     subst (AllPairs (Differ prepared_as)) (sym prepared)
     (all_pairs_push (Differ prepared_as) s.prepared p differ (none_has prepared_as s.prepared p.label new))
-labels_differ script s event left t (Alters label to p base answer prepared is at so) differ =
+labels_differ script s event left t (Alters label to p base answer prepared is at so acts) differ =
     subst (AllPairs (Differ prepared_as)) (sym prepared)
     (differ-map prepared_as (changed label to) s.prepared (changed_label label to) differ)
 labels_differ script s event left t (Ends label place p ends prepared at is) differ =
@@ -114,7 +114,7 @@ unheld_all : (script : Script) (s : State) (event : Event) (left : List ℕ) (t 
 unheld_all script s event left t (SamePrepared same) unheld = subst (All (IsNotHeld t.holds)) (sym same) unheld
 unheld_all script s event left t (Prepares p prepared fresh free_label new stands free) unheld =
     subst (All (IsNotHeld t.holds)) (sym prepared) (All-push (IsNotHeld t.holds) s.prepared p unheld free_label)
-unheld_all script s event left t (Alters label to p base answer prepared is at so) unheld =
+unheld_all script s event left t (Alters label to p base answer prepared is at so acts) unheld =
     subst (All (IsNotHeld t.holds)) (sym prepared)
     (All-kept (IsNotHeld t.holds) (changed label to) s.prepared
     (λ p none. changed_as (IsNotHeld t.holds) label to p (λ test. none) none) unheld)

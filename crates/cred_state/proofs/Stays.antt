@@ -86,7 +86,7 @@ module _ (script : Script) (s : State) (line : ℕ) (event : Event) (label : ℕ
       by (SamePrepared same) = same_as (ap (λ ps. find (λ (p : Prepared). p.label == label) ps) same)
       by (Prepares x same un new none old free) =
           (p, ap (λ ps. find (λ (p : Prepared). p.label == label) ps) same ∙ found-first (λ (p : Prepared). p.label == label) s.prepared (x ∷ []) p is, record { base = refl; slot = refl })
-      by (Alters name to x base answer same there sealed rule) = (
+      by (Alters name to x base answer same there sealed rule acts) = (
         changed name to p,
         ap (λ ps. find (λ (p : Prepared). p.label == label) ps) same
             ∙ find_changed (λ (p : Prepared). p.label) (changed name to) s.prepared label (λ x. labels_same name to x)
