@@ -34,7 +34,7 @@ impl Class {
 }
 
 /// Whether the group is the task's filesystem group or one of its supplementary groups.
-fn in_group(gid: &Ids4, groups: &Groups, group: Id) -> bool
+pub fn has_group(gid: &Ids4, groups: &Groups, group: Id) -> bool
     ensures { (cred : Credential) → cred.gid ≡ gid.now → cred.groups ≡ groups.now
         → result ≡ in_group cred group }
 {
@@ -48,7 +48,7 @@ pub fn class_of(uid: &Ids4, gid: &Ids4, groups: &Groups, file: &FileInfo) -> Cla
 {
     if uid.fs == file.owner {
         Class::Owner
-    } else if in_group(gid, groups, file.group) {
+    } else if has_group(gid, groups, file.group) {
         Class::Group
     } else {
         Class::Others

@@ -3,7 +3,8 @@ ghost use Rattle.std.specs.Prelude.{◌≡◌};
 ghost use Rattle.cred_rules.specs.Files.{is_attr, set_attr};
 ghost use Rattle.cred_attr.specs.Exactly.{AnswersExactly};
 
-use crate::rights::{SETFCAP, capable};
+use cred_access::capable;
+use cred_caps::Cap;
 use cred_filecap::decode;
 use cred_record::{Attr, Cred, FileInfo, Refusal};
 
@@ -28,7 +29,7 @@ pub fn is_attr(attr: &Option<Attr>) -> bool
 pub fn set_attr(cred: &Cred, file: &FileInfo, attr: Option<Attr>) -> Result<FileInfo, Refusal>
     ensures { AnswersExactly result (set_attr cred.now file.now attr) }
 {
-    if !capable(cred, SETFCAP) {
+    if !capable(cred, Cap::SETFCAP) {
         return Err(Refusal::Perm);
     }
     if !is_attr(&attr) {

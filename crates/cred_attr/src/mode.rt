@@ -5,7 +5,9 @@ ghost use Rattle.cred_record.specs.File.{IsMode};
 ghost use Rattle.cred_rules.specs.Files.{may_chmod, given_mode, chmod};
 ghost use Rattle.cred_rules.specs.Modes as modes;
 
-use crate::rights::{FOWNER, FSETID, capable, in_group, owns};
+use crate::rights::{in_group, owns};
+use cred_access::capable;
+use cred_caps::Cap;
 use cred_ids::NoMemory;
 use cred_record::{Attr, Cred, FileInfo, Refusal};
 
@@ -58,7 +60,7 @@ pub fn copied(attr: &Option<Attr>) -> Result<Option<Attr>, NoMemory>
 fn may_chmod(cred: &Cred, file: &FileInfo) -> bool
     ensures { result ≡ may_chmod cred.now file.now }
 {
-    owns(cred, file) || capable(cred, FOWNER)
+    owns(cred, file) || capable(cred, Cap::FOWNER)
 }
 
 /// The mode that the file gets, where the caller gives this one.
@@ -67,7 +69,7 @@ fn given_mode(cred: &Cred, file: &FileInfo, mode: u16) -> u16
     ensures value { result ≡ given_mode cred.now file.now mode }
     ensures small { IsMode result }
 {
-    if capable(cred, FSETID) || in_group(cred, file.group) {
+    if capable(cred, Cap::FSETID) || in_group(cred, file.group) {
         mode
     } else {
         without(mode, SET_GROUP)

@@ -6,7 +6,9 @@ ghost use Rattle.cred_rules.specs.Files as spec;
 ghost use Rattle.cred_rules.specs.SetId.{is_given};
 
 use crate::mode::{EXECUTE, GROUP_EXECUTE, SET_GROUP, SET_USER, copied, has_any, without};
-use crate::rights::{CHOWN, capable, in_group, owns};
+use crate::rights::{in_group, owns};
+use cred_access::capable;
+use cred_caps::Cap;
 use cred_ids::{Arg, Id, NoMemory};
 use cred_record::{Attr, Cred, FileInfo, FileKind, Refusal};
 
@@ -52,7 +54,7 @@ fn may_chown(cred: &Cred, file: &FileInfo, owner: &Arg, group: &Arg) -> bool
     ensures { result ≡ spec.may_chown cred.now file.now owner.now group.now }
 {
     let given = is_given(owner) || is_given(group);
-    capable(cred, CHOWN) || !given || may_as_owner(cred, file, owner, group)
+    capable(cred, Cap::CHOWN) || !given || may_as_owner(cred, file, owner, group)
 }
 
 /// Whether the file loses its set-id bits and its attribute.

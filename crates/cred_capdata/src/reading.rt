@@ -8,8 +8,9 @@ ghost use Rattle.cred_capdata.specs.Record.{Spells, data_of, refusal_of};
 use crate::data::CapData;
 use crate::refusal::DataRefusal;
 use crate::version::{VERSION_1, length_of, version_of};
-use crate::words::{EFF, HIGH, INH, PERM, SetWords, TARGET, VERSION, set_of, word_at};
+use crate::words::{EFF, HIGH, INH, PERM, TARGET, VERSION};
 use cred_caps::CapSet;
+use cred_filecap::{SetWords, set_of, word_at};
 
 /// The set in the word at a place and the one in the second group, in version 1 in the first alone.
 fn set_at(bytes: &[u8], version: u8, place: usize) -> CapSet

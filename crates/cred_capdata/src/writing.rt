@@ -4,8 +4,8 @@ ghost use Rattle.cred_capdata.specs.Record.{Spells, IsCanonical, HasBytes};
 
 use crate::data::CapData;
 use crate::version::{LENGTH, length_of, word_of};
-use crate::words::words_of;
 use byteorder::{ByteOrder, LittleEndian};
+use cred_filecap::words_of;
 use cred_ids::NoMemory;
 use cred_record::Attr;
 use std::alloc::Global;

@@ -3,7 +3,7 @@
 -- order in which they are made.
 use Rattle.std.specs.Prelude.{ℕ, Bool, true, false, ◌==◌, ◌&&◌, ◌||◌, not, List, Option, Some, None}
 use Rattle.std.specs.Prelude.{Result, Ok, Err, if◌then◌else◌, is_some}
-use Rattle.cred_caps.specs.Numbers.{CHOWN, FOWNER, FSETID}
+use Rattle.cred_caps.specs.Numbers.{CHOWN, FOWNER, FSETID, SETFCAP}
 use Rattle.cred_ids.specs.declared.arg.Arg.{Arg}
 use Rattle.cred_ids.specs.declared.arg.Arg.TheVariants.{Keep, Set}
 use Rattle.cred_record.specs.declared.file.FileKind.{FileKind}
@@ -16,10 +16,6 @@ use Rattle.cred_rules.specs.Access.{in_group}
 use Rattle.cred_rules.specs.SetId.{is_given}
 use Rattle.cred_rules.specs.Attribute.{attribute_of}
 use Rattle.cred_rules.specs.Modes.{SET_USER, SET_GROUP, GROUP_EXECUTE, EXECUTE, has_any, without}
-
--- the number of CAP_SETFCAP, by which a task may set a file's capabilities
-abbrev pub SETFCAP : ℕ
-SETFCAP = 31
 
 -- ---- chown(2)
 

@@ -1,5 +1,5 @@
 use Rattle.std.proofs.Common.{rules}
-use Rattle.cred_access.proofs.class.in_group.Goals as goal
+use Rattle.cred_access.proofs.class.has_group.Goals as goal
 
 pub returns-then-eq : goal.returns-then-eq
 returns-then-eq c = search rules
