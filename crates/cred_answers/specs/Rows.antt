@@ -291,36 +291,36 @@ may_change (change.Exec file) answer = exec_row answer
 may_change change.Access answer = access_row answer
 
 -- what an event may be answered
-abbrev pub may : Event → Answer → Bool
-may (event.Init task process user group ns) answer = init_row answer
-may (event.Take label task side) answer = take_row answer
-may (event.TakeFile label fd) answer = takefile_row answer
-may (event.Release label) answer = release_row answer
-may (event.Ask label query) answer = may_tell query answer
-may (event.Signal from hold to target) answer = signal_row answer
-may (event.Prepare label task hold) answer = prepare_row answer
-may (event.Alter label change) answer = may_change change answer
-may (event.Commit label) answer = commit_row answer
-may (event.Abort label) answer = abort_row answer
-may (event.Override task label) answer = override_row answer
-may (event.Revert task) answer = revert_row answer
-may (event.Begin task call) answer = begin_row call answer
-may (event.Act cast) answer = act_row answer
-may (event.OpenFile hold file want fd) answer = open_row answer
-may (event.CloseFile fd) answer = close_row answer
-may (event.Spawn task child) answer = spawn_row answer
-may (event.Fork task child process) answer = fork_row answer
-may (event.Exit task) answer = exit_row answer
-may event.Sweep answer = sweep_row answer
-may (event.Dumpable task value) answer = dumpable_row value answer
-may (event.Dumped task) answer = dumped_row answer
-may (event.Ptrace from hold to target mode) answer = signal_row answer
-may (event.Chown hold file owner group) answer = chown_row owner group answer
-may (event.Chmod hold file mode) answer = chmod_row answer
-may (event.SetAttr hold file attr) answer = set_attr_row attr answer
-may (event.Stat hold file) answer = stat_row answer
-may (event.Raw task call) answer = raw_row call answer
+abbrev pub may_answer : Event → Answer → Bool
+may_answer (event.Init task process user group ns) answer = init_row answer
+may_answer (event.Take label task side) answer = take_row answer
+may_answer (event.TakeFile label fd) answer = takefile_row answer
+may_answer (event.Release label) answer = release_row answer
+may_answer (event.Ask label query) answer = may_tell query answer
+may_answer (event.Signal from hold to target) answer = signal_row answer
+may_answer (event.Prepare label task hold) answer = prepare_row answer
+may_answer (event.Alter label change) answer = may_change change answer
+may_answer (event.Commit label) answer = commit_row answer
+may_answer (event.Abort label) answer = abort_row answer
+may_answer (event.Override task label) answer = override_row answer
+may_answer (event.Revert task) answer = revert_row answer
+may_answer (event.Begin task call) answer = begin_row call answer
+may_answer (event.Act cast) answer = act_row answer
+may_answer (event.OpenFile hold file want fd) answer = open_row answer
+may_answer (event.CloseFile fd) answer = close_row answer
+may_answer (event.Spawn task child) answer = spawn_row answer
+may_answer (event.Fork task child process) answer = fork_row answer
+may_answer (event.Exit task) answer = exit_row answer
+may_answer event.Sweep answer = sweep_row answer
+may_answer (event.Dumpable task value) answer = dumpable_row value answer
+may_answer (event.Dumped task) answer = dumped_row answer
+may_answer (event.Ptrace from hold to target mode) answer = signal_row answer
+may_answer (event.Chown hold file owner group) answer = chown_row owner group answer
+may_answer (event.Chmod hold file mode) answer = chmod_row answer
+may_answer (event.SetAttr hold file attr) answer = set_attr_row attr answer
+may_answer (event.Stat hold file) answer = stat_row answer
+may_answer (event.Raw task call) answer = raw_row call answer
 
 -- the event may be given an answer of this form
 abbrev pub CanAnswer : Event → Answer → Type 0
-CanAnswer event answer = IsTrue (may event answer)
+CanAnswer event answer = IsTrue (may_answer event answer)

@@ -284,7 +284,7 @@ fn may_change(change: Change, answer: &Answer) -> bool
 
 /// Whether the event may be given an answer of this form.
 pub fn can_answer(event: &Event, answer: &Answer) -> bool
-    ensures { result ≡ spec.may event.now answer.now }
+    ensures { result ≡ spec.may_answer event.now answer.now }
 {
     match event {
         Event::Init { .. } => init_row(answer),

@@ -25,7 +25,7 @@ use Rattle.cred_model.specs.Ptrace.{may_trace}
 use Rattle.cred_model.specs.State.{State, Task, Broadcast, Prepared, Changed, Numbered, credential_of, opener_of, numbered, task_of, cast_of, cast_in, begun_by, open_of, hold_of, prepared_of, held_by}
 use Rattle.cred_model.specs.Named.{change_files}
 use Rattle.cred_model.specs.Answers.{checked}
-use Rattle.cred_model.specs.Change.{Made, made_by_rule, made_by_exec, executed, by_change, by_rule}
+use Rattle.cred_model.specs.Change.{Made, made_by_rule, made_by_exec, made_by_execve, by_change, by_rule}
 use Rattle.cred_model.specs.Ends.{is_thread_of, ended}
 use Rattle.cred_model.specs.Casts.{others_of, with_cast, waits_no_more}
 use Rattle.cred_model.specs.Like.{IsLike, IsOutcomeLike}
@@ -61,7 +61,7 @@ executes_plainly : (r : Result Executed NoExec) → IsPlain (made_by_exec r)
 executes_plainly (Ok e) = λ list. list
 executes_plainly (Err why) = tt
 
-execs_plainly : (file : Option File) (chain : List ℕ) (base : Credential) → IsPlain (executed file chain base)
+execs_plainly : (file : Option File) (chain : List ℕ) (base : Credential) → IsPlain (made_by_execve file chain base)
 execs_plainly None chain base = tt
 execs_plainly (Some file) chain base = executes_plainly (exec base file chain)
 

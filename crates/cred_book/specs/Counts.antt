@@ -9,7 +9,7 @@ use Rattle.cred_model.specs.Script.{Script, Line}
 use Rattle.cred_model.specs.State.{State, opening}
 use Rattle.cred_model.specs.Step.{step}
 use Rattle.cred_model.specs.Journal.{due_in, lane_of, next_event}
-use Rattle.cred_tables.specs.Out.{waits_in}
+use Rattle.cred_tables.specs.Out.{needs_tokens}
 use Rattle.cred_book.specs.Book.{Recorded, out_of}
 use Rattle.cred_book.specs.declared.step.Step.{Step}
 use Rattle.cred_book.specs.declared.step.Step.TheVariants.{More, Ended}
@@ -40,7 +40,7 @@ abbrev pub tallied : Script → ℕ → Tally → Entry → Tally
 tallied script lane tally entry = record {
   state = (step script tally.state entry.line entry.event).1;
   decided = tally.decided
-      + count_of (is_of_lane script lane entry && waits_in tally.state entry.event);
+      + count_of (is_of_lane script lane entry && needs_tokens tally.state entry.event);
 }
 
 -- how many of the lane's entries were works'

@@ -4,7 +4,7 @@ ghost use Rattle.cred_ids.specs.Limits.{LINE_LIMIT};
 ghost use Rattle.cred_model.specs.Script.{SetupFirst};
 ghost use Rattle.cred_model.specs.State.{opening};
 ghost use Rattle.cred_script.specs.Lanes.{lanes};
-ghost use Rattle.cred_cursor.specs.Cursors.{AreCursors};
+ghost use Rattle.cred_cursor.specs.LaneCursors.{AreCursors};
 ghost use Rattle.cred_book.specs.Counts.{AreEnded};
 ghost use Rattle.cred_book.specs.Works.{AreNamedApart};
 

@@ -10,7 +10,7 @@ ghost use Rattle.cred_io.specs.Ends.{AppendsPrefix};
 ghost use Rattle.cred_report.specs.Text.{text};
 ghost use Rattle.cred_said.specs.Ends.{IsForText};
 ghost use Rattle.cred_said.specs.Leaves.{IsReading, IsWriting, LeavesReport, RunsBytes};
-ghost use Rattle.cred_commands.specs.Sequences.{AppendsSequence, BeginsSequence, HandsOver};
+ghost use Rattle.cred_commands.specs.Sequences.{AppendsSequence, WritesSequenceStart, HandsOver};
 
 use cred_event::Entry;
 use cred_grammar::{line_count, read};
@@ -70,7 +70,7 @@ fn write_lines<K: Sink>(
     ensures ok { OnOk result
         (AppendsSequence script.now (K.written sink.old) (K.written sink.new)) }
     ensures err { OnErr result
-        (BeginsSequence script.now (K.written sink.old) (K.written sink.new)) }
+        (WritesSequenceStart script.now (K.written sink.old) (K.written sink.new)) }
     ensures handed_on { OnOk result (K.handed_on sink.new ≡ true) }
     ensures cause { CountsFaults (result ≡ Err SinkRefusal.Failed)
         (K.faults sink.old) (K.faults sink.new) }
@@ -97,7 +97,7 @@ fn write_in_order<K: Sink>(alloc: Global, sink: &mut K, script: &Script) -> Resu
     ensures ok { OnOk result
         (AppendsSequence script.now (K.written sink.old) (K.written sink.new)) }
     ensures err { OnErr result
-        (BeginsSequence script.now (K.written sink.old) (K.written sink.new)) }
+        (WritesSequenceStart script.now (K.written sink.old) (K.written sink.new)) }
     ensures handed_on { OnOk result (K.handed_on sink.new ≡ true) }
     ensures cause { CountsFaults (result ≡ Err SinkRefusal.Failed)
         (K.faults sink.old) (K.faults sink.new) }
@@ -114,7 +114,7 @@ fn write_in_order<K: Sink>(alloc: Global, sink: &mut K, script: &Script) -> Resu
 fn report_in_order<K: Sink>(alloc: Global, sink: &mut K, script: &Script) -> Status
     ensures done { result ≡ Status.Done
         → AppendsSequence script.now (K.written sink.old) (K.written sink.new) }
-    ensures prefix { BeginsSequence script.now (K.written sink.old) (K.written sink.new) }
+    ensures prefix { WritesSequenceStart script.now (K.written sink.old) (K.written sink.new) }
     ensures only { IsForText result }
     ensures writing { IsWriting result (K.handed_on sink.new)
         (K.faults sink.old) (K.faults sink.new) }

@@ -36,7 +36,7 @@ use Rattle.cred_event.specs.declared.event.Query.{Query}
 use Rattle.cred_event.specs.declared.event.Query.TheVariants as query
 use Rattle.cred_event.specs.declared.event.Side.{Side}
 use Rattle.cred_model.specs.Answers.{is_ok, flag, checked, reply}
-use Rattle.cred_model.specs.Change.{Made, by_rule, made_by_rule, executed, made_by_exec, by_change}
+use Rattle.cred_model.specs.Change.{Made, by_rule, made_by_rule, made_by_execve, made_by_exec, by_change}
 use Rattle.cred_model.specs.Casts.{others_of, with_cast, waits_no_more}
 use Rattle.cred_model.specs.Dumpable.{differs, renewed, set_flag, flags_begun, flags_committed}
 use Rattle.cred_model.specs.Ends.{ended, is_thread_of}
@@ -193,7 +193,7 @@ by_exec (Err MayNotExecute) = refl
 by_exec (Err SpellsNothing) = refl
 by_exec (Err GivesTooLittle) = refl
 
-of_executed : (file : Option File) (chain : List ℕ) (c : Credential) → IsOfRow rows.exec_row (executed file chain c)
+of_executed : (file : Option File) (chain : List ℕ) (c : Credential) → IsOfRow rows.exec_row (made_by_execve file chain c)
 of_executed None chain c = refl
 of_executed (Some file) chain c = by_exec (exec c file chain)
 

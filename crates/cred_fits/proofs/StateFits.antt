@@ -25,13 +25,13 @@ use Rattle.cred_event.specs.declared.event.Query.{Query}
 use Rattle.cred_event.specs.declared.event.Query.TheVariants as query
 use Rattle.cred_event.specs.declared.event.Side.{Side}
 use Rattle.cred_model.specs.Answers.{flag, checked, reply}
-use Rattle.cred_model.specs.Casts.{waits_no_more, joined, with_child, without, dropped, is_open, waits_in}
+use Rattle.cred_model.specs.Casts.{waits_no_more, joined, with_child, without_waiter, dropped, is_open, waits_in}
 use Rattle.cred_model.specs.Change.{Made, by_rule}
 use Rattle.cred_model.specs.Dumpable.{flags_begun, flags_committed, flag_of_value}
 use Rattle.cred_model.specs.Ends.{ended, survivors}
 use Rattle.cred_model.specs.Moves.{◌>>=◌, table_full, first_task, created, preparing, altered}
 use Rattle.cred_model.specs.Moves.{committed, given_up, with_current, updated, with_overrides}
-use Rattle.cred_model.specs.Moves.{overriding, with_change, changed}
+use Rattle.cred_model.specs.Moves.{overriding, with_change, relabelled}
 use Rattle.cred_model.specs.Named.{query_files, change_files}
 use Rattle.cred_model.specs.Script.{Script, chain_of}
 use Rattle.cred_model.specs.Slots.{refs}
@@ -82,12 +82,12 @@ survivors_fit ends tasks all = All-passed (λ t. not (ends t)) FitsTask FitsTask
 pub dropped_fit : (process : ℕ) (casts : List Broadcast) → All FitsCast casts → All FitsCast (dropped process casts)
 dropped_fit process casts all = All-passed (λ (cast : Broadcast). not (cast.process == process)) FitsCast FitsCast casts (λ b test h. h) all
 
-without_fits : (task : ℕ) (cast : Broadcast) → FitsCast cast → FitsCast (without task cast)
+without_fits : (task : ℕ) (cast : Broadcast) → FitsCast cast → FitsCast (without_waiter task cast)
 without_fits task cast fits = (fits.0, fits.1, All-passed (λ n. not (n == task)) IsNumber IsNumber cast.waiting (λ n test h. h) fits.2)
 
 pub left_fit : (task : ℕ) (casts : List Broadcast) → All FitsCast casts → All FitsCast (waits_no_more task casts)
 left_fit task casts all =
-    All-passed is_open FitsCast FitsCast _ (λ b test h. h) (All-kept FitsCast (without task) casts (without_fits task) all)
+    All-passed is_open FitsCast FitsCast _ (λ b test h. h) (All-kept FitsCast (without_waiter task) casts (without_fits task) all)
 
 child_fits : (parent child : ℕ) (cast : Broadcast) → IsNumber child → FitsCast cast → FitsCast (with_child parent child cast)
 child_fits parent child cast small fits = by (waits_in parent cast)
@@ -233,7 +233,7 @@ of_prepare s label task hold known fits =
 
 changed_fits : (s : State) (label : ℕ) (to : Changed) → IsInRange s → FitsChanged to → All FitsPrepared (with_change s.prepared label to)
 changed_fits s label to range fits =
-    All-kept FitsPrepared (changed label to) s.prepared (λ p h. changed_as FitsPrepared label to p (λ test. (h.0, h.1, fits)) h) range.prepared
+    All-kept FitsPrepared (relabelled label to) s.prepared (λ p h. changed_as FitsPrepared label to p (λ test. (h.0, h.1, fits)) h) range.prepared
 
 of_altered : (s : State) (label : ℕ) (to : Change) (r : Result Made Answer) → IsKnown s → FitsMade r
     → Gives s (r >>= λ made. Ok (made.answer, altered s label (record { change = to; cred = made.cred; gains = made.gains })))
@@ -322,7 +322,7 @@ sealed_below s n known has =
 
 tried : (s : State) (task place : ℕ) (p : Prepared) (owner : Task) (last : Changed) → IsKnown s → slice_get s.prepared place ≡ Some p
     → task_of s task ≡ Some owner → FitsChanged last → Good (try_commit s place p owner last)
-tried s task place p owner last known at found changed =
+tried s task place p owner last known at found relabelled =
     let range = known.range in
     let fits = prepared_at s place p range at in
     let ends = ends_with last.change owner in
@@ -330,10 +330,10 @@ tried s task place p owner last known at found changed =
     (commit_answer last (length s.creds) p.slot (count_by ends s.tasks), record (casts_after last.change owner (committed (ended ends s) place p owner.current last.cred)) { dumpable = flags_committed s owner last })
     (answer.Stale p.base owner.current, given_up s place p))) [
       | true ↦ (
-        commit_fits last.change last.gains (length s.creds) p.slot (count_by ends s.tasks) changed.1 known.creds (slot_number p.slot fits.1)
+        commit_fits last.change last.gains (length s.creds) p.slot (count_by ends s.tasks) relabelled.1 known.creds (slot_number p.slot fits.1)
             (let few = known.tasks in omega (arith, few, count_by-le-length ends s.tasks)),
         casts_after_fit last.change owner (committed (ended ends s) place p owner.current last.cred) (record {
-          creds = with_cred s.creds last.cred p.slot range.creds changed.0 fits.1;
+          creds = with_cred s.creds last.cred p.slot range.creds relabelled.0 fits.1;
           tasks = current_fits (survivors ends s.tasks) p.task (length s.creds) (survivors_fit ends s.tasks range.tasks);
           casts = range.casts;
           prepared = All-remove FitsPrepared s.prepared place range.prepared;

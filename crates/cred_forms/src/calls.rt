@@ -99,7 +99,7 @@ fn other_of(
         (spec.other_of files.now task name (nows words.now)) }
 {
     match name {
-        OtherName::Open => Ok(open_of(files, task, words)?),
+        OtherName::Open => Ok(open_call(files, task, words)?),
         OtherName::Close => {
             let fd = one::<Descriptor>(words)?;
             Ok(Content::One(Event::CloseFile { fd }))
@@ -188,9 +188,9 @@ fn raw_of(alloc: Global, task: u32, words: &[&[u8]]) -> Result<Content, LineRefu
 }
 
 /// `open NAME WANT F`
-#[tactic(auto, unfolding(crate::specs::Calls::open_of))]
-fn open_of(files: &Files, task: u32, words: &[&[u8]]) -> Result<Content, Reason>
-    ensures { Says (λ made. made) result (spec.open_of files.now task (nows words.now)) }
+#[tactic(auto, unfolding(crate::specs::Calls::open_call))]
+fn open_call(files: &Files, task: u32, words: &[&[u8]]) -> Result<Content, Reason>
+    ensures { Says (λ made. made) result (spec.open_call files.now task (nows words.now)) }
 {
     match words {
         [name, want, fd] => {

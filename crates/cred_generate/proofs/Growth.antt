@@ -32,7 +32,7 @@ use Rattle.cred_event.specs.declared.event.Query.TheVariants as query
 use Rattle.cred_event.specs.declared.event.Side.{Side}
 use Rattle.cred_model.specs.Answers.{is_ok, refusal, flag, checked, reply}
 use Rattle.cred_model.specs.Casts.{others_of, with_cast, waits_no_more}
-use Rattle.cred_model.specs.Change.{Made, by_rule, made_by_rule, executed, made_by_exec, by_change}
+use Rattle.cred_model.specs.Change.{Made, by_rule, made_by_rule, made_by_execve, made_by_exec, by_change}
 use Rattle.cred_model.specs.Dumpable.{differs, renewed, flags_begun, flags_committed, flag_of_value}
 use Rattle.cred_model.specs.Ends.{ended, is_thread_of}
 use Rattle.cred_model.specs.Moves.{◌>>=◌, in_slot, table_full, first_task, created, replaced}
@@ -44,7 +44,7 @@ use Rattle.cred_model.specs.State.{State, SealedCred, Task, Numbered, Prepared, 
 use Rattle.cred_model.specs.Step.{done, outcome, by_init, take_hold, by_take, by_take_file, by_release, by_ask, by_signal, by_prepare, by_alter, for_task, try_commit, ends_with, casts_after, committed_by, commit_answer, by_commit, by_abort, for_access, override_held, override_prepared, by_override, by_revert, by_begin, aborted, follow, by_act, by_open, by_close, by_spawn, by_fork, by_exit, by_dumpable, by_dumped, by_ptrace, by_file, by_stat, by_raw}
 use Rattle.cred_model.proofs.Numbers.{numbered_is, sealed_cred_of}
 use Rattle.cred_laws.proofs.Cases.{some_case, none_case, test_case, own_case, idle_case, rule_case}
-use Rattle.cred_generate.specs.Sealed.{named, count_with}
+use Rattle.cred_generate.specs.Sealed.{number_named, count_with}
 
 -- what an event makes of the number of sealed credentials
 abbrev Counts : State → Answer × State → Type 0
@@ -81,7 +81,7 @@ next_of : (s : State) (creds : List SealedCred) (new : SealedCred) → creds ≡
 next_of s creds new is = rw (is, same (length s.creds)) (length_push s.creds new)
 
 -- an answer that names none
-silent : (count : ℕ) (a : Answer) → named a ≡ None → count ≡ count_with count a
+silent : (count : ℕ) (a : Answer) → number_named a ≡ None → count ≡ count_with count a
 silent count a none = rw none refl
 
 silent_refusal : (s : State) (denial : Denial) → Tells s (Err (refusal denial))
@@ -143,19 +143,19 @@ of_release s label =
     some_case (Tells s) (position (λ h. h.label == label) s.holds) _ _ refl (λ place at.
     some_case (Tells s) (slice_get s.holds place) _ _ refl (λ hold is. refl))
 
-of_flag : (found : Option Bool) → named (flag found) ≡ None
+of_flag : (found : Option Bool) → number_named (flag found) ≡ None
 of_flag None = refl
 of_flag (Some is) = refl
 
-of_check : (c : Credential) (file : Option File) (asked : Want) → named (checked c file asked) ≡ None
+of_check : (c : Credential) (file : Option File) (asked : Want) → number_named (checked c file asked) ≡ None
 of_check c None asked = refl
 of_check c (Some file) asked =
-    elim (may c file asked) as (λ b. named (cond b answer.Done answer.Eacces) ≡ None) [
+    elim (may c file asked) as (λ b. number_named (cond b answer.Done answer.Eacces) ≡ None) [
       | true ↦ refl
       | false ↦ refl
     ]
 
-of_reply : (file : Option File) (c : Credential) (q : Query) → named (reply file c q) ≡ None
+of_reply : (file : Option File) (c : Credential) (q : Query) → number_named (reply file c q) ≡ None
 of_reply file c query.Ids = refl
 of_reply file c query.Caps = refl
 of_reply file c query.Groups = refl
@@ -195,8 +195,8 @@ of_prepare s label task hold =
 
 -- a change is answered without a credential's number
 abbrev IsSilent : Result Made Answer → Type 0
-IsSilent (Ok made) = named made.answer ≡ None
-IsSilent (Err refused) = named refused ≡ None
+IsSilent (Ok made) = number_named made.answer ≡ None
+IsSilent (Err refused) = number_named refused ≡ None
 
 by_rule_silent : (r : Result Credential Denial) → IsSilent (made_by_rule r)
 by_rule_silent (Ok c) = refl
@@ -209,7 +209,7 @@ by_exec_silent (Err MayNotExecute) = refl
 by_exec_silent (Err SpellsNothing) = refl
 by_exec_silent (Err GivesTooLittle) = refl
 
-executed_silent : (file : Option File) (chain : List ℕ) (c : Credential) → IsSilent (executed file chain c)
+executed_silent : (file : Option File) (chain : List ℕ) (c : Credential) → IsSilent (made_by_execve file chain c)
 executed_silent None chain c = refl
 executed_silent (Some file) chain c = by_exec_silent (exec c file chain)
 

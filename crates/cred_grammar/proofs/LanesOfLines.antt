@@ -13,19 +13,19 @@ use Rattle.cred_names.specs.Labels.{labels}
 use Rattle.cred_names.specs.Owners.{Lanes, Owners, KeepsLanes, KeepsOwners, HasAll, owner_of, are_free, may_name, naming}
 use Rattle.cred_script.specs.Lanes.{lanes}
 use Rattle.cred_grammar.specs.Reading.{Reading, next_line, used_by}
-use Rattle.cred_script.specs.Sound.{IsSound, AreApart, ShareNone}
-use Rattle.cred_grammar.specs.Sound.{IsNext, IsStart, IsHeld, IsOwned, IsReading}
+use Rattle.cred_script.specs.Sound.{IsSoundLine, AreApart, ShareNone}
+use Rattle.cred_grammar.specs.Sound.{IsNextLine, IsStart, IsTaskLine, IsOwned, AreLinesRead}
 use Rattle.cred_names.proofs.OwnedNumbers.{has_all}
 
 -- a sound line more
 pub pushed : (reading : Reading) (lines : List Line) (content : Content) → lines ≡ reading.lines ++ next_line reading content ∷ [] → length reading.lines < 20000
-    → IsReading (length reading.files) reading.namespaces reading.lanes reading.lines → IsNext reading content
-    → IsReading (length reading.files) reading.namespaces reading.lanes lines
+    → AreLinesRead (length reading.files) reading.namespaces reading.lanes reading.lines → IsNextLine reading content
+    → AreLinesRead (length reading.files) reading.namespaces reading.lanes lines
 pushed reading lines content lines_are room old next =
     let line = next_line reading content in
     rw lines_are (record {
       few = rw (length-append reading.lines (line ∷ [])) (omega arith);
-      each = All-push (IsSound (length reading.files) reading.namespaces) reading.lines line old.each (record { lane = old.lane; labels = next.labels; content = next.named; fixed = next.fixed });
+      each = All-push (IsSoundLine (length reading.files) reading.namespaces) reading.lines line old.each (record { lane = old.lane; labels = next.labels; content = next.named; fixed = next.fixed });
       lane = old.lane;
       setup = λ zero. All-push (λ l. l.lane ≡ 0) reading.lines line (old.setup zero) zero;
       first = all_pairs_push SetupBefore reading.lines line old.first (λ k d lt zero. old.setup zero k d lt);
@@ -34,7 +34,7 @@ pushed reading lines content lines_are room old next =
 
 -- a lane that is opened, which is not the setup
 pub opened : (count : ℕ) (declared : List Namespace) (lanes : Lanes) (lines : List Line) (number : ℕ) → 1 ≤ number → number ≤ 16
-    → IsReading count declared lanes lines → IsReading count declared (record lanes { current = number }) lines
+    → AreLinesRead count declared lanes lines → AreLinesRead count declared (record lanes { current = number }) lines
 opened count declared lanes lines number low high old = record {
   few = old.few;
   each = old.each;
@@ -49,8 +49,8 @@ all_kept : (old new : Owners) (lane : ℕ) (numbers : List ℕ) → KeepsOwners 
 all_kept old new lane numbers keeps has =
     All-weaker (λ n. owner_of old n ≡ Some lane) (λ n. owner_of new n ≡ Some lane) (λ n is. keeps n lane is) numbers has
 
-pub owned_still : (count : ℕ) (declared : List Namespace) (old new : Lanes) (lines : List Line) → KeepsLanes old new → IsReading count declared old lines
-    → IsReading count declared new lines
+pub owned_still : (count : ℕ) (declared : List Namespace) (old new : Lanes) (lines : List Line) → KeepsLanes old new → AreLinesRead count declared old lines
+    → AreLinesRead count declared new lines
 owned_still count declared old new lines keeps sound = record {
   few = sound.few;
   each = sound.each;
@@ -99,7 +99,7 @@ in_setup lanes b may changes =
     first_of_or false is = cc
 
 -- a line that may stand is sound as the next one
-pub held_next : (reading : Reading) (by : Option ℕ) (content : Content) → IsHeld reading by content → IsNext (used_by reading by content) content
+pub held_next : (reading : Reading) (by : Option ℕ) (content : Content) → IsTaskLine reading by content → IsNextLine (used_by reading by content) content
 held_next reading by content held = record {
   labels = held.labels;
   named = held.named;
@@ -110,7 +110,7 @@ held_next reading by content held = record {
       rw same (acting (λ n. owner_of (naming reading.lanes by content).tasks n ≡ Some reading.lanes.current) (actor content) by held.actor has.0, has.1);
 }
 
-pub start_next : (reading : Reading) (content : Content) → IsStart reading content → IsNext reading content
+pub start_next : (reading : Reading) (content : Content) → IsStart reading content → IsNextLine reading content
 start_next reading content start = record {
   labels = rw start.labels (All-nil _);
   named = start.named;

@@ -32,28 +32,28 @@ use Rattle.cred_spelling.specs.declared.reason.Reason.TheVariants as reason
 use Rattle.cred_spelling.specs.Names.{id_name, altered_name, call_name}
 use Rattle.cred_spelling.specs.Spellings as spelling
 use Rattle.cred_spelling.specs.Spellings.{arg_of, bytes_of, octal_of}
-use Rattle.cred_spelling.specs.Spellings.{letter, number_of, within, id_of, cap_of, label_of}
-use Rattle.cred_spelling.specs.Spellings.{task_of, process_of, descriptor_of, line_number_of}
+use Rattle.cred_spelling.specs.Spellings.{letter, number_of, within, id_of, cap_of, spelled_label}
+use Rattle.cred_spelling.specs.Spellings.{spelled_task, spelled_process, descriptor_of, line_number_of}
 use Rattle.cred_spelling.specs.Spellings.{lane_number_of, namespace_of, new_namespace_of, parent_of}
 use Rattle.cred_spelling.specs.Words.{◌>>=◌, word_of, no_words, one_of, two_of, three_of, five_of}
 use Rattle.cred_forms.specs.declared.forms.Parsed.{Parsed}
 use Rattle.cred_forms.specs.declared.forms.Parsed.TheVariants.{Empty, File, Starts, Lane, Holds}
 use Rattle.cred_forms.specs.declared.forms.Parsed.TheVariants as parsed
 use Rattle.cred_forms.specs.Changes.{change_of}
-use Rattle.cred_script.specs.Files.{place_of}
+use Rattle.cred_script.specs.Files.{file_place}
 use Rattle.cred_forms.specs.Files.{has_room, file_at, file_of}
 use Rattle.cred_forms.specs.FileCalls.{chown_of, chmod_of, set_attr_of, file_alone, file_call_of}
 use Rattle.cred_forms.specs.Records.{record_of}
 use Rattle.cred_forms.specs.IdCalls.{id_call_of}
-use Rattle.cred_forms.specs.Modes.{mode_of}
+use Rattle.cred_forms.specs.Modes.{look_mode}
 use Rattle.cred_forms.specs.Questions.{query_of, query_named, file_and_want}
-use Rattle.cred_forms.specs.Calls.{open_of, capset_raw_of, raw_of, other_of, call_of, content_of}
+use Rattle.cred_forms.specs.Calls.{open_call, capset_raw_of, raw_of, other_of, call_of, content_of}
 use Rattle.cred_forms.specs.Forms.{take_of, take_file_of, ask_of, alter_of, override_of, begin_of, event_of, parse_form}
 use Rattle.cred_script.specs.Acting.{event_actor, actor}
 use Rattle.cred_names.specs.Labels.{event_labels, labels}
 use Rattle.cred_names.specs.Owners.{may_name}
-use Rattle.cred_grammar.specs.Reading.{Reading, may_change, has_namespaces, has_files, uses_declared, has_names, names_declared, is_apart, in_order, admits}
-use Rattle.cred_grammar.specs.Sound.{IsHeld, IsOwn, IsParsed}
+use Rattle.cred_grammar.specs.Reading.{Reading, may_change, has_namespaces, has_files, uses_declared, has_names, names_declared, is_apart, in_its_place, admits}
+use Rattle.cred_grammar.specs.Sound.{IsTaskLine, IsOwnLine, IsParsed}
 
 -- ---- what holds of a value, if there is one, through the steps that lead to it
 
@@ -101,7 +101,7 @@ small false least most o = tt
 small true least most None = tt
 small true least most (Some n) = at_most (nat_le least n) (nat_le n most) n most refl
 
-label_small : (word : List ℕ) → IfSome (label_of word) IsLabel
+label_small : (word : List ℕ) → IfSome (spelled_label word) IsLabel
 label_small [] = tt
 label_small (first ∷ digits) = small (first == letter (codes "h")) 1 LAST_NUMBER (number_of digits)
 
@@ -109,16 +109,16 @@ spelled_good : {A : Type 0} (P : A → Type 0) (o : Option A) → IfSome o P →
 spelled_good P None holds = record { is = tt }
 spelled_good P (Some x) holds = record { is = holds }
 
-label_good : (word : List ℕ) → Good IsLabel (word_of label_of word)
-label_good word = spelled_good IsLabel (label_of word) (label_small word)
+label_good : (word : List ℕ) → Good IsLabel (word_of spelled_label word)
+label_good word = spelled_good IsLabel (spelled_label word) (label_small word)
 
-one_label : (words : List (List ℕ)) → Good IsLabel (one_of label_of words)
+one_label : (words : List (List ℕ)) → Good IsLabel (one_of spelled_label words)
 one_label [] = record { is = tt }
 one_label (a ∷ []) = label_good a
 one_label (a ∷ b ∷ words) = record { is = tt }
 
 -- a label and another word
-label_first : {B : Type 0} (also : List ℕ → Option B) (words : List (List ℕ)) → Good (λ word. IsLabel word.0) (two_of label_of also words)
+label_first : {B : Type 0} (also : List ℕ → Option B) (words : List (List ℕ)) → Good (λ word. IsLabel word.0) (two_of spelled_label also words)
 unfolding two_of
 label_first also [] = record { is = tt }
 label_first also (a ∷ []) = record { is = tt }
@@ -126,7 +126,7 @@ label_first also (a ∷ b ∷ []) = after IsLabel _ _ _ (label_good a) (λ label
 label_first also (a ∷ b ∷ c ∷ words) = record { is = tt }
 
 -- another word and a label
-label_second : {A : Type 0} (also : List ℕ → Option A) (words : List (List ℕ)) → Good (λ word. IsLabel word.1) (two_of also label_of words)
+label_second : {A : Type 0} (also : List ℕ → Option A) (words : List (List ℕ)) → Good (λ word. IsLabel word.1) (two_of also spelled_label words)
 unfolding two_of
 label_second also [] = record { is = tt }
 label_second also (a ∷ []) = record { is = tt }
@@ -134,7 +134,7 @@ label_second also (a ∷ b ∷ []) = skip _ (word_of also a) _ (λ x. after IsLa
 label_second also (a ∷ b ∷ c ∷ words) = record { is = tt }
 
 -- a label, another word, and a label
-label_first_and_last : {B : Type 0} (also : List ℕ → Option B) (words : List (List ℕ)) → Good (λ word. IsLabel word.0 × IsLabel word.2) (three_of label_of also label_of words)
+label_first_and_last : {B : Type 0} (also : List ℕ → Option B) (words : List (List ℕ)) → Good (λ word. IsLabel word.0 × IsLabel word.2) (three_of spelled_label also spelled_label words)
 unfolding three_of
 label_first_and_last also [] = record { is = tt }
 label_first_and_last also (a ∷ []) = record { is = tt }
@@ -163,7 +163,7 @@ of_label event label labels_are modes_are fits = record { is = (rw labels_are (o
 
 own_take : (side : Side) (words : List (List ℕ)) → Good OwnEvent (take_of side words)
 unfolding take_of
-own_take side words = after (λ word. IsLabel word.0) OwnEvent _ _ (label_first task_of words) (λ word fits. of_label _ word.0 refl refl fits)
+own_take side words = after (λ word. IsLabel word.0) OwnEvent _ _ (label_first spelled_task words) (λ word fits. of_label _ word.0 refl refl fits)
 
 own_take_file : (words : List (List ℕ)) → Good OwnEvent (take_file_of words)
 unfolding take_file_of
@@ -186,14 +186,14 @@ own_alter files (prepared ∷ changed ∷ words) =
 
 own_override : (words : List (List ℕ)) → Good OwnEvent (override_of words)
 unfolding override_of
-own_override words = after (λ word. IsLabel word.1) OwnEvent _ _ (label_second task_of words) (λ word fits. of_label _ word.1 refl refl fits)
+own_override words = after (λ word. IsLabel word.1) OwnEvent _ _ (label_second spelled_task words) (λ word fits. of_label _ word.1 refl refl fits)
 
 own_begin : (words : List (List ℕ)) → Good OwnEvent (begin_of words)
 unfolding begin_of
 own_begin [] = record { is = tt }
 own_begin (caller ∷ []) = record { is = tt }
 own_begin (caller ∷ called ∷ words) =
-    skip OwnEvent (ok_or (id_name called) Word) _ (λ kind. skip OwnEvent (id_call_of kind words) _ (λ made. skip OwnEvent (word_of task_of caller) _ (λ task. record { is = (none, no_modes) })))
+    skip OwnEvent (ok_or (id_name called) Word) _ (λ kind. skip OwnEvent (id_call_of kind words) _ (λ made. skip OwnEvent (word_of spelled_task caller) _ (λ task. record { is = (none, no_modes) })))
 
 own_event : (files : List NamedFile) (event : EventName) (words : List (List ℕ)) → Good OwnEvent (event_of files event words)
 unfolding event_of
@@ -203,13 +203,13 @@ own_event files name.TakeFile words = own_take_file words
 own_event files name.Release words = after IsLabel OwnEvent _ _ (one_label words) (λ label fits. of_label _ label refl refl fits)
 own_event files name.Ask words = own_ask files words
 own_event files name.Prepare words =
-    after (λ word. IsLabel word.0 × IsLabel word.2) OwnEvent _ _ (label_first_and_last task_of words)
+    after (λ word. IsLabel word.0 × IsLabel word.2) OwnEvent _ _ (label_first_and_last spelled_task words)
     (λ word fits. record { is = (All-cons IsLabel word.0 (word.2 ∷ []) fits.0 (one word.2 fits.1), no_modes) })
 own_event files name.Alter words = own_alter files words
 own_event files name.Commit words = after IsLabel OwnEvent _ _ (one_label words) (λ label fits. of_label _ label refl refl fits)
 own_event files name.Abort words = after IsLabel OwnEvent _ _ (one_label words) (λ label fits. of_label _ label refl refl fits)
 own_event files name.Override words = own_override words
-own_event files name.Revert words = skip OwnEvent (one_of task_of words) _ (λ task. record { is = (none, no_modes) })
+own_event files name.Revert words = skip OwnEvent (one_of spelled_task words) _ (λ task. record { is = (none, no_modes) })
 own_event files name.Begin words = own_begin words
 own_event files name.Act words = skip OwnEvent (one_of line_number_of words) _ (λ line. record { is = (none, no_modes) })
 own_event files name.Sweep words = skip OwnEvent (no_words words) _ (λ end. record { is = (none, no_modes) })
@@ -245,8 +245,8 @@ mode_good (a ∷ b ∷ c ∷ []) = record { is = tt }
 mode_good (a ∷ b ∷ c ∷ d ∷ []) = spelled_good (λ mode. IsMode mode) _ (mode_small _ _ _ _ (octal_digit a) (octal_digit b) (octal_digit c) (octal_digit d))
 mode_good (a ∷ b ∷ c ∷ d ∷ e ∷ word) = record { is = tt }
 
-own_open : (files : List NamedFile) (task : ℕ) (words : List (List ℕ)) → Good (OwnContent (Some task)) (open_of files task words)
-unfolding open_of
+own_open : (files : List NamedFile) (task : ℕ) (words : List (List ℕ)) → Good (OwnContent (Some task)) (open_call files task words)
+unfolding open_call
 own_open files task [] = record { is = tt }
 own_open files task (name ∷ []) = record { is = tt }
 own_open files task (name ∷ want ∷ []) = record { is = tt }
@@ -270,13 +270,13 @@ own_other files task other.Open words = own_open files task words
 own_other files task other.Close words = skip (OwnContent (Some task)) (one_of descriptor_of words) _ (λ fd. record { is = (none, tt, no_modes) })
 own_other files task other.Fcap words = skip (OwnContent (Some task)) (two_of descriptor_of cap_of words) _ (λ word. record { is = (none, refl, no_modes) })
 own_other files task other.Access words = skip (OwnContent (Some task)) (file_and_want files words) _ (λ asked. record { is = (none, refl, no_modes) })
-own_other files task other.Signal words = skip (OwnContent (Some task)) (one_of task_of words) _ (λ to. record { is = (none, refl, no_modes) })
-own_other files task other.Spawn words = skip (OwnContent (Some task)) (one_of task_of words) _ (λ child. record { is = (none, refl, no_modes) })
-own_other files task other.Fork words = skip (OwnContent (Some task)) (two_of task_of process_of words) _ (λ word. record { is = (none, refl, no_modes) })
+own_other files task other.Signal words = skip (OwnContent (Some task)) (one_of spelled_task words) _ (λ to. record { is = (none, refl, no_modes) })
+own_other files task other.Spawn words = skip (OwnContent (Some task)) (one_of spelled_task words) _ (λ child. record { is = (none, refl, no_modes) })
+own_other files task other.Fork words = skip (OwnContent (Some task)) (two_of spelled_task spelled_process words) _ (λ word. record { is = (none, refl, no_modes) })
 own_other files task other.Exit words = skip (OwnContent (Some task)) (no_words words) _ (λ end. record { is = (none, refl, no_modes) })
 own_other files task other.Dumpable words = skip (OwnContent (Some task)) (one_of number_of words) _ (λ value. record { is = (none, refl, no_modes) })
 own_other files task other.Dumped words = skip (OwnContent (Some task)) (no_words words) _ (λ end. record { is = (none, refl, no_modes) })
-own_other files task other.Ptrace words = skip (OwnContent (Some task)) (two_of mode_of task_of words) _ (λ word. record { is = (none, refl, no_modes) })
+own_other files task other.Ptrace words = skip (OwnContent (Some task)) (two_of look_mode spelled_task words) _ (λ word. record { is = (none, refl, no_modes) })
 own_other files task other.CapsetRaw words = own_capset_raw task words
 own_other files task other.Raw words = own_raw task words
 
@@ -346,7 +346,7 @@ itself (Some task) = refl
 
 own_form : (declared : List NamedFile) (named : Form) (words : List (List ℕ)) → Good (OwnLine declared) (parse_form declared named words)
 unfolding parse_form
-own_form declared form.Init words = skip _ (five_of task_of process_of id_of id_of namespace_of words) _ (λ word. record { is = (refl, refl, refl, no_modes) })
+own_form declared form.Init words = skip _ (five_of spelled_task spelled_process id_of id_of namespace_of words) _ (λ word. record { is = (refl, refl, refl, no_modes) })
 own_form declared form.File words = after _ _ _ _ (own_file declared words) (λ file few. record { is = few })
 own_form declared form.Namespace words = skip _ (three_of new_namespace_of id_of parent_of words) _ (λ word. record { is = tt })
 own_form declared form.Lane words = after _ _ _ _ (one_lane words) (λ number range. record { is = range })
@@ -382,7 +382,7 @@ declares reading content h fit =
 
 parsed_line : (reading : Reading) (line : Parsed) → OwnLine reading.files line → (has_names reading line ≡ true) × (is_apart reading line ≡ true) → IsParsed reading line
 parsed_line reading Empty own tests = tt
-parsed_line reading (File file) own tests = (own, no_place (place_of reading.files file.name) tests.0)
+parsed_line reading (File file) own tests = (own, no_place (file_place reading.files file.name) tests.0)
 parsed_line reading (parsed.Namespace number root parent) own tests = (both (is_some (chain_in reading.namespaces parent)) _ tests.0).0
 parsed_line reading (Starts content) own tests = record { labels = own.0; actor = own.1; changes = own.2; named = declares reading content tests.0 own.3 }
 parsed_line reading (Lane number) own tests = own
@@ -392,7 +392,7 @@ parsed_line reading (Holds by content) own tests =
 
 admitted : (reading : Reading) (line : Parsed) → Good (λ _. (has_names reading line ≡ true) × (is_apart reading line ≡ true)) (admits reading line)
 admitted reading line =
-    skip _ (in_order reading line) _ (λ order. after _ _ (names_declared reading line) _ (tested (has_names reading line) Name)
+    skip _ (in_its_place reading line) _ (λ order. after _ _ (names_declared reading line) _ (tested (has_names reading line) Name)
     (λ end names. and_tested (has_names reading line ≡ true) names (is_apart reading line) reason.Lane))
 
 admitted_is : (reading : Reading) (line : Parsed) → admits reading line ≡ Ok tt → (has_names reading line ≡ true) × (is_apart reading line ≡ true)
@@ -400,15 +400,15 @@ admitted_is reading line fits =
     subst (λ (r : Result (Unit {0}) Reason). IfOk r (λ _. (has_names reading line ≡ true) × (is_apart reading line ≡ true))) fits (admitted reading line).is
 
 -- what a call of the task holds, whatever is declared
-pub call_own : (declared : List NamedFile) (task : ℕ) (words : List (List ℕ)) (content : Content) → content_of declared task words ≡ Ok content → IsOwn (Some task) content
+pub call_own : (declared : List NamedFile) (task : ℕ) (words : List (List ℕ)) (content : Content) → content_of declared task words ≡ Ok content → IsOwnLine (Some task) content
 call_own declared task words content is = subst (λ (r : Result Content Reason). IfOk r (OwnContent (Some task))) is (own_content declared task words).is
 
-pub event_own : (declared : List NamedFile) (named : EventName) (words : List (List ℕ)) (event : Event) → event_of declared named words ≡ Ok event → IsOwn (event_actor event) (One event)
+pub event_own : (declared : List NamedFile) (named : EventName) (words : List (List ℕ)) (event : Event) → event_of declared named words ≡ Ok event → IsOwnLine (event_actor event) (One event)
 event_own declared named words event is =
     let own = subst (λ (r : Result Event Reason). IfOk r OwnEvent) is (own_event declared named words).is in (own.0, itself (event_actor event), own.1)
 
 -- what may stand after what was read is sound
-pub held : (reading : Reading) (by : Option ℕ) (content : Content) → IsOwn by content → admits reading (Holds by content) ≡ Ok tt → IsHeld reading by content
+pub held : (reading : Reading) (by : Option ℕ) (content : Content) → IsOwnLine by content → admits reading (Holds by content) ≡ Ok tt → IsTaskLine reading by content
 held reading by content own fits = parsed_line reading (Holds by content) own (admitted_is reading (Holds by content) fits)
 
 pub form_sound : (reading : Reading) (named : Form) (words : List (List ℕ)) (line : Parsed) → parse_form reading.files named words ≡ Ok line → admits reading line ≡ Ok tt → IsParsed reading line

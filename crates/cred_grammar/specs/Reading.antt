@@ -15,7 +15,7 @@ use Rattle.cred_spelling.specs.Words.{◌>>=◌}
 use Rattle.cred_forms.specs.declared.forms.Parsed.{Parsed}
 use Rattle.cred_forms.specs.declared.forms.Parsed.TheVariants.{Empty, File, Starts, Lane, Holds}
 use Rattle.cred_forms.specs.declared.forms.Parsed.TheVariants as parsed
-use Rattle.cred_script.specs.Files.{place_of}
+use Rattle.cred_script.specs.Files.{file_place}
 use Rattle.cred_names.specs.Owners.{Lanes, no_lanes, may_name, naming}
 use Rattle.cred_names.specs.Namespaces.{with_namespace}
 
@@ -54,8 +54,8 @@ is_declaration (Starts content) = true
 is_declaration other = false
 
 -- no declaration stands after a call, an event or a lane line
-abbrev pub in_order : Reading → Parsed → Result (Unit {0}) Reason
-in_order reading line = if is_declaration line && reading.is_used then Err Order else Ok tt
+abbrev pub in_its_place : Reading → Parsed → Result (Unit {0}) Reason
+in_its_place reading line = if is_declaration line && reading.is_used then Err Order else Ok tt
 
 -- Each namespace that the line names is the initial one, or one of those that are declared.
 abbrev pub has_namespaces : List Namespace → Content → Bool
@@ -75,7 +75,7 @@ uses_declared reading content =
 -- the names that the line uses are declared, and the one that it declares is not
 abbrev pub has_names : Reading → Parsed → Bool
 has_names reading Empty = true
-has_names reading (File file) = not (is_some (place_of reading.files file.name))
+has_names reading (File file) = not (is_some (file_place reading.files file.name))
 has_names reading (parsed.Namespace number root parent) =
     is_some (chain_in reading.namespaces parent)
     && not (is_some (chain_in reading.namespaces number))
@@ -103,7 +103,7 @@ lanes_apart reading line = if is_apart reading line then Ok tt else Err reason.L
 -- what a line may be after what was read: first the order, then the names, then the lanes
 abbrev pub admits : Reading → Parsed → Result (Unit {0}) Reason
 admits reading line = do
-  order ← in_order reading line
+  order ← in_its_place reading line
   names ← names_declared reading line
   lanes_apart reading line
 

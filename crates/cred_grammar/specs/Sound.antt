@@ -14,8 +14,8 @@ use Rattle.cred_forms.specs.declared.forms.Parsed.TheVariants as parsed
 use Rattle.cred_script.specs.Acting.{actor}
 use Rattle.cred_names.specs.Labels.{labels}
 use Rattle.cred_names.specs.Owners.{Lanes, HasAll, may_name}
-use Rattle.cred_script.specs.Files.{place_of}
-use Rattle.cred_script.specs.Sound.{IsSound}
+use Rattle.cred_script.specs.Files.{file_place}
+use Rattle.cred_script.specs.Sound.{IsSoundLine}
 use Rattle.cred_grammar.specs.Reading.{Reading, may_change, next_line}
 
 -- The lane of the line has the task that acts by it and its labels, if it isn't the setup's.
@@ -26,7 +26,7 @@ IsOwned lanes line =
     × HasAll lanes.labels line.lane (labels line.content)
 
 -- the next line is sound if it holds this
-pub record IsNext (reading : Reading) (content : Content) : Type 0 where
+pub record IsNextLine (reading : Reading) (content : Content) : Type 0 where
   pub labels : All (λ label. label ≤ LAST_NUMBER) (labels content)
   pub named : IsContentOf (length reading.files) reading.namespaces content
   pub fixed : ChangesInSetup (next_line reading content)
@@ -41,14 +41,14 @@ pub record IsStart (reading : Reading) (content : Content) : Type 0 where
   pub named : IsContentOf (length reading.files) reading.namespaces content
 
 -- What a line holds, before its names are looked up: by this task it acts, or by none.
-abbrev pub IsOwn : Option ℕ → Content → Type 0
-IsOwn by content =
+abbrev pub IsOwnLine : Option ℕ → Content → Type 0
+IsOwnLine by content =
     All (λ label. label ≤ LAST_NUMBER) (labels content)
     × IfSome (actor content) (λ task. by ≡ Some task)
     × AreModes (modes content)
 
 -- A line by which this task acts holds this.
-pub record IsHeld (reading : Reading) (by : Option ℕ) (content : Content) : Type 0 where
+pub record IsTaskLine (reading : Reading) (by : Option ℕ) (content : Content) : Type 0 where
   pub labels : All (λ label. label ≤ LAST_NUMBER) (labels content)
   pub actor : IfSome (actor content) (λ task. by ≡ Some task)
   pub named : IsContentOf (length reading.files) reading.namespaces content
@@ -59,19 +59,19 @@ pub record IsHeld (reading : Reading) (by : Option ℕ) (content : Content) : Ty
 abbrev pub IsParsed : Reading → Parsed → Type 0
 IsParsed reading Empty = ⊤
 IsParsed reading (File file) =
-    (length reading.files < FILES) × (place_of reading.files file.name ≡ None)
+    (length reading.files < FILES) × (file_place reading.files file.name ≡ None)
 IsParsed reading (parsed.Namespace number root parent) =
     IsSome (chain_in reading.namespaces parent)
 IsParsed reading (Starts content) = IsStart reading content
 IsParsed reading (Lane number) = (1 ≤ number) × (number ≤ LAST_LANE)
-IsParsed reading (Holds by content) = IsHeld reading by content
+IsParsed reading (Holds by content) = IsTaskLine reading by content
 
 -- what is true of the lines that were read, where so many files, these namespaces and these lanes
 -- were read
-pub record IsReading (count : ℕ) (declared : List Namespace) (lanes : Lanes) (lines : List Line)
+pub record AreLinesRead (count : ℕ) (declared : List Namespace) (lanes : Lanes) (lines : List Line)
     : Type 0 where
   pub few : length lines ≤ LINE_LIMIT
-  pub each : All (IsSound count declared) lines
+  pub each : All (IsSoundLine count declared) lines
   pub lane : lanes.current ≤ LAST_LANE
   pub setup : lanes.current ≡ 0 → All (λ line. line.lane ≡ 0) lines
   pub first : AllPairs SetupBefore lines

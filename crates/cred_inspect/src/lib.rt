@@ -7,4 +7,4 @@ mod decoding;
 mod parts;
 
 pub use auditing::read_and_audit;
-pub use decoding::show;
+pub use decoding::run_decode;

@@ -21,7 +21,7 @@ use Rattle.cred_event.specs.declared.event.Event.{Event}
 use Rattle.cred_event.specs.declared.event.Event.TheVariants.{Commit}
 use Rattle.cred_model.specs.Script.{Script, chain_of}
 use Rattle.cred_model.specs.State.{State, SealedCred, Task, Broadcast, Prepared, Changed, ProcessFlag, Numbered, numbered, task_of, begun_by}
-use Rattle.cred_model.specs.Change.{Made, made_by_exec, executed, by_change}
+use Rattle.cred_model.specs.Change.{Made, made_by_exec, made_by_execve, by_change}
 use Rattle.cred_model.specs.Casts.{dropped}
 use Rattle.cred_model.specs.Ends.{is_beside, survivors, ended}
 use Rattle.cred_model.specs.Dumpable.{flags_committed}
@@ -73,7 +73,7 @@ record IsRuled (found : Option File) (chain : List ℕ) (old c : Credential) (ga
   rule : exec old file chain ≡ Ok (record { cred = c; gains = gains })
 
 ruled : (found : Option File) (chain : List ℕ) (old : Credential) (answer : Answer) (c : Credential) (gains : Gains)
-    → executed found chain old ≡ Ok (record { answer = answer; cred = c; gains = gains }) → IsRuled found chain old c gains
+    → made_by_execve found chain old ≡ Ok (record { answer = answer; cred = c; gains = gains }) → IsRuled found chain old c gains
 ruled None chain old answer c gains is = cc
 ruled (Some file) chain old answer c gains is =
     record { file = file; names = refl; rule = by_the_rule (exec old file chain) answer c gains is }

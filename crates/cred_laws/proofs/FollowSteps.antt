@@ -30,7 +30,7 @@ use Rattle.cred_sound.specs.Sound.{IsSound}
 use Rattle.cred_sound.proofs.Parts.{sealed_cred, begun, casts_left, TasksChange, Cause, Creation, Death, ByBegin, ByAct, ByRaw, ByCommit, BySpawn, ByFork, ByExit, ByAbort, SameTasks, SetsFlag, Creates, Shares, Renews, Overrides, Fewer}
 use Rattle.cred_sound.proofs.Threads.{not_true, thread_is}
 use Rattle.cred_laws.specs.Broadcast.{Completes}
-use Rattle.cred_laws.specs.Made.{IsMadeOf, IsMade, AreMade}
+use Rattle.cred_laws.specs.Made.{IsChangedFrom, IsMade, AreMade}
 use Rattle.cred_laws.proofs.NamedLaws.{AreSame, change-same, is_exec}
 use Rattle.cred_laws.proofs.FollowLaws.{HasOr, Followed, waits, followed_more, followed_waiting, followed_renewed, still_without, still_with, parent_with, found_in, shown, left_open, joined_open, begun_beside, dropped_beside, dropped_none}
 
@@ -227,9 +227,9 @@ module _ (P : Credential → Type 0) (kept : Kept P) (script : Script) (s : Stat
       let has = (found (HasOr P s.creds process cast.waiting) (λ t. t.number == task) s.tasks owner lives before).0 here still in
       let old : Numbered = has.0 in
       let one = All-at (IsMade script s.creds) s.prepared place p there are_made in
-      let so = subst (λ o. IfSome o (IsMadeOf script (numbered s.creds p.base))) changed one in
+      let so = subst (λ o. IfSome o (IsChangedFrom script (numbered s.creds p.base))) changed one in
       let base : numbered s.creds p.base ≡ Some old = ap (numbered s.creds) (sym same) ∙ has.1 in
-      let by = subst (λ found. IsMadeOf script found last) base so in
+      let by = subst (λ found. IsChangedFrom script found last) base so in
       let stays : AreSame old.cred last.cred
       = change-same by.0 (chain_of script old.cred.ns) old.cred last.change
       (record { answer = by.1; cred = last.cred; gains = last.gains }) (ap is_exec is_last) by.2 in

@@ -24,10 +24,10 @@ use Rattle.cred_model.specs.Step.{step}
 use Rattle.cred_model.specs.Journal.{replay, IsAnswered}
 use Rattle.cred_model.proofs.Lists.{slice_get_at}
 use Rattle.cred_model.proofs.Numbers.{numbered_stays}
-use Rattle.cred_laws.specs.Slots.{IsUnused}
+use Rattle.cred_laws.specs.Slots.{IsUnusedSlot}
 use Rattle.cred_sound.proofs.Sound.{sound_after}
-use Rattle.cred_laws.specs.Slots.{IsUnused}
-use Rattle.cred_laws.specs.Held.{prepared_as, ends}
+use Rattle.cred_laws.specs.Slots.{IsUnusedSlot}
+use Rattle.cred_laws.specs.Held.{preparation_of, ends_label}
 use Rattle.cred_laws.specs.Overrides.{IsOverriding}
 use Rattle.cred_laws.specs.Permitted.{IsCreatedWith}
 use Rattle.cred_laws.specs.Permitted as permitted
@@ -93,7 +93,7 @@ always_valid script journal k = valid_journal script (take k journal)
 unused_by : (script : Script) (journal : List Entry) (k number : ℕ) (new : Numbered) (o : Option Entry)
     → slice_get journal k ≡ o → length (state_at script journal k).creds ≤ number
     → numbered (state_at script journal (k + 1)).creds number ≡ Some new
-    → IfSome o (λ entry. IsUnused (state_at script journal k) entry.event new.slot)
+    → IfSome o (λ entry. IsUnusedSlot (state_at script journal k) entry.event new.slot)
 unused_by script journal k number new (Some entry) is past now =
     no_held_slot_is_rewritten script (state_at script journal k) entry.line entry.event number new (always_sound script journal k) past
     (ap (λ (s : State). numbered s.creds number) (sym (step_at script journal k entry is)) ∙ now)
@@ -139,10 +139,10 @@ overrides_leave script journal k task = overrides_by script journal k task (slic
 pub keeps_prepared : (script : Script) (journal : List Entry) → KeepsPrepared script journal
 keeps_prepared script journal k l label p within is none =
     let more = between journal k l in
-    ap (λ (j : List Entry). prepared_as (replay script j) label) (take_between journal k l within)
-    ∙ ap (λ (s : State). prepared_as s label) (replay-append script (take k journal) more)
+    ap (λ (j : List Entry). preparation_of (replay script j) label) (take_between journal k l within)
+    ∙ ap (λ (s : State). preparation_of s label) (replay-append script (take k journal) more)
     ∙ prepared_goes_on script (state_at script journal k) more label p is
-    (each_between (λ entry. ends label entry.event ≡ false) journal k l none)
+    (each_between (λ entry. ends_label label entry.event ≡ false) journal k l none)
 
 gains_by : (script : Script) (journal : List Entry) (k task : ℕ) (before after : Numbered) (o : Option Entry)
     → slice_get journal k ≡ o

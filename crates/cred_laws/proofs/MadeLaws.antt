@@ -11,7 +11,7 @@ use Rattle.cred_event.specs.declared.entry.Entry.{Entry}
 use Rattle.cred_model.specs.Script.{Script}
 use Rattle.cred_model.specs.State.{State, SealedCred, Prepared, numbered, prepared_of, opening, info_of}
 use Rattle.cred_model.specs.Named.{change_files}
-use Rattle.cred_model.specs.Moves.{changed}
+use Rattle.cred_model.specs.Moves.{relabelled}
 use Rattle.cred_model.specs.Step.{step}
 use Rattle.cred_model.proofs.Lists.{All-remove, alone, found}
 use Rattle.cred_model.proofs.Numbers.{changed_as, numbered_is, numbered_before, sealed_cred_of}
@@ -20,7 +20,7 @@ use Rattle.cred_sound.specs.Sound.{IsSound}
 use Rattle.cred_sound.proofs.Parts.{CredsChange, PreparedChange, SameCreds, Seals, SamePrepared, Prepares, Alters, Ends}
 use Rattle.cred_sound.proofs.Events.{changes}
 use Rattle.cred_sound.proofs.Sound.{step_sound, opening_sound}
-use Rattle.cred_laws.specs.Made.{IsMadeOf, IsMade, AreMade, PreparedAreMade}
+use Rattle.cred_laws.specs.Made.{IsChangedFrom, IsMade, AreMade, PreparedAreMade}
 
 -- what was sealed stays under its number
 pub same_numbered : (s : State) (event : Event) (left : List ℕ) (t : State) → CredsChange s event left t → (n : ℕ)
@@ -49,16 +49,16 @@ all_made script s event left t sound creds (SamePrepared same) made = subst (All
 all_made script s event left t sound creds (Prepares p prepared fresh unheld new stands free) made =
     subst (All (IsMade script t.creds)) (sym prepared)
     (All-push (IsMade script t.creds) s.prepared p made
-    (subst (λ o. IfSome o (IsMadeOf script (numbered t.creds p.base))) (sym fresh) tt))
+    (subst (λ o. IfSome o (IsChangedFrom script (numbered t.creds p.base))) (sym fresh) tt))
 all_made script s event left t sound creds (Alters label to p base answer prepared is at so acts) made =
     let one = the_one s label p sound is in
     let lt = slice_get_within s.creds p.base (sealed_cred_of base) (numbered_is s.creds p.base base at).1 in
     let now = same_numbered s event left t creds p.base lt ∙ at in
     subst (All (IsMade script t.creds)) (sym prepared)
-    (All-map (IsMade script t.creds) (changed label to) s.prepared (λ k d lt.
+    (All-map (IsMade script t.creds) (relabelled label to) s.prepared (λ k d lt.
     changed_as (IsMade script t.creds) label to _
     (λ test.
-    subst (λ found. IsMadeOf script found to)
+    subst (λ found. IsChangedFrom script found to)
     (sym now ∙ ap (λ (q : Prepared). numbered t.creds q.base) (sym (one k d lt test))) (info_of s.infos (change_files to.change), answer, so, tt))
     (made k d lt)))
 all_made script s event left t sound creds (Ends label place p ends prepared at is) made =
@@ -71,7 +71,7 @@ step_made script s line event sound made =
     let t = (step script s line event).1 in
     let sealed = bases_sealed s sound in
     all_made script s event c.left t sound c.creds c.prepared (λ k d lt.
-    subst (λ found. IfSome (get_or s.prepared k d).changed (IsMadeOf script found)) (sym (same_numbered s event c.left t c.creds _ (sealed k d lt))) (made k d lt))
+    subst (λ found. IfSome (get_or s.prepared k d).changed (IsChangedFrom script found)) (sym (same_numbered s event c.left t c.creds _ (sealed k d lt))) (made k d lt))
 
 made_from : (script : Script) (journal : List Entry) (s : State) → IsSound s → AreMade script s
     → AreMade script (fold (λ (state : State) (entry : Entry). (step script state entry.line entry.event).1) s journal)

@@ -24,7 +24,7 @@ use Rattle.cred_model.specs.State.{State, Task, Hold, Prepared, Changed, Numbere
 use Rattle.cred_model.specs.Ends.{is_thread_of, is_beside}
 use Rattle.cred_caps.specs.Numbers.{SYS_PTRACE}
 use Rattle.cred_model.specs.Ptrace.{asking_caps, are_all, has_asking_ids, has_sys_ptrace, is_no_stronger, may_trace}
-use Rattle.cred_model.specs.Dumpable.{flag_in, is_dumpable, with_flag, flagged, set_flag, without_flag, differs, renewed, is_gain, flags_by, differs_by, flags_begun, flags_left, flag_of_value}
+use Rattle.cred_model.specs.Dumpable.{flag_in, is_dumpable, with_process_flag, flagged, set_flag, without_flag, differs, renewed, is_gain, flags_by, differs_by, flags_begun, flags_left, flag_of_value}
 use Rattle.cred_model.specs.Step.{commit_answer, committed_by, by_ptrace, done, step}
 use Rattle.cred_model.proofs.Lists.{find_changed, none_found}
 use Rattle.cred_sound.specs.Sound.{IsSound}
@@ -226,7 +226,7 @@ renewed_stays flags other process false clear = clear
 
 -- a process more
 with_stays : (flags : List ProcessFlag) (other process : ℕ) (dumpable : Bool) → other ≢ process → is_dumpable flags process ≡ false
-    → is_dumpable (with_flag flags other dumpable) process ≡ false
+    → is_dumpable (with_process_flag flags other dumpable) process ≡ false
 with_stays flags other process dumpable apart clear =
     let new : ProcessFlag = record { process = other; dumpable = dumpable } in
     let test : (other == process) ≡ false = grind (arith, nat_tests) in
@@ -394,7 +394,7 @@ module _ (script : Script) (s : State) (line : ℕ) (event : Event) (process : �
   -- a first task
   begins : (other : ℕ) → is_dumpable (flags_begun s other) process ≡ false
   begins other =
-      elim (is_some (find (is_thread_of other) s.tasks)) as (λ b. is_some (find (is_thread_of other) s.tasks) ≡ b → is_dumpable (cond b s.dumpable (with_flag s.dumpable other true)) process ≡ false) [
+      elim (is_some (find (is_thread_of other) s.tasks)) as (λ b. is_some (find (is_thread_of other) s.tasks) ≡ b → is_dumpable (cond b s.dumpable (with_process_flag s.dumpable other true)) process ≡ false) [
         | true ↦ λ live. clear
         | false ↦ λ none. with_stays s.dumpable other process true (has_other s.tasks process other has none) clear
       ] refl

@@ -48,7 +48,7 @@ use Rattle.cred_sound.specs.Sound.{IsSound}
 use Rattle.cred_sound.proofs.Parts.{CredsChange, Origin, SameCreds, Seals, OfFirst, OfCall, OfLabel}
 use Rattle.cred_sound.proofs.Events.{changes}
 use Rattle.cred_sound.proofs.Sound.{step_sound, opening_sound}
-use Rattle.cred_laws.specs.Made.{IsMadeOf, IsMade, AreMade}
+use Rattle.cred_laws.specs.Made.{IsChangedFrom, IsMade, AreMade}
 use Rattle.cred_laws.specs.Valid.{IsValid, AreValid, SealedAreValid}
 use Rattle.cred_laws.proofs.CallLaws.{one-test, two-tests, by_rule}
 use Rattle.cred_laws.proofs.ExecveLaws.{numbered_at}
@@ -292,8 +292,8 @@ origin_valid script s c sound are valid (OfCall task before call is ruled) =
     set_id_valid before.cred c call (numbered_valid s.creds at.owner.current before valid (at_owner s task before at is)) ruled
 origin_valid script s c sound are valid (OfLabel place p last is changed cred) =
     let base = numbered_at s.creds p.base (All-at (λ (p : Prepared). p.base < length s.creds) s.prepared place p is (bases_sealed s sound)) in
-    let made_of = subst (λ o. IfSome o (IsMadeOf script (numbered s.creds p.base))) changed (All-at (IsMade script s.creds) s.prepared place p is are) in
-    let by = subst (λ found. IsMadeOf script found last) base.1 made_of in
+    let made_of = subst (λ o. IfSome o (IsChangedFrom script (numbered s.creds p.base))) changed (All-at (IsMade script s.creds) s.prepared place p is are) in
+    let by = subst (λ found. IsChangedFrom script found last) base.1 made_of in
     subst IsValid (sym cred)
     (change_valid by.0 (chain_of script base.0.cred.ns) base.0.cred last.change (record { answer = by.1; cred = last.cred; gains = last.gains })
     (numbered_valid s.creds p.base base.0 valid base.1) by.2)

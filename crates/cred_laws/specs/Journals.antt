@@ -25,8 +25,8 @@ use Rattle.cred_model.specs.Changing.{changed_file}
 use Rattle.cred_model.specs.Dumpable.{is_dumpable, differs}
 use Rattle.cred_model.specs.Journal.{replay, IsAnswered}
 use Rattle.cred_sound.specs.Sound.{IsSound}
-use Rattle.cred_laws.specs.Slots.{IsUnused}
-use Rattle.cred_laws.specs.Held.{prepared_as, ends}
+use Rattle.cred_laws.specs.Slots.{IsUnusedSlot}
+use Rattle.cred_laws.specs.Held.{preparation_of, ends_label}
 use Rattle.cred_laws.specs.Made.{AreMade}
 use Rattle.cred_laws.specs.Overrides.{IsOverriding}
 use Rattle.cred_laws.specs.Execve.{IsExecve}
@@ -35,7 +35,7 @@ use Rattle.cred_laws.specs.Raw.{IsRaw}
 use Rattle.cred_laws.specs.Permitted.{GainsBy, IsCreatedWith}
 use Rattle.cred_laws.specs.Valid.{AreValid}
 use Rattle.cred_laws.specs.Trace.{IsOwn, AsksWithoutCap, HasThreads, IsAskedFor, IsExecuted}
-use Rattle.cred_laws.specs.Broadcast.{HasNamed, AllHave, Completes, kind_of, three_of, IsAlike}
+use Rattle.cred_laws.specs.Broadcast.{HasNamed, AllHave, Completes, call_kind, three_ids, IsAlike}
 use Rattle.cred_laws.specs.Broadcast.{stepping}
 
 -- the state after the first k entries
@@ -62,7 +62,7 @@ WritesUnusedSlots script journal =
     (k number : ℕ) (new : Numbered) → length (state_at script journal k).creds ≤ number
     → numbered (state_at script journal (k + 1)).creds number ≡ Some new
     → IfSome (slice_get journal k) (λ entry.
-    IsUnused (state_at script journal k) entry.event new.slot)
+    IsUnusedSlot (state_at script journal k) entry.event new.slot)
 
 -- What is sealed keeps its number, its credential and its slot.
 abbrev pub KeepsSealed : Script → List Entry → Type 0
@@ -102,10 +102,10 @@ OverridesLeave script journal =
 abbrev pub KeepsPrepared : Script → List Entry → Type 0
 KeepsPrepared script journal =
     (k l label : ℕ) (p : Prepared) → k ≤ l
-    → prepared_as (state_at script journal k) label ≡ Some p
+    → preparation_of (state_at script journal k) label ≡ Some p
     → ((i : ℕ) → k ≤ i → i < l
-    → IfSome (slice_get journal i) (λ entry. ends label entry.event ≡ false))
-    → prepared_as (state_at script journal l) label ≡ Some p
+    → IfSome (slice_get journal i) (λ entry. ends_label label entry.event ≡ false))
+    → preparation_of (state_at script journal l) label ≡ Some p
 
 -- What an entry adds to what a living task is permitted is what its answer says was gained.
 abbrev pub GainsAsAnswered : Script → List Entry → Type 0
@@ -217,7 +217,7 @@ pub record RunsThrough
 
 -- From one entry to another each thread had, before its own step in the broadcast, these three ids
 -- of the kind on its current credential, and had or lacked the capability.
-abbrev pub StepAlike : Script → List Entry → ℕ → ℕ → ℕ → Kind → List ℕ → Bool → Type 0
+abbrev pub StepAlike : Script → List Entry → (begun done number : ℕ) → Kind → List ℕ → Bool → Type 0
 StepAlike script journal begun done number kind ids able =
     (i : ℕ) → begun ≤ i → i ≤ done
     → IfSome (slice_get journal i) (λ entry.
@@ -230,9 +230,10 @@ abbrev pub KeepsAlike : Script → List Entry → Type 0
 KeepsAlike script journal =
     (begun done number process : ℕ) (call : IdCall) (ids : List ℕ) (able : Bool)
     → RunsThrough script journal begun done number process call
-    → StepAlike script journal begun done number (kind_of call) ids able
+    → StepAlike script journal begun done number (call_kind call) ids able
     → (equal : List ℕ)
-    × AllHave (λ c. three_of (kind_of call) c ≡ equal) (state_at script journal (done + 1)) process
+    × AllHave (λ c. three_ids (call_kind call) c
+        ≡ equal) (state_at script journal (done + 1)) process
 
 -- Where an entry says that a task may look into one of another process, and was asked by a
 -- credential without CAP_SYS_PTRACE, the target's ids are those that are asked by, it is permitted

@@ -21,12 +21,12 @@ IsMadeFrom From script found last =
     × From file)
 
 -- the same with any file
-abbrev pub IsMadeOf : Script → Option Numbered → Changed → Type 0
-IsMadeOf script found last = IsMadeFrom (λ file. ⊤) script found last
+abbrev pub IsChangedFrom : Script → Option Numbered → Changed → Type 0
+IsChangedFrom script found last = IsMadeFrom (λ file. ⊤) script found last
 
 -- so it is with a prepared credential, once it was changed
 abbrev pub IsMade : Script → List SealedCred → Prepared → Type 0
-IsMade script creds p = IfSome p.changed (IsMadeOf script (numbered creds p.base))
+IsMade script creds p = IfSome p.changed (IsChangedFrom script (numbered creds p.base))
 
 -- so it is with all that are prepared, where this holds of the file that each was changed with, by
 -- its label and the change

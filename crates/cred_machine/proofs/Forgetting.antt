@@ -22,7 +22,7 @@ use Rattle.cred_machine.specs.Kept.{KeepsReferred, may_have_swept}
 use Rattle.cred_plain.specs.References.{is_among, refer_to}
 use Rattle.cred_plain.specs.declared.references.References.{References}
 use Rattle.cred_machine.proofs.Free.{any-map}
-use Rattle.cred_machine.proofs.Keeping.{CredsKept, Keeps, NoneMore, OneMore}
+use Rattle.cred_machine.proofs.KeptByEvents.{CredsKept, Keeps, NoneMore, OneMore}
 
 -- ---- what refers
 

@@ -30,14 +30,14 @@ use Rattle.cred_model.specs.Named.{change_files}
 use Rattle.cred_model.specs.State.{State, SealedCred, Task, Broadcast, OpenFile as Open, Hold, Prepared, Changed, ProcessFlag, Numbered, numbered, task_of, cast_of, cast_in, begun_by, open_of, hold_of, prepared_of, held_by, info_of}
 use Rattle.cred_model.specs.Slots.{swept}
 use Rattle.cred_model.specs.Ptrace.{may_trace}
-use Rattle.cred_model.specs.Dumpable.{is_dumpable, with_flag, set_flag, without_flag, differs, renewed, flags_by, flags_committed, flags_begun, flags_left, flag_of_value}
+use Rattle.cred_model.specs.Dumpable.{is_dumpable, with_process_flag, set_flag, without_flag, differs, renewed, flags_by, flags_committed, flags_begun, flags_left, flag_of_value}
 use Rattle.cred_model.specs.Answers.{checked}
 use Rattle.cred_model.specs.Change.{by_change, by_rule}
 use Rattle.cred_model.specs.Ends.{is_task, is_thread_of, ended}
 use Rattle.cred_model.specs.Casts.{not_busy, others_of, with_cast, waits_no_more, joined, dropped}
 use Rattle.cred_model.specs.Moves.{◌>>=◌, none_or, fewer_or, unless_refused, not_overridden}
 use Rattle.cred_model.specs.Moves.{table_full}
-use Rattle.cred_model.specs.Moves.{first_task, with_overrides, holding, lent, with_current}
+use Rattle.cred_model.specs.Moves.{first_task, with_overrides, holding, with_override, with_current}
 use Rattle.cred_model.specs.Moves.{given_up, committed, altered, preparing, created, replaced}
 use Rattle.cred_model.specs.Step.{try_commit, done, ends_with, casts_after, commit_answer, aborted, follow, take_hold, for_task, for_access, override_held, override_prepared, by_file}
 use Rattle.cred_model.specs.Like.{IsLike, AreAlike}
@@ -246,7 +246,7 @@ module _ (script : Script) (s : State) (cs : List SealedCred) (line : ℕ) (like
       → BothAre (override_held s owner held) (override_held (with s cs) owner held)
   override_held_like owner old held here =
       tested (fewer_or (length owner.overrides) DEPTH _) _ _
-      (λ few. leaves _ (lent s owner held.number) refl
+      (λ few. leaves _ (with_override s owner held.number) refl
       (each_overriding refs owner.number _ (All-cons Here held.number owner.overrides here old)))
 
   override_prepared_like : (owner : Task) → All Here owner.overrides → (label : ℕ)
@@ -257,7 +257,7 @@ module _ (script : Script) (s : State) (cs : List SealedCred) (line : ℕ) (like
       (λ p here. tested (ok_or (for_access owner.number p) (NoHold label)) _ _
       (λ last. tested (fewer_or (length owner.overrides) DEPTH _) _ _
       (λ few. like_sealed (λ n. Sealed n p.slot)
-      (λ n. record (lent s owner n) { prepared = remove s.prepared place; deferred = s.deferred ++ p.base ∷ [] })
+      (λ n. record (with_override s owner n) { prepared = remove s.prepared place; deferred = s.deferred ++ p.base ∷ [] })
       s.creds cs (record { cred = last.cred; slot = p.slot }) like.slots
       (each_deferred
       (each_prepared (each_overriding refs owner.number _ (All-cons Here (length s.creds) owner.overrides next old)) _
@@ -402,7 +402,7 @@ module _ (script : Script) (s : State) (cs : List SealedCred) (line : ℕ) (like
       (λ new. tested (none_or (find (is_thread_of process) s.tasks) _) _ _
       (λ unused. tested (not_overridden owner) _ _
       (λ own. tested (fewer_or (length s.tasks) TASKS _) _ _
-      (λ few. child_like _ child process parent.number s.casts (with_flag s.dumpable process (is_dumpable s.dumpable owner.process)) here))))))
+      (λ few. child_like _ child process parent.number s.casts (with_process_flag s.dumpable process (is_dumpable s.dumpable owner.process)) here))))))
 
   pub exit_like : (task : ℕ) → DoneAlike (Exit task)
   exit_like task =

@@ -47,7 +47,8 @@ use Rattle.cred_model.specs.Slots.{swept}
 use Rattle.cred_model.specs.Ends.{is_task, is_thread_of, is_beside, ended}
 use Rattle.cred_model.specs.Casts.{not_busy, others_of, with_cast, waits_no_more, joined, dropped}
 use Rattle.cred_model.specs.Ptrace.{may_trace}
-use Rattle.cred_model.specs.Dumpable.{is_dumpable, with_flag, set_flag, without_flag, differs}
+use Rattle.cred_model.specs.Dumpable.{is_dumpable, with_process_flag, set_flag, without_flag}
+use Rattle.cred_model.specs.Dumpable.{differs}
 use Rattle.cred_model.specs.Dumpable.{renewed, flags_committed, flags_begun, flags_left}
 use Rattle.cred_model.specs.Dumpable.{flag_of_value}
 use Rattle.cred_model.specs.Answers.{checked, reply}
@@ -56,7 +57,7 @@ use Rattle.cred_model.specs.Moves.{◌>>=◌, none_or, fewer_or}
 use Rattle.cred_model.specs.Moves.{unless_refused, not_overridden, in_slot, table_full, first_task}
 use Rattle.cred_model.specs.Moves.{created}
 use Rattle.cred_model.specs.Moves.{replaced, with_overrides, holding, preparing, altered, given_up}
-use Rattle.cred_model.specs.Moves.{committed, lent, overridden}
+use Rattle.cred_model.specs.Moves.{committed, with_override, overridden}
 
 -- The tasks that end with the commit of this change by its task: an execve ends all other threads
 -- of the process (execve(2)), and no other change ends any.
@@ -75,7 +76,7 @@ committed_by (Exec file) gains number slot count = Executed number slot count ga
 committed_by change gains number slot count = Sealed number slot
 
 -- what a commit answers, where so many tasks end with it
-abbrev pub commit_answer : Changed → ℕ → ℕ → ℕ → Answer
+abbrev pub commit_answer : Changed → (number slot count : ℕ) → Answer
 commit_answer last number slot count = committed_by last.change last.gains number slot count
 
 -- Only a credential whose base is still the task's current one is committed. Another one is stale,
@@ -216,7 +217,7 @@ for_access task p =
 abbrev pub override_held : State → Task → Numbered → Result (Answer × State) Answer
 override_held s owner held = do
   few ← fewer_or (length owner.overrides) DEPTH TooDeep
-  Ok (Sealed held.number held.slot, lent s owner held.number)
+  Ok (Sealed held.number held.slot, with_override s owner held.number)
 
 -- The task acts with what it prepared for access(2): that is sealed, and its base is given up.
 abbrev pub override_prepared : State → Task → ℕ → Result (Answer × State) Answer
@@ -357,7 +358,7 @@ by_fork s task child process = do
     Sealed parent.number parent.slot,
     record s {
       tasks = s.tasks ++ first_task child process parent.number ∷ [];
-      dumpable = with_flag s.dumpable process (is_dumpable s.dumpable owner.process);
+      dumpable = with_process_flag s.dumpable process (is_dumpable s.dumpable owner.process);
     },
   )
 

@@ -5,7 +5,7 @@ use Rattle.std.specs.declared.option.Option.{Option}
 use Rattle.std.specs.Option.{option_map, option_and_then}
 use Rattle.std.specs.Str.{bytes_eq}
 use Rattle.std.specs.declared.alloc.Global.{Global}
-use Rattle.cred_args.specs.Positionals.{Words, positionals}
+use Rattle.cred_args.specs.Positionals.{WordsGiven, positionals}
 use Rattle.cred_generate.specs.Generated.{CALLS}
 use Rattle.cred_spelling.specs.Spellings.{bytes_of, number_within}
 use Rattle.cred_program.specs.declared.words.Command.{Command}
@@ -33,7 +33,7 @@ with_operand word operand =
     else None
 
 -- the command that a word is, with its operand if it has one
-abbrev pub command_by : Words → Option Command
+abbrev pub command_by : WordsGiven → Option Command
 command_by (word, None) = alone word
 command_by (word, Some operand) = with_operand word operand
 

@@ -9,9 +9,9 @@ ghost use Rattle.cred_program.specs.Commands.{LeavesUsage, limit_of};
 ghost use Rattle.cred_program.specs.Words.{command_of, texts};
 
 use crate::words::{Command, command_of};
-use cred_commands::{read_and_run, sum};
+use cred_commands::{read_and_run, run_gen};
 use cred_ids::NoMemory;
-use cred_inspect::{read_and_audit, show};
+use cred_inspect::{read_and_audit, run_decode};
 use cred_io::{Sink, Source};
 use cred_runs::{Gate, read_and_lanes};
 use cred_said::{Status, tell};
@@ -84,8 +84,8 @@ pub fn credtrace<R: Threads + Wait + Sync, S: Source, K: Sink, G: Gate + Sync>(
         Ok(Some(Command::Run)) => read_and_run(alloc, source, sink),
         Ok(Some(Command::Lanes)) => read_and_lanes(rt, alloc, source, sink, gate),
         Ok(Some(Command::Audit)) => read_and_audit(alloc, source, sink),
-        Ok(Some(Command::Gen(n))) => sum(alloc, n, sink),
-        Ok(Some(Command::Decode(bytes))) => show(alloc, bytes.items(), sink),
+        Ok(Some(Command::Gen(n))) => run_gen(alloc, n, sink),
+        Ok(Some(Command::Decode(bytes))) => run_decode(alloc, bytes.items(), sink),
         Ok(None) => tell_usage(sink),
         Err(NoMemory) => Status::Memory,
     }

@@ -1,7 +1,7 @@
 //! The words of the command line.
 ghost use Rattle.std.specs.Prelude.{◌≡◌, IfOk, IfSome};
 ghost use Rattle.std.specs.Option.{option_map};
-ghost use Rattle.cred_args.specs.Positionals.{seen};
+ghost use Rattle.cred_args.specs.Positionals.{words_seen};
 ghost use Rattle.cred_generate.specs.Generated.{CALLS};
 ghost use Rattle.cred_spelling.specs.Spellings.{bytes_of, number_within};
 ghost use Rattle.cred_commands.specs.Summing.{IsCount};
@@ -49,7 +49,7 @@ pub fn command_of(alloc: Global, words: &[String]) -> Result<Option<Command>, No
 
 /// The command that a word is, with its operand if it has one.
 fn command_by(alloc: Global, given: Positionals<'_>) -> Result<Option<Command>, NoMemory>
-    ensures command { IfOk result (λ command. command ≡ spec.command_by (seen given.entry)) }
+    ensures command { IfOk result (λ command. command ≡ spec.command_by (words_seen given.entry)) }
     ensures count { IfOk result (λ command. IfSome command HasCount) }
 {
     match given.operand {

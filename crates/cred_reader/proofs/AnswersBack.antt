@@ -44,29 +44,29 @@ caps_parts : (o b p q r s t : List ℕ) → o ++ ((b ++ p) ++ (b ++ q) ++ (b ++ 
 caps_parts o b p q r s t = simp append_assoc
 
 done_back : FitsAnswer (answer.Done) → AnswerBack Nothing (answer.Done)
-unfolding spec.answer_of spec.ok_words spec.plain spec.longer spec.longest spec.acted
+unfolding spec.read_answer spec.ok_words spec.plain spec.longer spec.longest spec.acted
 done_back fits = bare (codes "ok") refl refl
 
 sealed_back : (cred : ℕ) (slot : ℕ) → FitsAnswer (answer.Sealed cred slot) → AnswerBack Nothing (answer.Sealed cred slot)
-unfolding spec.answer_of spec.ok_words spec.plain spec.longer spec.longest spec.acted words.two_of
+unfolding spec.read_answer spec.ok_words spec.plain spec.longer spec.longest spec.acted words.two_of
 sealed_back cred slot fits =
     with_two (codes "ok") (codes "c" ++ decimal cred) (codes "s" ++ decimal slot) (simp (append_assoc, append-nil))
     refl (rw (decimal_inner cred fits.0) refl) (rw (decimal_inner slot (long_number slot fits.1)) refl)
     (rw (long_back cred fits.0, number_back slot fits.1) refl)
 
 kept_back : (slot : ℕ) → FitsAnswer (answer.Kept slot) → AnswerBack Nothing (answer.Kept slot)
-unfolding spec.answer_of spec.ok_words spec.plain spec.longer spec.longest spec.acted
+unfolding spec.read_answer spec.ok_words spec.plain spec.longer spec.longest spec.acted
 kept_back slot fits =
     with_word (codes "ok") (codes "s" ++ decimal slot) refl (rw (decimal_inner slot (long_number slot fits)) refl) (rw (number_back slot fits) refl)
 
 was_back : (previous : ℕ) → FitsAnswer (answer.Was previous) → AnswerBack Nothing (answer.Was previous)
-unfolding spec.answer_of spec.ok_words spec.plain spec.longer spec.longest spec.acted
+unfolding spec.read_answer spec.ok_words spec.plain spec.longer spec.longest spec.acted
 was_back previous fits =
     with_two (codes "ok") (codes "was") (decimal previous) (simp append-nil)
     refl refl (decimal_plain previous (long_number previous (id_number previous fits))) (rw (id_back previous fits) refl)
 
 executed_back : (cred : ℕ) (slot : ℕ) (ended : ℕ) (gains : Gains) → FitsAnswer (answer.Executed cred slot ended gains) → AnswerBack Nothing (answer.Executed cred slot ended gains)
-unfolding spec.answer_of spec.ok_words spec.plain spec.longer spec.longest spec.acted words.three_of
+unfolding spec.read_answer spec.ok_words spec.plain spec.longer spec.longest spec.acted words.three_of
 executed_back cred slot ended gains fits = record {
   first = codes "ok";
   rest = (codes "c" ++ decimal cred) ∷ (codes "s" ++ decimal slot) ∷ codes "ended" ∷ decimal ended ∷ codes "gain" ∷ (hexadecimal gains.file) ∷ (hexadecimal gains.inherit) ∷ (hexadecimal gains.root) ∷ [];
@@ -76,7 +76,7 @@ executed_back cred slot ended gains fits = record {
 }
 
 began_back : (cred : ℕ) (slot : ℕ) (left : ℕ) → FitsAnswer (answer.Began cred slot left) → AnswerBack Nothing (answer.Began cred slot left)
-unfolding spec.answer_of spec.ok_words spec.plain spec.longer spec.longest spec.acted words.three_of
+unfolding spec.read_answer spec.ok_words spec.plain spec.longer spec.longest spec.acted words.three_of
 began_back cred slot left fits = record {
   first = codes "ok";
   rest = (codes "c" ++ decimal cred) ∷ (codes "s" ++ decimal slot) ∷ codes "left" ∷ decimal left ∷ [];
@@ -86,7 +86,7 @@ began_back cred slot left fits = record {
 }
 
 acted_back : (task : ℕ) (cred : ℕ) (slot : ℕ) (left : ℕ) → FitsAnswer (answer.Acted task cred slot left) → AnswerBack Nothing (answer.Acted task cred slot left)
-unfolding spec.answer_of spec.ok_words spec.plain spec.longer spec.longest spec.acted words.two_of
+unfolding spec.read_answer spec.ok_words spec.plain spec.longer spec.longest spec.acted words.two_of
 acted_back task cred slot left fits = record {
   first = codes "ok";
   rest = (codes "t" ++ decimal task) ∷ (codes "c" ++ decimal cred) ∷ (codes "s" ++ decimal slot) ∷ codes "left" ∷ decimal left ∷ [];
@@ -96,7 +96,7 @@ acted_back task cred slot left fits = record {
 }
 
 ids_told : (uid : Ids4) (gid : Ids4) → FitsAnswer (answer.Told (told.Ids uid gid)) → AnswerBack Ids (answer.Told (told.Ids uid gid))
-unfolding spec.answer_of spec.ok_words spec.ids_told words.two_of words.three_of words.five_of
+unfolding spec.read_answer spec.ok_words spec.ids_told words.two_of words.three_of words.five_of
 ids_told uid gid fits = record {
   first = codes "ok";
   rest = decimal uid.real ∷ decimal uid.effective ∷ decimal uid.saved ∷ decimal uid.fs ∷ decimal gid.real ∷ decimal gid.effective ∷ decimal gid.saved ∷ decimal gid.fs ∷ [];
@@ -106,7 +106,7 @@ ids_told uid gid fits = record {
 }
 
 caps_told : (perm : ℕ) (inh : ℕ) (eff : ℕ) (bound : ℕ) (amb : ℕ) → FitsAnswer (answer.Told (told.Caps perm inh eff bound amb)) → AnswerBack Caps (answer.Told (told.Caps perm inh eff bound amb))
-unfolding spec.answer_of spec.ok_words words.two_of words.three_of words.five_of
+unfolding spec.read_answer spec.ok_words words.two_of words.three_of words.five_of
 caps_told perm inh eff bound amb fits = record {
   first = codes "ok";
   rest = (hexadecimal perm) ∷ (hexadecimal inh) ∷ (hexadecimal eff) ∷ (hexadecimal bound) ∷ (hexadecimal amb) ∷ [];
@@ -116,7 +116,7 @@ caps_told perm inh eff bound amb fits = record {
 }
 
 groups_told : (groups : List ℕ) → FitsAnswer (answer.Told (told.Groups groups)) → AnswerBack Groups (answer.Told (told.Groups groups))
-unfolding spec.answer_of spec.ok_words
+unfolding spec.read_answer spec.ok_words
 groups_told groups fits = record {
   first = codes "ok";
   rest = map decimal groups;
@@ -126,7 +126,7 @@ groups_told groups fits = record {
 }
 
 bits_told : (bits : ℕ) (nnp : Bool) → FitsAnswer (answer.Told (told.Bits bits nnp)) → AnswerBack Bits (answer.Told (told.Bits bits nnp))
-unfolding spec.answer_of spec.ok_words words.two_of kinds.flags
+unfolding spec.read_answer spec.ok_words words.two_of kinds.flags
 bits_told bits false fits =
     with_two (codes "ok") (decimal bits) (codes "0") (simp (append_assoc, append-nil))
     refl (decimal_plain bits (bits_long bits fits)) refl (rw (bits_back bits fits) refl)
@@ -135,7 +135,7 @@ bits_told bits true fits =
     refl (decimal_plain bits (bits_long bits fits)) refl (rw (bits_back bits fits) refl)
 
 flag_told : (flag : Bool) → FitsAnswer (answer.Told (told.Flag flag)) → AnswerBack Flag (answer.Told (told.Flag flag))
-unfolding spec.answer_of spec.ok_words kinds.flags
+unfolding spec.read_answer spec.ok_words kinds.flags
 flag_told false fits = with_word (codes "ok") (codes "0") refl refl refl
 flag_told true fits = with_word (codes "ok") (codes "1") refl refl refl
 

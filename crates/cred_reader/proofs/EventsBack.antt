@@ -28,11 +28,11 @@ use Rattle.cred_reader.proofs.CallsBack.{call_back}
 -- the event's text is read as the event
 abbrev pub EventBack : Script → Event → Type 0
 EventBack script event =
-    IsBack (event_text script event) (λ first rest. spec.event_of script.files (first ∷ rest)) event
+    IsBack (event_text script event) (λ first rest. spec.read_event script.files (first ∷ rest)) event
 
 init_back : (script : Script) (task : ℕ) (process : ℕ) (user : ℕ) (group : ℕ) (ns : ℕ) → FitsEvent (event.Init task process user group ns)
     → EventBack script (event.Init task process user group ns)
-unfolding spec.event_of spec.event_names spec.event_named spec.task_event spec.init_of words.two_of words.three_of words.five_of
+unfolding spec.read_event spec.event_names spec.event_named spec.task_event spec.init_of words.two_of words.three_of words.five_of
 init_back script task process user group ns fits = record {
   first = codes "init";
   rest = (codes "t" ++ decimal task) ∷ (codes "p" ++ decimal process) ∷ decimal user ∷ decimal group ∷ (codes "n" ++ decimal ns) ∷ [];
@@ -43,7 +43,7 @@ init_back script task process user group ns fits = record {
 
 take_back : (script : Script) (label : ℕ) (task : ℕ) → FitsEvent (event.Take label task Subjective)
     → EventBack script (event.Take label task Subjective)
-unfolding spec.event_of spec.event_names spec.event_named spec.label_event spec.take_of words.two_of
+unfolding spec.read_event spec.event_names spec.event_named spec.label_event spec.read_take words.two_of
 take_back script label task fits =
     with_two (codes "take") (codes "h" ++ decimal label) (codes "t" ++ decimal task) (simp (append_assoc, append-nil))
     refl (rw (decimal_inner label (long_number label fits.0)) refl) (rw (decimal_inner task (long_number task fits.1)) refl)
@@ -51,7 +51,7 @@ take_back script label task fits =
 
 takereal_back : (script : Script) (label : ℕ) (task : ℕ) → FitsEvent (event.Take label task Objective)
     → EventBack script (event.Take label task Objective)
-unfolding spec.event_of spec.event_names spec.event_named spec.label_event spec.take_of words.two_of
+unfolding spec.read_event spec.event_names spec.event_named spec.label_event spec.read_take words.two_of
 takereal_back script label task fits =
     with_two (codes "takereal") (codes "h" ++ decimal label) (codes "t" ++ decimal task) (simp (append_assoc, append-nil))
     refl (rw (decimal_inner label (long_number label fits.0)) refl) (rw (decimal_inner task (long_number task fits.1)) refl)
@@ -59,7 +59,7 @@ takereal_back script label task fits =
 
 takefile_back : (script : Script) (label : ℕ) (fd : ℕ) → FitsEvent (event.TakeFile label fd)
     → EventBack script (event.TakeFile label fd)
-unfolding spec.event_of spec.event_names spec.event_named spec.label_event words.two_of
+unfolding spec.read_event spec.event_names spec.event_named spec.label_event words.two_of
 takefile_back script label fd fits =
     with_two (codes "takefile") (codes "h" ++ decimal label) (codes "f" ++ decimal fd) (simp (append_assoc, append-nil))
     refl (rw (decimal_inner label (long_number label fits.0)) refl) (rw (decimal_inner fd (long_number fd fits.1)) refl)
@@ -67,14 +67,14 @@ takefile_back script label fd fits =
 
 release_back : (script : Script) (label : ℕ) → FitsEvent (event.Release label)
     → EventBack script (event.Release label)
-unfolding spec.event_of spec.event_names spec.event_named spec.label_event
+unfolding spec.read_event spec.event_names spec.event_named spec.label_event
 release_back script label fits =
     with_word (codes "drop") (codes "h" ++ decimal label)
     refl (rw (decimal_inner label (long_number label fits)) refl) (rw (number_back label fits) refl)
 
 ask_back : (script : Script) (label : ℕ) (query : Query) → FitsEvent (event.Ask label query) → All (IsFile script) (query_files query)
     → EventBack script (event.Ask label query)
-unfolding spec.event_of spec.event_names spec.event_named spec.label_event spec.ask_of
+unfolding spec.read_event spec.event_names spec.event_named spec.label_event spec.read_ask
 ask_back script label query fits own =
     let back = query_back script query fits.1 own in
     record {
@@ -87,7 +87,7 @@ ask_back script label query fits own =
 
 signal_back : (script : Script) (from : ℕ) (hold : ℕ) (to : ℕ) (target : ℕ) → FitsEvent (event.Signal from hold to target)
     → EventBack script (event.Signal from hold to target)
-unfolding spec.event_of spec.event_names spec.event_named spec.task_event spec.signal_of words.two_of
+unfolding spec.read_event spec.event_names spec.event_named spec.task_event spec.signal_of words.two_of
 signal_back script from hold to target fits = record {
   first = codes "signal";
   rest = (codes "t" ++ decimal from) ∷ (codes "h" ++ decimal hold) ∷ (codes "t" ++ decimal to) ∷ (codes "h" ++ decimal target) ∷ [];
@@ -98,7 +98,7 @@ signal_back script from hold to target fits = record {
 
 prepare_back : (script : Script) (label : ℕ) (task : ℕ) (hold : ℕ) → FitsEvent (event.Prepare label task hold)
     → EventBack script (event.Prepare label task hold)
-unfolding spec.event_of spec.event_names spec.event_named spec.label_event words.three_of
+unfolding spec.read_event spec.event_names spec.event_named spec.label_event words.three_of
 prepare_back script label task hold fits =
     with_three (codes "prepare") (codes "h" ++ decimal label) (codes "t" ++ decimal task) (codes "h" ++ decimal hold)
     (simp (append_assoc, append-nil))
@@ -107,7 +107,7 @@ prepare_back script label task hold fits =
 
 alter_back : (script : Script) (label : ℕ) (change : Change) → FitsEvent (event.Alter label change) → All (IsFile script) (change_files change)
     → EventBack script (event.Alter label change)
-unfolding spec.event_of spec.event_names spec.event_named spec.label_event spec.alter_of
+unfolding spec.read_event spec.event_names spec.event_named spec.label_event spec.read_alter
 alter_back script label change fits own =
     let back = change_back script change fits.1 own in
     record {
@@ -120,21 +120,21 @@ alter_back script label change fits own =
 
 commit_back : (script : Script) (label : ℕ) → FitsEvent (event.Commit label)
     → EventBack script (event.Commit label)
-unfolding spec.event_of spec.event_names spec.event_named spec.label_event
+unfolding spec.read_event spec.event_names spec.event_named spec.label_event
 commit_back script label fits =
     with_word (codes "commit") (codes "h" ++ decimal label)
     refl (rw (decimal_inner label (long_number label fits)) refl) (rw (number_back label fits) refl)
 
 abort_back : (script : Script) (label : ℕ) → FitsEvent (event.Abort label)
     → EventBack script (event.Abort label)
-unfolding spec.event_of spec.event_names spec.event_named spec.label_event
+unfolding spec.read_event spec.event_names spec.event_named spec.label_event
 abort_back script label fits =
     with_word (codes "abort") (codes "h" ++ decimal label)
     refl (rw (decimal_inner label (long_number label fits)) refl) (rw (number_back label fits) refl)
 
 override_back : (script : Script) (task : ℕ) (label : ℕ) → FitsEvent (event.Override task label)
     → EventBack script (event.Override task label)
-unfolding spec.event_of spec.event_names spec.event_named spec.task_event words.two_of
+unfolding spec.read_event spec.event_names spec.event_named spec.task_event words.two_of
 override_back script task label fits =
     with_two (codes "override") (codes "t" ++ decimal task) (codes "h" ++ decimal label) (simp (append_assoc, append-nil))
     refl (rw (decimal_inner task (long_number task fits.0)) refl) (rw (decimal_inner label (long_number label fits.1)) refl)
@@ -142,14 +142,14 @@ override_back script task label fits =
 
 revert_back : (script : Script) (task : ℕ) → FitsEvent (event.Revert task)
     → EventBack script (event.Revert task)
-unfolding spec.event_of spec.event_names spec.event_named spec.task_event
+unfolding spec.read_event spec.event_names spec.event_named spec.task_event
 revert_back script task fits =
     with_word (codes "revert") (codes "t" ++ decimal task)
     refl (rw (decimal_inner task (long_number task fits)) refl) (rw (number_back task fits) refl)
 
 begin_back : (script : Script) (task : ℕ) (call : IdCall) → FitsEvent (event.Begin task call)
     → EventBack script (event.Begin task call)
-unfolding spec.event_of spec.event_names spec.event_named spec.task_event spec.begin_of
+unfolding spec.read_event spec.event_names spec.event_named spec.task_event spec.read_begin
 begin_back script task call fits =
     let back = call_back script call fits.1 in
     record {
@@ -162,7 +162,7 @@ begin_back script task call fits =
 
 act_back : (script : Script) (cast : ℕ) → FitsEvent (event.Act cast)
     → EventBack script (event.Act cast)
-unfolding spec.event_of spec.event_names spec.event_named
+unfolding spec.read_event spec.event_names spec.event_named
 act_back script cast fits = with_word (codes "act") (decimal cast) refl (decimal_plain cast (long_number cast fits)) (rw (number_back cast fits) refl)
 
 open_words : (hold file want fd : List ℕ) → 32 ∷ (codes "open h" ++ hold ++ codes " " ++ file ++ codes " " ++ want ++ codes " f" ++ fd) ≡ spaced (codes "open" ∷ (codes "h" ++ hold) ∷ file ∷ want ∷ (codes "f" ++ fd) ∷ [])
@@ -170,7 +170,7 @@ open_words hold file want fd = simp (append_assoc, append-nil)
 
 open_back : (script : Script) (hold : ℕ) (file : ℕ) (want : Want) (fd : ℕ) → FitsEvent (event.OpenFile hold file want fd) → IsFile script file
     → EventBack script (event.OpenFile hold file want fd)
-unfolding spec.event_of spec.event_names spec.event_named spec.label_event spec.open_of words.two_of
+unfolding spec.read_event spec.event_names spec.event_named spec.label_event spec.read_open words.two_of
 open_back script hold file want fd fits own = record {
   first = codes "open";
   rest = (codes "h" ++ decimal hold) ∷ (file_text script file) ∷ (want_text want) ∷ (codes "f" ++ decimal fd) ∷ [];
@@ -181,13 +181,13 @@ open_back script hold file want fd fits own = record {
 
 close_back : (script : Script) (fd : ℕ) → FitsEvent (event.CloseFile fd)
     → EventBack script (event.CloseFile fd)
-unfolding spec.event_of spec.event_names spec.event_named
+unfolding spec.read_event spec.event_names spec.event_named
 close_back script fd fits =
     with_word (codes "close") (codes "f" ++ decimal fd) refl (rw (decimal_inner fd (long_number fd fits)) refl) (rw (number_back fd fits) refl)
 
 spawn_back : (script : Script) (task : ℕ) (child : ℕ) → FitsEvent (event.Spawn task child)
     → EventBack script (event.Spawn task child)
-unfolding spec.event_of spec.event_names spec.event_named spec.task_event words.two_of
+unfolding spec.read_event spec.event_names spec.event_named spec.task_event words.two_of
 spawn_back script task child fits =
     with_two (codes "spawn") (codes "t" ++ decimal task) (codes "t" ++ decimal child) (simp (append_assoc, append-nil))
     refl (rw (decimal_inner task (long_number task fits.0)) refl) (rw (decimal_inner child (long_number child fits.1)) refl)
@@ -195,7 +195,7 @@ spawn_back script task child fits =
 
 fork_back : (script : Script) (task : ℕ) (child : ℕ) (process : ℕ) → FitsEvent (event.Fork task child process)
     → EventBack script (event.Fork task child process)
-unfolding spec.event_of spec.event_names spec.event_named spec.task_event words.three_of
+unfolding spec.read_event spec.event_names spec.event_named spec.task_event words.three_of
 fork_back script task child process fits =
     with_three (codes "fork") (codes "t" ++ decimal task) (codes "t" ++ decimal child) (codes "p" ++ decimal process)
     (simp (append_assoc, append-nil))
@@ -204,18 +204,18 @@ fork_back script task child process fits =
 
 exit_back : (script : Script) (task : ℕ) → FitsEvent (event.Exit task)
     → EventBack script (event.Exit task)
-unfolding spec.event_of spec.event_names spec.event_named spec.task_event
+unfolding spec.read_event spec.event_names spec.event_named spec.task_event
 exit_back script task fits =
     with_word (codes "exit") (codes "t" ++ decimal task) refl (rw (decimal_inner task (long_number task fits)) refl) (rw (number_back task fits) refl)
 
 sweep_back : (script : Script) → FitsEvent (event.Sweep)
     → EventBack script (event.Sweep)
-unfolding spec.event_of spec.event_names spec.event_named
+unfolding spec.read_event spec.event_names spec.event_named
 sweep_back script fits = bare (codes "sweep") refl refl
 
 dumpable_back : (script : Script) (task : ℕ) (value : ℕ) → FitsEvent (event.Dumpable task value)
     → EventBack script (event.Dumpable task value)
-unfolding spec.event_of spec.event_names spec.event_named spec.task_event words.two_of
+unfolding spec.read_event spec.event_names spec.event_named spec.task_event words.two_of
 dumpable_back script task value fits =
     with_two (codes "dumpable") (codes "t" ++ decimal task) (decimal value) (simp (append_assoc, append-nil))
     refl (rw (decimal_inner task (long_number task fits.0)) refl) (decimal_plain value (long_number value fits.1))
@@ -223,13 +223,13 @@ dumpable_back script task value fits =
 
 dumped_back : (script : Script) (task : ℕ) → FitsEvent (event.Dumped task)
     → EventBack script (event.Dumped task)
-unfolding spec.event_of spec.event_names spec.event_named spec.task_event
+unfolding spec.read_event spec.event_names spec.event_named spec.task_event
 dumped_back script task fits =
     with_word (codes "dumped") (codes "t" ++ decimal task) refl (rw (decimal_inner task (long_number task fits)) refl) (rw (number_back task fits) refl)
 
 ptrace_fs_back : (script : Script) (from : ℕ) (hold : ℕ) (to : ℕ) (target : ℕ) → FitsEvent (event.Ptrace from hold to target Fs)
     → EventBack script (event.Ptrace from hold to target Fs)
-unfolding spec.event_of spec.event_names spec.event_named spec.ptrace_of modes.modes words.two_of
+unfolding spec.read_event spec.event_names spec.event_named spec.ptrace_of modes.modes words.two_of
 ptrace_fs_back script from hold to target fits = record {
   first = codes "ptrace";
   rest = codes "fs" ∷ (codes "t" ++ decimal from) ∷ (codes "h" ++ decimal hold) ∷ (codes "t" ++ decimal to) ∷ (codes "h" ++ decimal target) ∷ [];
@@ -240,7 +240,7 @@ ptrace_fs_back script from hold to target fits = record {
 
 ptrace_real_back : (script : Script) (from : ℕ) (hold : ℕ) (to : ℕ) (target : ℕ) → FitsEvent (event.Ptrace from hold to target Real)
     → EventBack script (event.Ptrace from hold to target Real)
-unfolding spec.event_of spec.event_names spec.event_named spec.ptrace_of modes.modes words.two_of
+unfolding spec.read_event spec.event_names spec.event_named spec.ptrace_of modes.modes words.two_of
 ptrace_real_back script from hold to target fits = record {
   first = codes "ptrace";
   rest = codes "real" ∷ (codes "t" ++ decimal from) ∷ (codes "h" ++ decimal hold) ∷ (codes "t" ++ decimal to) ∷ (codes "h" ++ decimal target) ∷ [];

@@ -20,7 +20,7 @@ use Rattle.cred_spelling.specs.declared.names.QueryName.TheVariants as query_nam
 use Rattle.cred_spelling.specs.Names as names
 use Rattle.cred_spelling.specs.Spellings as spelling
 use Rattle.cred_spelling.specs.Words.{word_of, no_words, bare, one_of, two_of, three_of, five_of}
-use Rattle.cred_forms.specs.Modes.{mode_of}
+use Rattle.cred_forms.specs.Modes.{look_mode}
 use Rattle.cred_forms.specs.Changes as changes
 use Rattle.cred_forms.specs.Files.{file_at}
 use Rattle.cred_forms.specs.IdCalls as calls
@@ -130,18 +130,18 @@ named_query_fits files name words =
 
 init_fits : (words : List (List ℕ)) → Holds FitsEvent (spec.init_of words)
 unfolding spec.init_of
-init_fits words = then_holds _ FitsEvent (five_of kinds.task_of kinds.process_of spelling.id_of spelling.id_of spelling.namespace_of words) _ (five_holds IsNumber IsNumber IsId IsId IsNamespace kinds.task_of kinds.process_of spelling.id_of spelling.id_of spelling.namespace_of task_fits process_fits id_fits id_fits namespace_fits words) (λ v h. h)
+init_fits words = then_holds _ FitsEvent (five_of kinds.task_word kinds.process_word spelling.id_of spelling.id_of spelling.namespace_of words) _ (five_holds IsNumber IsNumber IsId IsId IsNamespace kinds.task_word kinds.process_word spelling.id_of spelling.id_of spelling.namespace_of task_fits process_fits id_fits id_fits namespace_fits words) (λ v h. h)
 
-take_fits : (side : Side) (words : List (List ℕ)) → Holds FitsEvent (spec.take_of side words)
-unfolding spec.take_of
-take_fits side words = then_holds _ FitsEvent (two_of kinds.label_of kinds.task_of words) _ (two_holds IsNumber IsNumber kinds.label_of kinds.task_of label_fits task_fits words) (λ v h. h)
+take_fits : (side : Side) (words : List (List ℕ)) → Holds FitsEvent (spec.read_take side words)
+unfolding spec.read_take
+take_fits side words = then_holds _ FitsEvent (two_of kinds.label_word kinds.task_word words) _ (two_holds IsNumber IsNumber kinds.label_word kinds.task_word label_fits task_fits words) (λ v h. h)
 
-ask_fits : (files : List NamedFile) (words : List (List ℕ)) → Holds FitsEvent (spec.ask_of files words)
-unfolding spec.ask_of
+ask_fits : (files : List NamedFile) (words : List (List ℕ)) → Holds FitsEvent (spec.read_ask files words)
+unfolding spec.read_ask
 ask_fits files [] = tt
 ask_fits files (hold ∷ []) = tt
 ask_fits files (hold ∷ asked ∷ words) =
-    then_holds IsNumber FitsEvent (word_of kinds.label_of hold) _ (word_holds IsNumber kinds.label_of label_fits hold) (λ label l.
+    then_holds IsNumber FitsEvent (word_of kinds.label_word hold) _ (word_holds IsNumber kinds.label_word label_fits hold) (λ label l.
     then_holds FitsQuery FitsEvent (questions.query_named files asked words) _ (named_query_fits files asked words) (λ query q. (l, q)))
 
 signal_fits : (words : List (List ℕ)) → Holds FitsEvent (spec.signal_of words)
@@ -149,31 +149,31 @@ unfolding spec.signal_of
 signal_fits [] = tt
 signal_fits (from ∷ []) = tt
 signal_fits (from ∷ hold ∷ words) =
-    then_holds _ FitsEvent (two_of kinds.task_of kinds.label_of (from ∷ hold ∷ [])) _ (two_holds IsNumber IsNumber kinds.task_of kinds.label_of task_fits label_fits (from ∷ hold ∷ [])) (λ sender s.
-    then_holds _ FitsEvent (two_of kinds.task_of kinds.label_of words) _ (two_holds IsNumber IsNumber kinds.task_of kinds.label_of task_fits label_fits words) (λ other o. (s.0, s.1, o.0, o.1)))
+    then_holds _ FitsEvent (two_of kinds.task_word kinds.label_word (from ∷ hold ∷ [])) _ (two_holds IsNumber IsNumber kinds.task_word kinds.label_word task_fits label_fits (from ∷ hold ∷ [])) (λ sender s.
+    then_holds _ FitsEvent (two_of kinds.task_word kinds.label_word words) _ (two_holds IsNumber IsNumber kinds.task_word kinds.label_word task_fits label_fits words) (λ other o. (s.0, s.1, o.0, o.1)))
 
-alter_fits : (files : List NamedFile) (words : List (List ℕ)) → Holds FitsEvent (spec.alter_of files words)
-unfolding spec.alter_of
+alter_fits : (files : List NamedFile) (words : List (List ℕ)) → Holds FitsEvent (spec.read_alter files words)
+unfolding spec.read_alter
 alter_fits files [] = tt
 alter_fits files (prepared ∷ []) = tt
 alter_fits files (prepared ∷ changed ∷ words) =
-    then_holds IsNumber FitsEvent (word_of kinds.label_of prepared) _ (word_holds IsNumber kinds.label_of label_fits prepared) (λ label l.
+    then_holds IsNumber FitsEvent (word_of kinds.label_word prepared) _ (word_holds IsNumber kinds.label_word label_fits prepared) (λ label l.
     then_holds FitsChange FitsEvent (spec.change_named files changed words) _ (named_change_fits files changed words) (λ change c. (l, c)))
 
-begin_fits : (words : List (List ℕ)) → Holds FitsEvent (spec.begin_of words)
-unfolding spec.begin_of
+begin_fits : (words : List (List ℕ)) → Holds FitsEvent (spec.read_begin words)
+unfolding spec.read_begin
 begin_fits [] = tt
 begin_fits (caller ∷ []) = tt
 begin_fits (caller ∷ called ∷ words) =
-    then_holds IsNumber FitsEvent (word_of kinds.task_of caller) _ (word_holds IsNumber kinds.task_of task_fits caller) (λ task t.
+    then_holds IsNumber FitsEvent (word_of kinds.task_word caller) _ (word_holds IsNumber kinds.task_word task_fits caller) (λ task t.
     then_holds FitsCall FitsEvent (spec.call_named called words) _ (named_call_fits called words) (λ call c. (t, c)))
 
-open_fits : (files : List NamedFile) (words : List (List ℕ)) → Holds FitsEvent (spec.open_of files words)
-unfolding spec.open_of
+open_fits : (files : List NamedFile) (words : List (List ℕ)) → Holds FitsEvent (spec.read_open files words)
+unfolding spec.read_open
 open_fits files [] = tt
 open_fits files (hold ∷ []) = tt
 open_fits files (hold ∷ name ∷ words) =
-    then_holds IsNumber FitsEvent (word_of kinds.label_of hold) _ (word_holds IsNumber kinds.label_of label_fits hold) (λ label l.
+    then_holds IsNumber FitsEvent (word_of kinds.label_word hold) _ (word_holds IsNumber kinds.label_word label_fits hold) (λ label l.
     then_holds (λ file. Unit {0}) FitsEvent (file_at files name) _ (any_holds (file_at files name)) (λ file u.
     then_holds _ FitsEvent (two_of spelling.want_of kinds.fd_of words) _ (two_holds IsWant IsNumber spelling.want_of kinds.fd_of want_fits fd_fits words) (λ v h. (l, h.0, h.1))))
 
@@ -181,27 +181,27 @@ label_event_fits : (files : List NamedFile) (kind : LabelEvent) (words : List (L
 unfolding spec.label_event
 label_event_fits files by_label.Take words = take_fits Subjective words
 label_event_fits files by_label.TakeReal words = take_fits Objective words
-label_event_fits files by_label.TakeFile words = then_holds _ FitsEvent (two_of kinds.label_of kinds.fd_of words) _ (two_holds IsNumber IsNumber kinds.label_of kinds.fd_of label_fits fd_fits words) (λ v h. h)
-label_event_fits files by_label.Release words = then_holds IsNumber FitsEvent (one_of kinds.label_of words) _ (one_holds IsNumber kinds.label_of label_fits words) (λ v h. h)
+label_event_fits files by_label.TakeFile words = then_holds _ FitsEvent (two_of kinds.label_word kinds.fd_of words) _ (two_holds IsNumber IsNumber kinds.label_word kinds.fd_of label_fits fd_fits words) (λ v h. h)
+label_event_fits files by_label.Release words = then_holds IsNumber FitsEvent (one_of kinds.label_word words) _ (one_holds IsNumber kinds.label_word label_fits words) (λ v h. h)
 label_event_fits files by_label.Ask words = ask_fits files words
-label_event_fits files by_label.Prepare words = then_holds _ FitsEvent (three_of kinds.label_of kinds.task_of kinds.label_of words) _ (three_holds IsNumber IsNumber IsNumber kinds.label_of kinds.task_of kinds.label_of label_fits task_fits label_fits words) (λ v h. h)
+label_event_fits files by_label.Prepare words = then_holds _ FitsEvent (three_of kinds.label_word kinds.task_word kinds.label_word words) _ (three_holds IsNumber IsNumber IsNumber kinds.label_word kinds.task_word kinds.label_word label_fits task_fits label_fits words) (λ v h. h)
 label_event_fits files by_label.Alter words = alter_fits files words
-label_event_fits files by_label.Commit words = then_holds IsNumber FitsEvent (one_of kinds.label_of words) _ (one_holds IsNumber kinds.label_of label_fits words) (λ v h. h)
-label_event_fits files by_label.Abort words = then_holds IsNumber FitsEvent (one_of kinds.label_of words) _ (one_holds IsNumber kinds.label_of label_fits words) (λ v h. h)
+label_event_fits files by_label.Commit words = then_holds IsNumber FitsEvent (one_of kinds.label_word words) _ (one_holds IsNumber kinds.label_word label_fits words) (λ v h. h)
+label_event_fits files by_label.Abort words = then_holds IsNumber FitsEvent (one_of kinds.label_word words) _ (one_holds IsNumber kinds.label_word label_fits words) (λ v h. h)
 label_event_fits files by_label.OpenFile words = open_fits files words
 
 task_event_fits : (kind : TaskEvent) (words : List (List ℕ)) → Holds FitsEvent (spec.task_event kind words)
 unfolding spec.task_event
 task_event_fits by_task.Init words = init_fits words
 task_event_fits by_task.Signal words = signal_fits words
-task_event_fits by_task.Override words = then_holds _ FitsEvent (two_of kinds.task_of kinds.label_of words) _ (two_holds IsNumber IsNumber kinds.task_of kinds.label_of task_fits label_fits words) (λ v h. h)
-task_event_fits by_task.Revert words = then_holds IsNumber FitsEvent (one_of kinds.task_of words) _ (one_holds IsNumber kinds.task_of task_fits words) (λ v h. h)
+task_event_fits by_task.Override words = then_holds _ FitsEvent (two_of kinds.task_word kinds.label_word words) _ (two_holds IsNumber IsNumber kinds.task_word kinds.label_word task_fits label_fits words) (λ v h. h)
+task_event_fits by_task.Revert words = then_holds IsNumber FitsEvent (one_of kinds.task_word words) _ (one_holds IsNumber kinds.task_word task_fits words) (λ v h. h)
 task_event_fits by_task.Begin words = begin_fits words
-task_event_fits by_task.Spawn words = then_holds _ FitsEvent (two_of kinds.task_of kinds.task_of words) _ (two_holds IsNumber IsNumber kinds.task_of kinds.task_of task_fits task_fits words) (λ v h. h)
-task_event_fits by_task.Fork words = then_holds _ FitsEvent (three_of kinds.task_of kinds.task_of kinds.process_of words) _ (three_holds IsNumber IsNumber IsNumber kinds.task_of kinds.task_of kinds.process_of task_fits task_fits process_fits words) (λ v h. h)
-task_event_fits by_task.Exit words = then_holds IsNumber FitsEvent (one_of kinds.task_of words) _ (one_holds IsNumber kinds.task_of task_fits words) (λ v h. h)
-task_event_fits by_task.Dumpable words = then_holds _ FitsEvent (two_of kinds.task_of spelling.number_of words) _ (two_holds IsNumber IsNumber kinds.task_of spelling.number_of task_fits number_fits words) (λ v h. h)
-task_event_fits by_task.Dumped words = then_holds IsNumber FitsEvent (one_of kinds.task_of words) _ (one_holds IsNumber kinds.task_of task_fits words) (λ v h. h)
+task_event_fits by_task.Spawn words = then_holds _ FitsEvent (two_of kinds.task_word kinds.task_word words) _ (two_holds IsNumber IsNumber kinds.task_word kinds.task_word task_fits task_fits words) (λ v h. h)
+task_event_fits by_task.Fork words = then_holds _ FitsEvent (three_of kinds.task_word kinds.task_word kinds.process_word words) _ (three_holds IsNumber IsNumber IsNumber kinds.task_word kinds.task_word kinds.process_word task_fits task_fits process_fits words) (λ v h. h)
+task_event_fits by_task.Exit words = then_holds IsNumber FitsEvent (one_of kinds.task_word words) _ (one_holds IsNumber kinds.task_word task_fits words) (λ v h. h)
+task_event_fits by_task.Dumpable words = then_holds _ FitsEvent (two_of kinds.task_word spelling.number_of words) _ (two_holds IsNumber IsNumber kinds.task_word spelling.number_of task_fits number_fits words) (λ v h. h)
+task_event_fits by_task.Dumped words = then_holds IsNumber FitsEvent (one_of kinds.task_word words) _ (one_holds IsNumber kinds.task_word task_fits words) (λ v h. h)
 
 ptrace_fits : (words : List (List ℕ)) → Holds FitsEvent (spec.ptrace_of words)
 unfolding spec.ptrace_of
@@ -209,9 +209,9 @@ ptrace_fits [] = tt
 ptrace_fits (asked ∷ []) = tt
 ptrace_fits (asked ∷ from ∷ []) = tt
 ptrace_fits (asked ∷ from ∷ hold ∷ words) =
-    then_holds (λ mode. Unit {0}) FitsEvent (word_of mode_of asked) _ (any_holds (word_of mode_of asked)) (λ mode u.
-    then_holds _ FitsEvent (two_of kinds.task_of kinds.label_of (from ∷ hold ∷ [])) _ (two_holds IsNumber IsNumber kinds.task_of kinds.label_of task_fits label_fits (from ∷ hold ∷ [])) (λ sender s.
-    then_holds _ FitsEvent (two_of kinds.task_of kinds.label_of words) _ (two_holds IsNumber IsNumber kinds.task_of kinds.label_of task_fits label_fits words) (λ other o. (s.0, s.1, o.0, o.1))))
+    then_holds (λ mode. Unit {0}) FitsEvent (word_of look_mode asked) _ (any_holds (word_of look_mode asked)) (λ mode u.
+    then_holds _ FitsEvent (two_of kinds.task_word kinds.label_word (from ∷ hold ∷ [])) _ (two_holds IsNumber IsNumber kinds.task_word kinds.label_word task_fits label_fits (from ∷ hold ∷ [])) (λ sender s.
+    then_holds _ FitsEvent (two_of kinds.task_word kinds.label_word words) _ (two_holds IsNumber IsNumber kinds.task_word kinds.label_word task_fits label_fits words) (λ other o. (s.0, s.1, o.0, o.1))))
 
 named_event_fits : (files : List NamedFile) (kind : EventName) (words : List (List ℕ)) → Holds FitsEvent (spec.event_named files kind words)
 unfolding spec.event_named
@@ -222,8 +222,8 @@ named_event_fits files name.CloseFile words = then_holds IsNumber FitsEvent (one
 named_event_fits files name.Sweep words = then_holds (λ end. Unit {0}) FitsEvent (no_words words) _ (any_holds (no_words words)) (λ end h. tt)
 named_event_fits files name.Ptrace words = ptrace_fits words
 
-pub event_fits : (files : List NamedFile) (words : List (List ℕ)) → Holds FitsEvent (spec.event_of files words)
-unfolding spec.event_of
+pub event_fits : (files : List NamedFile) (words : List (List ℕ)) → Holds FitsEvent (spec.read_event files words)
+unfolding spec.read_event
 event_fits files [] = tt
 event_fits files (word ∷ words) =
     then_holds (λ kind. Unit {0}) FitsEvent (ok_or (spec.event_name word) Word) _ (any_holds (ok_or (spec.event_name word) Word)) (λ kind h. named_event_fits files kind words)

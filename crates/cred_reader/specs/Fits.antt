@@ -41,7 +41,7 @@ use Rattle.cred_event.specs.declared.entry.Entry.{Entry}
 use Rattle.cred_model.specs.Script.{Script}
 use Rattle.cred_model.specs.Named.{AreDeclared, event_files, event_namespaces}
 use Rattle.cred_spelling.specs.Spellings.{is_name}
-use Rattle.cred_script.specs.Files.{place_of}
+use Rattle.cred_script.specs.Files.{file_place}
 use Rattle.cred_report.specs.Questions.{file_text}
 use Rattle.cred_answers.specs.Rows.{CanAnswer}
 
@@ -55,7 +55,7 @@ IsLong n = n < 2 ^ 64
 
 -- The script declares a file at this place, whose name is a name, and that of no earlier file.
 pub record IsFile (script : Script) (place : ℕ) : Type 0 where
-  pub own : place_of script.files (file_text script place) ≡ Some place
+  pub own : file_place script.files (file_text script place) ≡ Some place
   pub name : IsTrue (is_name (file_text script place))
 
 -- the number of a namespace
@@ -197,7 +197,7 @@ pub record IsOf (script : Script) (event : Event) : Type 0 where
   pub namespaces : AreDeclared script.namespaces (event_namespaces event)
 
 -- an entry that names what is the script's, and whose event may be given its answer
-pub record IsSound (script : Script) (entry : Entry) : Type 0 where
+pub record IsSoundEntry (script : Script) (entry : Entry) : Type 0 where
   pub names : IsOf script entry.event
   pub row : CanAnswer entry.event entry.answer
 
@@ -206,4 +206,4 @@ pub record Fits (script : Script) (entry : Entry) : Type 0 where
   pub line : IsNumber entry.line
   pub event : FitsEvent entry.event
   pub answer : FitsAnswer entry.answer
-  pub sound : IsSound script entry
+  pub sound : IsSoundEntry script entry

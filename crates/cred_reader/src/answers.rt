@@ -5,7 +5,7 @@ ghost use Rattle.cred_forms.specs.Read.{GivesLine};
 ghost use Rattle.cred_reader.specs.Answers as spec;
 
 use crate::kinds::{Bits, Cred, Flag, Mode, Slot, Task};
-use crate::refusals::refusal_of;
+use crate::refusals::read_refusal;
 use cred_caps::CapSet;
 use cred_event::{Answer, Event, Query, Told};
 use cred_forms::{LineRefusal, ids};
@@ -226,16 +226,16 @@ fn ok_words(alloc: Global, told: Tells, words: &[&[u8]]) -> Result<Answer, LineR
 }
 
 /// The answer to an event that is told this.
-#[tactic(auto, unfolding(crate::specs::Answers::answer_of))]
-pub(crate) fn answer_of(alloc: Global, told: Tells, words: &[&[u8]]) -> Result<Answer, LineRefusal>
-    ensures { GivesLine (λ answer. answer) result (spec.answer_of told (nows words.now)) }
+#[tactic(auto, unfolding(crate::specs::Answers::read_answer))]
+pub(crate) fn read_answer(alloc: Global, told: Tells, words: &[&[u8]]) -> Result<Answer, LineRefusal>
+    ensures { GivesLine (λ answer. answer) result (spec.read_answer told (nows words.now)) }
 {
     match words {
         [name, rest @ ..] => {
             if is(name, "ok") {
                 return ok_words(alloc, told, rest);
             }
-            Ok(refusal_of(words)?)
+            Ok(read_refusal(words)?)
         }
         [] => Err(LineRefusal::Bad(Reason::Count)),
     }

@@ -23,7 +23,7 @@ pub(crate) enum Task {}
 impl Spelling for Task {
     type Value = u32;
 
-    ghost spelled = { spec.task_of };
+    ghost spelled = { spec.task_word };
 
     fn of(word: &[u8]) -> Option<u32> {
         behind(b't', word)
@@ -36,7 +36,7 @@ pub(crate) enum Process {}
 impl Spelling for Process {
     type Value = u32;
 
-    ghost spelled = { spec.process_of };
+    ghost spelled = { spec.process_word };
 
     fn of(word: &[u8]) -> Option<u32> {
         behind(b'p', word)
@@ -49,7 +49,7 @@ pub(crate) enum Label {}
 impl Spelling for Label {
     type Value = u32;
 
-    ghost spelled = { spec.label_of };
+    ghost spelled = { spec.label_word };
 
     fn of(word: &[u8]) -> Option<u32> {
         behind(b'h', word)
@@ -75,7 +75,7 @@ pub(crate) enum Slot {}
 impl Spelling for Slot {
     type Value = u32;
 
-    ghost spelled = { spec.slot_of };
+    ghost spelled = { spec.slot_word };
 
     fn of(word: &[u8]) -> Option<u32> {
         behind(b's', word)

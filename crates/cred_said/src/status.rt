@@ -1,6 +1,6 @@
 //! How a run of the program ended.
 ghost use Rattle.std.specs.Prelude.{◌≡◌};
-ghost use Rattle.cred_said.specs.Ends.{finished};
+ghost use Rattle.cred_said.specs.Ends.{status_after};
 
 use cred_io::SinkRefusal;
 
@@ -40,7 +40,7 @@ impl Status {
 
 /// The status, if its text was written.
 pub fn finish(written: Result<(), SinkRefusal>, status: Status) -> Status
-    ensures { result ≡ finished written status }
+    ensures { result ≡ status_after written status }
 {
     match written {
         Ok(()) => status,

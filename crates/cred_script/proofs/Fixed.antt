@@ -4,7 +4,7 @@ use Rattle.std.specs.List.{All}
 use Rattle.std.proofs.lemmas.List.Elements.{All-weaker}
 use Rattle.cred_model.specs.Changing.{ChangesInSetup}
 use Rattle.cred_model.specs.Script.{Line, Namespace}
-use Rattle.cred_script.specs.Sound.{IsSound}
+use Rattle.cred_script.specs.Sound.{IsSoundLine}
 
-pub fixes : (count : ℕ) (declared : List Namespace) (lines : List Line) → All (IsSound count declared) lines → All ChangesInSetup lines
-fixes count declared lines each = All-weaker (IsSound count declared) ChangesInSetup (λ line sound. sound.fixed) lines each
+pub fixes : (count : ℕ) (declared : List Namespace) (lines : List Line) → All (IsSoundLine count declared) lines → All ChangesInSetup lines
+fixes count declared lines each = All-weaker (IsSoundLine count declared) ChangesInSetup (λ line sound. sound.fixed) lines each

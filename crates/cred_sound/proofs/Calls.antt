@@ -18,7 +18,7 @@ use Rattle.cred_model.specs.State.{State, Task, Broadcast, Numbered, numbered, t
 use Rattle.cred_model.specs.Slots.{refs}
 use Rattle.cred_model.specs.Change.{by_rule}
 use Rattle.cred_model.specs.Ends.{is_task, is_thread_of, survivors, ended}
-use Rattle.cred_model.specs.Dumpable.{is_dumpable, with_flag, without_flag, differs, renewed, flags_left}
+use Rattle.cred_model.specs.Dumpable.{is_dumpable, with_process_flag, without_flag, differs, renewed, flags_left}
 use Rattle.cred_model.specs.Casts.{others_of, with_cast, waits_no_more, joined, dropped}
 use Rattle.cred_model.specs.Moves.{table_full, with_current, first_task, replaced}
 use Rattle.cred_model.specs.Step.{aborted, follow, step}
@@ -173,7 +173,7 @@ fork_changes script s line task child process =
     (λ unused. if_own Q owner _
     (if_fewer Q (length s.tasks) TASKS _ _
     (only_tasks script s event (Sealed parent.number parent.slot) s.deferred (s.tasks ++ first_task child process parent.number ∷ []) s.casts
-    (with_flag s.dumpable process (is_dumpable s.dumpable owner.process)) s.deferred (All-contains_itself s.deferred)
+    (with_process_flag s.dumpable process (is_dumpable s.dumpable owner.process)) s.deferred (All-contains_itself s.deferred)
     (Shares task child process parent refl refl (own_is s task owner parent found at) new (ByFork owner refl found unused refl refl))
     (still_left s s.deferred)))))))))
 

@@ -8,7 +8,7 @@ use Rattle.cred_event.specs.declared.answer.Answer.{Answer}
 use Rattle.cred_model.specs.Script.{Script}
 use Rattle.cred_model.specs.State.{State, Task, ProcessFlag, task_of}
 use Rattle.cred_model.specs.Ends.{survivors}
-use Rattle.cred_model.specs.Dumpable.{with_flag, set_flag, without_flag, flags_left, differs_by}
+use Rattle.cred_model.specs.Dumpable.{with_process_flag, set_flag, without_flag, flags_left, differs_by}
 use Rattle.cred_model.specs.Moves.{first_task, overriding, updated, with_current}
 use Rattle.cred_model.specs.Step.{ends_with}
 use Rattle.cred_model.proofs.Numbers.{overriding_as, updated_as}
@@ -85,9 +85,9 @@ fewer_flags s event ends made (ByAbort number task cause cast is ending casts an
 
 -- a first task
 begun_flags : (s : State) (t : Task) → AreFlagged s.tasks s.dumpable
-    → AreFlagged (s.tasks ++ t ∷ []) (cond (lives s.tasks t.process) s.dumpable (with_flag s.dumpable t.process true))
+    → AreFlagged (s.tasks ++ t ∷ []) (cond (lives s.tasks t.process) s.dumpable (with_process_flag s.dumpable t.process true))
 begun_flags s t are =
-    elim (lives s.tasks t.process) as (λ b. lives s.tasks t.process ≡ b → AreFlagged (s.tasks ++ t ∷ []) (cond b s.dumpable (with_flag s.dumpable t.process true))) [
+    elim (lives s.tasks t.process) as (λ b. lives s.tasks t.process ≡ b → AreFlagged (s.tasks ++ t ∷ []) (cond b s.dumpable (with_process_flag s.dumpable t.process true))) [
       | true ↦ λ live. flags_joined s.tasks s.dumpable t live are
       | false ↦ λ none. flags_more s.tasks s.dumpable t true none are
     ] refl

@@ -31,7 +31,7 @@ use Rattle.cred_model.specs.Change.{by_change}
 use Rattle.cred_model.specs.Ends.{ended}
 use Rattle.cred_model.specs.Ptrace.{may_trace}
 use Rattle.cred_model.specs.Dumpable.{is_dumpable, set_flag, flags_begun, flags_committed, flag_of_value}
-use Rattle.cred_model.specs.Moves.{table_full, with_overrides, lent, overridden, with_change}
+use Rattle.cred_model.specs.Moves.{table_full, with_overrides, with_override, overridden, with_change}
 use Rattle.cred_model.specs.Moves.{first_task, created, preparing, committed, given_up}
 use Rattle.cred_model.specs.Step.{ends_with, casts_after, commit_answer, try_commit, take_hold, is_access, for_task, for_access, override_held, override_prepared, by_file, outcome, step}
 use Rattle.cred_model.proofs.Lists.{All-at}
@@ -272,7 +272,7 @@ override_held_has : (script : Script) (s : State) (event : Event) (task label : 
     → IfAllowed (Changes script s event) (override_held s owner held)
 override_held_has script s event task label owner held found is =
     let Q = Changes script s event in
-    let t = lent s owner held.number in
+    let t = with_override s owner held.number in
     if_fewer Q (length owner.overrides) DEPTH _ _
     (only_tasks script s event (Sealed held.number held.slot) s.deferred t.tasks s.casts s.dumpable s.deferred (All-contains_itself s.deferred)
     (Overrides owner.number (held.number ∷ owner.overrides) refl

@@ -21,7 +21,7 @@ use Rattle.cred_model.specs.Named.{change_files}
 use Rattle.cred_model.specs.Changing.{changed_file, changed_by}
 use Rattle.cred_model.specs.Change.{by_change}
 use Rattle.cred_model.specs.Ends.{is_task, is_thread_of, survivors}
-use Rattle.cred_model.specs.Dumpable.{is_dumpable, with_flag, set_flag, without_flag, differs, renewed, flags_committed, flags_begun, flags_left, flag_of_value}
+use Rattle.cred_model.specs.Dumpable.{is_dumpable, with_process_flag, set_flag, without_flag, differs, renewed, flags_committed, flags_begun, flags_left, flag_of_value}
 use Rattle.cred_model.specs.Casts.{others_of, with_cast, waits_no_more, joined, dropped}
 use Rattle.cred_model.specs.Moves.{with_change, with_current, with_overrides, first_task}
 use Rattle.cred_model.specs.Step.{commit_answer, ends_with}
@@ -117,7 +117,7 @@ pub data Creation (s : State) (event : Event) (task child process : ℕ) (made :
   BySpawn : (owner : Task) → event ≡ Spawn task child → task_of s task ≡ Some owner → process ≡ owner.process
       → made.1.casts ≡ joined task child s.casts → made.1.dumpable ≡ s.dumpable → Creation s event task child process made
   ByFork : (owner : Task) → event ≡ Fork task child process → task_of s task ≡ Some owner → find (is_thread_of process) s.tasks ≡ None
-      → made.1.casts ≡ s.casts → made.1.dumpable ≡ with_flag s.dumpable process (is_dumpable s.dumpable owner.process)
+      → made.1.casts ≡ s.casts → made.1.dumpable ≡ with_process_flag s.dumpable process (is_dumpable s.dumpable owner.process)
       → Creation s event task child process made
 
 -- How tasks end, and no other has a new credential: a task exits, or all threads of a process end,

@@ -20,7 +20,7 @@ use Rattle.cred_spelling.specs.declared.names.FileCallName.{FileCallName}
 use Rattle.cred_spelling.specs.declared.names.FileCallName.TheVariants as file
 use Rattle.cred_spelling.specs.declared.names.CallName.{CallName}
 use Rattle.cred_spelling.specs.declared.names.CallName.TheVariants as call
-use Rattle.cred_spelling.specs.Spellings.{task_of}
+use Rattle.cred_spelling.specs.Spellings.{spelled_task}
 use Rattle.cred_spelling.specs.Table.{named}
 
 -- the lines that no task calls
@@ -119,7 +119,7 @@ file_call_names =
 
 -- what a line is by its first word: a call or a question of a task is named by the task
 abbrev pub form_of : List ℕ → Option Form
-form_of word = option_or (option_map Task (task_of word)) (named forms word)
+form_of word = option_or (option_map Task (spelled_task word)) (named forms word)
 
 -- the id call that a word names
 abbrev pub id_name : List ℕ → Option IdName

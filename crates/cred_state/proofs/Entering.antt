@@ -21,10 +21,10 @@ use Rattle.cred_model.specs.Script.{Script, chain_of, info_of}
 use Rattle.cred_model.specs.State.{State, Prepared, Numbered, held_by, numbered, open_of, prepared_of}
 use Rattle.cred_model.specs.Step.{by_alter, by_open, outcome}
 use Rattle.cred_model.proofs.Places.{if_some}
-use Rattle.cred_hold.specs.Tokens.{Entry}
+use Rattle.cred_hold.specs.Tokens.{Loan}
 use Rattle.cred_tables.specs.Out.{AreSameTokens}
 use Rattle.cred_tables.proofs.Back.{count_one, taken_count}
-use Rattle.cred_state.specs.Lending.{AreTaken, IsBase, IsChainOf, IsMadeOf}
+use Rattle.cred_state.specs.TokensOut.{AreTaken, IsBase, IsChainOf, IsMadeOf}
 
 -- ---- a file
 
@@ -120,8 +120,8 @@ with_ok (Err e) T P Q on is f = tt
 
 -- ---- what came back counts as what was lent
 
-pub taken_same : (es old new : List Entry) → AreTaken es old new → AreSameTokens old (es ++ new)
-taken_same [] old new is test = ap (λ (xs : List Entry). count_by test xs) (sym is)
+pub taken_same : (es old new : List Loan) → AreTaken es old new → AreSameTokens old (es ++ new)
+taken_same [] old new is test = ap (λ (xs : List Loan). count_by test xs) (sym is)
 taken_same (e ∷ es) old new (mid, taken, rest) test =
     let one = taken_count test old e mid taken in
     let less = taken_same es mid new rest test in

@@ -1,5 +1,5 @@
 pub mod OneChanged
-pub mod Overriding
+pub mod OverrideCounts
 pub mod Broadcasts
 pub mod Inits
 pub mod Creating
@@ -15,12 +15,12 @@ pub mod Finishing
 pub mod Commits
 pub mod Overrides
 pub mod Stays
-pub mod Lending
+pub mod TokensOut
 pub mod Lines
 pub mod Keeping
 pub mod Returns
 pub mod Entering
-pub mod Lends
+pub mod LentForEvent
 pub mod Asking
 pub mod Deciding
 pub mod Traces

@@ -15,7 +15,7 @@ use Rattle.cred_event.specs.declared.content.Content.TheVariants.{Nothing, One, 
 use Rattle.cred_model.specs.Course.{event_in, hold_label, new_label, target_label, access_label}
 use Rattle.cred_model.specs.State.{State}
 use Rattle.cred_names.specs.Labels.{event_labels, labels}
-use Rattle.cred_tables.specs.Out.{waits_in}
+use Rattle.cred_tables.specs.Out.{needs_tokens}
 
 -- the label is one of those that the line takes for itself
 abbrev pub IsOwnLabel : ℕ → ℕ → Type 0
@@ -103,14 +103,14 @@ names_own line content stage event is label has =
 -- ---- the events that wait for a decision
 
 -- in some states the event waits
-abbrev pub may_wait : Event → Bool
-may_wait (Ask label query) = true
-may_wait (OpenFile hold file want fd) = true
-may_wait (event.Signal from hold to target) = true
-may_wait (Alter label change) = true
-may_wait event = false
+abbrev pub may_need_tokens : Event → Bool
+may_need_tokens (Ask label query) = true
+may_need_tokens (OpenFile hold file want fd) = true
+may_need_tokens (event.Signal from hold to target) = true
+may_need_tokens (Alter label change) = true
+may_need_tokens event = false
 
-pub waiting_may : (s : State) (waiting : Event) → waits_in s waiting ≡ true → may_wait waiting ≡ true
+pub waiting_may : (s : State) (waiting : Event) → needs_tokens s waiting ≡ true → may_need_tokens waiting ≡ true
 waiting_may s (Ask label query) waits = refl
 waiting_may s (OpenFile hold file want fd) waits = refl
 waiting_may s (event.Signal from hold to target) waits = refl
@@ -135,7 +135,7 @@ IsWaiting line content event = waiting_of line content ≡ Some event
 
 abbrev IfWaiting : ℕ → Content → Option Event → Type 0
 IfWaiting line content None = Unit {0}
-IfWaiting line content (Some event) = may_wait event ≡ true → IsWaiting line content event
+IfWaiting line content (Some event) = may_need_tokens event ≡ true → IsWaiting line content event
 
 waiting_at : (line : ℕ) (content : Content) (stage : Stage) → IfWaiting line content (event_in line content stage)
 waiting_at line (One event) First = λ waits. refl
@@ -179,7 +179,7 @@ waiting_at line (Access task file want) Aborting = λ waits. cc
 waiting_at line (Access task file want) Releasing = λ waits. cc
 waiting_at line content stage = tt
 
-is_waiting : (line : ℕ) (content : Content) (stage : Stage) (event : Event) → event_in line content stage ≡ Some event → may_wait event ≡ true
+is_waiting : (line : ℕ) (content : Content) (stage : Stage) (event : Event) → event_in line content stage ≡ Some event → may_need_tokens event ≡ true
     → IsWaiting line content event
 is_waiting line content stage event is = subst (IfWaiting line content) is (waiting_at line content stage)
 
@@ -195,7 +195,7 @@ labels_apart line label new access =
 
 -- two events of one line that wait and share a label are one
 pub same_event : (line : ℕ) (content : Content) (stage other : Stage) (a b : Event) → event_in line content stage ≡ Some a → event_in line content other ≡ Some b
-    → may_wait a ≡ true → may_wait b ≡ true → (label : ℕ) → Contains (event_labels a) label → Contains (event_labels b) label → a ≡ b
+    → may_need_tokens a ≡ true → may_need_tokens b ≡ true → (label : ℕ) → Contains (event_labels a) label → Contains (event_labels b) label → a ≡ b
 same_event line content stage other a b one two waits wait label here there =
     by content (is_waiting line content stage a one waits) (is_waiting line content other b two wait)
   where

@@ -38,5 +38,5 @@ by_creating s task child None = by_spawn s task child
 by_creating s task child (Some process) = by_fork s task child process
 
 -- no task is of the process that is to be new, if there is to be one
-abbrev pub IsUnused : State → Option ℕ → Type 0
-IsUnused s process = IfSome process (λ number. has_process s.tasks number ≡ false)
+abbrev pub IsUnusedProcess : State → Option ℕ → Type 0
+IsUnusedProcess s process = IfSome process (λ number. has_process s.tasks number ≡ false)

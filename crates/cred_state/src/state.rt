@@ -58,20 +58,20 @@ pub struct State {
 }
 
 impl Model for State {
-    ghost use Rattle.cred_tables.specs.Kept.{parts_of, state_of, IsKept, Standing};
+    ghost use Rattle.cred_tables.specs.Kept.{as_parts, state_of, IsKept, Standing};
     ghost use Rattle.cred_tables.specs.Out.{ArePut};
 
     ghost Value = { Standing };
 
     ghost view = { λ s. record {
-      state = state_of (parts_of s.tasks s.casts s.files s.holds s.prepared s.dump)
+      state = state_of (as_parts s.tasks s.casts s.files s.holds s.prepared s.dump)
           s.master.slots s.slots;
       words = record { id = s.master.id; out = s.master.entries };
       places = s.master.slots;
     } };
 
     ghost invariant = { λ s.
-        IsKept (parts_of s.tasks s.casts s.files s.holds s.prepared s.dump) s.master.slots s.slots
+        IsKept (as_parts s.tasks s.casts s.files s.holds s.prepared s.dump) s.master.slots s.slots
         × ArePut s.prepared s.master.entries s.master.slots };
 }
 
@@ -297,7 +297,7 @@ impl State {
         ensures cred { IfOk result (λ cred. cred ≡ cred_under self.old.state.creds found.number) }
         ensures same { self.new ≡ self.old }
     {
-        self.master.look(self.alloc, cells, found.slot)
+        self.master.read_slot(self.alloc, cells, found.slot)
     }
 
     /// The current credential of a task.

@@ -8,13 +8,13 @@ ghost use Rattle.cred_model.specs.Named.{event_files};
 ghost use Rattle.cred_model.specs.Script.{chain_of, info_of};
 ghost use Rattle.cred_script.specs.Lines.{line_at};
 ghost use Rattle.cred_cursor.specs.Cursor.{IsOfLine, MovesOnTo};
-ghost use Rattle.cred_work.specs.Decisions.{bare, event_of, AreOf};
-ghost use Rattle.cred_work.specs.Works.{IsDecided};
-ghost use Rattle.cred_tables.specs.Out.{AreHome, tokens_in, waits_in};
-ghost use Rattle.cred_state.specs.Lending.{entries_of, is_decided};
+ghost use Rattle.cred_work.specs.Decisions.{undecided, work_event, AreOf};
+ghost use Rattle.cred_work.specs.DecidedWorks.{IsDecided};
+ghost use Rattle.cred_tables.specs.Out.{AreHome, tokens_in, needs_tokens};
+ghost use Rattle.cred_state.specs.TokensOut.{entries_of, needs_decision};
 ghost use Rattle.cred_book.specs.Book.{answer_of};
 ghost use Rattle.cred_book.specs.Counts.{HasEntered};
-ghost use Rattle.cred_book.specs.Cursor.{Finishes, Stands, left};
+ghost use Rattle.cred_book.specs.Cursor.{Finishes, BookStands, steps_left};
 ghost use Rattle.cred_book.specs.Works.{IsChainFor, IsEntered, IsHanded, IsLanes, IsWorkOf};
 ghost use Rattle.cred_book.specs.Works.{with_out};
 ghost use Rattle.cred_book.specs.declared.step.Step.TheVariants.{More};
@@ -39,16 +39,16 @@ impl Book {
     /// Want of memory, with the work, which is still out: the book is as it was.
     pub fn finish(&mut self, cells: &Cells, lane: u32, work: Work) -> Result<Step, Unfinished>
         requires own { self.old.words.id ≡ cells.now }
-        requires stands { Stands self.old }
+        requires stands { BookStands self.old }
         requires lanes { IsLanes self.old lane work }
         requires decided { IsDecided work }
         ensures script { self.new.script ≡ self.old.script }
         ensures cells { self.new.words.id ≡ self.old.words.id }
-        ensures stands { Stands self.new }
+        ensures stands { BookStands self.new }
         ensures more { IfOk result (λ step. step ≡ More) }
         ensures made { OnOk result (Finishes self.old self.new lane work
             (model.next self.old.script self.old.journal lane)) }
-        ensures falls { OnOk result (left self.new < left self.old) }
+        ensures falls { OnOk result (steps_left self.new < steps_left self.old) }
         ensures counts { OnOk result (HasEntered self.old self.new lane 1) }
         ensures err { IfErr result (λ unfinished. (unfinished.work ≡ work)
             × (self.new ≡ self.old)) }
@@ -118,7 +118,7 @@ impl Book {
     /// execve is decided by any. `None` where the event waits for no decision.
     fn deciding_ns(&mut self, cells: &Cells, event: &Event) -> Option<u32>
         requires own { self.old.words.id ≡ cells.now }
-        ensures decided { is_some result ≡ is_decided event.now }
+        ensures decided { is_some result ≡ needs_decision event.now }
         ensures chain { IfSome result (λ ns.
             IsChainFor self.old event.now (chain_of self.old.script ns)) }
         ensures same { self.new ≡ self.old }
@@ -152,9 +152,9 @@ impl Book {
         requires home { AreHome event.now self.old.words.out }
         requires place { lane < length self.old.outs }
         ensures waits { is_some result
-            ≡ waits_in (replay self.old.script self.old.journal) event.now }
-        ensures of { IfSome result (λ lent. AreOf cells.now lent × (event_of lent ≡ event.now)) }
-        ensures bare { IfSome result (λ lent. bare lent ≡ lent) }
+            ≡ needs_tokens (replay self.old.script self.old.journal) event.now }
+        ensures of { IfSome result (λ lent. AreOf cells.now lent × (work_event lent ≡ event.now)) }
+        ensures bare { IfSome result (λ lent. undecided lent ≡ lent) }
         ensures tokens { IfSome result (λ lent. entries_of lent
             ≡ tokens_in (replay self.old.script self.old.journal) event.now) }
         ensures lent { IfSome result (λ lent. self.new ≡ with_out self.old lane line lent) }
@@ -188,7 +188,7 @@ impl Book {
         ensures passes { IfOk result (λ cursor. IfSome (line_at self.old.script course.line)
             (λ line. MovesOnTo self.old.script lane
             (course_model.after line.content course
-            (answer_of self.old course.line (event_of work.lent))) cursor)) }
+            (answer_of self.old course.line (work_event work.lent))) cursor)) }
         ensures err { IfErr result (λ unfinished. (unfinished.work ≡ work)
             × (self.new ≡ self.old)) }
     {

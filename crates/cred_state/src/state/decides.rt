@@ -48,7 +48,7 @@ impl State {
             query,
             asked_file(script, query),
         );
-        self.give_back(cells, hold);
+        self.take_hold_back(cells, hold);
         told
     }
 
@@ -70,17 +70,17 @@ impl State {
         ensures same { self.new ≡ self.old }
     {
         let Some(own) = self.held(hold) else {
-            return self.signalled(from, hold, to, target, false);
+            return self.enter_signal(from, hold, to, target, false);
         };
         let Some(other) = self.held(target) else {
-            return self.signalled(from, hold, to, target, false);
+            return self.enter_signal(from, hold, to, target, false);
         };
         let mut sender = self.lend_found(cells, hold, own);
         let mut receiver = self.lend_found(cells, target, other);
         let may = decide_signal(cells, &mut sender, &mut receiver);
-        self.give_back(cells, receiver);
-        self.give_back(cells, sender);
-        self.signalled(from, hold, to, target, may)
+        self.take_hold_back(cells, receiver);
+        self.take_hold_back(cells, sender);
+        self.enter_signal(from, hold, to, target, may)
     }
 
     /// Opens a file (open(2)). Whether it may be opened so is decided on the hold that is lent for
@@ -114,7 +114,7 @@ impl State {
         };
         let mut hold = self.lend_found(cells, label, found);
         let may = may_open(self.alloc, cells, &mut hold, script.file(file), want);
-        self.give_back(cells, hold);
+        self.take_hold_back(cells, hold);
         self.open_as(label, file, fd, may?)
     }
 
@@ -156,10 +156,10 @@ impl State {
             chain,
             &mut writer,
         ) {
-            Ok(made) => Ok(self.altered(cells, base, writer, change, made)),
+            Ok(made) => Ok(self.enter_alter(cells, base, writer, change, made)),
             Err(NoMemory) => {
                 self.put_earlier(cells, label, writer);
-                self.give_back(cells, base);
+                self.take_hold_back(cells, base);
                 Err(NoMemory)
             }
         }

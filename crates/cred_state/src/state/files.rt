@@ -11,7 +11,7 @@ ghost use Rattle.cred_model.specs.State.{held_by, open_of, opener_of};
 ghost use Rattle.cred_model.specs.Like.{Gives};
 ghost use Rattle.cred_model.specs.Step.{by_close, by_open, by_take_file};
 ghost use Rattle.cred_tables.specs.Kept.{seen_in, IsInUse};
-ghost use Rattle.cred_state.specs.Lending.{MayOpen};
+ghost use Rattle.cred_state.specs.TokensOut.{MayOpen};
 
 use crate::state::State;
 use cred_event::{Answer, Counted, Named};

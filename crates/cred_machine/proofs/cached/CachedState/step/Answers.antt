@@ -1,8 +1,8 @@
 use Rattle.std.proofs.Common.{◌≡◌, false, length, sym, subst, ◌∙◌}
 use Rattle.cred_machine.specs.Kept.{KeepsReferred, may_have_swept}
 use Rattle.cred_machine.proofs.Forgetting.{gives_like, stays_kept}
-use Rattle.cred_machine.proofs.Keeping.{Keeps}
-use Rattle.cred_machine.proofs.Keeps.{keeps}
+use Rattle.cred_machine.proofs.KeptByEvents.{Keeps}
+use Rattle.cred_machine.proofs.NothingIsLost.{keeps}
 use Rattle.cred_machine.specs.Slots.{takes_slot}
 use Rattle.cred_machine.proofs.Live.{known_kept, known_like, known_still}
 use Rattle.cred_machine.proofs.cached.CachedState.step.Goals as goal
