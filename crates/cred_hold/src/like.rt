@@ -22,7 +22,7 @@ use cred_record::layout::{
     AMBIENT, BOUNDING, EFFECTIVE, FLAGS, GROUPS, INHERITABLE, NAMESPACE, PERMITTED, ROOT, USER,
 };
 use cred_setid::Parts;
-use cred_words::cells::{Cells, Hold, Master, Writer, load_word, load_own_word, settle_word};
+use cred_words::cells::{Cells, Hold, Master, Writer, load_own_word, load_word, settle_word};
 
 /// What an id call looks at of the slot that is held, whose words are a credential's.
 #[inline(always)]

@@ -7,7 +7,7 @@ ghost use Rattle.cred_record.specs.Credential.{Credential, AreValidSets};
 ghost use Rattle.cred_setid.specs.Parts.{parts_of, changed};
 ghost use Rattle.cred_hold.specs.Tokens.{loan, none_sealed, IsSealed, IsAlone};
 
-use crate::like::{read_sealed_parts, put_like};
+use crate::like::{put_like, read_sealed_parts};
 use crate::parts::known_ns;
 use crate::tokens::{Hold, Writer, put};
 use crate::words::{load_sealed, read_sealed};

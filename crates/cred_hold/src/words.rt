@@ -12,7 +12,7 @@ use cred_ids::{Groups, NoMemory};
 use cred_packed::{group_count, head, known_group, known_head, word_of_groups, words_of_groups};
 use cred_record::Cred;
 use cred_record::layout::{FLAGS, GROUPS};
-use cred_words::cells::{Cells, Hold, Master, Writer, load_word, load_own_word, settle_word};
+use cred_words::cells::{Cells, Hold, Master, Writer, load_own_word, load_word, settle_word};
 use std::alloc::Global;
 
 /// So many words of the slot that is held, from `first` on. Each is loaded at a moment of its own.

@@ -91,7 +91,7 @@ AreFollowed s =
     → IfSome (cast_in s process) (λ cast.
     All (λ t.
     t.process ≡ process → waits_in t.number cast ≡ false
-        → CurrentHas (HasNamed cast.call) s.creds t)
+    → CurrentHas (HasNamed cast.call) s.creds t)
     s.tasks)
 
 -- So it stays over each event,

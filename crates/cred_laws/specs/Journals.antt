@@ -233,7 +233,7 @@ KeepsAlike script journal =
     → StepAlike script journal begun done number (call_kind call) ids able
     → (equal : List ℕ)
     × AllHave (λ c. three_ids (call_kind call) c
-        ≡ equal) (state_at script journal (done + 1)) process
+    ≡ equal) (state_at script journal (done + 1)) process
 
 -- Where an entry says that a task may look into one of another process, and was asked by a
 -- credential without CAP_SYS_PTRACE, the target's ids are those that are asked by, it is permitted

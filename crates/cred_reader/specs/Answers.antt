@@ -161,7 +161,7 @@ two_words a b =
 unfoldable pub no_of : List ℕ → List ℕ → Result Answer Reason
 no_of what word =
     if bytes_eq what (codes "task") then (word_of task_word word
-        >>= λ task. Ok (answer.NoTask task))
+    >>= λ task. Ok (answer.NoTask task))
     else if bytes_eq what (codes "hold")
     then (word_of label_word word >>= λ label. Ok (answer.NoHold label))
     else if bytes_eq what (codes "prepared")

@@ -227,7 +227,11 @@ fn ok_words(alloc: Global, told: Tells, words: &[&[u8]]) -> Result<Answer, LineR
 
 /// The answer to an event that is told this.
 #[tactic(auto, unfolding(crate::specs::Answers::read_answer))]
-pub(crate) fn read_answer(alloc: Global, told: Tells, words: &[&[u8]]) -> Result<Answer, LineRefusal>
+pub(crate) fn read_answer(
+    alloc: Global,
+    told: Tells,
+    words: &[&[u8]],
+) -> Result<Answer, LineRefusal>
     ensures { GivesLine (λ answer. answer) result (spec.read_answer told (nows words.now)) }
 {
     match words {

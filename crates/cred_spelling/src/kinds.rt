@@ -3,7 +3,9 @@ ghost use Rattle.std.specs.Prelude.{◌≡◌, ℕ, List};
 ghost use Rattle.std.specs.declared.option.Option.{Option};
 ghost use Rattle.cred_spelling.specs.Spellings as spec;
 
-use crate::spellings::{cap_named, hexadecimal_number, is, number_of, number_within, letter_number};
+use crate::spellings::{
+    cap_named, hexadecimal_number, is, letter_number, number_of, number_within,
+};
 use crate::table::named;
 use cred_caps::CapSet;
 use cred_ids::limits::{LAST_LANE, LAST_NAMESPACE, LAST_NUMBER, LINE_LIMIT};

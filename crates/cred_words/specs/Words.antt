@@ -214,7 +214,7 @@ abbrev pub LearnedAs : Ledger → Bool → Option Token → View → Type 0
 LearnedAs d put None w = w ≡ Master d
 LearnedAs d put (Some t) w =
     IsTaken d.entries (as_entry t) (without_ticket t.ticket d.entries)
-        × EntryFits d.slots (as_entry t) ×
+    × EntryFits d.slots (as_entry t) ×
     (w ≡ Master (after_back d t put))
 
 abbrev pub LearnedToken : Bool → View → View → Type 0

@@ -262,7 +262,14 @@ impl State {
 
     /// May a task signal another (kill(2)), where one label holds the sender's credential and
     /// another the target's? `may` says whether it may where they are of two processes.
-    pub(crate) fn enter_signal(&self, from: u32, hold: u32, to: u32, target: u32, may: bool) -> Answer
+    pub(crate) fn enter_signal(
+        &self,
+        from: u32,
+        hold: u32,
+        to: u32,
+        target: u32,
+        may: bool,
+    ) -> Answer
         ensures { IfSome (held_by self.now.state hold) (λ own.
             IfSome (held_by self.now.state target) (λ other.
             may ≡ may_signal own.cred other.cred false))
