@@ -97,8 +97,8 @@ class Converter(Sayer):
         items = list(items)
         tasks = [self.tasks.first(first)]
         tasks += [self.tasks.spawn(pid, tasks[0], THREAD) for pid in start.threads[1:]]
-        for one in tasks:
-            one.ids = start.ids.copy()
+        for one, ids in zip(tasks, start.ids, strict=True):
+            one.ids = ids.copy()
         where = tasks[0].where
         where.root = Located(self._root)
         where.mounts = Mounts(where.root, outside=self._root.rstrip("/"))
@@ -116,10 +116,8 @@ class Converter(Sayer):
         self.together = Together(items, SAYING)
         try:
             for self.at, item in enumerate(items):
+                self.due_lines()
                 self.item(item)
-            for task in list(self.tasks.by_pid.values()):
-                if task.process.making:
-                    self.goes_on(task.process)
         except Stop as stop:
             self.stopped = stop
             rest = items[self.at :]
@@ -177,8 +175,6 @@ class Converter(Sayer):
         if task is None:
             self.stranger(item)
             return
-        if task.number in task.process.making and item.name not in ENDS:
-            self.goes_on(task.process)
         try:
             self._handlers[item.name](task, item)
         except (Unheld, Missing) as reason:
@@ -249,11 +245,8 @@ class Converter(Sayer):
 
     def gone(self, ended: list[Task], line: int) -> None:
         """These tasks of one process are gone."""
-        if any(task.number in task.process.making for task in ended):
-            self.goes_on(ended[0].process)
         for task in ended:
             self.tasks.end(task)
-        self.complete(ended[0].process)
         self.script.add(line, *(Line(f"{task.name} exit") for task in ended))
 
     def execute(self, task: Task, call: Call) -> None:
@@ -300,8 +293,6 @@ class Converter(Sayer):
         if process.space.parent is not None and process.space.uids is None:
             process.space.early.append((line, *task.ids.users[:2]))
         task.descriptors = task.descriptors.copy()
-        if task.process.making:
-            self.apart(task.process)
         for other in [one for one in task.process.threads if one is not task]:
             self.tasks.end(other)
 

@@ -150,7 +150,7 @@ class Explainer:
 
     def see(self, number: int, line: Line) -> None:
         """Keeps what a line means for later ones."""
-        words = line.text.split()
+        words = line.words
         if words[0] == "file":
             self.files[words[1]] = line.text
             return
@@ -199,7 +199,7 @@ class Explainer:
 
     def explain(self, number: int, line: Line, report: str) -> str | None:
         """The reason why the kernel's answer is another one than the report's."""
-        words = line.text.split()
+        words = line.words
         known = self.known(words[0])
         kernel, told = (line.answer or "").split()[0], report.split()[0]
         # Then the thread that makes the call first may, and another one may not.
@@ -231,7 +231,7 @@ class Explainer:
 
     def own(self, number: int, line: Line, kernel: str, told: str) -> tuple[str, str] | None:
         """The row that explains an answer by itself, with its text; the log may explain it too."""
-        words, facts = line.text.split(), line.facts
+        words, facts = line.words, line.facts
         form, pair = words[1], (kernel, told)
         if pair == ("eperm", "ok") and facts.filtered:
             where = f"{LOG} line {facts.filtered} of it installs a seccomp filter"
@@ -267,7 +267,7 @@ class Explainer:
 
     def refused(self, number: int, line: Line, pair: tuple[str, str]) -> tuple[str, str] | None:
         """Why the kernel refuses a file that the program allows."""
-        if pair == ("eperm", "ok") and not line.text.split()[1] == "exec":
+        if pair == ("eperm", "ok") and not line.words[1] == "exec":
             return "", self.text(NOT_MODE)
         if pair != ("eacces", "ok"):
             return None

@@ -56,6 +56,12 @@ class Line:
     answer: str | None = None
     facts: Facts = NO_FACTS
 
+    @property
+    def words(self) -> list[str]:
+        """The words of the line. A raw call has those of the same call of all threads."""
+        words = self.text.split()
+        return words[:1] + words[2:] if words[1:2] == ["raw"] else words
+
 
 @dataclass
 class Script:
