@@ -246,6 +246,12 @@ DIFFERENCES = [
      [BITS, "bits 8 to 11 exist", "explained by docs/LINUX.md: 4"], []),
     ("capget by version 1", ROOT, BEGINS + "7 capget({version=_LINUX_CAPABILITY_VERSION_1, pid=0}, "
      "{effective=0xffffffff, permitted=0xffffffff, inheritable=0}) = 0\n", 0, ["agree: 2"], []),
+    ("capset with bits above the last capability", ROOT, BEGINS + "7 capset({version="
+     "_LINUX_CAPABILITY_VERSION_3, pid=0}, {effective=1<<CAP_KILL|0x80000000 /* CAP_??? */, "
+     "permitted=1<<CAP_KILL|1<<CAP_BPF|0xfffffe00, inheritable=0x80000000 /* CAP_??? */}) = 0\n"
+     "7 capget({version=_LINUX_CAPABILITY_VERSION_3, pid=0}, "
+     "{effective=1<<CAP_KILL, permitted=1<<CAP_KILL|1<<CAP_BPF, inheritable=0}) = 0\n", 0,
+     ["agree: 3"], []),
     ("clear all with a further argument", ROOT, BEGINS + "7 prctl(PR_CAP_AMBIENT, "
      "PR_CAP_AMBIENT_CLEAR_ALL, 0x5, 0, 0) = -1 EINVAL (Invalid argument)\n", 0, ["agree: 1"], []),
     ("noexec", ROOT, BEGINS + RUNS.format("/mnt/tool", REFUSED), 0,
