@@ -94,7 +94,7 @@ class Known:
 DEPENDS: dict[str, tuple[str, ...]] = (
     {"ids": (IDS,), "bset": (BOUNDING,), "bits": (BITS,), "groups": (GROUPS,)}
     | dict.fromkeys(("caps", "ambis", "capdrop"), (CAPS,))
-    | dict.fromkeys(("capset", "ambraise"), (CAPS, BOUNDING, BITS))
+    | dict.fromkeys(("capsetraw", "ambraise"), (CAPS, BOUNDING, BITS))
     | dict.fromkeys(("securebits", "keepcaps"), (CAPS, BITS))
     | dict.fromkeys((*ID_CALLS, "signal"), (IDS, CAPS))
     | dict.fromkeys(("setfsuid", "setfsgid", "exec", "ptrace"), (FILE_IDS, CAPS, IDS))
@@ -104,7 +104,7 @@ DEPENDS: dict[str, tuple[str, ...]] = (
 # What each form changes, where the kernel makes it and the program refuses it, or the reverse.
 CHANGED: dict[str, tuple[str, ...]] = (
     {"capdrop": (BOUNDING,), "setgroups": (GROUPS,), "exec": (IDS, CAPS, FILE_IDS)}
-    | dict.fromkeys(("ambraise", "amblower", "ambclear", "capset"), (CAPS,))
+    | dict.fromkeys(("ambraise", "amblower", "ambclear", "capsetraw"), (CAPS,))
     | dict.fromkeys(("securebits", "keepcaps"), (BITS, CAPS))
     | dict.fromkeys(set(ID_CALLS) - {"setgroups"}, (IDS, FILE_IDS, CAPS))
     | {"setfsuid": (FILE_IDS, CAPS), "setfsgid": (FILE_IDS,), "nonewprivs": (BITS, IDS, CAPS)}

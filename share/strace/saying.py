@@ -4,7 +4,7 @@ from __future__ import annotations
 
 from dataclasses import replace
 
-from .calls import ID_CALLS, OWN_CALLS, SET_CALLS, Said, Unheld
+from .calls import ID_CALLS, OWN_CALLS, Said, Unheld, capget, capset
 from .lines import fields, pid
 from .log import EXECUTIONS, UNKNOWN, Call
 from .moves import argument
@@ -88,8 +88,12 @@ class Sayer:
         """capset(2) or capget(2), where it is of the task itself."""
         named = fields(argument(call, 0)).get("pid", "")
         known = task.pid != UNKNOWN
-        mine = pid(named) == 0 or not known or self.tasks.find(named, task) is task
-        said = SET_CALLS[call.name](call.args, call.result)
+        nobody = pid(named) == 0
+        mine = nobody or not known or self.tasks.find(named, task) is task
+        if call.name == "capget":
+            said = capget(call.args, call.result)
+        else:
+            said = capset(call.args, call.result, 0 if nobody else task.number)
         self.say(task, call, said if mine else None)
 
     def id_call(self, task: Task, call: Call) -> None:
