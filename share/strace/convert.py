@@ -4,9 +4,9 @@ from __future__ import annotations
 
 from collections.abc import Callable, Iterable
 
-from . import asks, changes, moves, traces
+from . import asks, changes, filecalls, moves, traces
 from .calls import ID_CALLS, OWN_CALLS, SET_CALLS, Said, Unheld, answer
-from .changes import Changes
+from .changes import Changes, Known
 from .enters import Entries, is_map
 from .files import Files, Found, Missing
 from .lines import fields
@@ -45,7 +45,7 @@ class Converter(Sayer):
         asking: bool = False,
         folder: str | None = None,
         root: str = "/",
-        known: dict[str, int] | None = None,
+        known: Known | None = None,
     ) -> None:
         super().__init__(asking)
         self.files = files
@@ -53,7 +53,7 @@ class Converter(Sayer):
         self.stopped: Stop | None = None
         self.strangers: set[int] = set()
         self.paths = Paths(files, folder is not None, self.tasks.find)
-        self.changes = Changes(self.paths, known or {})
+        self.changes = Changes(self.paths, known or Known())
         self.entries = Entries(self.tasks)
         self.most = 1
         # How many lines the log has, and how many calls are left where the script ends before it.
@@ -63,7 +63,7 @@ class Converter(Sayer):
         self._root = root.rstrip("/") or "/"
         self._moves = Moves(self.paths, lambda: self.tasks.by_pid.values())
         self._follow = self._moves.handlers()
-        self._asks = asks.Asks(self.paths, self.script, self.changes)
+        self._asks = asks.Asks(self.paths, self.script, self.changes, self.passed)
         self._handlers: dict[str, Callable[[Task, Call], None]] = {}
         self._take_handlers()
 
@@ -82,6 +82,7 @@ class Converter(Sayer):
             (changes.CALLS, self.change),
             (("unshare", "setns"), self.change_namespace),
             (asks.ACCESSES, self.access),
+            ((*filecalls.STAT, *filecalls.GET), self.tell),
             (("write",), self.write),
             (("setsid", "seccomp"), self.mark),
         )
@@ -275,15 +276,16 @@ class Converter(Sayer):
         asked = [*scripts, program][:1] if said == "eacces" else scripts
         for found in asked:
             name = self.script.file(call.first, found)
-            facts = asks.facts_of(task, found)
+            facts = asks.facts_of(task, found, self.changes.now(found))
             answered = said if said == "eacces" else "ok"
             self.say(task, call, Said(f"check {name} x", answered), facts)
         if said != "eacces":
             name = self.script.file(call.first, program)
-            self.say(task, call, Said(f"exec {name}", said), asks.facts_of(task, program))
+            facts = asks.facts_of(task, program, self.changes.now(program))
+            self.say(task, call, Said(f"exec {name}", said), facts)
         if said == "ok":
             where = Located(program.path) if scripts else named
-            self.executed(task, where, program.file.words, call.first)
+            self.executed(task, where, self.changes.now(program), call.first)
 
     def executed(self, task: Task, program: Located, words: str, line: int) -> None:
         """The task has executed a program: it is the only one of its process."""
@@ -360,11 +362,22 @@ class Converter(Sayer):
             self.passed.call(call)
 
     def change(self, task: Task, call: Call) -> None:
-        """chmod(2) and what else changes a file."""
+        """chmod(2) and what else changes a file, or puts another one in its place."""
+        if not call.context and self._asks.changed(task, call):
+            return
         if not call.context:
             self.passed.call(call)
-        if call.result.value == 0:
+        if call.result.value == 0 and call.name in changes.LINKED:
+            self.changes.links(task, call)
+        elif call.result.value == 0:
             self.changes.changes(task, call)
+
+    def tell(self, task: Task, call: Call) -> None:
+        """stat(2) and its kin, of a file that has changed in the log."""
+        found = [] if call.context else self._asks.tells(task, call)
+        self.script.add(call.first, *found)
+        if not found and not call.context:
+            self.passed.call(call)
 
     def write(self, task: Task, call: Call) -> None:
         """write(2), of a map of a user namespace."""

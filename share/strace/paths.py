@@ -98,9 +98,19 @@ class Paths:
     def both(self, task: Task, path: str, base: Located | None) -> Located:
         """Where a path leads, behind symbolic links too where this machine has them."""
         found = self.lead(task, path, base)
-        if self.files.listed is not None or found.real is not None:
+        if self.files.listed is not None:
+            one = self.files.one(found.place)
+            return found if one == found.place else replace(found, real=one)
+        if found.real is not None:
             return found
         return replace(found, real=self.lead(task, path, base, follow=True).place)
+
+    def is_link(self, found: Located) -> bool:
+        """Whether a symbolic link lies there. In a list one is known by what it is of."""
+        if self.files.listed is None:
+            return link_of(found.place) is not None
+        other = self.files.same.get(found.place)
+        return other is not None and os.path.basename(other) != os.path.basename(found.place)
 
     def lead(self, task: Task, path: str, base: Located | None, follow: bool = False) -> Located:
         """The place to which a path leads, behind symbolic links where they are to be followed."""
