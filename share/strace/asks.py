@@ -56,7 +56,8 @@ def facts_of(task: Task, found: Found, now: str) -> Facts:
     words, space = now.split(), task.process.space
     unmapped = not (space.inside(int(words[1]), False) and space.inside(int(words[2]), True))
     filtered = task.process.filtered
-    return Facts(found.place, found.file.noexec, filtered, unmapped, words=now)
+    inside = space.parent is not None
+    return Facts(found.place, found.file.noexec, filtered, unmapped, words=now, inside=inside)
 
 
 class Asks:

@@ -61,7 +61,8 @@ class Change:
         if self.form != "chown":
             return frozenset({CAPS})
         given = {part for part, word in zip((OWNER, GROUP), self.words, strict=True) if word != "-1"}
-        return frozenset(given | {SET_ID, CAPS} if given else given)
+        # Linux takes them also where both ids stay (docs/LINUX.md).
+        return frozenset(given | {SET_ID, CAPS})
 
     def after(self, old: State) -> State:
         """The file after it."""
@@ -114,7 +115,10 @@ class History:
         told = self.owners() | self.told
         owner, group = told.get(OWNER, end.owner), told.get(GROUP, end.group)
         bits = told.get(BITS, end.mode & ~SET_ID_BITS)
-        set_id = told.get(SET_ID, 0 if self.first(SET_ID) else end.mode & SET_ID_BITS)
+        # Of a folder a chown(2) takes nothing.
+        taken = any(one.form == "chmod" or end.kind == "reg" for one in self.changes)
+        taken = taken and self.first(SET_ID) is not None
+        set_id = told.get(SET_ID, 0 if taken else end.mode & SET_ID_BITS)
         caps = told.get(CAPS, None if self.first(CAPS) else end.caps)
         return State(end.kind, int(owner), int(group), int(bits) | int(set_id), caps, end.nosuid)
 

@@ -40,8 +40,9 @@ class Facts:
     maker: bool = False
     # Whether the task is in a namespace of the log that takes no groups.
     denied: bool = False
-    # The file as the script has it.
+    # The file as it is there, and whether the task is in a user namespace of the log.
     words: str = ""
+    inside: bool = False
 
 
 NO_FACTS = Facts()
