@@ -105,6 +105,9 @@ BAD_LINES = [
 # beside it, which is plain. What is said, or the `file` line of the tool.
 AT = "7 chdir(\"FOLDER\") = 0\n"
 TOOL = '7 execve("{}", [], 0x7 /* 9 vars */) = 0\n'
+MOUNTS = '8 mount("FOLDER/jail/usr", "FOLDER/usr", NULL, MS_BIND, NULL) = 0\n'
+SEEN = '{} mount(NULL, "/", NULL, MS_REC|{}, NULL) = 0\n'
+CHILD_MOUNTS = "7 fork() = 8\n8 unshare(CLONE_NEWNS) = 0\n{}" + MOUNTS
 PLACES = [
     ("a path", TOOL.format("FOLDER/usr/bin/tool"), "0755"),
     ("a root", '7 chroot("FOLDER/jail") = 0\n' + TOOL.format("/bin/tool"), "4755"),
@@ -136,7 +139,7 @@ PLACES = [
     ("a root that is shared", "7 clone(child_stack=NULL, flags=CLONE_FS|SIGCHLD) = 8\n"
      '8 chroot("FOLDER/jail") = 0\n' + TOOL.format("/bin/tool"), "4755"),
     ("a change", TOOL.format("FOLDER/usr/bin/tool") + '7 chmod("FOLDER/usr/bin/tool", 0755) = 0\n',
-     "line 2 changes FOLDER/usr/bin/tool, or puts another file there"),
+     "line 2 changes FOLDER/usr/bin/tool, and of what it was before that nobody tells the"),
     ("a change before", '7 chmod("FOLDER/usr/bin/tool", 0755) = 0\n'
      + TOOL.format("FOLDER/usr/bin/tool"), "0755"),
     ("a change by a descriptor", TOOL.format("FOLDER/usr/bin/tool")
@@ -194,6 +197,20 @@ PLACES = [
     ("a script in a memfd that is shortened", '7 memfd_create("kept", 0) = 5\n'
      '7 write(5, "#! FOLDER/jail/us"..., 40) = 40\n'
      '7 execveat(5, "", [], 0x7 /* 9 vars */, AT_EMPTY_PATH) = 0\n', "first line is shortened"),
+    ("a mount that others may see", CHILD_MOUNTS.format("") + TOOL.format("FOLDER/usr/bin/tool"),
+     "line 3 mounts or unmounts what FOLDER/usr/bin/tool leads through"),
+    ("a mount that no others see", CHILD_MOUNTS.format(SEEN.format(8, "MS_PRIVATE"))
+     + TOOL.format("FOLDER/usr/bin/tool"), "0755"),
+    ("a mount of a slave", CHILD_MOUNTS.format(SEEN.format(8, "MS_SLAVE"))
+     + TOOL.format("FOLDER/usr/bin/tool"), "0755"),
+    ("a mount that is shared", SEEN.format(7, "MS_SHARED") + CHILD_MOUNTS.format("")
+     + TOOL.format("FOLDER/usr/bin/tool"), "4755"),
+    ("a mount that a slave receives", SEEN.format(7, "MS_SHARED") + "7 fork() = 8\n"
+     "8 unshare(CLONE_NEWNS) = 0\n" + SEEN.format(8, "MS_SLAVE") + MOUNTS.replace("8 ", "7 ")
+     + TOOL.replace("7 ", "8 ", 1).format("FOLDER/usr/bin/tool"), "4755"),
+    ("a mount in a user namespace of its own",
+     CHILD_MOUNTS.format("").replace("(CLONE_NEWNS", "(CLONE_NEWUSER|CLONE_NEWNS")
+     + TOOL.format("FOLDER/usr/bin/tool"), "0755"),
     ("an id without a map", "7 unshare(CLONE_NEWUSER) = 0\n7 setuid(0) = 0\n", saying.NO_MAP),
 ]
 

@@ -11,7 +11,7 @@ from .history import ASKED, History, state_of
 from .log import Call
 from .moves import OPENS, open_flags
 from .paths import Paths
-from .places import Located, joined
+from .places import Located, is_below, joined
 from .tasks import Task
 
 # Where the path of each call stands, and the descriptor of its folder; a path alone; a descriptor.
@@ -75,11 +75,6 @@ def entries_of(paths: Paths, task: Task, path: str, base: Located | None) -> set
     folder, _, last = path.rstrip("/").rpartition("/")
     where = folder or ("/" if path.startswith("/") else ".")
     return {joined(place, last) for place in names_of(paths.both(task, where, base))}
-
-
-def is_below(place: str, folder: str) -> bool:
-    """Whether it is that place, or one in a folder there."""
-    return place == folder or place.startswith(folder.rstrip("/") + "/")
 
 
 def writes(call: Call) -> bool:
@@ -165,9 +160,9 @@ class Changes:
         for part, first in history.unknown().items():
             if line < first and (executes or part in ASKED):
                 raise Unheld(
-                    f"line {first} changes {found.named}, and its {part} before that aren't told: "
-                    "record stat(2) and getxattr(2) with -v, or list the file as it was, with "
-                    "`before` (--files)"
+                    f"line {first} changes {found.named}, and of what it was before that nobody "
+                    f"tells the {part}: record stat(2) and getxattr(2) with -v, or list the file as "
+                    "it was, with `before` (--files)"
                 )
 
     def now(self, found: Found) -> str:

@@ -103,6 +103,7 @@ class Converter(Sayer):
         where = tasks[0].where
         where.root = Located(self._root)
         where.mounts = Mounts(where.root, outside=self._root.rstrip("/"))
+        where.mounts.belongs(tasks[0].process.space)
         where.folder = self.begins(items, tasks[0])
         self.script.begin_with(start.inits(), start.lines)
         self.script.known = self.files
@@ -231,9 +232,10 @@ class Converter(Sayer):
         if "CLONE_PIDFD" in flags:
             self._moves.with_pidfd(task, call, child)
         if "CLONE_NEWNS" in flags:
-            self._moves.new_mounts(child)
+            self._moves.new_mounts(child, "CLONE_NEWUSER" in flags)
         if "CLONE_NEWUSER" in flags:
             self.entries.sits(child, self.entries.made(task))
+            child.where.mounts.belongs(child.process.space)
             self.script.goes_on_as(task.name, child.name)
             self.room(call.first, 0)
         else:
@@ -405,6 +407,7 @@ class Converter(Sayer):
             self._moves.unshare(task, flags)
             if "CLONE_NEWUSER" in flags:
                 space = self.entries.made(task)
+                task.where.mounts.belongs(space)
         if space is not None:
             before = self.entries.enter(task, space)
             self.script.add(call.first, Line(f"{before} exit"))

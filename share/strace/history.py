@@ -12,7 +12,7 @@ from dataclasses import dataclass, field, replace
 
 # The parts of a file, each of which a call sets or takes. The set-id bits are one of their own: a
 # chown(2) takes them, and leaves the others.
-OWNER, GROUP, BITS, SET_ID, CAPS = "owner", "group", "bits", "set-id bits", "attribute"
+OWNER, GROUP, BITS, SET_ID, CAPS = "owner", "group", "mode", "set-id bits", "attribute"
 ASKED = frozenset({OWNER, GROUP, BITS})
 SET_ID_BITS = 0o6000
 

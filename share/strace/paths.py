@@ -124,6 +124,11 @@ class Paths:
             raise Unheld(no_folder(path, task.pid))
         if not self.is_known(found):
             raise Unheld(no_folder(path, task.pid))
+        if found.doubt:
+            raise Unheld(
+                f"line {found.doubt} mounts or unmounts what {path} leads through, in another mount "
+                "namespace: whether it is seen here too the log doesn't tell (mount_namespaces(7))"
+            )
         return found
 
     def is_known(self, found: Located) -> bool:
