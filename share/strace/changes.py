@@ -94,6 +94,8 @@ class Known:
     histories: dict[str, History] = field(default_factory=dict)
     names: dict[str, dict[str, tuple[Located, bool]]] = field(default_factory=dict)
     executed: set[str] = field(default_factory=set)
+    # Whether all was gone through that may tell what a file was, so that what it lacks ends a script.
+    sure: bool = False
 
 
 class Changes:
@@ -111,7 +113,8 @@ class Changes:
         # The files that were used, and whether they were executed.
         self._used: dict[str, bool] = {}
         self._executes = bool(known.executed)
-        self.next = Known(dict(known.stops), {}, dict(known.names), set(known.executed))
+        names, executed = dict(known.names), set(known.executed)
+        self.next = Known(dict(known.stops), {}, names, executed, known.sure)
 
     def settled(self, stopped: int | None) -> bool:
         """Whether this run has found nothing that an earlier one hadn't; it may have ended before
@@ -125,7 +128,10 @@ class Changes:
             for place, history in found.items()
             if history.lines and (place in self.next.names or files.lists(place))
         }
-        return self.next == self._known
+        if self.next != self._known:
+            return False
+        was_sure, self.next.sure = self.next.sure, True
+        return was_sure or not self.next.histories
 
     def uses(self, found: Found, line: int, executes: bool) -> None:
         """A file is executed or asked about here."""
@@ -155,7 +161,8 @@ class Changes:
         files = self._paths.files
         one = files.one(found.place)
         history = self._known.histories.get(one)
-        if history is None or one in files.before or found.named in files.before:
+        listed = one in files.before or found.named in files.before
+        if history is None or listed or not self._known.sure:
             return
         for part, first in history.unknown().items():
             if line < first and (executes or part in ASKED):
@@ -203,8 +210,9 @@ class Changes:
         return bool(self._known.histories)
 
     def may_tell(self, last: str) -> bool:
-        """Whether a file of this name changes in the log."""
-        return any(place.rpartition("/")[2] == last for place in self._known.histories)
+        """Whether a file of this name may change in the log."""
+        named = (*self._known.histories, *self._paths.files.same)
+        return any(place.rpartition("/")[2].partition(" since ")[0] == last for place in named)
 
     def opens(self, task: Task, call: Call) -> None:
         """A file is opened, also for writing."""
@@ -248,8 +256,8 @@ class Changes:
         moved, written = call.name in MOVED, call.name in WRITTEN
         histories, one = self.next.histories, self._paths.files.one(changed)
         if moved:
-            gone = [place for place in histories if is_below(place, changed)]
-            self._paths.files.unlinks(changed)
+            stays = self._paths.files.unlinks(changed, call.first)
+            gone = [] if stays else [place for place in histories if is_below(place, changed)]
         else:
             gone = [one] if one in histories and (not written or one in self.next.executed) else []
         for place in gone:

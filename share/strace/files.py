@@ -150,8 +150,11 @@ class Files:
     ) -> None:
         self.listed = listing.files if listing else None
         self.seen: dict[str, File] = {}
-        # The first path of each file that has several.
+        # The first path of each file that has several; those that link(2) made; and what is known
+        # as the first path, where that is another file's since.
         self.same: dict[str, str] = dict(listing.same) if listing else {}
+        self.hard: set[str] = set()
+        self._renewed: dict[str, str] = {}
         self.before = listing.before if listing else {}
         self._histories = histories or {}
         self._inodes: dict[tuple[int, int], str] = {}
@@ -160,6 +163,8 @@ class Files:
 
     def one(self, place: str) -> str:
         """The place by which a file is known that has several."""
+        if place in self._renewed:
+            return self._renewed[place]
         for _ in range(len(self.same)):
             if place not in self.same:
                 break
@@ -169,13 +174,20 @@ class Files:
     def links(self, old: str, new: str) -> None:
         """Two places are of one file from now on."""
         first = self.one(old)
+        self._renewed.pop(new, None)
         self.same.pop(new, None)
         if first != new:
             self.same[new] = first
+            self.hard.add(new)
 
-    def unlinks(self, place: str) -> None:
-        """Another file is at this place from now on, or none."""
+    def unlinks(self, place: str, line: int) -> bool:
+        """Another file is at this place from now on, or none; whether the old one has other names."""
+        first = self.one(place)
+        others = [other for other in self.same if other != place and self.one(other) == first]
         self.same.pop(place, None)
+        if first == place and others:
+            self._renewed[place] = f"{place} since line {line}"
+        return bool(others) or first != place
 
     def lists(self, path: str) -> bool:
         """Whether the list names the file."""

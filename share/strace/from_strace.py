@@ -41,7 +41,7 @@ def table(converter: Converter) -> str:
 def list_of(converter: Converter) -> str:
     """The list of all files that were asked for."""
     files = converter.files
-    used = {place: files.one(place) for place in files.seen}
+    used = {place: files.one(place) for place in files.seen if place not in files.hard}
     return listing(files.seen, {place: one for place, one in used.items() if one != place})
 
 

@@ -99,8 +99,8 @@ class Paths:
         """Where a path leads, behind symbolic links too where this machine has them."""
         found = self.lead(task, path, base)
         if self.files.listed is not None:
-            one = self.files.one(found.place)
-            return found if one == found.place else replace(found, real=one)
+            other = None if found.place in self.files.hard else self.files.same.get(found.place)
+            return replace(found, real=self.files.one(other)) if other else found
         if found.real is not None:
             return found
         return replace(found, real=self.lead(task, path, base, follow=True).place)
