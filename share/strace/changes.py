@@ -94,7 +94,7 @@ class Known:
     histories: dict[str, History] = field(default_factory=dict)
     names: dict[str, dict[str, tuple[Located, bool]]] = field(default_factory=dict)
     executed: set[str] = field(default_factory=set)
-    # Whether all was gone through that may tell what a file was, so that what it lacks ends a script.
+    # Whether all was gone through that may tell what a file was: then what lacks ends a script.
     sure: bool = False
 
 
@@ -168,8 +168,8 @@ class Changes:
             if line < first and (executes or part in ASKED):
                 raise Unheld(
                     f"line {first} changes {found.named}, and of what it was before that nobody "
-                    f"tells the {part}: record stat(2) and getxattr(2) with -v, or list the file as "
-                    "it was, with `before` (--files)"
+                    f"tells the {part}: record stat(2) and getxattr(2) with -v, or list the file "
+                    "as it was, with `before` (--files)"
                 )
 
     def now(self, found: Found) -> str:

@@ -20,7 +20,8 @@ CHANGING = frozenset({*CHMOD, *CHOWN, *SET, *REMOVE})
 # Those that leave a symbolic link itself to be changed.
 OF_LINKS = ("lchown", "lchown32", "lsetxattr", "lremovexattr")
 
-STAT = ("stat", "lstat", "fstat", "stat64", "lstat64", "fstat64", "newfstatat", "fstatat64", "statx")
+STAT = ("stat", "lstat", "fstat", "stat64", "lstat64", "fstat64", "newfstatat", "fstatat64")
+STAT += ("statx",)
 GET = ("getxattr", "lgetxattr", "fgetxattr")
 BY_DESCRIPTOR = ("fchmod", "fchown", "fchown32", "fsetxattr", "fremovexattr", "fstat", "fstat64")
 BY_DESCRIPTOR += ("fgetxattr",)
@@ -54,7 +55,7 @@ def changing(call: Call) -> tuple[str, tuple[str, ...]] | None:
 
 
 def whole(text: str, size: int | None) -> str | None:
-    """The bytes of an attribute in hexadecimal digits: of a zero at the end strace writes nothing."""
+    """The bytes of an attribute in hexadecimal digits. A zero at the end strace leaves out."""
     value = lines.string(text)
     if value is None or size is None or not 0 < size <= LONGEST:
         return None

@@ -3,8 +3,8 @@
 A list of them is a text of lines, each `PATH KIND OWNER GROUP MODE`, then `nosuid` and `caps HEX`
 where they hold, as in a script but for the path, then `noexec` where the mount has that, and
 `#! INTERPRETER` of a script file. So the file is after the log; `before` in front of KIND says what
-it is before. `PATH -> OTHER` says that both paths are of one file, as by a link. A path with a space
-or with quotes stands in quotes, as in C. Lines that begin with `#` say nothing.
+it is before. `PATH -> OTHER` says that both paths are of one file, as by a link. A path with a
+space or with quotes stands in quotes, as in C. Lines that begin with `#` say nothing.
 """
 
 from __future__ import annotations
@@ -181,7 +181,7 @@ class Files:
             self.hard.add(new)
 
     def unlinks(self, place: str, line: int) -> bool:
-        """Another file is at this place from now on, or none; whether the old one has other names."""
+        """Another file is at this place from now on, or none; whether the old has other names."""
         first = self.one(place)
         others = [other for other in self.same if other != place and self.one(other) == first]
         self.same.pop(place, None)

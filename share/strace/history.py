@@ -60,7 +60,8 @@ class Change:
             return frozenset({BITS, SET_ID})
         if self.form != "chown":
             return frozenset({CAPS})
-        given = {part for part, word in zip((OWNER, GROUP), self.words, strict=True) if word != "-1"}
+        ids = zip((OWNER, GROUP), self.words, strict=True)
+        given = {part for part, word in ids if word != "-1"}
         # Linux takes them also where both ids stay (docs/LINUX.md).
         return frozenset(given | {SET_ID, CAPS})
 

@@ -188,8 +188,10 @@ def name_words(words: list[str], event: int, told: int) -> None:
     elif told and verb == "commit" and words[told + 4 : told + 5] == ["gain"]:
         in_names(words, told + 5, 3)
     elif verb == "version":
-        in_names(words, 3, 1)
-        in_names(words, 5, 1)
+        # That of `capdata` has three sets, and that of `decode` two.
+        for place, name in enumerate(words[:-1]):
+            if name in ("perm", "inh", "eff"):
+                in_names(words, place + 1, 1)
 
 
 def in_names(words: list[str], place: int, count: int) -> None:
@@ -207,6 +209,8 @@ def to_script(line: str) -> str:
         place = words.index("caps", 6) + 1
         if not re.fullmatch(r"(?:0x)?[0-9a-fA-F]+", "".join(words[place:])):
             return " ".join([*words[:place], encoded(words[place:])])
+    if words[1:2] == ["setattr"] and not re.fullmatch(r"(?:0x)?[0-9a-fA-F]+", "".join(words[3:])):
+        return " ".join([*words[:3], encoded(words[3:])])
     what = 2 if words[:1] == ["change"] else 1
     word = words[what] if what < len(words) else ""
     if word == "capset":
@@ -255,14 +259,15 @@ def main(words: list[str]) -> int:
     """Writes names, or sets."""
     parser = argparse.ArgumentParser(
         prog="credtrace-names",
-        description="Writes the sets of a report, a script, of `decode` or of credtrace-compare as "
-        "names of capabilities, and securebits as theirs.",
+        description="Writes the sets of a report, a script, of `decode`, `capdata` or of "
+        "credtrace-compare as names of capabilities, and securebits as theirs.",
     )
     parser.add_argument(
         "--to-script",
         action="store_true",
         help="read a script with names, and write it with sets: capset CAP_NET_RAW none all, "
-        "securebits SECBIT_KEEP_CAPS, and caps cap_net_raw=ep in a file line",
+        "securebits SECBIT_KEEP_CAPS, caps cap_net_raw=ep in a file line, and setattr svc "
+        "cap_net_raw=ep",
     )
     parser.add_argument("file", metavar="FILE", nargs="*", help="what is read; else standard input")
     given = parser.parse_args(words)

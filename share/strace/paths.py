@@ -126,8 +126,9 @@ class Paths:
             raise Unheld(no_folder(path, task.pid))
         if found.doubt:
             raise Unheld(
-                f"line {found.doubt} mounts or unmounts what {path} leads through, in another mount "
-                "namespace: whether it is seen here too the log doesn't tell (mount_namespaces(7))"
+                f"line {found.doubt} mounts or unmounts what {path} leads through, in another "
+                "mount namespace: whether it is seen here too the log doesn't tell "
+                "(mount_namespaces(7))"
             )
         return found
 

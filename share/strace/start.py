@@ -146,8 +146,8 @@ def start_of_all(statuses: list[Status]) -> Start:
     """The lines that lead the threads of a process from root to what they are.
 
     While a task is still root it takes all that it will have; NO_SETUID_FIXUP keeps its sets over
-    the change of ids; what it shall not have it gives up last. Where the threads have other ids than
-    one another each sets its own.
+    the change of ids; what it shall not have it gives up last. Where the threads have other ids
+    than one another each sets its own.
     """
     start, first = Start(), statuses[0]
     for number, status in enumerate(statuses, 1):
