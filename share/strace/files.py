@@ -17,7 +17,7 @@ from dataclasses import dataclass, field, replace
 
 from . import lines
 from .history import History, state_of
-from .places import Located, Mount
+from .places import Located, Mount, is_below
 
 # How many script files may stand one behind the other (execve(2), "Interpreter scripts").
 SCRIPTS = 4
@@ -184,7 +184,8 @@ class Files:
         """Another file is at this place from now on, or none; whether the old has other names."""
         first = self.one(place)
         others = [other for other in self.same if other != place and self.one(other) == first]
-        self.same.pop(place, None)
+        for other in [other for other in self.same if is_below(other, place)]:
+            del self.same[other]
         if first == place and others:
             self._renewed[place] = f"{place} since line {line}"
         return bool(others) or first != place

@@ -109,7 +109,7 @@ class Paths:
         """Whether a symbolic link lies there. In a list one is known by what it is of."""
         if self.files.listed is None:
             return link_of(found.place) is not None
-        other = self.files.same.get(found.place)
+        other = None if found.place in self.files.hard else self.files.same.get(found.place)
         return other is not None and os.path.basename(other) != os.path.basename(found.place)
 
     def lead(self, task: Task, path: str, base: Located | None, follow: bool = False) -> Located:
