@@ -3,7 +3,7 @@
 from __future__ import annotations
 
 from contextlib import suppress
-from dataclasses import dataclass, field
+from dataclasses import dataclass, field, replace
 
 from .calls import Unheld
 from .files import Found
@@ -150,7 +150,9 @@ class Changes:
             self._used[place] = self._used.get(place, False) or executes
             self._executes = self._executes or executes
         one = self._paths.files.one(found.place)
-        names = self.next.names.get(one, {}) | {found.path: (found.located, found.apart)}
+        # Mount namespaces have other numbers in another run.
+        located = replace(found.located, within=None)
+        names = self.next.names.get(one, {}) | {found.path: (located, found.apart)}
         self.next.names[one] = names
         if executes:
             self.next.executed.add(one)

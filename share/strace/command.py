@@ -120,7 +120,9 @@ def converted(options: Options, asks: bool = False) -> Converter:
     start = start_from(options.start)
     known = Known()
     reader, items, first = items_of(options, Converter(Files(listed)).wanted(), start)
-    for _ in range(RUNS):
+    for count in range(RUNS):
+        # Whatever isn't known by then isn't guessed.
+        known.sure = known.sure or count == RUNS - 1
         files = Files(listed, known.histories)
         converter = Converter(files, asks, options.folder, options.root, known)
         converter.run(items, first, start)
