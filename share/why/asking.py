@@ -21,7 +21,7 @@ from .script import QUERIES
 LINES, BYTES = 20000, 1 << 20
 KINDS = (IDS, CAPS, GROUPS, BITS)
 # What leaves everything as it is: a line that begins so, or the word behind its task.
-NOTHING = QUERIES | {"fcap", "access", "signal", "ptrace", "dumpable", "dumped"}
+NOTHING = QUERIES | {"fcap", "access", "signal", "ptrace", "dumpable", "dumped", "stat"}
 CALL_LABEL = re.compile(r"\bh\d{6}\b")
 
 
@@ -199,11 +199,11 @@ class Copy:
         for index in range(first, behind):
             event = self.journal.entries[index].partition(" -> ")[0].split(" ", 1)[1]
             word = event.split(" ", 1)[0]
-            if word in ("open", "close", "spawn", "fork", "exit"):
+            if word in ("open", "close", "spawn", "fork", "exit", "raw"):
                 self.add(text)
             elif word in ("begin", "act"):
                 self.keep(line, event)
-            elif word not in ("signal", "ask", "ptrace", "dumpable", "dumped"):
+            elif word not in ("signal", "ask", "ptrace", "dumpable", "dumped", "stat"):
                 self.add(CALL_LABEL.sub(self.label, event))
             if index in after:
                 self.question(after[index])

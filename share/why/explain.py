@@ -4,16 +4,20 @@ from __future__ import annotations
 
 from collections.abc import Callable
 
-from . import access, adjust, execve, ids, looking, sources
+from . import access, adjust, changing, execve, ids, looking, sources
 from .asking import KINDS, Values
-from .books import Decision
+from .books import Decision, Info
 from .journal import Journal
 from .names import ALL, LAST, cap_number
 from .reason import BITS, CAPS, GROUPS, IDS, Fault, NotFound, Reason
+from .script import File
 
 # What a change is decided on; and behind it, where it leads to other ids.
 BEFORE = {"exec": (IDS, CAPS, BITS), "setfsuid": (IDS, CAPS, BITS), "setfsgid": (IDS, CAPS)}
 AFTER = {"exec": (IDS, CAPS), "setfsuid": (IDS, CAPS), "setfsgid": (IDS, CAPS)}
+
+# The events that set ids.
+IDENTIFYING = ("begin", "act", "raw")
 
 
 class Explainer:
@@ -25,7 +29,20 @@ class Explainer:
         self.mask = mask
         # Whether it is also told why an event was not refused.
         self.full = journal.whole is not None
-        self.files = journal.script.files
+
+    def file(self, info: Info) -> File:
+        """A file as it was at an event."""
+        file = info.file
+        for it in info.changes:
+            form, words = it.words[0], it.words[3:]
+            left_out = sets_group_id(it) and changing.leaves_out(file, words, *self.asked(it))
+            file = changing.after(form, words, file, left_out)
+        return file
+
+    def asked(self, decision: Decision) -> tuple:
+        """What a call on a file is decided on."""
+        values, before = self.values, decision.before
+        return values.ids(before), values.caps(before), values.groups(before)
 
     def roots(self, credential: int) -> list[int]:
         """The root ids of a credential's namespace and of those above it."""
@@ -35,6 +52,8 @@ class Explainer:
         """Has all asked for that the sentences of a decision rest on."""
         event, want = decision.words[0], self.values.want
         before, after = decision.before, decision.after
+        for it in decision.info.changes if decision.info else ():
+            want(it.before if sets_group_id(it) else None, IDS, CAPS, GROUPS)
         if self.full:
             want(before, *KINDS)
             want(after, *KINDS)
@@ -43,7 +62,7 @@ class Explainer:
             return
         if decision.reason is not None or not (decision.refused or after is not None):
             return
-        if event in ("begin", "act"):
+        if event in IDENTIFYING:
             want(before, IDS, CAPS, *((BITS,) if not decision.refused else ()))
             want(after, IDS, CAPS)
         elif event == "commit":
@@ -55,6 +74,8 @@ class Explainer:
         elif event in ("ask", "open"):
             if event == "open" or decision.words[2] == "check":
                 want(before, IDS, CAPS, GROUPS)
+        elif event in changing.FORMS:
+            want(before, IDS, CAPS, GROUPS)
         elif event == "signal":
             want(before, IDS, CAPS)
             want(decision.target, IDS)
@@ -93,20 +114,24 @@ class Explainer:
         if decision.before is None and decision.after is not None:
             return [self.born(decision)]
         found = self.allowed(decision) if self.full else []
-        if decision.words[0] in ("begin", "act"):
+        if decision.words[0] in IDENTIFYING:
             found += self.identified(decision)
         return found
 
     def allowed(self, decision: Decision) -> list[Reason]:
         """Why a rule doesn't refuse an event."""
         words, before, values = decision.words, decision.before, self.values
-        if words[0] in ("begin", "act"):
+        if words[0] in IDENTIFYING:
             call = self.call_of(decision)
             return [ids.allowed(call[0], call[1:], values.ids(before), values.caps(before))]
         if words[0] == "open" or words[0] == "ask" and words[2] == "check":
-            name, want = words[2:4] if words[0] == "open" else words[3:5]
-            asked = values.ids(before), values.caps(before), values.groups(before)
-            return [access.allowed(self.files[name], want, *asked)]
+            want = words[3] if words[0] == "open" else words[4]
+            return [access.allowed(self.file(decision.info), want, *self.asked(decision))]
+        if words[0] in changing.FORMS:
+            file = self.file(decision.info)
+            return changing.allowed(words[0], words[3:], file, *self.asked(decision))
+        if words[0] == "stat":
+            self.stated(decision)
         if words[0] == "signal":
             asked = values.ids(before), values.caps(before), values.ids(decision.target)
             return [access.signal_allowed(*asked, decision.change)]
@@ -118,6 +143,13 @@ class Explainer:
                 raise Fault(f"it was answered {' '.join(decision.told)}, but it is {text}")
             return [Reason(text, sources.DUMPABLE)]
         return []
+
+    def stated(self, decision: Decision) -> None:
+        """What stat tells is the file as it is."""
+        file = self.file(decision.info)
+        flag = str(int(file.attribute is not None))
+        if decision.told != ["ok", str(file.owner), str(file.group), file.text, flag]:
+            raise Fault(f"it was told {' '.join(decision.told)} of {file}")
 
     def flag_of(self, decision: Decision) -> tuple[bool, str]:
         """Whether the process is dumpable, and since when."""
@@ -158,7 +190,7 @@ class Explainer:
         """Why a rule refuses an event."""
         event, words, told = decision.words[0], decision.words, decision.told[0]
         before, values = decision.before, self.values
-        if event in ("begin", "act"):
+        if event in IDENTIFYING:
             call = self.call_of(decision)
             error = decision.told[2] if told == "aborted" else told
             found = ids.refusal(call[0], call[1:], error, values.ids(before), values.caps(before))
@@ -167,14 +199,16 @@ class Explainer:
                 return Reason(text, f"{found.source}; {sources.THREADS}")
             return found
         if event == "change":
-            return self.change_refused(words[2:], told, before)
+            return self.change_refused(decision, words[2:], told, before)
+        if event in changing.FORMS:
+            file = self.file(decision.info)
+            return changing.refusal(event, words[3:], told, file, *self.asked(decision))
         if event == "ask":
-            found = self.question_refused(words[2:], told, before)
+            found = self.question_refused(decision, words[2:], told, before)
             return by_access(found) if self.is_access(decision.line) else found
         if event == "open" and told == "eacces":
-            file = self.files[words[2]]
-            sets = values.ids(before), values.caps(before), values.groups(before)
-            return access.refusal(file, words[3], *sets, sources.OPEN)
+            file = self.file(decision.info)
+            return access.refusal(file, words[3], *self.asked(decision), sources.OPEN)
         # Within one process a signal is always allowed.
         if event == "signal" and told == "eperm" and not decision.change:
             return self.signal_refused(decision)
@@ -188,24 +222,26 @@ class Explainer:
         """Whether a line is a call of access(2)."""
         return self.journal.script.line(line).split(" ")[1:2] == ["access"]
 
-    def change_refused(self, words: list[str], told: str, before: int) -> Reason:
+    def change_refused(
+        self, decision: Decision, words: list[str], told: str, before: int
+    ) -> Reason:
         """Why a change is refused."""
         values = self.values
         if words[0] == "exec":
-            asked = values.ids(before), values.caps(before), values.groups(before)
-            file = self.files[words[1]]
+            file, asked = self.file(decision.info), self.asked(decision)
             return execve.refusal(file, told, *asked, values.bits(before), self.roots(before))
         needs = adjust.NEEDS.get(words[0], ())
         caps = values.caps(before) if CAPS in needs else None
         bits = values.bits(before) if BITS in needs else None
         return adjust.refusal(words, told, caps, bits)
 
-    def question_refused(self, words: list[str], told: str, before: int) -> Reason:
+    def question_refused(
+        self, decision: Decision, words: list[str], told: str, before: int
+    ) -> Reason:
         """Why a question is refused."""
-        values = self.values
         if words[0] == "check" and told == "eacces":
-            asked = values.ids(before), values.caps(before), values.groups(before)
-            return access.refusal(self.files[words[1]], words[2], *asked)
+            file = self.file(decision.info)
+            return access.refusal(file, words[2], *self.asked(decision))
         source = {"capable": sources.LIST, "bset": sources.BOUND_READ, "ambis": sources.IS_SET}
         if told == "einval" and words[0] in source and cap_number(words[1]) > LAST:
             return adjust.no_capability(words[1], source[words[0]])
@@ -232,7 +268,7 @@ class Explainer:
         before, after = decision.before, decision.after
         sets = values.caps(before), values.caps(after)
         if words[0] == "exec":
-            file = self.files[words[1]]
+            file = self.file(decision.info)
             asked = values.ids(before), values.ids(after), *sets, values.bits(before)
             return execve.changes(file, decision.told, *asked, self.roots(before), self.mask)
         if words[0] in ("setfsuid", "setfsgid"):
@@ -254,6 +290,12 @@ class Explainer:
             except (Fault, NotFound) as fault:
                 found.append(fault)
         return found
+
+
+def sets_group_id(decision: Decision) -> bool:
+    """Whether it is a chmod(2) that may be without a bit that it asks for."""
+    words = decision.words
+    return words[0] == "chmod" and bool(int(words[3], 8) & changing.SET_GID)
 
 
 def by_access(reason: Reason) -> Reason:

@@ -7,7 +7,9 @@ can be told with what stood in its way. No rule on credentials is known here.
 from __future__ import annotations
 
 from . import stood
-from .books import Cast, Decision, Home, Label, Task
+from .books import Cast, Decision, Home, Info, Label, Task
+from .infos import Infos
+from .changing import FORMS
 from .looking import Flag
 from .looks import Looks
 from .reason import CAPS, IDS, Fault
@@ -17,7 +19,14 @@ RULED = frozenset(("eperm", "einval", "eacces"))
 HOLDS = 512
 
 
-class Journal(Looks):
+def file_name(words: list[str]) -> str:
+    """The file that an event names, if it names one."""
+    asks = words[0] in ("ask", "change") and words[2] in ("check", "exec")
+    place = 3 if asks else 2 if words[0] in (*FORMS, "stat", "open") else 0
+    return words[place] if place else ""
+
+
+class Journal(Looks, Infos):
     """The entries of a report, followed one after another."""
 
     def __init__(self, script: Script, report: str, line: int | None = None) -> None:
@@ -33,6 +42,7 @@ class Journal(Looks):
         self.gone_files: dict[str, int] = {}
         self.casts: dict[str, Cast] = {}
         self.flags: dict[str, Flag] = {}
+        self.infos = {name: Info(file) for name, file in script.files.items()}
         self.ended_casts: dict[int, str] = {}
         self.slots: dict[int, int] = {}
         self.namespaces: dict[int, int] = {}
@@ -76,6 +86,7 @@ class Journal(Looks):
     def decide(self, words, told, task, before=None, after=None) -> Decision:
         """Keeps an entry that is told."""
         decision = Decision(self.index, self.line, words, told, task, before, after)
+        decision.info = self.infos.get(file_name(words))
         self.decisions.append(decision)
         return decision
 
@@ -208,7 +219,7 @@ class Journal(Looks):
             self.refuse(words, told, task, before)
             return
         label.change, label.access = words[2:], words[2] == "access"
-        self.decide(words, told, task, before)
+        label.info = self.decide(words, told, task, before).info
 
     def on_commit(self, words, told):
         """A prepared credential becomes the task's."""
@@ -221,7 +232,7 @@ class Journal(Looks):
         task = self.tasks[label.task]
         number = self.seal(told, 1, task)
         decision = self.decide(words, told, label.task, task.current, number)
-        decision.change = label.change
+        decision.change, decision.info = label.change, label.info
         if len(told) > 3:
             self.flagged(task, number, "execve", told[-3:] == ["0", "0", "0"])
         else:

@@ -98,7 +98,7 @@ def overridden(journal, words, told) -> Reason:
     task = task_of(journal, words)
     held(task is not None and len(task.overrides) == int(told[1]), "it has other overrides")
     lines = [at(journal, line) for _, line in task.overrides]
-    what = CALLS.get(words[2] if words[0] == "begin" else words[0], words[0])
+    what = CALLS.get(words[2] if words[0] in ("begin", "raw") else words[0], words[0])
     text = f"{task.name} acts under {counted(len(lines), 'override')}, of {listed(lines)}"
     return Reason(f"{text}, where {what} is not allowed", sources.OVERRIDING)
 

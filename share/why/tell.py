@@ -38,6 +38,9 @@ def sentence(reason: Reason) -> str:
 
 def manual_name(words: list[str]) -> str:
     """What the manual calls the call of an event or of a line."""
+    if words[0] == "raw":
+        call = words[1] if words[1] in CALLS else words[2]
+        return f"{CALLS[call]} of one thread"
     return CALLS.get(words[2] if words[0] in ("begin", "ask", "change") else words[0], words[0])
 
 
