@@ -26,6 +26,7 @@ impl State {
     ///
     /// `NoMemory` if an allocation of the credential's groups or of the file's attribute fails: the
     /// state is as it was.
+    #[inline(never)]
     pub(super) fn chown(
         &mut self,
         cells: &Cells,
@@ -58,6 +59,7 @@ impl State {
     /// # Errors
     ///
     /// `NoMemory` as `chown` has it: the state is as it was.
+    #[inline(never)]
     pub(super) fn chmod(
         &mut self,
         cells: &Cells,
@@ -92,6 +94,7 @@ impl State {
     ///
     /// `NoMemory` if an allocation of the credential's groups or of the attribute fails: the state
     /// is as it was.
+    #[inline(never)]
     pub(super) fn set_attr(
         &mut self,
         cells: &Cells,
@@ -120,6 +123,7 @@ impl State {
 
     /// How a file stands (stat(2)). A task may ask that by any credential; `NoHold` where the label
     /// holds none.
+    #[inline(never)]
     pub(super) fn stat(&self, hold: u32, place: u32) -> Answer
         ensures { Gives self.now.state (by_stat self.now.state hold place) result self.now.state }
     {
