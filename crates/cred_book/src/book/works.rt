@@ -1,6 +1,7 @@
 //! Works that go out, and that come back decided.
 ghost use Rattle.std.specs.Prelude.{◌≡◌, ◌≢◌, ◌<◌, length, set, true, is_some, None, IfOk, IfErr};
 ghost use Rattle.std.specs.Prelude.{IfNone, IfSome, OnOk, OnErr};
+ghost use Rattle.std.specs.Option.{option_map};
 ghost use Rattle.cred_model.specs.Course as course_model;
 ghost use Rattle.cred_model.specs.Journal as model;
 ghost use Rattle.cred_model.specs.Journal.{replay};
@@ -141,11 +142,20 @@ impl Book {
         ensures chain { IfOk result (λ made. made.1 ≡ chain_of self.now.script ns) }
     {
         let chain = IdList::of(self.alloc, declared_chain(&self.script, ns))?;
-        let file = match event_file(self.state.infos(), event) {
+        let file = match self.named_file(event) {
             Some(file) => Some(copy_file(file)?),
             None => None,
         };
         Ok((file, chain))
+    }
+
+    /// The file that the event names, as it stands. `None` where it names none.
+    #[inline(always)]
+    fn named_file(&self, event: &Event) -> Option<&FileInfo>
+        ensures { option_map (λ file. file.now) result
+            ≡ info_of (infos_in self.now) (event_files event.now) }
+    {
+        event_file(self.state.infos(), event)
     }
 
     /// Lends what the event of the lane's line is decided on, which is then out. `None` where it
