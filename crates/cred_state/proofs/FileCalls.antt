@@ -1,13 +1,13 @@
 -- A file is changed by what a label holds, or it is asked how it stands.
 use Rattle.std.proofs.Common.{◌≡◌, ℕ, List, Option, None, Some, Result, Ok, Err, inl, inr, is_some, slice_get, slice_set, refl, sym, ap, ◌∙◌}
 use Rattle.std.specs.Option.{option_map}
-use Rattle.cred_record.specs.Answer.{AnswersBy, refusal_of}
+use Rattle.cred_record.specs.Answer.{AnswersBy}
 use Rattle.cred_record.specs.Credential.{Credential}
 use Rattle.cred_record.specs.File.{File}
 use Rattle.cred_record.specs.declared.refusal.Denial.{Denial}
 use Rattle.cred_record.specs.declared.refusal.Denial.TheVariants as denial
 use Rattle.cred_record.specs.declared.refusal.Refusal.{Refusal}
-use Rattle.cred_record.specs.declared.refusal.Refusal.TheVariants as refusal
+use Rattle.cred_record.specs.declared.refusal.Refusal.TheVariants as why
 use Rattle.cred_attr.specs.Exactly.{AnswersExactly}
 use Rattle.cred_event.specs.declared.answer.Answer.{Answer}
 use Rattle.cred_event.specs.declared.answer.Answer.TheVariants.{Done, NoHold, Told}
@@ -33,18 +33,21 @@ by_exactly made (Err d) is = is
 
 pub by_value : (file : File) (given : Result File Denial) → AnswersBy (Ok file) given
     → given ≡ Ok file
-by_value file (Ok x) (inl is) = sym is
+by_value file (Ok x) (inl is) =
+    let gives : File → Result File Denial = λ f. Ok f in
+    let same : x ≡ file = cc in
+    ap gives same
 by_value file (Ok x) (inr is) = cc
 by_value file (Err d) is = cc
 
-pub by_perm : (given : Result File Denial) → AnswersBy (Err refusal.Perm) given
+pub by_perm : (given : Result File Denial) → AnswersBy (Err why.Perm) given
     → given ≡ Err denial.Perm
 by_perm (Ok x) (inl is) = cc
 by_perm (Ok x) (inr is) = cc
 by_perm (Err denial.Perm) is = refl
 by_perm (Err denial.Invalid) is = cc
 
-pub by_invalid : (given : Result File Denial) → AnswersBy (Err refusal.Invalid) given
+pub by_invalid : (given : Result File Denial) → AnswersBy (Err why.Invalid) given
     → given ≡ Err denial.Invalid
 by_invalid (Ok x) (inl is) = cc
 by_invalid (Ok x) (inr is) = cc
