@@ -4,6 +4,7 @@ use Rattle.std.specs.List.{All, Contains}
 use Rattle.std.specs.Option.{option_map_or}
 use Rattle.std.proofs.lemmas.Bool.Decides.{nat_tests}
 use Rattle.cred_ids.specs.Limits.{HOLDS}
+use Rattle.cred_record.specs.File.{File}
 use Rattle.cred_event.specs.declared.answer.Answer.{Answer}
 use Rattle.cred_event.specs.declared.answer.Answer.TheVariants.{Done, Kept}
 use Rattle.cred_model.specs.Moves.{altered, given_up, holding, in_slot, preparing}
@@ -65,6 +66,16 @@ pub if_left : (s : State) (left : List ℕ) → IsLeft s left → (left ≡ s.de
 if_left s left (inl same) = inl same
 if_left s left (inr none) = inr (ap (λ (ns : List ℕ). nat_lt (length ns) (length s.deferred)) none.0 ∙ less (length s.deferred) none.1)
 
+-- so it is of what counts as an id call
+never_less : (n : ℕ) → not (nat_lt n 0) ≡ true
+never_less n = grind (arith, nat_tests)
+
+pub if_left_none : (s : State) (left : List ℕ) → IsLeft s left
+    → (left ≡ s.deferred) ⊎ (not (nat_lt (length s.deferred) (length left)) ≡ true)
+if_left_none s left (inl same) = inl same
+if_left_none s left (inr none) =
+    inr (ap (λ (ns : List ℕ). not (nat_lt (length s.deferred) (length ns))) none.0 ∙ never_less (length s.deferred))
+
 -- where one number was
 pub if_left_one : (s : State) (left : List ℕ) (n : ℕ) → IsLeft s left
     → (left ≡ s.deferred) ⊎ (not (nat_lt (length s.deferred) (length (left ++ n ∷ []))) ≡ true)
@@ -121,6 +132,17 @@ with_flags s t answer flags keeps = record { left = keeps.left; each = by keeps.
     by each = each
 
     more : CredsKept s t → CredsKept s (record t { dumpable = flags })
+    more (NoneMore same) = NoneMore same
+    more (OneMore new is there) = OneMore new is there
+
+-- and so do the files
+pub with_infos : (s t : State) (answer : Answer) (infos : List File) → Keeps s (answer, t) → Keeps s (answer, record t { infos = infos })
+with_infos s t answer infos keeps = record { left = keeps.left; each = by keeps.each; swept = keeps.swept; creds = more keeps.creds }
+  where
+    by : EachRef (Contains (refs t)) (with_left s keeps.left) → EachRef (Contains (refs t)) (with_left s keeps.left)
+    by each = each
+
+    more : CredsKept s t → CredsKept s (record t { infos = infos })
     more (NoneMore same) = NoneMore same
     more (OneMore new is there) = OneMore new is there
 

@@ -3,6 +3,8 @@ use Rattle.std.specs.Prelude.{◌≡◌, ℕ, Bool, true, false, not, nat_lt, sl
 use Rattle.cred_event.specs.declared.answer.AbortCause.TheVariants.{Full}
 use Rattle.cred_event.specs.declared.answer.Answer.{Answer}
 use Rattle.cred_event.specs.declared.answer.Answer.TheVariants.{Aborted, Acted, Began}
+use Rattle.cred_event.specs.declared.event.Event.{Event}
+use Rattle.cred_event.specs.declared.event.Event.TheVariants.{Raw}
 use Rattle.cred_model.specs.State.{State}
 use Rattle.cred_model.specs.Slots.{refs}
 use Rattle.cred_plain.specs.Creds.{gone}
@@ -23,3 +25,9 @@ may_have_swept before (Began cred slot left) after = not (nat_lt before after)
 may_have_swept before (Acted task cred slot left) after = not (nat_lt before after)
 may_have_swept before (Aborted task Full) after = true
 may_have_swept before answer after = nat_lt after before
+
+-- Whether the event may have let go of something. A call of one thread alone gives up one number
+-- too, but answers as events do that give up none.
+abbrev pub may_let_go : Event → ℕ → Answer → ℕ → Bool
+may_let_go (Raw task call) before answer after = not (nat_lt before after)
+may_let_go event before answer after = may_have_swept before answer after
