@@ -19,12 +19,12 @@ use Rattle.cred_sound.specs.Sound.{IsSound}
 use Rattle.cred_sound.proofs.Parts.{with_left}
 use Rattle.cred_sound.proofs.Sound.{like_sound, step_sound}
 use Rattle.cred_plain.specs.Creds.{gone, slots_of}
-use Rattle.cred_machine.specs.Kept.{KeepsReferred, may_have_swept, may_let_go}
+use Rattle.cred_machine.specs.Kept.{KeepsReferred, as_begun, may_have_swept, may_let_go}
 use Rattle.cred_plain.specs.References.{is_among, refer_to}
 use Rattle.cred_plain.specs.declared.references.References.{References}
 use Rattle.cred_machine.proofs.Free.{any-map}
 use Rattle.cred_machine.proofs.KeptByEvents.{CredsKept, Keeps, NoneMore, OneMore}
-use Rattle.cred_machine.proofs.NothingIsLost.{COUNTED, counted}
+use Rattle.cred_machine.proofs.NothingIsLost.{counted}
 
 -- ---- what refers
 
@@ -151,7 +151,7 @@ stays_kept s t answer keeps unswept before = by keeps.swept
 -- so it is where the event let go of nothing
 pub still_referred : (s t : State) (event : Event) (answer : Answer) → Keeps s (counted event (answer, t))
     → may_let_go event (length s.deferred) answer (length t.deferred) ≡ false → KeepsReferred s → KeepsReferred t
-still_referred s t (Raw task call) answer keeps kept before = stays_kept s t COUNTED keeps kept before
+still_referred s t (Raw task call) answer keeps kept before = stays_kept s t (as_begun answer) keeps kept before
 still_referred s t event answer keeps kept before = stays_kept s t answer keeps kept before
 
 -- what an event gave, where something was forgotten after it

@@ -66,16 +66,6 @@ pub if_left : (s : State) (left : List ℕ) → IsLeft s left → (left ≡ s.de
 if_left s left (inl same) = inl same
 if_left s left (inr none) = inr (ap (λ (ns : List ℕ). nat_lt (length ns) (length s.deferred)) none.0 ∙ less (length s.deferred) none.1)
 
--- so it is of what counts as an id call
-never_less : (n : ℕ) → not (nat_lt n 0) ≡ true
-never_less n = grind (arith, nat_tests)
-
-pub if_left_none : (s : State) (left : List ℕ) → IsLeft s left
-    → (left ≡ s.deferred) ⊎ (not (nat_lt (length s.deferred) (length left)) ≡ true)
-if_left_none s left (inl same) = inl same
-if_left_none s left (inr none) =
-    inr (ap (λ (ns : List ℕ). not (nat_lt (length s.deferred) (length ns))) none.0 ∙ never_less (length s.deferred))
-
 -- where one number was
 pub if_left_one : (s : State) (left : List ℕ) (n : ℕ) → IsLeft s left
     → (left ≡ s.deferred) ⊎ (not (nat_lt (length s.deferred) (length (left ++ n ∷ []))) ≡ true)

@@ -31,7 +31,8 @@ use Rattle.cred_model.specs.Step.{aborted, by_file, by_raw, by_stat, follow, for
 use Rattle.cred_sound.specs.Sound.{IsSound}
 use Rattle.cred_sound.proofs.Parts.{with_left}
 use Rattle.cred_sound.proofs.Tests.{outcome_has, if_some, if_none, if_either, if_fewer, if_passed, if_idle, if_own, if_last, if_rule, if_file_rule, if_ok}
-use Rattle.cred_machine.proofs.KeptByEvents.{IsLeft, Keeps, alters, closes, gives_up_prepared, if_left, if_left_none, if_left_one, in_slots, less, opens, prepares, refused, releases, still, takes_hold, with_flags, with_infos}
+use Rattle.cred_machine.specs.Kept.{as_begun}
+use Rattle.cred_machine.proofs.KeptByEvents.{IsLeft, Keeps, alters, closes, gives_up_prepared, if_left, if_left_one, in_slots, less, opens, prepares, refused, releases, still, takes_hold, with_flags, with_infos}
 use Rattle.cred_machine.proofs.KeepingTasks.{creates, ends_some, lends, lends_prepared, replaces, reverts, shares, tries_commit}
 
 -- where no slot is free
@@ -283,14 +284,14 @@ stat_keeps s hold place =
     (if_some Q (held_by s hold) _ _
     (λ held is. if_some Q (slice_get s.infos place) _ _ (λ file there. refused s _)))
 
--- What a call of one thread alone gives up counts as what an id call does, whatever its answer.
-abbrev pub COUNTED : Answer
-COUNTED = Began 0 0 0
+-- with the answer by which a call of one thread alone counts
+abbrev raw_counted : Answer × State → Answer × State
+raw_counted made = (as_begun made.0, made.1)
 
-raw_keeps : (s : State) (task : ℕ) (call : IdCall) → IsSound s → Keeps s (COUNTED, (outcome s (by_raw s task call)).1)
+raw_keeps : (s : State) (task : ℕ) (call : IdCall) → IsSound s → Keeps s (raw_counted (outcome s (by_raw s task call)))
 raw_keeps s task call sound =
-    let Q : Answer × State → Type 0 = λ made. Keeps s (COUNTED, made.1) in
-    outcome_has Q s _ (λ answer. refused s COUNTED)
+    let Q : Answer × State → Type 0 = λ made. Keeps s (raw_counted made) in
+    outcome_has Q s _ (λ answer. refused s (as_begun answer))
     (if_some Q (task_of s task) _ _
     (λ owner found. if_some Q (numbered s.creds owner.current) _ _
     (λ old at. if_idle Q (cast_in s owner.process) _
@@ -299,15 +300,16 @@ raw_keeps s task call sound =
     (λ new ruled.
     in_slots Q s table_full
     (λ s slot. (Sealed (length s.creds) slot, record (replaced s task old.number new slot) { dumpable = renewed s.dumpable owner.process (differs old.cred new) }))
-    (λ left is. still s COUNTED left (if_left_none s left is))
+    (full s)
     (λ left slot is.
+    let answer = Began (length s.creds) slot 0 in
     let t = record (replaced (with_left s left) task old.number new slot) { casts = s.casts } in
-    with_flags s t COUNTED (renewed s.dumpable owner.process (differs old.cred new))
-    (replaces s COUNTED left task slot owner old new s.casts sound found at (if_left_one s left old.number is)))))))))
+    with_flags s t answer (renewed s.dumpable owner.process (differs old.cred new))
+    (replaces s answer left task slot owner old new s.casts sound found at (if_left_one s left old.number is)))))))))
 
--- with the answer by which it counts
+-- with the answer by which an event counts
 abbrev pub counted : Event → Answer × State → Answer × State
-counted (Raw task call) made = (COUNTED, made.1)
+counted (Raw task call) made = raw_counted made
 counted event made = made
 
 -- what an event keeps

@@ -6,7 +6,7 @@ ghost use Rattle.cred_model.specs.Named.{AreModes, IsEventOf, event_modes};
 ghost use Rattle.cred_model.specs.State.{opening};
 ghost use Rattle.cred_model.specs.Step.{by_act, done};
 ghost use Rattle.cred_sound.specs.Sound.{IsSound};
-ghost use Rattle.cred_machine.specs.Kept.{KeepsReferred, may_have_swept, may_let_go};
+ghost use Rattle.cred_machine.specs.Kept.{KeepsReferred, as_begun, may_have_swept, may_let_go};
 ghost use Rattle.cred_machine.specs.Slots.{AreLive, TakesSlot, takes_slot};
 
 use crate::slots::{Marks, live_slots};
@@ -198,13 +198,23 @@ fn live_after(live: Marks, answer: &Answer, swept: bool) -> Option<Marks>
 }
 
 /// Whether the event may have let go of something, where so many references had been given up
-/// before it, and so many are after it. A call of one thread alone gives one up, as an id call does,
-/// but answers as events do that give up none.
+/// before it, and so many are after it.
 fn may_let_go(event: &Event, before: usize, answer: &Answer, after: usize) -> bool
     ensures { result ≡ may_let_go event.now before answer.now after }
 {
     match event {
-        Event::Raw { .. } => after <= before,
+        Event::Raw { .. } => raw_may_have_swept(before, answer, after),
+        _ => may_have_swept(before, answer, after),
+    }
+}
+
+/// The same of a call of one thread alone: where it is made it gives one reference up, as one that
+/// begins a broadcast does, but it answers as events do that give up none.
+fn raw_may_have_swept(before: usize, answer: &Answer, after: usize) -> bool
+    ensures { result ≡ may_have_swept before (as_begun answer.now) after }
+{
+    match answer {
+        Answer::Sealed { .. } => after <= before,
         _ => may_have_swept(before, answer, after),
     }
 }
