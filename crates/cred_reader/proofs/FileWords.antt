@@ -37,7 +37,7 @@ mode_fits [] = tt
 mode_fits (a ∷ []) = tt
 mode_fits (a ∷ b ∷ []) = tt
 mode_fits (a ∷ b ∷ c ∷ []) = tt
-mode_fits (a ∷ b ∷ c ∷ d ∷ []) = mode_small _ _ _ _ (octal_digit a) (octal_digit b) (octal_digit c) (octal_digit d)
+mode_fits (a ∷ b ∷ c ∷ d ∷ []) = mode_small (octal_of a) (octal_of b) (octal_of c) (octal_of d) (octal_digit a) (octal_digit b) (octal_digit c) (octal_digit d)
 mode_fits (a ∷ b ∷ c ∷ d ∷ e ∷ word) = tt
 
 -- ---- an attribute: 2 to 128 hexadecimal digits
