@@ -9,11 +9,15 @@ from dataclasses import dataclass, replace
 from processes import ALL, NO_SETUID_FIXUP
 
 CAP_CHOWN, CAP_FOWNER, CAP_FSETID, CAP_SETFCAP = 0, 3, 4, 31
-S_ISUID, S_ISGID, S_IXGRP, EXECUTE = 0o4000, 0o2000, 0o0010, 0o0111
+S_ISUID, S_ISGID, S_IXGRP, S_IXOTH, EXECUTE = 0o4000, 0o2000, 0o0010, 0o0001, 0o0111
 # cap_net_raw=ep, as setcap(8) writes it.
 NET_RAW = "0100000200200000000000000000000000000000"
+# What that gives to whoever executes the file: the permitted set, and whether it is effective.
+GIVES = 1 << 13, True
 # An id that a call doesn't change.
 KEEP = -1
+# The user and the group of the process that executes a file: no file has them.
+STRANGER = 90
 
 
 @dataclass(frozen=True)
@@ -136,3 +140,60 @@ def calls(script, task, call, name, rest, answer):
     script.entry(f"take {held} t{task}", script.named(script.acts_with(task)))
     script.entry(f"{call} {held} {words}", answer)
     script.entry(f"drop {held}", "ok")
+
+
+def stranger(script, task=3):
+    """Makes a child of root a process without capabilities, to whom no file belongs."""
+    script.fork(1, task, task)
+    script.ids(task, f"setresgid {STRANGER} {STRANGER} {STRANGER}")
+    script.ids(task, f"setresuid {STRANGER} {STRANGER} {STRANGER}")
+    script.changes(task, "capset 0 0 0")
+
+
+def executed(file, gives):
+    """The effective user and group, and what is permitted and effective, once the stranger has
+    executed the file; none where it may not.
+    """
+    # "EACCES The file or a script interpreter is not a regular file." "EACCES Execute permission is
+    # denied for the file" (execve(2)).
+    if file.kind != "reg" or not file.mode & S_IXOTH:
+        return None
+    # "If the set-user-ID bit is set on the program file referred to by pathname, then the effective
+    # user ID of the calling process is changed to that of the owner of the program file. Similarly,
+    # if the set-group-ID bit is set on the program file, then the effective group ID of the calling
+    # process is set to the group of the program file." That is where the group may execute it.
+    setgid = file.mode & S_ISGID and file.mode & S_IXGRP
+    # "P'(permitted) = (P(inheritable) & F(inheritable)) | (F(permitted) & P(bounding)) |
+    # P'(ambient)" (capabilities(7)), of which the first and the last are empty.
+    permitted, effective = gives if file.attribute else (0, False)
+    return (
+        file.owner if file.mode & S_ISUID else STRANGER,
+        file.group if setgid else STRANGER,
+        permitted,
+        permitted if effective else 0,
+    )
+
+
+def executes(script, name, file, gives=GIVES, task=3, child=4):
+    """A child of the stranger executes the file as it stands, and is asked what it is then."""
+    script.fork(task, child, child)
+    then = executed(file, gives)
+    if then:
+        script.changes(child, f"exec {name}", then=f" ended 0 gain {then[2]:x} 0 0")
+    else:
+        script.changes(child, f"exec {name}", "eacces")
+    user, group, permitted, effective = then or (STRANGER, STRANGER, 0, 0)
+    ids = (STRANGER, *3 * (user,), STRANGER, *3 * (group,))
+    script.asks(child, "ids", f"ok {' '.join(map(str, ids))}")
+    script.asks(child, "caps", f"ok {permitted:x} 0 {effective:x} {ALL:x} 0")
+    script.exit(child)
+
+
+def tries(script, name, before, call, rest, answer, then, gives=GIVES):
+    """The file is asked for, the process makes its call, and the file is asked for again and
+    executed.
+    """
+    calls(script, 2, "stat", name, "", before.told())
+    calls(script, 2, call, name, rest, answer)
+    calls(script, 2, "stat", name, "", then.told())
+    executes(script, name, then, gives)

@@ -1,9 +1,10 @@
 """Every chmod of a file, by its owner and by others, in its group and not, with each capability
-that tells and without; and how the file stands then.
+that tells and without; how the file stands before and then, and what it is to whoever executes it.
 """
 from itertools import product
 
-from changed import CAP_CHOWN, CAP_FOWNER, CAP_FSETID, File, Process, begin, calls, chmod, make
+from changed import CAP_CHOWN, CAP_FOWNER, CAP_FSETID, File, Process
+from changed import begin, chmod, make, stranger, tries
 from reports import Script
 
 # The file's owner and group; another user and another group.
@@ -28,8 +29,8 @@ def cases():
         script = Script()
         begin(script, {f"f{at}": file for at, (file, _) in enumerate(asked)})
         make(script, process)
+        stranger(script)
         for at, (file, mode) in enumerate(asked):
             answer, then = chmod(process, file, mode)
-            calls(script, 2, "chmod", f"f{at}", f"{mode:04o}", answer)
-            calls(script, 2, "stat", f"f{at}", "", then.told())
-        yield script.case(f"process-{number}", 2 * len(asked))
+            tries(script, f"f{at}", file, "chmod", f"{mode:04o}", answer, then)
+        yield script.case(f"process-{number}", 4 * len(asked))

@@ -1,10 +1,11 @@
 """Every chown of a file, by its owner and by others, with the capability and without, over modes
-with and without set-id and execute bits; and how the file stands then.
+with and without set-id and execute bits; how the file stands before and then, and what it is to
+whoever executes it.
 """
 from itertools import product
 
 from changed import CAP_CHOWN, CAP_FOWNER, CAP_FSETID, KEEP, File, Process
-from changed import begin, calls, chown, make
+from changed import begin, chown, make, stranger, tries
 from reports import Script
 
 # The file's owner and group; another user; the groups that a process is in, and one that it isn't.
@@ -36,8 +37,8 @@ def cases():
             script = Script()
             begin(script, {f"f{at}": file for at, (file, _, _) in enumerate(asked)})
             make(script, process)
+            stranger(script)
             for at, (file, owner, group) in enumerate(asked):
                 answer, then = chown(process, file, owner, group)
-                calls(script, 2, "chown", f"f{at}", f"{owner} {group}", answer)
-                calls(script, 2, "stat", f"f{at}", "", then.told())
-            yield script.case(f"process-{number}-{kinds[0].mode:04o}", 2 * len(asked))
+                tries(script, f"f{at}", file, "chown", f"{owner} {group}", answer, then)
+            yield script.case(f"process-{number}-{kinds[0].mode:04o}", 4 * len(asked))

@@ -1,22 +1,24 @@
 """Attributes that are set and removed, by the file's owner and by others, with CAP_SETFCAP and
-without; bytes that are none; and how the file stands then.
+without; bytes that are none; how the file stands before and then, and what it gives to whoever
+executes it.
 """
 from itertools import product
 
-from changed import CAP_CHOWN, CAP_FOWNER, CAP_SETFCAP, NET_RAW, File, Process
-from changed import begin, calls, make, setattr_
+from changed import CAP_CHOWN, CAP_FOWNER, CAP_SETFCAP, GIVES, NET_RAW, File, Process
+from changed import begin, make, setattr_, stranger, tries
 from processes import ALL
 from reports import Script
 
 OWNER, GROUP, OTHER = 1, 2, 3
-# Attributes of each version, with flags and bits that say nothing; and bytes that are none: too few
-# for a revision, none of the revisions, and another length than the revision's.
-GOOD = (
-    NET_RAW,
-    "000000010020000000000000",
-    "0100000300200000000000000000000000000000a0860100",
-    "ffffff02ffffffffffffffffffffffffffffffff",
-)
+# Attributes of each version, with flags and bits that say nothing, and what each gives: one of
+# version 3 is for processes whose root is another, and so gives nothing here. And bytes that are
+# none: too few for a revision, none of the revisions, and another length than the revision's.
+GOOD = {
+    NET_RAW: GIVES,
+    "000000010020000000000000": (1 << 13, False),
+    "0100000300200000000000000000000000000000a0860100": (0, False),
+    "ffffff02ffffffffffffffffffffffffffffffff": (ALL, True),
+}
 BAD = ("01", "010000", "01000004" + 16 * "00", NET_RAW + "00", "01000002", "01000001" + 16 * "00")
 
 
@@ -41,9 +43,10 @@ def cases():
         script = Script()
         begin(script, {f"f{at}": file for at, (file, _) in enumerate(asked)})
         make(script, process)
+        stranger(script)
         for at, (file, (data, is_one)) in enumerate(asked):
             answer, then = setattr_(process, file, data is not None, is_one)
             call = "clearattr" if data is None else "setattr"
-            calls(script, 2, call, f"f{at}", data or "", answer)
-            calls(script, 2, "stat", f"f{at}", "", then.told())
-        yield script.case(f"process-{number}", 2 * len(asked))
+            gives = GOOD.get(data, GIVES) if answer == "ok" else GIVES
+            tries(script, f"f{at}", file, call, data or "", answer, then, gives)
+        yield script.case(f"process-{number}", 4 * len(asked))

@@ -135,7 +135,7 @@ def clause(word: str, flags: dict[str, int]) -> None:
 
 
 def to_names(line: str) -> str:
-    """A line of a report, of a script, of `decode` or of credtrace-compare, with names."""
+    """A line of a report, of a script, of `decode` or `capdata`, or of credtrace-compare, with names."""
     if not NAMED.search(line):
         return line
     if since := SINCE.match(line):
@@ -188,9 +188,9 @@ def name_words(words: list[str], event: int, told: int) -> None:
     elif told and verb == "commit" and words[told + 4 : told + 5] == ["gain"]:
         in_names(words, told + 5, 3)
     elif verb == "version":
-        # That of `capdata` has three sets, and that of `decode` two.
-        for place, name in enumerate(words[:-1]):
-            if name in ("perm", "inh", "eff"):
+        # `decode` writes two sets, `capdata` three behind the target: each behind its own word.
+        for place, word in enumerate(words[:-1]):
+            if word in ("perm", "inh", "eff"):
                 in_names(words, place + 1, 1)
 
 
@@ -209,7 +209,7 @@ def to_script(line: str) -> str:
         place = words.index("caps", 6) + 1
         if not re.fullmatch(r"(?:0x)?[0-9a-fA-F]+", "".join(words[place:])):
             return " ".join([*words[:place], encoded(words[place:])])
-    if words[1:2] == ["setattr"] and not re.fullmatch(r"(?:0x)?[0-9a-fA-F]+", "".join(words[3:])):
+    if words[1:2] == ["setattr"] and not re.fullmatch(r"(?:0x)?[0-9a-fA-F]*", "".join(words[3:])):
         return " ".join([*words[:3], encoded(words[3:])])
     what = 2 if words[:1] == ["change"] else 1
     word = words[what] if what < len(words) else ""
@@ -266,8 +266,7 @@ def main(words: list[str]) -> int:
         "--to-script",
         action="store_true",
         help="read a script with names, and write it with sets: capset CAP_NET_RAW none all, "
-        "securebits SECBIT_KEEP_CAPS, caps cap_net_raw=ep in a file line, and setattr svc "
-        "cap_net_raw=ep",
+        "securebits SECBIT_KEEP_CAPS, and caps cap_net_raw=ep in a file line",
     )
     parser.add_argument("file", metavar="FILE", nargs="*", help="what is read; else standard input")
     given = parser.parse_args(words)

@@ -143,11 +143,11 @@ pub ended_by : (run : Run) (ended : Bool) → ended ≡ list_all is_none run.cur
 ended_by run true is = no_cursor_ended run (no_cursor run.cursors (sym is))
 ended_by run false is = let left = some_cursor run.cursors (sym is) in cursor_left run left.0 left.1
 
-pub nothing_run : (script : Script) (run : Run) → length script.lines ≤ LINE_LIMIT → run.state ≡ opening → AreCursors script [] run.cursors
+pub nothing_run : (script : Script) (run : Run) → length script.lines ≤ LINE_LIMIT → run.state ≡ opening script → AreCursors script [] run.cursors
     → IsRunAfter script [] run
 nothing_run script run few state cursors = record {
   few = few;
-  state = subst (λ (s : State). IsLike s opening) (sym state) (like_self opening);
+  state = subst (λ (s : State). IsLike s (opening script)) (sym state) (like_self (opening script));
   so_far = λ k lt. absurd (omega (arith, lt));
   cursors = cursors;
 }

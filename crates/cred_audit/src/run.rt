@@ -26,7 +26,7 @@ impl Run {
         ensures { IfOk result (λ run. IsRunAfter script.now [] run) }
     {
         let cursors = Cursors::new(alloc, script)?;
-        let state = CachedState::new(alloc)?;
+        let state = CachedState::new(alloc, script)?;
         Ok(Run { state, cursors })
     }
 

@@ -20,12 +20,13 @@ pub fn first_cursor(script: &Script, lane: u32) -> Option<Course>
     first_after(script, lane, 0)
 }
 
-/// The next event of the course's line. It names only declared files and namespaces, as its line
-/// does. `None` where the line has ended.
+/// The next event of the course's line. It names only declared files and namespaces, and gives only
+/// what is a mode, as its line does. `None` where the line has ended.
 ///
 /// # Errors
 ///
-/// `NoMemory` where the list of a `setgroups` could not be copied; no other event takes memory.
+/// `NoMemory` where the list of a `setgroups`, or the bytes of an attribute, could not be copied; no
+/// other event takes memory.
 // Called for each event of a lane, from one place of it.
 #[inline(always)]
 pub fn next_event(script: &Script, course: Course) -> Result<Option<Event>, NoMemory>

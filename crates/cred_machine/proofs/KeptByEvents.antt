@@ -4,6 +4,7 @@ use Rattle.std.specs.List.{All, Contains}
 use Rattle.std.specs.Option.{option_map_or}
 use Rattle.std.proofs.lemmas.Bool.Decides.{nat_tests}
 use Rattle.cred_ids.specs.Limits.{HOLDS}
+use Rattle.cred_record.specs.File.{File}
 use Rattle.cred_event.specs.declared.answer.Answer.{Answer}
 use Rattle.cred_event.specs.declared.answer.Answer.TheVariants.{Done, Kept}
 use Rattle.cred_model.specs.Moves.{altered, given_up, holding, in_slot, preparing}
@@ -121,6 +122,17 @@ with_flags s t answer flags keeps = record { left = keeps.left; each = by keeps.
     by each = each
 
     more : CredsKept s t → CredsKept s (record t { dumpable = flags })
+    more (NoneMore same) = NoneMore same
+    more (OneMore new is there) = OneMore new is there
+
+-- and so do the files
+pub with_infos : (s t : State) (answer : Answer) (infos : List File) → Keeps s (answer, t) → Keeps s (answer, record t { infos = infos })
+with_infos s t answer infos keeps = record { left = keeps.left; each = by keeps.each; swept = keeps.swept; creds = more keeps.creds }
+  where
+    by : EachRef (Contains (refs t)) (with_left s keeps.left) → EachRef (Contains (refs t)) (with_left s keeps.left)
+    by each = each
+
+    more : CredsKept s t → CredsKept s (record t { infos = infos })
     more (NoneMore same) = NoneMore same
     more (OneMore new is there) = OneMore new is there
 

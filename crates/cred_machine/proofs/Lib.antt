@@ -4,6 +4,8 @@ pub mod Taken
 pub mod Seen
 pub mod Overrides
 pub mod Begins
+pub mod Alone
+pub mod Written
 pub mod Follows
 pub mod Marks
 pub mod Rooms

@@ -1,34 +1,38 @@
 -- No event lets go of what is referred to, and only a sweep of what was given up.
-use Rattle.std.proofs.Common.{◌≡◌, ◌==◌, ◌-◌, ◌⊎◌, inl, inr, ℕ, List, [], ◌∷◌, ◌++◌, length, nat_lt, slice_get, find, position, Some, None, true, Result, Ok, Err, refl, arith}
+use Rattle.std.proofs.Common.{◌≡◌, ◌==◌, ◌-◌, ◌⊎◌, inl, inr, ℕ, List, [], ◌∷◌, ◌++◌, length, nat_lt, slice_get, slice_set, find, position, Some, None, true, Result, Ok, Err, refl, arith}
 use Rattle.std.specs.Option.{option_and_then}
 use Rattle.cred_ids.specs.Limits.{TASKS, OPEN_FILES, PREPARED, DEPTH}
 use Rattle.cred_record.specs.Credential.{Credential, first_credential}
+use Rattle.cred_record.specs.File.{File}
 use Rattle.cred_record.specs.declared.id_call.IdCall.{IdCall}
 use Rattle.cred_record.specs.declared.refusal.Denial.{Denial}
 use Rattle.cred_record.specs.declared.want.Want.{Want}
 use Rattle.cred_rules.specs.Access.{may_signal}
 use Rattle.cred_rules.specs.SetId.{set_id}
 use Rattle.cred_event.specs.declared.answer.AbortCause.TheVariants as cause
+use Rattle.cred_event.specs.declared.answer.Answer.{Answer}
 use Rattle.cred_event.specs.declared.answer.Answer.TheVariants.{Done, Sealed, Kept, TableFull, Began, Acted, Aborted}
 use Rattle.cred_event.specs.declared.event.Change.{Change}
 use Rattle.cred_event.specs.declared.event.Event.{Event}
-use Rattle.cred_event.specs.declared.event.Event.TheVariants.{Init, Take, TakeFile, Release, Ask, Signal, Prepare, Alter, Commit, Abort, Override, Revert, Begin, Act, OpenFile, CloseFile, Spawn, Fork, Exit, Sweep, Dumpable, Dumped, Ptrace}
+use Rattle.cred_event.specs.declared.event.Event.TheVariants.{Init, Take, TakeFile, Release, Ask, Signal, Prepare, Alter, Commit, Abort, Override, Revert, Begin, Act, OpenFile, CloseFile, Spawn, Fork, Exit, Sweep, Dumpable, Dumped, Ptrace, Chown, Chmod, SetAttr, Stat, Raw}
 use Rattle.cred_event.specs.declared.event.Mode.{Mode}
 use Rattle.cred_model.specs.Answers.{checked}
 use Rattle.cred_model.specs.Casts.{dropped, joined, others_of, waits_no_more, with_cast}
 use Rattle.cred_model.specs.Change.{by_change, by_rule}
+use Rattle.cred_model.specs.Changing.{changed_by}
 use Rattle.cred_model.specs.Dumpable.{differs, flag_of_value, flags_begun, flags_left, is_dumpable, renewed, set_flag, with_process_flag, without_flag}
 use Rattle.cred_model.specs.Ends.{ended, is_task, is_thread_of}
 use Rattle.cred_model.specs.Moves.{created, first_task, preparing, replaced, table_full}
 use Rattle.cred_model.specs.Named.{change_files}
 use Rattle.cred_model.specs.Ptrace.{may_trace}
-use Rattle.cred_model.specs.Script.{Script, chain_of, info_of, reaches, root_of}
-use Rattle.cred_model.specs.State.{State, Task, Broadcast, Prepared, Numbered, begun_by, cast_in, cast_of, credential_of, held_by, hold_of, numbered, open_of, opener_of, prepared_of, task_of}
-use Rattle.cred_model.specs.Step.{aborted, follow, for_access, for_task, step}
+use Rattle.cred_model.specs.Script.{Script, chain_of, reaches, root_of}
+use Rattle.cred_model.specs.State.{State, Task, Broadcast, Prepared, Numbered, begun_by, cast_in, cast_of, credential_of, held_by, hold_of, info_of, numbered, open_of, opener_of, prepared_of, task_of}
+use Rattle.cred_model.specs.Step.{aborted, by_file, by_raw, by_stat, follow, for_access, for_task, outcome, step}
 use Rattle.cred_sound.specs.Sound.{IsSound}
 use Rattle.cred_sound.proofs.Parts.{with_left}
-use Rattle.cred_sound.proofs.Tests.{outcome_has, if_some, if_none, if_either, if_fewer, if_passed, if_idle, if_own, if_last, if_rule, if_ok}
-use Rattle.cred_machine.proofs.KeptByEvents.{IsLeft, Keeps, alters, closes, gives_up_prepared, if_left, if_left_one, in_slots, less, opens, prepares, refused, releases, still, takes_hold, with_flags}
+use Rattle.cred_sound.proofs.Tests.{outcome_has, if_some, if_none, if_either, if_fewer, if_passed, if_idle, if_own, if_last, if_rule, if_file_rule, if_ok}
+use Rattle.cred_machine.specs.Kept.{as_begun}
+use Rattle.cred_machine.proofs.KeptByEvents.{IsLeft, Keeps, alters, closes, gives_up_prepared, if_left, if_left_one, in_slots, less, opens, prepares, refused, releases, still, takes_hold, with_flags, with_infos}
 use Rattle.cred_machine.proofs.KeepingTasks.{creates, ends_some, lends, lends_prepared, replaces, reverts, shares, tries_commit}
 
 -- where no slot is free
@@ -63,7 +67,7 @@ open_keeps script s line hold place asked fd =
     outcome_has Q s _ (refused s)
     (if_some Q (held_by s hold) _ _
     (λ held is. if_none Q (open_of s fd) _ _
-    (λ new. if_passed Q (checked held.cred (info_of script (place ∷ [])) asked) _
+    (λ new. if_passed Q (checked held.cred (info_of s.infos (place ∷ [])) asked) _
     (if_fewer Q (length s.files) OPEN_FILES _ _
     (opens s (record { fd = fd; opener = held.number; file = place }))))))
 
@@ -107,7 +111,7 @@ alter_keeps script s line label change =
     outcome_has Q s _ (refused s)
     (if_some Q (prepared_of s label) _ _
     (λ p is. if_some Q (numbered s.creds p.base) _ _
-    (λ base at. if_ok Q (by_change (info_of script (change_files change)) (chain_of script base.cred.ns) base.cred change) _
+    (λ base at. if_ok Q (by_change (info_of s.infos (change_files change)) (chain_of script base.cred.ns) base.cred change) _
     (λ made so. alters s made.answer label (record { change = change; cred = made.cred; gains = made.gains })))))
 
 commit_keeps : (script : Script) (s : State) (line label : ℕ) → IsSound s → Keeps s (step script s line (Commit label))
@@ -263,8 +267,53 @@ ptrace_keeps script s line from hold to target mode =
     let dumpable = is_dumpable s.dumpable receiver.process in
     if_last Q (may_trace own.cred other.cred same reach dumpable mode) _ _ (refused s Done))))))
 
+-- a file is changed
+file_keeps : (s : State) (hold place : ℕ) (rule : Credential → File → Result File Denial) → Keeps s (outcome s (by_file s hold place rule))
+file_keeps s hold place rule =
+    let Q = Keeps s in
+    outcome_has Q s _ (refused s)
+    (if_some Q (held_by s hold) _ _
+    (λ held is. if_some Q (slice_get s.infos place) _ _
+    (λ old there. if_file_rule Q (rule held.cred old) _
+    (λ new ruled. with_infos s s Done (slice_set s.infos place new) (refused s Done)))))
+
+stat_keeps : (s : State) (hold place : ℕ) → Keeps s (outcome s (by_stat s hold place))
+stat_keeps s hold place =
+    let Q = Keeps s in
+    outcome_has Q s _ (refused s)
+    (if_some Q (held_by s hold) _ _
+    (λ held is. if_some Q (slice_get s.infos place) _ _ (λ file there. refused s _)))
+
+-- with the answer by which a call of one thread alone counts
+abbrev raw_counted : Answer × State → Answer × State
+raw_counted made = (as_begun made.0, made.1)
+
+raw_keeps : (s : State) (task : ℕ) (call : IdCall) → IsSound s → Keeps s (raw_counted (outcome s (by_raw s task call)))
+raw_keeps s task call sound =
+    let Q : Answer × State → Type 0 = λ made. Keeps s (raw_counted made) in
+    outcome_has Q s _ (λ answer. refused s (as_begun answer))
+    (if_some Q (task_of s task) _ _
+    (λ owner found. if_some Q (numbered s.creds owner.current) _ _
+    (λ old at. if_idle Q (cast_in s owner.process) _
+    (λ idle. if_own Q owner _
+    (if_rule Q (set_id old.cred call) _
+    (λ new ruled.
+    in_slots Q s table_full
+    (λ s slot. (Sealed (length s.creds) slot, record (replaced s task old.number new slot) { dumpable = renewed s.dumpable owner.process (differs old.cred new) }))
+    (full s)
+    (λ left slot is.
+    let answer = Began (length s.creds) slot 0 in
+    let t = record (replaced (with_left s left) task old.number new slot) { casts = s.casts } in
+    with_flags s t answer (renewed s.dumpable owner.process (differs old.cred new))
+    (replaces s answer left task slot owner old new s.casts sound found at (if_left_one s left old.number is)))))))))
+
+-- with the answer by which an event counts
+abbrev pub counted : Event → Answer × State → Answer × State
+counted (Raw task call) made = raw_counted made
+counted event made = made
+
 -- what an event keeps
-pub keeps : (script : Script) (s : State) (line : ℕ) (event : Event) → IsSound s → Keeps s (step script s line event)
+pub keeps : (script : Script) (s : State) (line : ℕ) (event : Event) → IsSound s → Keeps s (counted event (step script s line event))
 keeps script s line (Init task process user group ns) sound = init_keeps script s line task process user group ns
 keeps script s line (Take label task side) sound =
     outcome_has (Keeps s) s _ (refused s)
@@ -295,6 +344,11 @@ keeps script s line (Dumped task) sound =
     outcome_has (Keeps s) s _ (refused s)
     (if_some _ (task_of s task) _ _ (λ owner is. refused s _))
 keeps script s line (Ptrace from hold to target mode) sound = ptrace_keeps script s line from hold to target mode
+keeps script s line (Chown hold place owner group) sound = file_keeps s hold place (changed_by (Chown hold place owner group))
+keeps script s line (Chmod hold place mode) sound = file_keeps s hold place (changed_by (Chmod hold place mode))
+keeps script s line (SetAttr hold place attr) sound = file_keeps s hold place (changed_by (SetAttr hold place attr))
+keeps script s line (Stat hold place) sound = stat_keeps s hold place
+keeps script s line (Raw task call) sound = raw_keeps s task call sound
 keeps script s line Sweep sound = still s Done [] (at s.deferred)
   where
     at : (xs : List ℕ) → ([] ≡ xs) ⊎ (nat_lt 0 (length xs) ≡ true)

@@ -29,7 +29,7 @@ use std::alloc::Global;
 /// # Errors
 ///
 /// What refuses the call. `Memory` also where the copy fails.
-fn call_on_copy(alloc: Global, cred: &Cred, call: &IdCall) -> Result<Cred, Refusal>
+pub fn call_on_copy(alloc: Global, cred: &Cred, call: &IdCall) -> Result<Cred, Refusal>
     ensures { IsAnew (set_id cred.now call.now) result }
 {
     let mut new = copy(cred)?;
@@ -192,7 +192,7 @@ impl State {
 
     /// A task's current credential is replaced by this one, which is sealed in the slot, after a
     /// sweep if that needs one. The old one's number is given up.
-    fn replace(
+    pub(crate) fn replace(
         &mut self,
         task: u32,
         old: u64,

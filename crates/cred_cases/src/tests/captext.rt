@@ -4,6 +4,8 @@ use crate::tests::parts::ALL;
 use cred_caps::CapSet;
 use cred_captext::{TextRefusal, print_text, read_text};
 use cred_filecap::FileCaps;
+use cred_ids::NoMemory;
+use std::alloc::Global;
 use std::test::Fail;
 
 /// Texts as they are written, each of one attribute, as getcap(8) has them.
@@ -63,4 +65,42 @@ fn texts_that_go_wrong(rt: HostRuntime) {
     for (text, refusal) in texts {
         assert!(rt; read_text(text).err() == Some(refusal));
     }
+}
+
+/// How many attributes are written and read.
+const MANY: u32 = 10_000;
+
+/// The next number of a linear congruential generator.
+fn next(number: u64) -> u64 {
+    number
+        .wrapping_mul(6_364_136_223_846_793_005)
+        .wrapping_add(1_442_695_040_888_963_407)
+}
+
+/// Whether the text of an attribute says it.
+fn is_said(alloc: Global, caps: &FileCaps) -> Result<bool, NoMemory> {
+    let text = print_text(alloc, caps)?;
+    Ok(read_text(text.items()) == Ok(*caps))
+}
+
+/// The first of many attributes, by its number, whose text says another. The high bits of a number
+/// are its sets; where both are empty nothing is effective.
+fn first_other(alloc: Global) -> Result<Option<u32>, NoMemory> {
+    let mut number = 0;
+    for count in 0..MANY {
+        let perm = next(number);
+        let inh = next(perm);
+        number = next(inh);
+        let caps = attribute(perm >> 23, inh >> 23, number >> 63 == 1);
+        if (caps.perm.bits() | caps.inh.bits() != 0 || !caps.effective) && !is_said(alloc, &caps)? {
+            return Ok(Some(count));
+        }
+    }
+    Ok(None)
+}
+
+#[test]
+fn what_is_written_is_read(rt: HostRuntime) -> Result<(), Fail> {
+    assert_eq!(rt; first_other(rt.alloc())?, None);
+    Ok(())
 }
