@@ -10,6 +10,7 @@ from .files import Found, Missing
 from .history import SET_ID_BITS, Change
 from .log import Call
 from .moves import argument, open_flags
+from .opened import told as told_path
 from .passed import Passed
 from .paths import Paths
 from .places import Located
@@ -151,9 +152,11 @@ class Asks:
 
     def tells(self, task: Task, call: Call) -> list[Line]:
         """The lines of a call that tells what a file is, where the file has changed before."""
+        if not self._changes.any_change():
+            return []
         told = stat_of(call)
         attribute = attribute_of(call) if call.name in filecalls.GET else None
-        if told is None and attribute is None or not self._may_tell(call):
+        if (told is None and attribute is None) or not self._may_tell(task, call):
             return []
         try:
             located = self._located(task, call)
@@ -174,12 +177,15 @@ class Asks:
         said = f"ok {owner} {group} {mode} {flag}"
         return [self._of_file(task, call, found, "stat", (), said) for found in files]
 
-    def _may_tell(self, call: Call) -> bool:
+    def _may_tell(self, task: Task, call: Call) -> bool:
         """Whether it may be of a file that changes: most stats of a long log are of others."""
-        if call.name in filecalls.BY_DESCRIPTOR:
-            return self._changes.any_change()
-        path = lines.string(argument(call, 1 if call.name in filecalls.AT_FOLDER else 0))
-        return path == "" or (path is not None and self._changes.may_tell(path.rpartition("/")[2]))
+        path: str | None = ""
+        if call.name not in filecalls.BY_DESCRIPTOR:
+            path = lines.string(argument(call, 1 if call.name in filecalls.AT_FOLDER else 0))
+        shown = told_path(argument(call, 0)) if path == "" else None
+        if path == "":
+            path = shown[0] if shown else task.descriptors.end(argument(call, 0))
+        return path is not None and self._changes.may_tell(path.rpartition("/")[2])
 
     def _note(
         self,

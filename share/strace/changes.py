@@ -6,7 +6,7 @@ from contextlib import suppress
 from dataclasses import dataclass, field, replace
 
 from .calls import Unheld
-from .files import Found
+from .files import Found, folders_of
 from .history import ASKED, History, state_of
 from .log import Call
 from .moves import OPENS, open_flags
@@ -113,6 +113,9 @@ class Changes:
         # The files that were used, and whether they were executed.
         self._used: dict[str, bool] = {}
         self._executes = bool(known.executed)
+        # How the paths of files end that change, and the folders of all that were changed so far.
+        self._ends = {place.rpartition("/")[2].partition(" since ")[0] for place in known.histories}
+        self._folders: set[str] = set()
         names, executed = dict(known.names), set(known.executed)
         self.next = Known(dict(known.stops), {}, names, executed, known.sure)
 
@@ -192,6 +195,8 @@ class Changes:
     def history(self, located: Located) -> History:
         """What this run has found of a file so far."""
         one = self._paths.files.one(located.real or located.place)
+        if one not in self.next.histories:
+            self._folders.update(folders_of(one))
         return self.next.histories.setdefault(one, History())
 
     def is_said(self, located: Located, line: int) -> bool:
@@ -213,8 +218,7 @@ class Changes:
 
     def may_tell(self, last: str) -> bool:
         """Whether a file of this name may change in the log."""
-        named = (*self._known.histories, *self._paths.files.same)
-        return any(place.rpartition("/")[2].partition(" since ")[0] == last for place in named)
+        return last in self._ends or (self.any_change() and self._paths.files.is_other(last))
 
     def opens(self, task: Task, call: Call) -> None:
         """A file is opened, also for writing."""
@@ -259,7 +263,9 @@ class Changes:
         histories, one = self.next.histories, self._paths.files.one(changed)
         if moved:
             stays = self._paths.files.unlinks(changed, call.first)
-            gone = [] if stays else [place for place in histories if is_below(place, changed)]
+            gone = [changed] if changed in histories and not stays else []
+            if changed in self._folders:
+                gone += [place for place in histories if is_below(place, changed)]
         else:
             gone = [one] if one in histories and (not written or one in self.next.executed) else []
         for place in gone:

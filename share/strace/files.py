@@ -152,14 +152,20 @@ class Files:
         self.seen: dict[str, File] = {}
         # The first path of each file that has several; those that link(2) made; and what is known
         # as the first path, where that is another file's since.
-        self.same: dict[str, str] = dict(listing.same) if listing else {}
+        self.same: dict[str, str] = {}
         self.hard: set[str] = set()
         self._renewed: dict[str, str] = {}
+        # The others of each first path, the folders of all of them, and how their paths end.
+        self._others: dict[str, set[str]] = {}
+        self._folders: set[str] = set()
+        self._ends: set[str] = set()
         self.before = listing.before if listing else {}
         self._histories = histories or {}
         self._inodes: dict[tuple[int, int], str] = {}
         self._made: dict[str, File] = {}
-        self._last = {path.rpartition("/")[2] for path in [*(self.listed or ()), *self.same]}
+        for other, first in listing.same.items() if listing else ():
+            self._name(other, first)
+        self._last = {path.rpartition("/")[2] for path in self.listed or ()} | self._ends
 
     def one(self, place: str) -> str:
         """The place by which a file is known that has several."""
@@ -171,21 +177,40 @@ class Files:
             place = self.same[place]
         return place
 
+    def _name(self, other: str, first: str) -> None:
+        """A path is one more of a file."""
+        self.same[other] = first
+        self._others.setdefault(first, set()).add(other)
+        self._folders.update(folders_of(other))
+        self._ends.add(other.rpartition("/")[2])
+
+    def _unname(self, other: str) -> None:
+        """A path is none of the file any more."""
+        first = self.same.pop(other, None)
+        if first is not None:
+            self._others[first].discard(other)
+
+    def is_other(self, last: str) -> bool:
+        """Whether a path that ends so may be another one of a file."""
+        return last in self._ends
+
     def links(self, old: str, new: str) -> None:
         """Two places are of one file from now on."""
         first = self.one(old)
         self._renewed.pop(new, None)
-        self.same.pop(new, None)
+        self._unname(new)
         if first != new:
-            self.same[new] = first
+            self._name(new, first)
             self.hard.add(new)
 
     def unlinks(self, place: str, line: int) -> bool:
         """Another file is at this place from now on, or none; whether the old has other names."""
         first = self.one(place)
-        others = [other for other in self.same if other != place and self.one(other) == first]
-        for other in [other for other in self.same if is_below(other, place)]:
-            del self.same[other]
+        others = self._others.get(first, set()) - {place}
+        self._unname(place)
+        if place in self._folders:
+            for other in [other for other in self.same if is_below(other, place)]:
+                self._unname(other)
         if first == place and others:
             self._renewed[place] = f"{place} since line {line}"
         return bool(others) or first != place
@@ -280,7 +305,14 @@ class Files:
     def _joins(self, real: str, inode: tuple[int, int] | None) -> None:
         """A file of several places that was used at another one is that one."""
         if inode is not None and self._inodes.setdefault(inode, real) != real:
-            self.same.setdefault(real, self._inodes[inode])
+            if real not in self.same:
+                self._name(real, self._inodes[inode])
+
+
+def folders_of(path: str) -> list[str]:
+    """The folders above a path."""
+    parts = path.split("/")
+    return ["/".join(parts[:count]) or "/" for count in range(1, len(parts))]
 
 
 def on_disk(path: str) -> File:

@@ -210,7 +210,8 @@ class Moves:
             mounts = Mounts(before.mounts.root, number=before.mounts.number)
             mounts.doubts = before.mounts.doubts
             where = Where(mounts, before.root, before.folder)
-            task.descriptors.opens(call.result.value, FILE, lambda: self.lies(where, path))
+            end = path.rpartition("/")[2]
+            task.descriptors.opens(call.result.value, FILE, lambda: self.lies(where, path), end)
             return
         try:
             path, base = self.paths.named(task, call, place, place - 1 if place else None)
