@@ -2,7 +2,7 @@
 
 from __future__ import annotations
 
-from . import filecalls, lines, spaces
+from . import changes, filecalls, lines, spaces
 from .calls import Said, Unheld, answer
 from .changes import Changes
 from .filecalls import attribute_of, stat_of
@@ -115,6 +115,24 @@ class Asks:
         path, base = self._paths.named(task, call, place, place - 1 if place else None)
         found = self._paths.both(task, path, base)
         return None if filecalls.of_link(call) and self._paths.is_link(found) else found
+
+    def change(self, task: Task, call: Call) -> None:
+        """chmod(2) and what else changes a file, or puts another one in its place."""
+        if not call.context and self.changed(task, call):
+            return
+        if not call.context:
+            self._passed.call(call)
+        if call.result.value == 0 and call.name in changes.LINKED:
+            self._changes.links(task, call)
+        elif call.result.value == 0:
+            self._changes.changes(task, call)
+
+    def tell(self, task: Task, call: Call) -> None:
+        """stat(2) and its kin, of a file that has changed in the log."""
+        found = [] if call.context else self.tells(task, call)
+        self._script.add(call.first, *found)
+        if not found and not call.context:
+            self._passed.call(call)
 
     def changed(self, task: Task, call: Call) -> bool:
         """Writes the lines of a call that changes a file, where that is said; and whether it is."""

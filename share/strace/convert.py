@@ -79,10 +79,10 @@ class Converter(Sayer):
             (("kill", "tkill", "tgkill"), self.kill),
             ((*traces.CALLS, *traces.LINKS), self.trace),
             (self._follow, self.move),
-            (changes.CALLS, self.change),
+            (changes.CALLS, self._asks.change),
             (("unshare", "setns"), self.change_namespace),
             (asks.ACCESSES, self.access),
-            ((*filecalls.STAT, *filecalls.GET), self.tell),
+            ((*filecalls.STAT, *filecalls.GET), self._asks.tell),
             (("write",), self.write),
             (("setsid", "seccomp"), self.mark),
         )
@@ -361,24 +361,6 @@ class Converter(Sayer):
         if found:
             self.script.add(call.first, *found)
         else:
-            self.passed.call(call)
-
-    def change(self, task: Task, call: Call) -> None:
-        """chmod(2) and what else changes a file, or puts another one in its place."""
-        if not call.context and self._asks.changed(task, call):
-            return
-        if not call.context:
-            self.passed.call(call)
-        if call.result.value == 0 and call.name in changes.LINKED:
-            self.changes.links(task, call)
-        elif call.result.value == 0:
-            self.changes.changes(task, call)
-
-    def tell(self, task: Task, call: Call) -> None:
-        """stat(2) and its kin, of a file that has changed in the log."""
-        found = [] if call.context else self._asks.tells(task, call)
-        self.script.add(call.first, *found)
-        if not found and not call.context:
             self.passed.call(call)
 
     def write(self, task: Task, call: Call) -> None:
