@@ -252,7 +252,7 @@ BITS = "a securebit above bit 7 is EPERM"
 # A child of user 1000 that executes a program, and asks what it has then.
 CHILD = ("7 fork() = {0}\n{0} setuid(1000) = 0\n{0} execve(\"{1}\", [], 0x7 /* 9 vars */) = 0\n"
          "{0} capget({{version=_LINUX_CAPABILITY_VERSION_3, pid=0}}, "
-         "{{effective=0, permitted={2}, inheritable=0}}) = 0\n")
+         "{{effective={2}, permitted={2}, inheritable=0}}) = 0\n")
 HAS, LACKS = "1<<CAP_NET_RAW", "0"
 OWNED = '7 chown("/srv/prober", 1000, 1000) = 0\n'
 STAT = '7 newfstatat(AT_FDCWD, "{}", {{st_mode=S_IFREG|{}, st_uid={}, st_gid={}, ...}}, 0) = 0\n'
