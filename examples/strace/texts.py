@@ -358,6 +358,14 @@ DIFFERENCES = [
     ("the user namespace of another namespace", ROOT, BEGINS
      + '7 openat(AT_FDCWD, "/proc/self/ns/user", O_RDONLY) = 3\n7 ioctl(4, NS_GET_USERNS) = 3\n'
      "7 setns(3, 0) = 0\n", 3, [enters.UNKNOWN], []),
+    ("looks into other tasks", ROOT, BEGINS + "7 fork() = 8\n7 fork() = 9\n8 setuid(5) = 0\n"
+     "8 kcmp(8, 7, KCMP_VM, 0, 0) = -1 EPERM (Operation not permitted)\n"
+     "8 ptrace(PTRACE_ATTACH, 9) = -1 EPERM (Operation not permitted)\n"
+     '8 readlink("/proc/7/exe", 0x7ffe, 64) = -1 EACCES (Permission denied)\n'
+     '7 readlink("/proc/8/exe", "/bin/sh", 64) = 7\n'
+     '7 openat(AT_FDCWD, "/proc/9/maps", O_RDONLY) = 3\n'
+     "7 process_vm_readv(8, [{iov_base=0x7ff, iov_len=1}], 1, [], 1, 0) = 1\n"
+     '8 readlink("/proc/self/exe", "/bin/sh", 64) = 7\n', 0, ["agree: 10"], []),
     ("what a filter refused changes nothing", ROOT, BEGINS
      + "7 prctl(PR_SET_SECCOMP, SECCOMP_MODE_FILTER, {len=1}) = 0\n"
      "7 setuid(5) = -1 EPERM (Operation not permitted)\n7 getuid() = 0\n", 0,

@@ -318,12 +318,13 @@ class Converter(Sayer):
 
     def looks(self, task: Task, call: Call) -> bool:
         """Whether the call asks to look into another task of the log: then the script says it."""
-        found = traces.look(call, task.pid)
-        other = self.tasks.find(found[1], task) if found else None
-        if found and other and other.process is not task.process:
-            self.say(task, call, Said(f"ptrace {found[0]} {other.name}", found[2]))
-            return True
-        return False
+        mode, targets, said = traces.look(call) or ("", [], "")
+        tasks = [self.tasks.find(target, task) for target in targets]
+        others = [one for one in tasks if one is None or one.process is not task.process]
+        if len(others) != 1 or others[0] is None:
+            return False
+        self.say(task, call, Said(f"ptrace {mode} {others[0].name}", said))
+        return True
 
     def trace(self, task: Task, call: Call) -> None:
         """ptrace(2), process_vm_readv(2), kcmp(2), and a link of /proc/PID that is read."""

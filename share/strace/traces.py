@@ -1,14 +1,13 @@
-"""Looks into other tasks (ptrace(2), "Ptrace access mode checking"): which calls ask, and of whom."""
+"""Looks into other tasks: which calls ask, and of whom (ptrace(2), "Ptrace access mode checking")."""
 
 from __future__ import annotations
 
 import re
 
-from .lines import pid
 from .log import Call
 from .moves import OPENS, argument
 
-# What asks by the real ids. Each is refused by EPERM; what comes after the check may fail by EFAULT.
+# What asks by the real ids, and is refused by EPERM. What comes after the check may fail by EFAULT.
 MEMORY = ("process_vm_readv", "process_vm_writev")
 CALLS = ("ptrace", "kcmp", *MEMORY)
 ATTACHES = ("PTRACE_ATTACH", "PTRACE_SEIZE")
@@ -29,25 +28,16 @@ def answered(call: Call, refused: str) -> str | None:
     return "eperm" if error == refused else None
 
 
-def of_process(call: Call, found: re.Match[str]) -> tuple[str, int, str] | None:
-    """A look through /proc."""
-    said = answered(call, "EACCES")
-    return None if said is None else ("fs", int(found[2] or found[1]), said)
-
-
-def look(call: Call, own: int) -> tuple[str, int, str] | None:
-    """The mode, the pid of who is looked into, and the answer; `own` is the pid of who looks."""
+def look(call: Call) -> tuple[str, list[str], str] | None:
+    """The mode, the pids of the tasks that are looked into, and the answer."""
     if call.name in LINKS or call.name in OPENS:
         form = LINK if call.name in LINKS else FILE
         found = next(filter(None, map(form.fullmatch, call.args)), None)
-        return of_process(call, found) if found else None
-    targets = []
-    if call.name == "ptrace" and argument(call, 0) in ATTACHES:
-        targets = [argument(call, 1)]
-    elif call.name in MEMORY or call.name == "kcmp":
-        targets = [argument(call, place) for place in range(2 if call.name == "kcmp" else 1)]
-    others = [it for it in map(pid, targets) if it != own]
-    said = answered(call, "EPERM")
-    if len(others) != 1 or others[0] is None or said is None:
-        return None
-    return "real", others[0], said
+        mode, targets = "fs", [found[2] or found[1]] if found else []
+    elif call.name == "ptrace":
+        mode, targets = "real", [argument(call, 1)] if argument(call, 0) in ATTACHES else []
+    else:
+        count = 2 if call.name == "kcmp" else 1
+        mode, targets = "real", [argument(call, place) for place in range(count)]
+    said = answered(call, "EACCES" if mode == "fs" else "EPERM")
+    return None if said is None or not targets else (mode, targets, said)
