@@ -36,8 +36,10 @@ def look(call: Call) -> tuple[str, list[str], str] | None:
         mode, targets = "fs", [found[2] or found[1]] if found else []
     elif call.name == "ptrace":
         mode, targets = "real", [argument(call, 1)] if argument(call, 0) in ATTACHES else []
-    else:
+    elif call.name in CALLS:
         count = 2 if call.name == "kcmp" else 1
         mode, targets = "real", [argument(call, place) for place in range(count)]
+    else:
+        return None
     said = answered(call, "EACCES" if mode == "fs" else "EPERM")
     return None if said is None or not targets else (mode, targets, said)
