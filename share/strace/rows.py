@@ -50,6 +50,9 @@ BOUNDING, BITS, GROUPS, FILE = "bounding", "bits", "groups", "file"
 # The forms of which a file's state decides, or tells.
 OF_FILES = (*filerows.FORMS, "stat", "exec", "open", "check", "access")
 
+# CAP_DAC_OVERRIDE and CAP_DAC_READ_SEARCH, by which any file may be read.
+READS = 0b110
+
 # What the log explains itself.
 LOG = "the log:"
 
@@ -83,10 +86,12 @@ class Known:
     """What is known of a task besides its credential."""
 
     kept: list[Kept] = field(default_factory=list)
+    # The execve by which its process isn't dumpable in Linux, though it is in the program.
+    flag: Kept | None = None
 
     def copy(self) -> Known:
         """The same for a child."""
-        return Known(self.kept[:])
+        return Known(self.kept[:], self.flag)
 
     def keep(self, *kept: Kept) -> None:
         """These rows may explain what comes; the newest is asked first."""
@@ -173,7 +178,10 @@ class Explainer:
         elif words[1] in ("setresuid", "setresgid") and words[3] == "-1":
             if keeps_filesystem_id(words, self.probe.before(number)):
                 known.keep(Kept(FILESYSTEM_IDS, FILE_IDS, number, line.text))
+        elif words[1] == "dumpable":
+            known.flag = None
         elif words[1] == "exec":
+            known.flag = self.flag(number, line)
             changed = self.changed.get(words[2], [])
             known.keep(*(replace(one, part=part) for one in changed for part in (IDS, CAPS)))
             known.keep(*self.executed(number, line, self.file(line)))
@@ -185,6 +193,13 @@ class Explainer:
         """The file of a line, as a line that declares it."""
         name, now = line.words[2], line.facts.words
         return f"file {name} {now}" if now else self.files.get(name, "")
+
+    def flag(self, number: int, line: Line) -> Kept | None:
+        """Whether an execve may have left the process as one that isn't dumpable."""
+        before, words = self.probe.before(number), self.file(line).split()
+        if before is not None and len(words) > 5 and stays_dumpable(before, words):
+            return None
+        return Kept(EXECVE_FLAG, FILE, number, line.text, sure=before is not None)
 
     def executed(self, number: int, line: Line, file: str) -> list[Kept]:
         """What an execve may have made of the credential otherwise."""
@@ -241,6 +256,9 @@ class Explainer:
                 return self.text(kept.row, kept.sure, f"line {kept.number}: {kept.text}")
         for kept in self.changed.get(words[2], []) if words[1] in OF_FILES else []:
             return self.text(kept.row, kept.sure, f"line {kept.number}: {kept.text}")
+        flag = self.known(words[3] if words[1] == "ptrace" else words[0]).flag
+        if flag and (words[1] == "dumped" or (words[1], kernel) == ("ptrace", "eperm")):
+            return self.text(flag.row, flag.sure, f"line {flag.number}: {flag.text}")
         if words[1] == "ptrace":
             return self.text(LOOKS if kernel == "eperm" else CREATOR, sure=False)
         if words[1] == "dumped":
@@ -319,6 +337,20 @@ def keeps_filesystem_id(words: list[str], before: Values | None) -> bool:
     )
     kept = words[2] in ("-1", str(real)) and words[4] in ("-1", str(saved))
     return kept and effective != filesystem
+
+
+def stays_dumpable(before: Values, words: list[str]) -> bool:
+    """Whether Linux has a process dumpable after the execve of this file: its new effective ids are
+    the real ones, and it may read the file."""
+    mode, owner, group = int(words[5], 8), int(words[3]), int(words[4])
+    in_force = not before.no_new_privs and "nosuid" not in words
+    user = owner if in_force and mode & 0o4000 else before.users[1]
+    group_id = group if in_force and mode & 0o2010 == 0o2010 else before.group_ids[1]
+    shift = 6 if owner == before.users[3] else 0
+    if not shift and group in (before.group_ids[3], *before.groups):
+        shift = 3
+    reads = bool(mode >> shift & 4) or bool(before.sets[2] & READS)
+    return (user, group_id) == (before.users[0], before.group_ids[0]) and reads
 
 
 def keeps_ambient(before: Values, words: list[str]) -> bool:

@@ -56,7 +56,7 @@ CONDITIONS: dict[str, Condition] = {
     rows.TRACED: lambda found, log, since, user: user,
     rows.CREATOR: has(SPACE),
     rows.LOOKS: lambda *_: False,
-    rows.EXECVE_FLAG: since_is(r"dumped|ptrace", r"execve"),
+    rows.EXECVE_FLAG: since_is(r"dumped|ptrace|exec ", r"execve"),
     filerows.KEEPS: since_is(r"chown \S+ -1 -1"),
     filerows.ENOUGH: lambda found, log, since, user: " chown " in found["text"],
     filerows.TAKES: since_is(r"chown"),
