@@ -57,8 +57,7 @@ class Converter(Sayer):
         self.entries = Entries(self.tasks)
         self.most = 1
         # How many lines the log has, and how many calls are left where the script ends before it.
-        self.count = 0
-        self.left = 0
+        self.count = self.left = 0
         self._folder = folder
         self._root = root.rstrip("/") or "/"
         self._moves = Moves(self.paths, lambda: self.tasks.by_pid.values())
@@ -134,12 +133,9 @@ class Converter(Sayer):
         """What of the log the script doesn't have."""
         found = []
         if self.stopped:
-            lines_left = self.count - self.stopped.line + 1
-            found.append(str(self.stopped))
-            found.append(
-                f"left: {lines_left} of {self.count} lines of the log, with {self.left} calls that "
-                "a script has lines for"
-            )
+            lines_left = f"{self.count - self.stopped.line + 1} of {self.count} lines of the log"
+            calls_left = f"{self.left} calls that a script has lines for"
+            found += [str(self.stopped), f"left: {lines_left}, with {calls_left}"]
         if self.strangers:
             found.append(f"left: the calls of {len(self.strangers)} tasks that no call made")
         return found
@@ -237,6 +233,7 @@ class Converter(Sayer):
             self.entries.sits(child, self.entries.made(task))
             child.where.mounts.belongs(child.process.space)
             self.script.goes_on_as(task.name, child.name)
+            self.stays_undumpable(child, call)
             self.room(call.first, 0)
         else:
             self.say(task, call, Said(f"fork {child.name} p{child.process.number}", "ok"))
@@ -293,7 +290,9 @@ class Converter(Sayer):
         """The task has executed a program: it is the only one of its process."""
         process = task.process
         process.program = program
+        acting = task.ids.acting()
         task.ids.executes(words.split())
+        process.dumpable = task.ids.acting() == acting
         if process.space.parent is not None and process.space.uids is None:
             process.space.early.append((line, *task.ids.users[:2]))
         task.descriptors = task.descriptors.copy()
@@ -395,4 +394,5 @@ class Converter(Sayer):
             before = self.entries.enter(task, space)
             self.script.add(call.first, Line(f"{before} exit"))
             self.script.goes_on_as(before, task.name)
+            self.stays_undumpable(task, call)
             self.room(call.first, 0)

@@ -159,7 +159,7 @@ class Explainer:
         Its sets and bits are new there, and its ids are what they were.
         """
         kept = [one for one in self.known(before).kept if one.part in (IDS, FILE_IDS, GROUPS)]
-        self.tasks[after] = Known(kept)
+        self.tasks[after] = Known(kept, self.known(before).flag)
 
     def see(self, number: int, line: Line) -> None:
         """Keeps what a line means for later ones."""

@@ -57,8 +57,11 @@ class Sayer:
         words = said.words.split()
         if said.answer.startswith("ok"):
             all_threads = words[0] in ID_CALLS and not raw
+            acting = task.ids.acting()
             for one in task.process.threads if all_threads else [task]:
                 one.ids.after(words)
+            if words[0] == "dumpable" or task.ids.acting() != acting:
+                task.process.dumpable = words == ["dumpable", "1"]
         space = task.process.space
         denied = space.parent is not None and (space.gids is None or space.denied)
         if task.process.filtered or denied:
@@ -77,6 +80,11 @@ class Sayer:
         if found is None and sets:
             raise Unheld(NO_MAP)
         return found
+
+    def stays_undumpable(self, task: Task, call: Call) -> None:
+        """A first task of a namespace is dumpable in a script, and this one isn't."""
+        if not task.process.dumpable:
+            self.script.add(call.first, Line(f"{task.name} dumpable 0"))
 
     def own_call(self, task: Task, call: Call) -> None:
         """A call that changes or asks the credential of the thread that makes it."""

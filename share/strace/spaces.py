@@ -111,6 +111,10 @@ class Ids:
         """The same for a child."""
         return replace(self, users=self.users[:], groups=self.groups[:], others=self.others[:])
 
+    def acting(self) -> tuple[int, int, int, int]:
+        """The effective and the filesystem ids: where one changes, the process isn't dumpable."""
+        return self.users[1], self.users[3], self.groups[1], self.groups[3]
+
     def after(self, words: list[str]) -> None:
         """A call that succeeded has changed them."""
         name, values = words[0], [int(word) for word in words[1:] if re.fullmatch(r"-?\d+", word)]

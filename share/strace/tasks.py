@@ -26,6 +26,8 @@ class Process:
     # Its PID namespace, and that of its children.
     pids: Pids = field(default_factory=Pids)
     below: Pids = field(default_factory=Pids)
+    # Whether others may look into it, as far as its calls tell (prctl(2), PR_SET_DUMPABLE).
+    dumpable: bool = True
     # The threads that still make the call that is one line of all.
     joining: set[int] = field(default_factory=set)
 
@@ -70,6 +72,7 @@ class Tasks:
         process = Process(self._processes, program=parent.process.program)
         process.space = parent.process.space
         process.session, process.filtered = parent.process.session, parent.process.filtered
+        process.dumpable = parent.process.dumpable
         process.pids = Pids() if "CLONE_NEWPID" in flags else parent.process.below
         process.below = process.pids
         process.pids.begins(pid)

@@ -91,7 +91,8 @@ def chown_refused(words: list[str], file: File, ids, groups) -> str:
         return f"the owner {file.owner} may not give {file.name} to {owner}"
     if group in (KEPT, file.group, ids[7], *groups):
         raise Fault(f"chown {words} was refused, and the owner may do so")
-    return f"the owner is in no group {group}: {listed([ids[7], *groups])} are those of the task"
+    has = listed([ids[7], *groups])
+    return f"{group} is neither the group of {file.name} nor one of the task, which has {has}"
 
 
 def allowed(form: str, words: list[str], file: File, ids, caps, groups) -> list[Reason]:
@@ -112,8 +113,9 @@ def allowed(form: str, words: list[str], file: File, ids, caps, groups) -> list[
         raise Fault(f"{form} {words} was done, and no condition for it holds")
     found = [Reason(f"allowed: {why}", sources.errors(form))]
     if form == "chown" and (taken := takes(file, words)):
-        text = f"{listed(taken)} of {file.name} {'is' if len(taken) == 1 else 'are'} gone: an id is "
-        found.append(Reason(f"{text}given, and the file is executable", sources.text("chown")))
+        text = f"{listed(taken)} of {file.name} {'is' if len(taken) == 1 else 'are'} gone: "
+        text += "an id is given, and the file is executable"
+        found.append(Reason(text, sources.text("chown")))
     if form == "chmod" and leaves_out(file, words, ids, caps, groups):
         text = f"the set-group-ID bit is left out: {file.group} is no group of the task"
         found.append(Reason(f"{text}, and CAP_FSETID is not effective", sources.text("chmod")))
