@@ -148,6 +148,8 @@ class Asks:
             is_said = self._changes.is_said(located, call.first)
             files = self._changes.names_of(located) if is_said else []
         except (Unheld, Missing, IndexError):
+            if said == "ok":
+                self._changes.lost(self._end(task, call), call.first)
             return False
         words = tuple(outside.words.split()[1:])
         lines = [self._of_file(task, call, found, name, words, said) for found in files]
@@ -197,13 +199,17 @@ class Asks:
 
     def _may_tell(self, task: Task, call: Call) -> bool:
         """Whether it may be of a file that changes: most stats of a long log are of others."""
+        return self._changes.may_tell(self._end(task, call))
+
+    def _end(self, task: Task, call: Call) -> str:
+        """How the path of the file ends, as far as that is known."""
         path: str | None = ""
         if call.name not in filecalls.BY_DESCRIPTOR:
             path = lines.string(argument(call, 1 if call.name in filecalls.AT_FOLDER else 0))
         shown = told_path(argument(call, 0)) if path == "" else None
         if path == "":
             path = shown[0] if shown else task.descriptors.end(argument(call, 0))
-        return path is not None and self._changes.may_tell(path.rpartition("/")[2])
+        return (path or "").rpartition("/")[2]
 
     def _note(
         self,

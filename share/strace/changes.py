@@ -10,7 +10,7 @@ from .files import Found, folders_of
 from .history import ASKED, History, state_of
 from .log import Call
 from .moves import OPENS, open_flags
-from .paths import Paths
+from .paths import Paths, link_of
 from .places import Located, is_below, joined
 from .tasks import Task
 
@@ -94,6 +94,8 @@ class Known:
     histories: dict[str, History] = field(default_factory=dict)
     names: dict[str, dict[str, tuple[Located, bool]]] = field(default_factory=dict)
     executed: set[str] = field(default_factory=set)
+    # The line at which a symbolic link was last made or removed, as the machine has it now.
+    links: dict[str, int] = field(default_factory=dict)
     # Whether all was gone through that may tell what a file was: then what lacks ends a script.
     sure: bool = False
 
@@ -117,18 +119,16 @@ class Changes:
         self._ends = {place.rpartition("/")[2].partition(" since ")[0] for place in known.histories}
         self._folders: set[str] = set()
         names, executed = dict(known.names), set(known.executed)
-        self.next = Known(dict(known.stops), {}, names, executed, known.sure)
+        links = dict(known.links)
+        self.next = Known(dict(known.stops), {}, names, executed, links, known.sure)
+        paths.relinked = known.links
 
-    def settled(self, stopped: int | None) -> bool:
-        """Whether this run has found nothing that an earlier one hadn't; it may have ended before
-        the log."""
-        files, found = self._paths.files, self.next.histories
-        if stopped is not None:
-            for place, history in self._known.histories.items():
-                found[place] = found.get(place, History()).with_rest(history, stopped)
+    def settled(self) -> bool:
+        """Whether this run has found nothing that an earlier one hadn't."""
+        files = self._paths.files
         self.next.histories = {
             place: history
-            for place, history in found.items()
+            for place, history in self.next.histories.items()
             if history.lines and (place in self.next.names or files.lists(place))
         }
         if self.next != self._known:
@@ -234,6 +234,12 @@ class Changes:
         else:
             self.changes(task, call)
 
+    def lost(self, end: str, line: int) -> None:
+        """Some file is changed whose path ends so: it may be one that was used."""
+        for place in self._used:
+            if place.rpartition("/")[2] == end:
+                self.next.stops[place] = max(line, self.next.stops.get(place, 0))
+
     def links(self, task: Task, call: Call) -> None:
         """link(2): a file has one name more."""
         with suppress(Unheld, IndexError):
@@ -256,6 +262,8 @@ class Changes:
                 if not moved or self._paths.files.listed is None:
                     self.next.stops[place] = max(call.first, self.next.stops.get(place, 0))
             self._forget(changed, call)
+            if moved and self._paths.files.listed is None and link_of(changed) is not None:
+                self.next.links[changed] = call.first
 
     def _forget(self, changed: str, call: Call) -> None:
         """What was changed before isn't what a script declares, which is what comes after."""

@@ -127,7 +127,7 @@ def converted(options: Options, asks: bool = False) -> Converter:
         converter = Converter(files, asks, options.folder, options.root, known)
         converter.run(items, first, start)
         # A file that was used before it changed was another one, or the script ends where it was.
-        if converter.changes.settled(converter.stopped.line if converter.stopped else None):
+        if converter.changes.settled():
             break
         known = converter.changes.next
     converter.notes = start.notes + converter.notes + since_the_log(converter.files, options.logs)

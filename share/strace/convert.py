@@ -15,6 +15,7 @@ from .moves import Moves, argument, clone_flags
 from .opened import FILE, told
 from .paths import Paths
 from .places import BEGIN, Located, Mounts, Where
+from .rest import look_on
 from .saying import Sayer
 from .script import TASKS, Facts, Line, Stop
 from .start import Start
@@ -124,6 +125,8 @@ class Converter(Sayer):
             rest = items[self.at :]
             self.left = sum(isinstance(item, Call) and item.name in SAYING for item in rest)
         self.script.head(*self.entries.head(self.script))
+        if self.stopped is not None:
+            look_on(self, items)
 
     def is_part(self) -> bool:
         """Whether the script isn't the whole log: it ends before, or lacks tasks."""
@@ -161,6 +164,7 @@ class Converter(Sayer):
             self.tasks.rename(item.old, item.pid)
             return
         task = self.tasks.by_pid.get(item.pid)
+        self.paths.line = item.last
         if isinstance(item, Gone):
             if task:
                 self.gone([task], item.last)

@@ -74,7 +74,7 @@ def stat_of(call: Call) -> dict[str, int] | None:
     text = next((arg for arg in call.args if arg.startswith("{st")), None)
     if text is None or call.result.value != 0:
         return None
-    found = {name[name.index("_") + 1 :]: value for name, value in lines.fields(text).items()}
+    found = {name.partition("_")[2]: value for name, value in lines.fields(text).items()}
     mode = mode_of(found.get("mode", ""))
     if mode is None:
         return None

@@ -130,15 +130,6 @@ class History:
         users = [one.user for one in makers if until is not None and one.line < until]
         return {OWNER: users[0]} if users else {}
 
-    def with_rest(self, other: History, line: int) -> History:
-        """The same with what another run has found from a line on, up to which this one went."""
-        told = other.told | self.told
-        if other.since >= line:
-            return other
-        later = [one for one in other.changes if one.line >= line]
-        lines = self.lines | {one for one in other.lines if one >= line}
-        return History(self.changes + later, told, lines, self.since)
-
     def state(self, begin: State) -> State:
         """The file as it is now."""
         for change in self.changes:

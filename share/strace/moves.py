@@ -38,6 +38,10 @@ CLONE_BITS = {
 
 OPENS = ("open", "openat", "openat2", "creat")
 
+# Calls after which a task's paths lead elsewhere.
+FOLLOWED = ("chdir", "fchdir", "chroot", "pivot_root", "mount", "umount", "umount2", "move_mount")
+FOLLOWED += ("setns", "unshare")
+
 # Calls that make descriptors of which the log doesn't tell what they are of.
 GIVEN = ("recvmsg", "recvmmsg", "ioctl", "pidfd_getfd", "open_by_handle_at")
 RIGHTS = re.compile(r"SCM_RIGHTS, cmsg_data=\[((?:[^<\]]|<[^<>]*>)*)\]")

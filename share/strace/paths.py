@@ -47,6 +47,9 @@ class Paths:
         self.files = files
         # Whether the folder where the log begins is known.
         self.known = known
+        # Where in the log it is, and the lines at which symbolic links were others.
+        self.line = 0
+        self.relinked: dict[str, int] = {}
         self.of_pid = find
 
     def base(self, task: Task, text: str) -> Located | None:
@@ -105,6 +108,12 @@ class Paths:
             return found
         return replace(found, real=self.lead(task, path, base, follow=True).place)
 
+    def link_here(self, place: str) -> str | None:
+        """To where a symbolic link leads that this machine has, where it was there already."""
+        if self.relinked.get(place, 0) > self.line:
+            raise Unheld(f"line {self.relinked[place]} makes {place} another link than it was")
+        return link_of(place)
+
     def is_link(self, found: Located) -> bool:
         """Whether a symbolic link lies there. In a list one is known by what it is of."""
         if self.files.listed is None:
@@ -119,7 +128,7 @@ class Paths:
         special = self.special(task, path)
         if special is not None:
             return special
-        found = task.where.locate(path, base, link_of if follow else no_link)
+        found = task.where.locate(path, base, self.link_here if follow else no_link)
         if found is None:
             raise Unheld(no_folder(path, task.pid))
         if not self.is_known(found):
