@@ -176,7 +176,7 @@ PLACES = [
      + '7 renameat(AT_FDCWD, "FOLDER/usr", AT_FDCWD, "FOLDER/old") = 0\n',
      "line 2 changes FOLDER/usr/bin/tool"),
     ("a link that is removed", '7 chroot("FOLDER/jail") = 0\n' + TOOL.format("/bin/tool")
-     + '7 unlink("/bin") = 0\n', "line 3 changes FOLDER/jail/bin/tool"),
+     + '7 unlink("/bin") = 0\n', "line 3 makes FOLDER/jail/bin another link than it was"),
     ("another link that is removed", TOOL.format("FOLDER/usr/bin/tool")
      + '7 unlink("FOLDER/jail/bin") = 0\n', "0755"),
     ("a descriptor of another mount namespace", '7 openat(AT_FDCWD, "FOLDER/jail/usr/bin/tool", '

@@ -130,15 +130,15 @@ class Converter(Sayer):
 
     def is_part(self) -> bool:
         """Whether the script isn't the whole log: it ends before, or lacks tasks."""
-        return self.stopped is not None or bool(self.strangers)
+        return bool(self.stopped or self.strangers)
 
     def what_is_left(self) -> list[str]:
         """What of the log the script doesn't have."""
         found = []
         if self.stopped:
-            lines_left = f"{self.count - self.stopped.line + 1} of {self.count} lines of the log"
-            calls_left = f"{self.left} calls that a script has lines for"
-            found += [str(self.stopped), f"left: {lines_left}, with {calls_left}"]
+            rest = f"{self.count - self.stopped.line + 1} of {self.count} lines of the log, with "
+            rest += f"{self.left} calls that a script has lines for"
+            found += [str(self.stopped), f"left: {rest}"]
         if self.strangers:
             found.append(f"left: the calls of {len(self.strangers)} tasks that no call made")
         return found
@@ -326,7 +326,8 @@ class Converter(Sayer):
         others = [one for one in tasks if one is None or one.process is not task.process]
         if len(others) != 1 or others[0] is None:
             return False
-        self.say(task, call, Said(f"ptrace {mode} {others[0].name}", said))
+        facts = Facts(inside=others[0].process.space.parent is not None)
+        self.say(task, call, Said(f"ptrace {mode} {others[0].name}", said), facts)
         return True
 
     def trace(self, task: Task, call: Call) -> None:

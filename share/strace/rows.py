@@ -35,12 +35,13 @@ SET_ID = "a set-id bit in force makes a file privileged"
 PLAIN_FILE = "a plain file is not privileged"
 TRACED = "execve is of a program: there are no scripts, and nobody traces the task"
 CREATOR = "looking into a task asks for CAP_SYS_PTRACE in the effective set"
+OUTER = "CAP_SYS_PTRACE over the target's user namespace is enough where the target isn't dumpable"
 LOOKS = "one rule for each look into a task"
 EXECVE_FLAG = "an execve makes its process dumpable unless an id becomes another"
 ALL = (
     FILESYSTEM_IDS, SECUREBITS, UNMAPPED, DENIED_GROUPS, DIRECTORIES, NOT_MODE, COUNTS, CONTINUE,
     NO_NEW_PRIVS_FILE, NO_NEW_PRIVS_IDS, UNMAPPED_OWNER, SET_ID, PLAIN_FILE, TRACED, CREATOR,
-    LOOKS, EXECVE_FLAG, *filerows.ALL,
+    OUTER, LOOKS, EXECVE_FLAG, *filerows.ALL,
 )  # fmt: skip
 
 # What a kept row may have changed.
@@ -259,6 +260,8 @@ class Explainer:
         flag = self.known(words[3] if words[1] == "ptrace" else words[0]).flag
         if flag and (words[1] == "dumped" or (words[1], kernel) == ("ptrace", "eperm")):
             return self.text(flag.row, flag.sure, f"line {flag.number}: {flag.text}")
+        if words[1] == "ptrace" and kernel == "eperm" and line.facts.inside:
+            return self.text(OUTER, sure=False)
         if words[1] == "ptrace":
             return self.text(LOOKS if kernel == "eperm" else CREATOR, sure=False)
         if words[1] == "dumped":

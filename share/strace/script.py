@@ -40,7 +40,8 @@ class Facts:
     maker: bool = False
     # Whether the task is in a namespace of the log that takes no groups.
     denied: bool = False
-    # The file as it is there, and whether the task is in a user namespace of the log.
+    # The file as it is there, and whether the task, or one that is looked into, is in a user
+    # namespace of the log.
     words: str = ""
     inside: bool = False
 

@@ -55,6 +55,7 @@ CONDITIONS: dict[str, Condition] = {
     rows.PLAIN_FILE: since_is(r"exec ", r"setfsgid", RAISE),
     rows.TRACED: lambda found, log, since, user: user,
     rows.CREATOR: has(SPACE),
+    rows.OUTER: has(SPACE),
     rows.LOOKS: lambda *_: False,
     rows.EXECVE_FLAG: since_is(r"dumped|ptrace|exec ", r"execve"),
     filerows.KEEPS: since_is(r"chown \S+ -1 -1"),
