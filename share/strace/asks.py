@@ -116,6 +116,13 @@ class Asks:
         found = self._paths.both(task, path, base)
         return None if filecalls.of_link(call) and self._paths.is_link(found) else found
 
+    def access(self, task: Task, call: Call) -> None:
+        """access(2), of a file that the list names or that was executed."""
+        found = self.lines(task, call)
+        self._script.add(call.first, *(found or ()))
+        if not found:
+            self._passed.call(call)
+
     def change(self, task: Task, call: Call) -> None:
         """chmod(2) and what else changes a file, or puts another one in its place."""
         if not call.context and self.changed(task, call):

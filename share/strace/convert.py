@@ -81,7 +81,7 @@ class Converter(Sayer):
             (self._follow, self.move),
             (changes.CALLS, self._asks.change),
             (("unshare", "setns"), self.change_namespace),
-            (asks.ACCESSES, self.access),
+            (asks.ACCESSES, self._asks.access),
             ((*filecalls.STAT, *filecalls.GET), self._asks.tell),
             (("write",), self.write),
             (("setsid", "seccomp"), self.mark),
@@ -358,14 +358,6 @@ class Converter(Sayer):
         elif self.looks(task, call):
             return
         elif not succeeds or call.name not in SILENT:
-            self.passed.call(call)
-
-    def access(self, task: Task, call: Call) -> None:
-        """access(2), of a file that the list names or that was executed."""
-        found = self._asks.lines(task, call)
-        if found:
-            self.script.add(call.first, *found)
-        else:
             self.passed.call(call)
 
     def write(self, task: Task, call: Call) -> None:
