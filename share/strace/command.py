@@ -161,6 +161,7 @@ def items_of(
         if len(start.threads) == 1:
             start.threads = begun
         first = start.threads[0] if start.threads else reader.first_pid or 0
+        items = matched(items, first)
         if options.task is not None:
             first, items = family(items, options.task, options.start is not None)
     except (BadLog, NoProcess) as fault:
@@ -168,7 +169,7 @@ def items_of(
     except (OSError, zlib.error) as fault:
         reason = fault.strerror if isinstance(fault, OSError) else None
         raise Fault(f"{name}: {reason or fault}") from None
-    return reader, matched(items, first), first
+    return reader, items, first
 
 
 def read(reader: Reader, logs: list[str]) -> list[Item]:
