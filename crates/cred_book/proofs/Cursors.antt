@@ -8,6 +8,7 @@ use Rattle.std.proofs.lemmas.Option.{get_or_from_slice_get, slice_get_within}
 use Rattle.cred_ids.specs.Limits.{LINE_LIMIT}
 use Rattle.cred_event.specs.declared.event.Event.{Event}
 use Rattle.cred_event.specs.declared.entry.Entry.{Entry}
+use Rattle.cred_model.specs.Changing.{FixesFiles}
 use Rattle.cred_model.specs.Script.{Script, Line, SetupFirst}
 use Rattle.cred_model.specs.Course as model
 use Rattle.cred_model.specs.Course.{Course, Leads, event_at}
@@ -138,6 +139,7 @@ moves {book = book} {lane = lane} {course = course} {event = event} {to = to} go
         places = length-set book.ended lane (get_or book.ended lane 0 + count_of (has_left to course.line)) ∙ stands.places;
         few = stands.few;
         setup = stands.setup;
+        fixed = stands.fixed;
         named = stands.named;
         outs = out.long ∙ stands.outs;
         works = works_stay goes outs words out;
@@ -174,6 +176,7 @@ pub record IsNew (book : Recorded) : Type 0 where
   pub places : length book.ended ≡ lanes book.script.lines + 1
   pub few : length book.script.lines ≤ LINE_LIMIT
   pub setup : SetupFirst book.script
+  pub fixed : FixesFiles book.script
   pub named : AreNamedApart book.script.lines
   pub outs : book.outs ≡ replicate (lanes book.script.lines + 1) None
   pub lent : book.words.out ≡ []
@@ -188,6 +191,7 @@ nothing_run book is =
       places = is.places;
       few = is.few;
       setup = is.setup;
+      fixed = is.fixed;
       named = is.named;
       outs = ap length is.outs ∙ length-replicate (lanes book.script.lines + 1) None;
       works = λ lane. where_some (IsOutOf book lane) (out_of book lane) (λ line out. let both : Some line ≡ None = sym out ∙ none lane in absurd (cc));

@@ -23,9 +23,9 @@ decided_push : (script : Script) (journal : List Entry) (entry : Entry) (lane : 
     → decided_of script (journal ++ entry ∷ []) lane
     ≡ decided_of script journal lane + count_of (is_of_lane script lane entry && needs_tokens (replay script journal) entry.event)
 decided_push script journal entry lane =
-    ap (λ (t : Tally). t.decided) (fold_push (tallied script lane) first_tally journal entry)
+    ap (λ (t : Tally). t.decided) (fold_push (tallied script lane) (first_tally script) journal entry)
     ∙ ap (λ (s : State). decided_of script journal lane + count_of (is_of_lane script lane entry && needs_tokens s entry.event))
-    (tally_state script lane first_tally journal)
+    (tally_state script lane (first_tally script) journal)
 
 -- an entry of the lane
 pub decided_own : (script : Script) (journal : List Entry) (entry : Entry) (lane : ℕ) → lane_of script entry.line ≡ Some lane

@@ -1,5 +1,5 @@
 -- A lane's work goes out, and comes back decided.
-use Rattle.std.proofs.Common.{◌≡◌, ℕ, ◌+◌, ◌<◌, Bool, true, false, [], ◌∷◌, ◌++◌, set, Option, Some, None, refl, sym, ap, ◌∙◌, subst, arith}
+use Rattle.std.proofs.Common.{◌≡◌, ◌≢◌, ℕ, ◌+◌, ◌<◌, Bool, true, false, [], ◌∷◌, ◌++◌, set, Option, Some, None, refl, sym, ap, ◌∙◌, subst, arith}
 use Rattle.std.specs.List.{count_by}
 use Rattle.std.specs.Option.{IfSome, option_and_then, option_map_or}
 use Rattle.cred_event.specs.declared.content.Stage.{Stage}
@@ -8,8 +8,8 @@ use Rattle.cred_event.specs.declared.event.Event.TheVariants.{Ask, Signal, Alter
 use Rattle.cred_event.specs.declared.event.Change.TheVariants.{Exec}
 use Rattle.cred_event.specs.declared.entry.Entry as logged
 use Rattle.cred_record.specs.Credential.{Credential}
-use Rattle.cred_model.specs.Script.{Script, Line, chain_of, info_of}
-use Rattle.cred_model.specs.State.{State, Numbered, Prepared, numbered, prepared_of}
+use Rattle.cred_model.specs.Script.{Script, Line, chain_of}
+use Rattle.cred_model.specs.State.{State, Numbered, Prepared, info_of, numbered, prepared_of}
 use Rattle.cred_model.specs.Like.{IsLike}
 use Rattle.cred_model.specs.Course as model
 use Rattle.cred_model.specs.Course.{Course, event_at, event_in}
@@ -31,13 +31,14 @@ use Rattle.cred_tables.specs.Kept.{Words}
 use Rattle.cred_tables.specs.Out.{AreBack, AreOut, tokens_in, needs_tokens}
 use Rattle.cred_tables.proofs.Outs.{tokens_like}
 use Rattle.cred_state.specs.TokensOut.{IsChain, IsNs, entries_of, needs_decision}
-use Rattle.cred_book.specs.Book.{Recorded, answer_of, out_of, with_event}
+use Rattle.cred_book.specs.Book.{Recorded, answer_of, infos_in, out_of, with_event}
 use Rattle.cred_book.specs.Counts.{Counts, HasEntered, count_of}
 use Rattle.cred_book.specs.Cursor.{Finishes, Makes, BookStands, steps_left, moved_on}
 use Rattle.cred_book.specs.Works.{IsChainFor, IsEntered, IsLanes, IsOutOf, MayMake, lane_tokens, with_work}
 use Rattle.cred_book.specs.declared.step.Step.TheVariants as step
 use Rattle.cred_book.proofs.Apart.{IsNext}
 use Rattle.cred_book.proofs.Cursors.{Moves, due_left, lane_has_out, makes_more, moves}
+use Rattle.cred_book.proofs.Files.{files_stay}
 use Rattle.cred_book.proofs.Finished.{all_taken, event_is, tokens_back}
 use Rattle.cred_book.proofs.Joined.{count-append}
 use Rattle.cred_book.proofs.Lent.{lane_tokens_are, lane_tokens_none, work_next, work_of}
@@ -112,7 +113,7 @@ pub record IsDueWork (book : Recorded) (lane : ℕ) (course : Course) (work : Wo
   pub waits : needs_tokens (replay book.script book.journal) (its_event work.lent) ≡ true
   pub own : AreOf book.words.id work.lent
   pub tokens : entries_of work.lent ≡ tokens_in (replay book.script book.journal) (its_event work.lent)
-  pub file : work.file ≡ info_of book.script (event_files (its_event work.lent))
+  pub file : work.file ≡ info_of (infos_in book) (event_files (its_event work.lent))
   pub chain : IsChainFor book (its_event work.lent) work.chain
 
 pub record HandsOut (before after : Recorded) (lane : ℕ) (work : Work) : Type 0 where
@@ -168,6 +169,7 @@ pub record EntersMore (before after : Recorded) (lane : ℕ) : Type 0 where
   pub made : Makes before after lane (next before.script before.journal lane) step.More
   pub falls : steps_left after < steps_left before
   pub counts : HasEntered before after lane 0
+  pub files : lane ≢ 0 → infos_in after ≡ infos_in before
 
 -- an event that waits for no decision
 pub enters_more : {book : Recorded} {lane : ℕ} {course : Course} {event : Event} {to : Option Course} (goes : GoesOn book lane course event to)
@@ -186,6 +188,7 @@ enters_more {book = book} {lane = lane} {course = course} {event = event} {to = 
           (next_some book.script book.journal book.cursors lane course event goes.stands.cursors goes.due goes.has) free refl refl refl;
       falls = m.falls;
       counts = subst (λ b. HasEntered book (moved_on (with_event book course.line event) lane course.line to) lane (count_of b)) free m.counts;
+      files = files_stay goes;
     }
 
 -- ---- back
@@ -212,6 +215,7 @@ pub record ComesBack (before after : Recorded) (lane : ℕ) (work : Work) : Type
   pub made : Finishes before after lane work (next before.script before.journal lane)
   pub falls : steps_left after < steps_left before
   pub counts : HasEntered before after lane 1
+  pub files : lane ≢ 0 → infos_in after ≡ infos_in before
 
 makes_back : (before after : Recorded) (lane : ℕ) (comes : Option logged.Entry) (made : logged.Entry) (work : Work) → comes ≡ Some made
     → made.line ≡ work.line → made.event ≡ (its_event work.lent) → after.journal ≡ before.journal ++ made ∷ []
@@ -295,4 +299,5 @@ comes_back book entered lane course to work stands are is due back passes =
           (next_some book.script book.journal book.cursors lane course (its_event work.lent) stands.cursors due goes.has) line refl refl refl back.words;
       falls = m.falls;
       counts = subst (λ b. HasEntered book (moved_on (at_home (back_in book course.line (its_event work.lent) entered.words) lane) lane course.line to) lane (count_of b)) waits m.counts;
+      files = files_stay goes;
     }

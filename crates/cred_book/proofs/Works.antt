@@ -235,6 +235,7 @@ module _ (book : Recorded) (lane line : ℕ) (event : Event) (lent : Lent) (stan
     places = stands.places;
     few = stands.few;
     setup = stands.setup;
+    fixed = stands.fixed;
     named = stands.named;
     outs = sets.long ∙ stands.outs;
     works = works_too;

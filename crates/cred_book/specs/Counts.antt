@@ -32,8 +32,8 @@ pub record Tally : Type 0 where
   pub state : State
   pub decided : ℕ
 
-abbrev pub first_tally : Tally
-first_tally = record { state = opening; decided = 0 }
+abbrev pub first_tally : Script → Tally
+first_tally script = record { state = opening script; decided = 0 }
 
 -- The entry is a work's if its event waits for a decision in the state before it.
 abbrev pub tallied : Script → ℕ → Tally → Entry → Tally
@@ -45,7 +45,8 @@ tallied script lane tally entry = record {
 
 -- how many of the lane's entries were works'
 abbrev pub decided_of : Script → List Entry → ℕ → ℕ
-decided_of script journal lane = (fold (tallied script lane) first_tally journal).decided
+decided_of script journal lane =
+    (fold (tallied script lane) (first_tally script) journal).decided
 
 -- how many of these lines, the first of which has this number, are the lane's and have ended
 abbrev pub ended_from : List Entry → ℕ → ℕ → List Line → ℕ

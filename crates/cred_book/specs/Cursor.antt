@@ -7,6 +7,7 @@ use Rattle.std.specs.Option.{option_map_or}
 use Rattle.cred_ids.specs.Limits.{LINE_LIMIT}
 use Rattle.cred_event.specs.declared.entry.Entry.{Entry}
 use Rattle.cred_model.specs.Course.{Course}
+use Rattle.cred_model.specs.Changing.{FixesFiles}
 use Rattle.cred_model.specs.Script.{SetupFirst}
 use Rattle.cred_model.specs.Journal.{SoFar, lane_of, next, next_in_order, replay}
 use Rattle.cred_script.specs.Lanes.{lanes}
@@ -27,8 +28,9 @@ use Rattle.cred_book.specs.declared.step.Step.TheVariants as step
 
 -- Each entry is the next one of its line's lane after the entries before it, and each lane's cursor
 -- and its count of ended lines are the journal's. The script has no more lines than one may have,
--- the setup's come first, and no label stands in the lines of two lanes. Each work that is out is
--- that of its lane's next event, and what is lent is just the tokens of these works.
+-- the setup's come first, those that change a file are among them, and no label stands in the lines
+-- of two lanes. Each work that is out is that of its lane's next event, and what is lent is just
+-- the tokens of these works.
 pub record BookStands (book : Recorded) : Type 0 where
   pub so_far : SoFar book.script book.journal
   pub cursors : AreCursors book.script book.journal book.cursors
@@ -36,6 +38,7 @@ pub record BookStands (book : Recorded) : Type 0 where
   pub places : length book.ended ≡ lanes book.script.lines + 1
   pub few : length book.script.lines ≤ LINE_LIMIT
   pub setup : SetupFirst book.script
+  pub fixed : FixesFiles book.script
   pub named : AreNamedApart book.script.lines
   pub outs : length book.outs ≡ lanes book.script.lines + 1
   pub works : (lane : ℕ) → IfSome (out_of book lane) (IsOutOf book lane)

@@ -6,12 +6,14 @@ use Rattle.std.specs.List.{AllPairs, flat_map, range_with_len}
 use Rattle.std.specs.Option.{option_map_or}
 use Rattle.atomic_table.specs.Seated.{TableId}
 use Rattle.cred_ids.specs.Limits.{LAST_NUMBER}
+use Rattle.cred_record.specs.File.{File}
 use Rattle.cred_event.specs.declared.content.Stage.{Stage}
 use Rattle.cred_event.specs.declared.event.Event.{Event}
-use Rattle.cred_model.specs.Script.{Script, Line, info_of}
+use Rattle.cred_model.specs.Script.{Script, Line}
 use Rattle.cred_model.specs.Course.{event_in}
 use Rattle.cred_model.specs.Named.{event_files}
 use Rattle.cred_model.specs.Journal.{due_in, replay}
+use Rattle.cred_model.specs.State.{info_of}
 use Rattle.cred_names.specs.Labels.{labels}
 use Rattle.cred_script.specs.Lines.{line_at}
 use Rattle.cred_script.specs.Sound.{AreApart}
@@ -22,7 +24,7 @@ use Rattle.cred_work.specs.Work.{Work}
 use Rattle.cred_work.specs.DecidedWorks.{IsUndecided}
 use Rattle.cred_tables.specs.Out.{AreBack, tokens_in, needs_tokens}
 use Rattle.cred_state.specs.TokensOut.{AreTaken, IsChain, entries_of}
-use Rattle.cred_book.specs.Book.{Recorded, out_of, with_event}
+use Rattle.cred_book.specs.Book.{Recorded, infos_in, out_of, with_event}
 
 -- No label stands in the words of lines of two lanes, neither of which is the setup. And none of
 -- them is one that a line takes for itself.
@@ -56,18 +58,19 @@ MayMake script number event =
     IfSome (line_at script number) (λ line.
     (stage : Stage) × (event_in number line.content stage ≡ Some event))
 
--- A work of some line of the script: its tokens are of these cells, its line may make its event,
--- and its file and its root ids are those that the event is decided by.
-pub record IsWorkOf (script : Script) (cells : TableId) (work : Work) : Type 0 where
-  pub own : AreOf cells work.lent
-  pub made : MayMake script work.line (work_event work.lent)
-  pub file : work.file ≡ info_of script (event_files (work_event work.lent))
-  pub chain : IsChain script work.lent work.chain
+-- A work of some line of the script, whose files stand so: its tokens are of these cells, its line
+-- may make its event, and its file and its root ids are those that the event is decided by.
+pub record IsWorkOf (script : Script) (infos : List File) (cells : TableId) (work : Work) : Type 0
+  where
+    pub own : AreOf cells work.lent
+    pub made : MayMake script work.line (work_event work.lent)
+    pub file : work.file ≡ info_of infos (event_files (work_event work.lent))
+    pub chain : IsChain script work.lent work.chain
 
--- The work is the lane's: it is one of the book's script and cells, and its line is the one whose
--- work is out.
+-- The work is the lane's: it is one of the book's script and cells, its file is as it stands now,
+-- and its line is the one whose work is out.
 pub record IsLanes (book : Recorded) (lane : ℕ) (work : Work) : Type 0 where
-  pub of : IsWorkOf book.script book.words.id work
+  pub of : IsWorkOf book.script (infos_in book) book.words.id work
   pub out : out_of book lane ≡ Some work.line
 
 -- the book of which these tokens are lent for this line of the lane
@@ -98,7 +101,7 @@ pub record GoesOut (before after : Recorded) (lane n : ℕ) (asked : Event) (wor
     pub waits : needs_tokens (replay before.script before.journal) asked ≡ true
     pub own : AreOf before.words.id work.lent
     pub tokens : entries_of work.lent ≡ tokens_in (replay before.script before.journal) asked
-    pub file : work.file ≡ info_of before.script (event_files asked)
+    pub file : work.file ≡ info_of (infos_in before) (event_files asked)
     pub chain : IsChainFor before asked work.chain
     pub lent : after ≡ with_work before lane work
 

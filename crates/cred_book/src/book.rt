@@ -1,5 +1,5 @@
 //! The journal of a run.
-ghost use Rattle.std.specs.Prelude.{◌≡◌, ◌<◌, [], length, true, is_some, None, IfOk, IfSome};
+ghost use Rattle.std.specs.Prelude.{◌≡◌, ◌≢◌, ◌<◌, [], length, true, is_some, None, IfOk, IfSome};
 ghost use Rattle.std.specs.Prelude.{ℕ, MatchOption, OnOk, OnErr, slice_index_or};
 ghost use Rattle.cred_ids.specs.Limits.{LINE_LIMIT};
 ghost use Rattle.cred_model.specs.Course as course_model;
@@ -10,7 +10,7 @@ ghost use Rattle.cred_model.specs.Slots.{uses};
 ghost use Rattle.cred_script.specs.Lines.{line_at};
 ghost use Rattle.cred_cursor.specs.Cursor.{IsOfLine, MovesOnTo};
 ghost use Rattle.cred_tables.specs.Out.{AreHome};
-ghost use Rattle.cred_book.specs.Book.{with_event, answer_of, out_of};
+ghost use Rattle.cred_book.specs.Book.{with_event, answer_of, infos_in, out_of};
 ghost use Rattle.cred_book.specs.Counts.{Counts, ended_of};
 ghost use Rattle.cred_book.specs.Cursor.{NoLineIsLeft, IsLeastLane, Makes, BookStands, has_left};
 ghost use Rattle.cred_book.specs.Cursor.{steps_left, moved_on};
@@ -257,6 +257,8 @@ impl Book {
         ensures falls { IfOk result (λ step. step ≡ More
             → steps_left self.new < steps_left self.old) }
         ensures counts { IfOk result (Counts self.old self.new lane) }
+        // Only the setup changes files.
+        ensures files { lane ≢ 0 → infos_in self.new ≡ infos_in self.old }
         ensures err { OnErr result (self.new ≡ self.old) }
     {
         let Some(course) = self.cursors.due(lane) else {

@@ -66,7 +66,7 @@ fn write_lines<K: Sink>(
 ) -> Result<(), SinkRefusal>
     requires own { state.old.words.id ≡ cells.now }
     requires out { state.old.words.out ≡ [] }
-    requires opening { state.old.state ≡ opening }
+    requires opening { state.old.state ≡ opening script.now }
     ensures ok { OnOk result
         (AppendsSequence script.now (K.written sink.old) (K.written sink.new)) }
     ensures err { OnErr result
@@ -102,7 +102,7 @@ fn write_in_order<K: Sink>(alloc: Global, sink: &mut K, script: &Script) -> Resu
     ensures cause { CountsFaults (result ≡ Err SinkRefusal.Failed)
         (K.faults sink.old) (K.faults sink.new) }
 {
-    let Ok((cells, mut state)) = State::new(alloc) else {
+    let Ok((cells, mut state)) = State::new(alloc, script) else {
         return Err(SinkRefusal::Memory);
     };
     let written = write_lines(alloc, sink, script, &mut state, &cells);

@@ -46,7 +46,7 @@ fn tell_lines(
 ) -> Result<Summary, NoMemory>
     requires own { state.old.words.id ≡ cells.now }
     requires out { state.old.words.out ≡ [] }
-    requires opening { state.old.state ≡ opening }
+    requires opening { state.old.state ≡ opening script.now }
     ensures { IfOk result (λ told. TellsSequence script.now told) }
 {
     let mut told = Summary::new(script);
@@ -65,7 +65,7 @@ fn tell_lines(
 fn tell_in_order(alloc: Global, script: &Script) -> Result<Summary, NoMemory>
     ensures { IfOk result (λ told. TellsSequence script.now told) }
 {
-    let (cells, mut state) = State::new(alloc)?;
+    let (cells, mut state) = State::new(alloc, script)?;
     let told = tell_lines(alloc, script, &mut state, &cells);
     drop(state);
     told

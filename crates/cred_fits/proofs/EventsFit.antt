@@ -7,15 +7,13 @@ use Rattle.std.proofs.lemmas.Option.{IfSome_then, get_or_from_slice_get}
 use Rattle.cred_ids.specs.Limits.{LINE_LIMIT}
 use Rattle.cred_event.specs.declared.content.Content.{Content}
 use Rattle.cred_event.specs.declared.content.Content.TheVariants.{One, Id, Question, Open, Fcap, Signal, Ptrace, Change, Access, OnFile}
-use Rattle.cred_event.specs.declared.content.FileCall.{FileCall}
-use Rattle.cred_event.specs.declared.content.FileCall.TheVariants as file_call
 use Rattle.cred_event.specs.declared.content.Stage.{Stage}
 use Rattle.cred_event.specs.declared.content.Stage.TheVariants as stage
 use Rattle.cred_event.specs.declared.answer.Answer.{Answer}
 use Rattle.cred_event.specs.declared.entry.Entry.{Entry}
 use Rattle.cred_event.specs.declared.event.Event.{Event}
 use Rattle.cred_model.specs.Script.{Script, Line}
-use Rattle.cred_model.specs.Course.{Course, calling, start, event_in, event_at, after, leads}
+use Rattle.cred_model.specs.Course.{Course, start, event_in, event_at, after, leads}
 use Rattle.cred_model.specs.Journal.{Due, answers_of, next_event, first_due, entry_of, due_in, next, SoFar}
 use Rattle.cred_model.specs.Named.{IsContentOf, IsEventOf, event_files}
 use Rattle.cred_model.proofs.Courses.{after_line}
@@ -23,7 +21,8 @@ use Rattle.cred_model.proofs.Lists.{slice_get_at}
 use Rattle.cred_model.proofs.Names.{event_named}
 use Rattle.cred_grammar.specs.Grammar.{script_of}
 use Rattle.cred_reader.specs.Fits.{IsFile, IsNumber, FitsEvent, IsOf}
-use Rattle.cred_fits.specs.Content.{FitsContent, FitsFileCall}
+use Rattle.cred_reader.proofs.EventsFit.{calling_fits}
+use Rattle.cred_fits.specs.Content.{FitsContent}
 use Rattle.cred_fits.specs.Fitting.{EventFits, EventsFit}
 use Rattle.cred_fits.proofs.FilesFit.{is_file}
 use Rattle.cred_fits.proofs.ScriptFits.{AreRead, script_fits}
@@ -33,12 +32,6 @@ use Rattle.cred_fits.proofs.ScriptFits.{AreRead, script_fits}
 -- a label that a line takes for itself is of 32 bits
 own_label : (line more : ℕ) → line ≤ LINE_LIMIT → more ≤ 2 → IsNumber (100000 + more + 10 * line)
 own_label line more few small = omega (arith, few, small)
-
-calling_fits : (hold : ℕ) (call : FileCall) → IsNumber hold → FitsFileCall call → FitsEvent (calling hold call)
-calling_fits hold (file_call.Chown file owner group) small fits = (small, fits.0, fits.1)
-calling_fits hold (file_call.Chmod file mode) small fits = (small, fits)
-calling_fits hold (file_call.SetAttr file attr) small fits = (small, fits)
-calling_fits hold (file_call.Stat file) small fits = small
 
 stage_fits : (line : ℕ) (content : Content) (at : Stage) → line ≤ LINE_LIMIT → FitsContent content → IfSome (event_in line content at) FitsEvent
 stage_fits line (One event) stage.First few fits = fits

@@ -14,8 +14,6 @@ use Rattle.cred_spelling.specs.declared.names.EventName.{EventName}
 use Rattle.cred_spelling.specs.declared.names.EventName.TheVariants as name
 use Rattle.cred_spelling.specs.declared.names.OtherName.{OtherName}
 use Rattle.cred_spelling.specs.declared.names.OtherName.TheVariants as other
-use Rattle.cred_spelling.specs.declared.names.FileCallName.{FileCallName}
-use Rattle.cred_spelling.specs.declared.names.FileCallName.TheVariants as file_call
 use Rattle.cred_spelling.specs.declared.names.CallName.{CallName}
 use Rattle.cred_spelling.specs.declared.names.CallName.TheVariants as call
 use Rattle.cred_spelling.specs.declared.reason.Reason.{Reason}
@@ -32,15 +30,17 @@ use Rattle.cred_forms.specs.IdCalls.{id_call_of}
 use Rattle.cred_forms.specs.Modes.{look_mode}
 use Rattle.cred_forms.specs.Questions.{query_of, query_named, file_and_want}
 use Rattle.cred_forms.specs.Calls as calls
+use Rattle.cred_forms.specs.Records.{record_of}
 use Rattle.cred_forms.specs.FileCalls as file_calls
 use Rattle.cred_forms.specs.Forms as forms
-use Rattle.cred_reader.specs.Fits.{IsNumber, IsWant, IsNamespace, IsArg, AreBytes, FitsCall, FitsChange, FitsQuery, FitsEvent}
+use Rattle.cred_reader.specs.Fits.{IsNumber, IsWant, IsNamespace, FitsCall, FitsChange, FitsQuery, FitsFileCall, FitsEvent}
 use Rattle.cred_reader.proofs.Spelled as spelled
 use Rattle.cred_reader.proofs.Spelled.{HoldsSome, OfAll, then_holds, word_holds, one_holds, two_holds, three_holds, five_holds, any_holds}
-use Rattle.cred_reader.proofs.FileWords.{mode_fits, attr_fits}
-use Rattle.cred_reader.proofs.KindsFit.{arg_fits, if_holds, then_some, map_some, either_holds, number_fits, id_fits, namespace_fits, RowsHold, named_fits}
-use Rattle.cred_reader.proofs.EventsFit.{bare_holds, or_holds, cap_fits, call_fits, change_fits, asked_fits, query_fits}
-use Rattle.cred_fits.specs.Content.{FitsContent, FitsFile, FitsFileCall}
+use Rattle.cred_reader.proofs.FileWords.{mode_fits}
+use Rattle.cred_reader.proofs.KindsFit.{if_holds, then_some, map_some, either_holds, number_fits, id_fits, namespace_fits, RowsHold, named_fits}
+use Rattle.cred_reader.proofs.EventsFit.{bare_holds, or_holds, cap_fits, call_fits, change_fits, asked_fits, query_fits, file_call_fits}
+use Rattle.cred_fits.specs.Content.{FitsContent, FitsFile}
+use Rattle.cred_fits.proofs.RecordFits.{FitsData, record_fits}
 
 -- ---- words
 
@@ -149,35 +149,10 @@ open_fits known task t (file ∷ want ∷ descriptor ∷ []) =
     then_holds IsNumber FitsContent (word_of spelling.descriptor_of descriptor) _ (word_holds IsNumber spelling.descriptor_of fd_fits descriptor) (λ fd f. (t, w, f)))
 open_fits known task t (file ∷ want ∷ descriptor ∷ more ∷ words) = tt
 
--- nothing is said of a file's place
-placed : (known : List NamedFile) (name : List ℕ) → spelled.Holds (λ place. Unit {0}) (files.file_at known name)
-placed known name = any_holds (files.file_at known name)
-
-file_call_fits : (known : List NamedFile) (kind : FileCallName) (words : List (List ℕ)) → spelled.Holds FitsFileCall (file_calls.file_call_of known kind words)
-unfolding file_calls.file_call_of file_calls.chown_of file_calls.chmod_of file_calls.set_attr_of
-file_call_fits known file_call.Chown [] = tt
-file_call_fits known file_call.Chown (a ∷ []) = tt
-file_call_fits known file_call.Chown (a ∷ b ∷ []) = tt
-file_call_fits known file_call.Chown (a ∷ b ∷ c ∷ []) =
-    then_holds (λ place. Unit {0}) FitsFileCall (files.file_at known a) _ (placed known a) (λ place u.
-    then_holds _ FitsFileCall (two_of spelling.arg_of spelling.arg_of (b ∷ c ∷ [])) _ (two_holds IsArg IsArg spelling.arg_of spelling.arg_of arg_fits arg_fits (b ∷ c ∷ [])) (λ v h. h))
-file_call_fits known file_call.Chown (a ∷ b ∷ c ∷ d ∷ words) = tt
-file_call_fits known file_call.Chmod [] = tt
-file_call_fits known file_call.Chmod (a ∷ []) = tt
-file_call_fits known file_call.Chmod (a ∷ b ∷ []) =
-    then_holds (λ place. Unit {0}) FitsFileCall (files.file_at known a) _ (placed known a) (λ place u.
-    then_holds (λ mode. IsMode mode) FitsFileCall (word_of spelling.mode_of b) _ (word_holds (λ mode. IsMode mode) spelling.mode_of mode_fits b) (λ mode h. h))
-file_call_fits known file_call.Chmod (a ∷ b ∷ c ∷ words) = tt
-file_call_fits known file_call.SetAttr [] = tt
-file_call_fits known file_call.SetAttr (a ∷ []) = tt
-file_call_fits known file_call.SetAttr (a ∷ b ∷ []) =
-    then_holds (λ place. Unit {0}) FitsFileCall (files.file_at known a) _ (placed known a) (λ place u.
-    then_holds AreBytes FitsFileCall (word_of spelling.bytes_of b) _ (word_holds AreBytes spelling.bytes_of attr_fits b) (λ bytes h. h))
-file_call_fits known file_call.SetAttr (a ∷ b ∷ c ∷ words) = tt
-file_call_fits known file_call.ClearAttr words =
-    then_holds (λ place. Unit {0}) FitsFileCall (file_calls.file_alone known words) _ (any_holds (file_calls.file_alone known words)) (λ place u. tt)
-file_call_fits known file_call.Stat words =
-    then_holds (λ place. Unit {0}) FitsFileCall (file_calls.file_alone known words) _ (any_holds (file_calls.file_alone known words)) (λ place u. tt)
+capset_raw_fits : (task : ℕ) → IsNumber task → (words : List (List ℕ)) → spelled.Holds FitsContent (calls.capset_raw_of task words)
+unfolding calls.capset_raw_of
+capset_raw_fits task t words =
+    then_holds FitsData FitsContent (one_of (record_of task) words) _ (one_holds FitsData (record_of task) (record_fits task) words) (λ d h. (t, h))
 
 raw_fits : (task : ℕ) → IsNumber task → (words : List (List ℕ)) → spelled.Holds FitsContent (calls.raw_of task words)
 unfolding calls.raw_of
@@ -199,6 +174,7 @@ other_fits known task t other.Exit words = bare_holds FitsContent words _ t
 other_fits known task t other.Dumpable words = then_holds IsNumber FitsContent (one_of spelling.number_of words) _ (one_holds IsNumber spelling.number_of number_fits words) (λ v h. (t, h))
 other_fits known task t other.Dumped words = bare_holds FitsContent words _ t
 other_fits known task t other.Ptrace words = then_holds _ FitsContent (two_of look_mode spelling.spelled_task words) _ (two_holds (λ mode. Unit {0}) IsNumber look_mode spelling.spelled_task any_mode task_fits words) (λ v h. (t, h.1))
+other_fits known task t other.CapsetRaw words = capset_raw_fits task t words
 other_fits known task t other.Raw words = raw_fits task t words
 
 named_call_fits : (known : List NamedFile) (task : ℕ) → IsNumber task → (kind : CallName) (words : List (List ℕ)) → spelled.Holds FitsContent (calls.call_of known task kind words)

@@ -12,9 +12,9 @@ use Rattle.cred_record.specs.File.{File, IsMode}
 use Rattle.cred_record.specs.declared.refusal.Denial.{Denial}
 use Rattle.cred_record.specs.declared.refusal.Denial.TheVariants.{Perm, Invalid}
 use Rattle.cred_rules.specs.Access.{in_group}
-use Rattle.cred_rules.specs.Files.{SETFCAP, chosen, may_chown, strips, stripped, chowned, chown, may_chmod, given_mode, chmod, is_attr, set_attr}
+use Rattle.cred_rules.specs.Files.{chosen, may_chown, strips, stripped, chowned, chown, may_chmod, given_mode, chmod, is_attr, set_attr}
 use Rattle.cred_rules.specs.Modes.{SET_USER, SET_GROUP, GROUP_EXECUTE, has_any, without}
-use Rattle.cred_caps.specs.Numbers.{FSETID}
+use Rattle.cred_caps.specs.Numbers.{FSETID, SETFCAP}
 use Rattle.cred_event.specs.declared.answer.Answer.{Answer}
 use Rattle.cred_event.specs.declared.event.Event.{Event}
 use Rattle.cred_event.specs.declared.event.Event.TheVariants as event

@@ -3,6 +3,7 @@ pub mod CredFits
 pub mod EntriesFit
 pub mod EventsFit
 pub mod FilesFit
+pub mod RecordFits
 pub mod FormFits
 pub mod ParsedSound
 pub mod Ranges

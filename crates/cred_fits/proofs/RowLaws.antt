@@ -3,10 +3,11 @@ use Rattle.std.proofs.Common.{◌≡◌, ℕ, ◌-◌, ◌==◌, nat_lt, Bool, t
 use Rattle.std.specs.List.{find, position, count_by}
 use Rattle.std.proofs.lemmas.Bool.Decides.{nat_tests}
 use Rattle.std.specs.Option.{option_map_or, option_and_then}
+use Rattle.cred_ids.specs.declared.arg.Arg.{Arg}
 use Rattle.cred_ids.specs.Limits.{TASKS, OPEN_FILES, HOLDS, PREPARED, DEPTH}
-use Rattle.cred_caps.specs.Numbers.{LAST}
+use Rattle.cred_caps.specs.Numbers.{LAST, CHOWN, SETFCAP}
 use Rattle.cred_caps.specs.Caps.{Caps, has}
-use Rattle.cred_record.specs.Credential.{Credential, first_credential}
+use Rattle.cred_record.specs.Credential.{Credential, capable, first_credential}
 use Rattle.cred_record.specs.File.{File}
 use Rattle.cred_record.specs.declared.gains.Gains.{Gains}
 use Rattle.cred_record.specs.declared.adj_call.AdjCall.{AdjCall}
@@ -18,10 +19,7 @@ use Rattle.cred_rules.specs.Access.{may}
 use Rattle.cred_rules.specs.Adjust.{adjust, read_in}
 use Rattle.cred_rules.specs.Exec.{Executed, NoExec, exec}
 use Rattle.cred_rules.specs.Exec.NoExec.{MayNotExecute, SpellsNothing, GivesTooLittle}
-use Rattle.cred_ids.specs.declared.arg.Arg.{Arg}
-use Rattle.cred_caps.specs.Numbers.{CHOWN}
-use Rattle.cred_record.specs.Credential.{capable}
-use Rattle.cred_rules.specs.Files.{may_chown, may_as_owner, gives_one, chowned, chown, may_chmod, given_mode, chmod, is_attr, SETFCAP, set_attr}
+use Rattle.cred_rules.specs.Files.{may_chown, may_as_owner, gives_one, chowned, chown, may_chmod, given_mode, chmod, is_attr, set_attr}
 use Rattle.cred_rules.specs.SetId.{set_id}
 use Rattle.cred_event.specs.declared.answer.Answer.{Answer}
 use Rattle.cred_event.specs.declared.answer.Answer.TheVariants as answer

@@ -5,6 +5,7 @@ use Rattle.std.specs.List.{All}
 use Rattle.std.specs.Option.{option_map, option_or}
 use Rattle.std.proofs.lemmas.List.Elements.{All-nil, All-push, All-weaker}
 use Rattle.std.proofs.lemmas.List.Folds.{find-append}
+use Rattle.cred_record.specs.File.{IsMode}
 use Rattle.cred_event.specs.declared.content.Content.{Content}
 use Rattle.cred_event.specs.declared.content.Content.TheVariants.{Nothing}
 use Rattle.cred_model.specs.Script.{Script, Line, Namespace, NamedFile, INITIAL, chain_in}
@@ -85,12 +86,14 @@ with_ns count declared ns line of = record {
   namespaces =
       All-weaker (λ number. IsSome (chain_in declared number)) (λ number. IsSome (chain_in (declared ++ ns ∷ []) number)) (still_there declared ns)
       (named.namespaces line.content) of.namespaces;
+  modes = of.modes;
 }
 
 with_file : (count : ℕ) (declared : List Namespace) (line : Line) → NamesDeclared count declared line → NamesDeclared (count + 1) declared line
 with_file count declared line of = record {
   files = All-weaker (λ file. file < count) (λ file. file < count + 1) (λ file among. omega arith) (named.files line.content) of.files;
   namespaces = of.namespaces;
+  modes = of.modes;
 }
 
 -- ---- what was read
@@ -109,7 +112,11 @@ abbrev IsRead : Reading → Type 0
 IsRead reading = AreRead reading.files reading.namespaces reading.lines
 
 nothing_held : (count : ℕ) (declared : List Namespace) → IsContentOf count declared Nothing
-nothing_held count declared = record { files = All-nil (λ file. file < count); namespaces = All-nil (λ n. IsSome (chain_in declared n)) }
+nothing_held count declared = record {
+  files = All-nil (λ file. file < count);
+  namespaces = All-nil (λ n. IsSome (chain_in declared n));
+  modes = All-nil (λ mode. IsMode mode);
+}
 
 -- a line more
 pushed : (files : List NamedFile) (namespaces : List Namespace) (lines : List Line) (lane : ℕ) (content : Content) → AreRead files namespaces lines

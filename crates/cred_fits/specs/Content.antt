@@ -1,27 +1,19 @@
 -- What is true of the numbers and words of a line of a script.
-use Rattle.std.specs.Prelude.{⊤, IfSome}
+use Rattle.std.specs.Prelude.{⊤}
 use Rattle.cred_ids.specs.Id.{IsId}
 use Rattle.cred_record.specs.File.{File, IsMode}
 use Rattle.cred_event.specs.declared.content.Content.{Content}
 use Rattle.cred_event.specs.declared.content.Content.TheVariants.{Nothing, One, Id, Question, Open}
 use Rattle.cred_event.specs.declared.content.Content.TheVariants.{Fcap, Signal, Ptrace, Change}
 use Rattle.cred_event.specs.declared.content.Content.TheVariants.{Access, OnFile}
-use Rattle.cred_event.specs.declared.content.FileCall.{FileCall}
-use Rattle.cred_event.specs.declared.content.FileCall.TheVariants.{Chown, Chmod, SetAttr, Stat}
-use Rattle.cred_reader.specs.Fits.{IsNumber, IsWant, IsArg, AreBytes, FitsCall, FitsChange, FitsQuery}
-use Rattle.cred_reader.specs.Fits.{FitsEvent}
+use Rattle.cred_reader.specs.Fits.{IsNumber, IsWant, FitsCall, FitsChange, FitsQuery, FitsEvent}
+use Rattle.cred_reader.specs.Fits.{FitsFileCall}
 
 -- the ids and the mode of a file that a line declares
 pub record FitsFile (file : File) : Type 0 where
   pub owner : IsId file.owner
   pub group : IsId file.group
   pub mode : IsMode file.mode
-
-abbrev pub FitsFileCall : FileCall → Type 0
-FitsFileCall (Chown file owner group) = IsArg owner × IsArg group
-FitsFileCall (Chmod file mode) = IsMode mode
-FitsFileCall (SetAttr file attr) = IfSome attr AreBytes
-FitsFileCall (Stat file) = ⊤
 
 -- What the line holds is in range, and is spelled as the grammar asks.
 abbrev pub FitsContent : Content → Type 0

@@ -1,10 +1,10 @@
 //! The forms of a line of a trace script: what its words are, and what the line then declares or
 //! holds.
 //!
-//! `specs/` says which words each form has. `IdCalls`, `Changes`, `Questions`, `FileCalls`, `Records`
-//! and `Calls` have what a task does, `Files` the lines that declare files and how a word names one, and `Forms` all
-//! forms. Whether a line may stand where it does, after those that were read before it, is said in
-//! `cred_grammar`; what one word spells, in `cred_spelling`.
+//! `specs/` says which words each form has. `IdCalls`, `Changes`, `Questions`, `FileCalls`,
+//! `Records` and `Calls` have what a task does, `Files` the lines that declare files and how a word
+//! names one, and `Forms` all forms. Whether a line may stand where it does, after those that were
+//! read before it, is said in `cred_grammar`; what one word spells, in `cred_spelling`.
 #![tactic(auto)]
 
 mod calls;

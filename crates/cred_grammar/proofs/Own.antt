@@ -1,8 +1,8 @@
 -- What is true of each line that the grammar gives: its labels are small, what it names is declared,
 -- and the task that acts by it is the one that it is tested for.
-use Rattle.std.proofs.Common.{◌≡◌, ℕ, ◌+◌, ◌-◌, ◌*◌, ◌≤◌, ◌<◌, Bool, true, false, not, ◌&&◌, ◌==◌, nat_le, nat_lt, cond, List, [], ◌∷◌, length, Option, Some, None, is_some, Result, Ok, Err, ok_or, codes, refl, subst, arith}
+use Rattle.std.proofs.Common.{◌≡◌, ℕ, ◌≤◌, ◌<◌, Bool, true, false, not, ◌&&◌, ◌==◌, nat_le, nat_lt, cond, List, [], ◌∷◌, length, Option, Some, None, is_some, Result, Ok, Err, ok_or, codes, refl, subst, arith}
 use Rattle.std.specs.List.{All, list_all}
-use Rattle.std.specs.Option.{IfSome, IsSome, option_map, option_and_then}
+use Rattle.std.specs.Option.{IfSome, IsSome, option_and_then}
 use Rattle.std.specs.Result.{IfOk}
 use Rattle.std.proofs.lemmas.Bool.Decides.{nat_tests}
 use Rattle.std.proofs.lemmas.List.Elements.{All-nil, All-cons}
@@ -30,8 +30,7 @@ use Rattle.cred_spelling.specs.declared.reason.Reason.{Reason}
 use Rattle.cred_spelling.specs.declared.reason.Reason.TheVariants.{Word, Name, Byte}
 use Rattle.cred_spelling.specs.declared.reason.Reason.TheVariants as reason
 use Rattle.cred_spelling.specs.Names.{id_name, altered_name, call_name}
-use Rattle.cred_spelling.specs.Spellings as spelling
-use Rattle.cred_spelling.specs.Spellings.{arg_of, bytes_of, octal_of}
+use Rattle.cred_spelling.specs.Spellings.{arg_of, bytes_of, mode_of}
 use Rattle.cred_spelling.specs.Spellings.{letter, number_of, within, id_of, cap_of, spelled_label}
 use Rattle.cred_spelling.specs.Spellings.{spelled_task, spelled_process, descriptor_of, line_number_of}
 use Rattle.cred_spelling.specs.Spellings.{lane_number_of, namespace_of, new_namespace_of, parent_of}
@@ -49,6 +48,7 @@ use Rattle.cred_forms.specs.Modes.{look_mode}
 use Rattle.cred_forms.specs.Questions.{query_of, query_named, file_and_want}
 use Rattle.cred_forms.specs.Calls.{open_call, capset_raw_of, raw_of, other_of, call_of, content_of}
 use Rattle.cred_forms.specs.Forms.{take_of, take_file_of, ask_of, alter_of, override_of, begin_of, event_of, parse_form}
+use Rattle.cred_forms.proofs.ModeWords.{mode_is}
 use Rattle.cred_script.specs.Acting.{event_actor, actor}
 use Rattle.cred_names.specs.Labels.{event_labels, labels}
 use Rattle.cred_names.specs.Owners.{may_name}
@@ -220,30 +220,8 @@ own_event files name.Sweep words = skip OwnEvent (no_words words) _ (λ end. rec
 abbrev OwnContent : Option ℕ → Content → Type 0
 OwnContent by content = All IsLabel (labels content) × IfSome (actor content) (λ task. by ≡ Some task) × AreModes (modes content)
 
--- a mode that four octal digits spell
-octal_small : (byte : ℕ) (a b : Bool) → nat_le 48 byte ≡ a → nat_le byte 55 ≡ b → IfSome (cond (a && b) (Some (byte - 48)) None) (λ digit. digit ≤ 7)
-octal_small byte false b low high = tt
-octal_small byte true false low high = tt
-octal_small byte true true low high = grind (arith, nat_tests)
-
-octal_digit : (byte : ℕ) → IfSome (octal_of byte) (λ digit. digit ≤ 7)
-octal_digit byte = octal_small byte (nat_le 48 byte) (nat_le byte 55) refl refl
-
-mode_small : (a b c d : Option ℕ) → IfSome a (λ digit. digit ≤ 7) → IfSome b (λ digit. digit ≤ 7) → IfSome c (λ digit. digit ≤ 7) → IfSome d (λ digit. digit ≤ 7)
-    → IfSome (option_and_then (λ first. option_and_then (λ second. option_and_then (λ third. option_map (λ fourth. 512 * first + 64 * second + 8 * third + fourth) d) c) b) a) (λ mode. IsMode mode)
-mode_small None b c d one two three four = tt
-mode_small (Some w) None c d one two three four = tt
-mode_small (Some w) (Some x) None d one two three four = tt
-mode_small (Some w) (Some x) (Some y) None one two three four = tt
-mode_small (Some w) (Some x) (Some y) (Some z) one two three four = omega (arith, one, two, three, four)
-
-mode_good : (word : List ℕ) → Good (λ mode. IsMode mode) (word_of spelling.mode_of word)
-mode_good [] = record { is = tt }
-mode_good (a ∷ []) = record { is = tt }
-mode_good (a ∷ b ∷ []) = record { is = tt }
-mode_good (a ∷ b ∷ c ∷ []) = record { is = tt }
-mode_good (a ∷ b ∷ c ∷ d ∷ []) = spelled_good (λ mode. IsMode mode) _ (mode_small _ _ _ _ (octal_digit a) (octal_digit b) (octal_digit c) (octal_digit d))
-mode_good (a ∷ b ∷ c ∷ d ∷ e ∷ word) = record { is = tt }
+mode_good : (word : List ℕ) → Good (λ mode. IsMode mode) (word_of mode_of word)
+mode_good word = spelled_good (λ mode. IsMode mode) (mode_of word) (mode_is word)
 
 own_open : (files : List NamedFile) (task : ℕ) (words : List (List ℕ)) → Good (OwnContent (Some task)) (open_call files task words)
 unfolding open_call

@@ -38,7 +38,7 @@ pub fn read_and_audit<S: Source, K: Sink>(alloc: Global, source: &mut S, sink: &
     }
 }
 
-/// SaysVerdict whether the report in an input is its script's, or where it goes wrong, or why there
+/// Says whether the report in an input is its script's, or where it goes wrong, or why there
 /// is nothing to be said; writes nothing where the script is too large.
 fn run_audit<K: Sink>(alloc: Global, input: &[u8], sink: &mut K) -> Status
     requires { length input.now ≤ AUDIT_LIMIT }

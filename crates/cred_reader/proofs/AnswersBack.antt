@@ -12,7 +12,7 @@ use Rattle.cred_event.specs.declared.answer.Answer.TheVariants as answer
 use Rattle.cred_spelling.specs.Words as words
 use Rattle.cred_pen.specs.Numbers.{hexadecimal}
 use Rattle.cred_reader.specs.declared.answers.Tells.{Tells}
-use Rattle.cred_reader.specs.declared.answers.Tells.TheVariants.{Nothing, Ids, Caps, Groups, Bits, Flag}
+use Rattle.cred_reader.specs.declared.answers.Tells.TheVariants.{Nothing, Ids, Caps, Groups, Bits, Flag, File}
 use Rattle.cred_reader.specs.Answers as spec
 use Rattle.cred_reader.specs.Kinds as kinds
 use Rattle.cred_reader.specs.Fits.{IsLong, FitsAnswer}
@@ -20,7 +20,9 @@ use Rattle.cred_reader.proofs.Agrees.{same, agrees}
 use Rattle.cred_reader.proofs.Numbers.{long_number, number_back, long_back, id_number, id_back, decimal_inner, decimal_plain}
 use Rattle.cred_reader.proofs.Sets.{set_back, set_plain}
 use Rattle.cred_reader.proofs.Ids.{ids_spaced, ids_plain, ids_back}
+use Rattle.cred_reader.proofs.Words.{spaced}
 use Rattle.cred_reader.proofs.WordsBack.{bits_back}
+use Rattle.cred_reader.proofs.FileWordsBack.{mode_word, mode_spaced, mode_back, mode_plain}
 use Rattle.cred_reader.proofs.Back.{bare, with_word, with_two}
 use Rattle.cred_reader.proofs.RefusalsBack.{AnswerBack, eperm_back, einval_back, eacces_back, ebadf_back, no_task_back, no_hold_back, no_prepared_back, no_broadcast_back, busy_back, exists_task_back, exists_process_back, exists_label_back, exists_file_back, exists_broadcast_back, overridden_back, not_overridden_back, too_deep_back, stale_back, too_many_tasks_back, too_many_files_back, too_many_holds_back, too_many_prepared_back, table_full_back, aborted_perm_back, aborted_full_back}
 
@@ -139,6 +141,26 @@ unfolding spec.read_answer spec.ok_words kinds.flags
 flag_told false fits = with_word (codes "ok") (codes "0") refl refl refl
 flag_told true fits = with_word (codes "ok") (codes "1") refl refl refl
 
+file_words : (owner group mode flag : List ℕ) → 32 ∷ (codes "ok" ++ (codes " " ++ owner ++ codes " " ++ group ++ (32 ∷ mode) ++ (32 ∷ flag))) ≡ spaced (codes "ok" ∷ owner ∷ group ∷ mode ∷ flag ∷ [])
+file_words owner group mode flag = simp (append_assoc, append-nil)
+
+file_told : (owner group mode : ℕ) (attr : Bool) → FitsAnswer (answer.Told (told.File owner group mode attr)) → AnswerBack File (answer.Told (told.File owner group mode attr))
+unfolding spec.read_answer spec.ok_words spec.file_told words.two_of kinds.flags
+file_told owner group mode false fits = record {
+  first = codes "ok";
+  rest = decimal owner ∷ decimal group ∷ mode_word mode ∷ codes "0" ∷ [];
+  spaced = rw (mode_spaced mode) (file_words (decimal owner) (decimal group) (mode_word mode) (codes "0"));
+  plain = rw (decimal_plain owner (long_number owner (id_number owner fits.0)), decimal_plain group (long_number group (id_number group fits.1)), mode_plain mode) refl;
+  read = rw (id_back owner fits.0, id_back group fits.1, mode_back mode fits.2) refl;
+}
+file_told owner group mode true fits = record {
+  first = codes "ok";
+  rest = decimal owner ∷ decimal group ∷ mode_word mode ∷ codes "1" ∷ [];
+  spaced = rw (mode_spaced mode) (file_words (decimal owner) (decimal group) (mode_word mode) (codes "1"));
+  plain = rw (decimal_plain owner (long_number owner (id_number owner fits.0)), decimal_plain group (long_number group (id_number group fits.1)), mode_plain mode) refl;
+  read = rw (id_back owner fits.0, id_back group fits.1, mode_back mode fits.2) refl;
+}
+
 is_same : (k other : Tells) → same k other ≡ true → k ≡ other
 is_same Nothing Nothing h = refl
 is_same Ids Ids h = refl
@@ -146,6 +168,7 @@ is_same Caps Caps h = refl
 is_same Groups Groups h = refl
 is_same Bits Bits h = refl
 is_same Flag Flag h = refl
+is_same File File h = refl
 is_same k other h = absurd (cc)
 
 -- a value is read where it is told
@@ -165,6 +188,7 @@ answer_back k (answer.Told (told.Caps perm inh eff bound amb)) fits h = where_to
 answer_back k (answer.Told (told.Groups groups)) fits h = where_told k Groups _ h (groups_told groups fits)
 answer_back k (answer.Told (told.Bits bits nnp)) fits h = where_told k Bits _ h (bits_told bits nnp fits)
 answer_back k (answer.Told (told.Flag flag)) fits h = where_told k Flag _ h (flag_told flag fits)
+answer_back k (answer.Told (told.File owner group mode attr)) fits h = where_told k File _ h (file_told owner group mode attr fits)
 answer_back k answer.Eperm fits h = eperm_back k fits
 answer_back k answer.Einval fits h = einval_back k fits
 answer_back k answer.Eacces fits h = eacces_back k fits

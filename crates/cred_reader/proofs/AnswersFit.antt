@@ -3,6 +3,7 @@ use Rattle.std.proofs.Common.{ℕ, ◌<◌, ◌^◌, ◌==◌, Bool, true, false
 use Rattle.std.specs.Str.{bytes_eq}
 use Rattle.cred_ids.specs.Id.{IsId}
 use Rattle.cred_caps.specs.Caps.{IsCaps}
+use Rattle.cred_record.specs.File.{IsMode}
 use Rattle.cred_event.specs.declared.answer.Answer.{Answer}
 use Rattle.cred_event.specs.declared.answer.Answer.TheVariants as answer
 use Rattle.cred_spelling.specs.declared.reason.Reason.{Reason}
@@ -11,10 +12,11 @@ use Rattle.cred_spelling.specs.Spellings as spelling
 use Rattle.cred_spelling.specs.Words.{◌>>=◌, word_of, one_of, two_of, three_of, five_of}
 use Rattle.cred_forms.specs.IdCalls.{ids}
 use Rattle.cred_reader.specs.declared.answers.Tells.{Tells}
-use Rattle.cred_reader.specs.declared.answers.Tells.TheVariants.{Nothing, Ids, Caps, Groups, Bits, Flag}
+use Rattle.cred_reader.specs.declared.answers.Tells.TheVariants.{Nothing, Ids, Caps, Groups, Bits, Flag, File}
 use Rattle.cred_reader.specs.Answers as spec
 use Rattle.cred_reader.specs.Fits.{IsNumber, IsLong, FitsAnswer}
 use Rattle.cred_reader.specs.Kinds as kinds
+use Rattle.cred_reader.proofs.FileWords.{mode_fits}
 use Rattle.cred_reader.proofs.Spelled.{Holds, HoldsSome, then_holds, ok_or_holds, word_holds, two_holds, three_holds, five_holds, any_holds}
 use Rattle.cred_reader.proofs.KindsFit.{number_fits, id_fits, set_fits, task_fits, label_fits, slot_fits, cred_fits, bits_fits, flag_fits, ids_fit}
 
@@ -73,6 +75,14 @@ plain_fits (slot ∷ []) = then_holds IsNumber FitsAnswer (word_of kinds.slot_wo
 plain_fits (a ∷ b ∷ []) = was_or_sealed (bytes_eq a (codes "was")) a b
 plain_fits (a ∷ b ∷ c ∷ words) = longer_fits (a ∷ b ∷ c ∷ words)
 
+file_told_fits : (words : List (List ℕ)) → Holds FitsAnswer (spec.file_told words)
+unfolding spec.file_told
+file_told_fits [] = tt
+file_told_fits (owner ∷ []) = tt
+file_told_fits (owner ∷ group ∷ words) =
+    then_holds _ FitsAnswer (two_of spelling.id_of spelling.id_of (owner ∷ group ∷ [])) _ (two_holds IsId IsId spelling.id_of spelling.id_of id_fits id_fits (owner ∷ group ∷ [])) (λ id i.
+    then_holds _ FitsAnswer (two_of spelling.mode_of kinds.flag_of words) _ (two_holds (λ mode. IsMode mode) (λ flag. Unit {0}) spelling.mode_of kinds.flag_of mode_fits flag_fits words) (λ rest r. (i.0, i.1, r.0)))
+
 ok_fits : (told : Tells) (words : List (List ℕ)) → Holds FitsAnswer (spec.ok_words told words)
 unfolding spec.ok_words
 ok_fits Nothing words = plain_fits words
@@ -81,6 +91,7 @@ ok_fits Caps words = then_holds _ FitsAnswer (five_of spelling.set_of spelling.s
 ok_fits Groups words = then_holds (All IsId) FitsAnswer (ids words) _ (ids_fit words) (λ v h. h)
 ok_fits Bits words = then_holds _ FitsAnswer (two_of kinds.bits_of kinds.flag_of words) _ (two_holds (λ bits. bits < 2 ^ 8) (λ flag. Unit {0}) kinds.bits_of kinds.flag_of bits_fits flag_fits words) (λ v h. h.0)
 ok_fits Flag words = then_holds (λ flag. Unit {0}) FitsAnswer (one_of kinds.flag_of words) _ (any_holds (one_of kinds.flag_of words)) (λ v h. tt)
+ok_fits File words = file_told_fits words
 
 number_then : (word : List ℕ) (f : ℕ → Answer) → ((n : ℕ) → IsNumber n → FitsAnswer (f n)) → Holds FitsAnswer (word_of spelling.number_of word >>= λ n. Ok (f n))
 number_then word f next = then_holds IsNumber FitsAnswer (word_of spelling.number_of word) _ (word_holds IsNumber spelling.number_of number_fits word) next

@@ -1,6 +1,8 @@
 -- Events that were printed, read back.
-use Rattle.std.proofs.Common.{◌≡◌, ℕ, List, [], ◌∷◌, ◌++◌, All, codes, refl, append_assoc, decimal}
+use Rattle.std.proofs.Common.{◌≡◌, ℕ, List, [], ◌∷◌, ◌++◌, All, Some, None, codes, refl, append_assoc, decimal}
 use Rattle.std.proofs.lemmas.List.{append-nil}
+use Rattle.hex.specs.Hex.{encode_lower}
+use Rattle.cred_ids.specs.declared.arg.Arg.{Arg}
 use Rattle.cred_record.specs.declared.want.Want.{Want}
 use Rattle.cred_record.specs.declared.id_call.IdCall.{IdCall}
 use Rattle.cred_event.specs.declared.event.Side.TheVariants.{Subjective, Objective}
@@ -12,6 +14,7 @@ use Rattle.cred_event.specs.declared.event.Event.TheVariants as event
 use Rattle.cred_model.specs.Named.{query_files, change_files, event_files}
 use Rattle.cred_model.specs.Script.{Script}
 use Rattle.cred_spelling.specs.Words as words
+use Rattle.cred_forms.specs.FileCalls as file_calls
 use Rattle.cred_forms.specs.Modes as modes
 use Rattle.cred_report.specs.Questions.{file_text, want_text}
 use Rattle.cred_report.specs.Events.{event_text}
@@ -20,7 +23,8 @@ use Rattle.cred_reader.specs.Fits.{IsFile, FitsEvent}
 use Rattle.cred_reader.proofs.Back.{IsBack, alone, bare, with_word, with_two, with_three}
 use Rattle.cred_reader.proofs.Words.{spaced}
 use Rattle.cred_reader.proofs.Numbers.{long_number, number_back, id_number, id_back, decimal_inner, decimal_plain}
-use Rattle.cred_reader.proofs.WordsBack.{want_back, want_plain, file_back, file_plain, ns_number, namespace_back}
+use Rattle.cred_reader.proofs.WordsBack.{arg_word, arg_spaced, arg_back, arg_plain, want_back, want_plain, file_back, file_plain, ns_number, namespace_back}
+use Rattle.cred_reader.proofs.FileWordsBack.{mode_word, mode_spaced, mode_back, mode_plain, attr_back, attr_plain}
 use Rattle.cred_reader.proofs.QueriesBack.{query_back}
 use Rattle.cred_reader.proofs.ChangesBack.{change_back}
 use Rattle.cred_reader.proofs.CallsBack.{call_back}
@@ -249,6 +253,76 @@ ptrace_real_back script from hold to target fits = record {
   read = rw (number_back from fits.0, number_back hold fits.1, number_back to fits.2, number_back target fits.3) refl;
 }
 
+-- the words of a call on a file, which the hold decides
+call_words : (name hold file : List ℕ) → 32 ∷ (name ++ codes " h" ++ hold ++ codes " " ++ file) ≡ spaced (name ∷ (codes "h" ++ hold) ∷ file ∷ [])
+call_words name hold file = simp (append_assoc, append-nil)
+
+call_words_more : (name hold file more : List ℕ) → 32 ∷ (name ++ codes " h" ++ hold ++ codes " " ++ file ++ codes " " ++ more) ≡ spaced (name ∷ (codes "h" ++ hold) ∷ file ∷ more ∷ [])
+call_words_more name hold file more = simp (append_assoc, append-nil)
+
+chown_words : (hold file owner group : List ℕ) → 32 ∷ (codes "chown h" ++ hold ++ codes " " ++ file ++ (32 ∷ owner) ++ (32 ∷ group)) ≡ spaced (codes "chown" ∷ (codes "h" ++ hold) ∷ file ∷ owner ∷ group ∷ [])
+chown_words hold file owner group = simp (append_assoc, append-nil)
+
+chown_back : (script : Script) (hold : ℕ) (file : ℕ) (owner : Arg) (group : Arg) → FitsEvent (event.Chown hold file owner group) → IsFile script file
+    → EventBack script (event.Chown hold file owner group)
+unfolding spec.read_event spec.event_names spec.event_named spec.file_event file_calls.file_call_of file_calls.chown_of words.two_of
+chown_back script hold file owner group fits own = record {
+  first = codes "chown";
+  rest = (codes "h" ++ decimal hold) ∷ (file_text script file) ∷ (arg_word owner) ∷ (arg_word group) ∷ [];
+  spaced = rw (arg_spaced owner, arg_spaced group) (chown_words (decimal hold) (file_text script file) (arg_word owner) (arg_word group));
+  plain = rw (decimal_inner hold (long_number hold fits.0), file_plain script file own, arg_plain owner fits.1, arg_plain group fits.2) refl;
+  read = rw (number_back hold fits.0, file_back script file own, arg_back owner fits.1, arg_back group fits.2) refl;
+}
+
+chmod_back : (script : Script) (hold : ℕ) (file : ℕ) (mode : ℕ) → FitsEvent (event.Chmod hold file mode) → IsFile script file
+    → EventBack script (event.Chmod hold file mode)
+unfolding spec.read_event spec.event_names spec.event_named spec.file_event file_calls.file_call_of file_calls.chmod_of
+chmod_back script hold file mode fits own =
+    with_three (codes "chmod") (codes "h" ++ decimal hold) (file_text script file) (mode_word mode)
+    (rw (mode_spaced mode) (call_words_more (codes "chmod") (decimal hold) (file_text script file) (mode_word mode)))
+    refl (rw (decimal_inner hold (long_number hold fits.0)) refl) (file_plain script file own) (mode_plain mode)
+    (rw (number_back hold fits.0, file_back script file own, mode_back mode fits.1) refl)
+
+setattr_back : (script : Script) (hold : ℕ) (file : ℕ) (bytes : List ℕ) → FitsEvent (event.SetAttr hold file (Some bytes)) → IsFile script file
+    → EventBack script (event.SetAttr hold file (Some bytes))
+unfolding spec.read_event spec.event_names spec.event_named spec.file_event file_calls.file_call_of file_calls.set_attr_of
+setattr_back script hold file bytes fits own =
+    with_three (codes "setattr") (codes "h" ++ decimal hold) (file_text script file) (encode_lower bytes)
+    (call_words_more (codes "setattr") (decimal hold) (file_text script file) (encode_lower bytes))
+    refl (rw (decimal_inner hold (long_number hold fits.0)) refl) (file_plain script file own) (attr_plain bytes fits.1)
+    (rw (number_back hold fits.0, file_back script file own, attr_back bytes fits.1) refl)
+
+clearattr_back : (script : Script) (hold : ℕ) (file : ℕ) → FitsEvent (event.SetAttr hold file None) → IsFile script file
+    → EventBack script (event.SetAttr hold file None)
+unfolding spec.read_event spec.event_names spec.event_named spec.file_event file_calls.file_call_of file_calls.file_alone
+clearattr_back script hold file fits own =
+    with_two (codes "clearattr") (codes "h" ++ decimal hold) (file_text script file)
+    (call_words (codes "clearattr") (decimal hold) (file_text script file))
+    refl (rw (decimal_inner hold (long_number hold fits.0)) refl) (file_plain script file own)
+    (rw (number_back hold fits.0, file_back script file own) refl)
+
+stat_back : (script : Script) (hold : ℕ) (file : ℕ) → FitsEvent (event.Stat hold file) → IsFile script file
+    → EventBack script (event.Stat hold file)
+unfolding spec.read_event spec.event_names spec.event_named spec.file_event file_calls.file_call_of file_calls.file_alone
+stat_back script hold file fits own =
+    with_two (codes "stat") (codes "h" ++ decimal hold) (file_text script file)
+    (call_words (codes "stat") (decimal hold) (file_text script file))
+    refl (rw (decimal_inner hold (long_number hold fits)) refl) (file_plain script file own)
+    (rw (number_back hold fits, file_back script file own) refl)
+
+raw_back : (script : Script) (task : ℕ) (call : IdCall) → FitsEvent (event.Raw task call)
+    → EventBack script (event.Raw task call)
+unfolding spec.read_event spec.event_names spec.event_named spec.task_event spec.raw_of
+raw_back script task call fits =
+    let back = call_back script call fits.1 in
+    record {
+      first = codes "raw";
+      rest = (codes "t" ++ decimal task) ∷ back.first ∷ back.rest;
+      spaced = let e = back.spaced in simp append_assoc (cc);
+      plain = rw (decimal_inner task (long_number task fits.0)) back.plain;
+      read = rw (number_back task fits.0, back.read) refl;
+    }
+
 pub event_back : (script : Script) (event : Event) → FitsEvent event → All (IsFile script) (event_files event) → EventBack script event
 event_back script (event.Init task process user group ns) fits own = init_back script task process user group ns fits
 event_back script (event.Take label task Subjective) fits own = take_back script label task fits
@@ -275,3 +349,9 @@ event_back script (event.Dumpable task value) fits own = dumpable_back script ta
 event_back script (event.Dumped task) fits own = dumped_back script task fits
 event_back script (event.Ptrace from hold to target Fs) fits own = ptrace_fs_back script from hold to target fits
 event_back script (event.Ptrace from hold to target Real) fits own = ptrace_real_back script from hold to target fits
+event_back script (event.Chown hold file owner group) fits own = chown_back script hold file owner group fits (alone (IsFile script) file own)
+event_back script (event.Chmod hold file mode) fits own = chmod_back script hold file mode fits (alone (IsFile script) file own)
+event_back script (event.SetAttr hold file (Some bytes)) fits own = setattr_back script hold file bytes fits (alone (IsFile script) file own)
+event_back script (event.SetAttr hold file None) fits own = clearattr_back script hold file fits (alone (IsFile script) file own)
+event_back script (event.Stat hold file) fits own = stat_back script hold file fits (alone (IsFile script) file own)
+event_back script (event.Raw task call) fits own = raw_back script task call fits

@@ -1,7 +1,7 @@
 -- The words of a mode and of the bytes of an attribute spell what fits.
-use Rattle.std.proofs.Common.{◌≡◌, ℕ, suc, ◌+◌, ◌-◌, ◌*◌, ◌≤◌, ◌<◌, Bool, true, false, ◌&&◌, nat_le, cond, List, [], ◌∷◌, length, Option, Some, None, Result, Ok, Err, refl, arith}
+use Rattle.std.proofs.Common.{◌≡◌, ℕ, suc, ◌≤◌, ◌<◌, Bool, true, false, ◌&&◌, nat_le, cond, List, [], ◌∷◌, length, Option, Some, None, Result, Ok, Err, refl, arith}
 use Rattle.std.specs.List.{All}
-use Rattle.std.specs.Option.{option_map, option_and_then}
+use Rattle.std.specs.Option.{IfSome}
 use Rattle.std.specs.Result.{result_ok}
 use Rattle.std.proofs.lemmas.Bool.Decides.{nat_tests}
 use Rattle.std.proofs.lemmas.List.Elements.{All-nil, All-cons}
@@ -10,35 +10,19 @@ use Rattle.hex.specs.declared.error.FromHexError.{FromHexError}
 use Rattle.hex.proofs.HexLemmas.{decode_of-ok}
 use Rattle.cred_record.specs.File.{IsMode}
 use Rattle.cred_spelling.specs.Spellings as spelling
-use Rattle.cred_spelling.specs.Spellings.{octal_of, without_0x}
+use Rattle.cred_spelling.specs.Spellings.{without_0x}
+use Rattle.cred_forms.proofs.ModeWords.{mode_is}
 use Rattle.cred_reader.specs.Fits.{AreBytes}
 use Rattle.cred_reader.proofs.Spelled.{HoldsSome, OfAll}
 
--- ---- a mode: four octal digits
+-- ---- a mode
 
-octal_small : (byte : ℕ) (a b : Bool) → nat_le 48 byte ≡ a → nat_le byte 55 ≡ b → HoldsSome (λ digit. digit ≤ 7) (cond (a && b) (Some (byte - 48)) None)
-octal_small byte false b low high = tt
-octal_small byte true false low high = tt
-octal_small byte true true low high = grind (arith, nat_tests)
-
-octal_digit : (byte : ℕ) → HoldsSome (λ digit. digit ≤ 7) (octal_of byte)
-octal_digit byte = octal_small byte (nat_le 48 byte) (nat_le byte 55) refl refl
-
-mode_small : (a b c d : Option ℕ) → HoldsSome (λ digit. digit ≤ 7) a → HoldsSome (λ digit. digit ≤ 7) b → HoldsSome (λ digit. digit ≤ 7) c → HoldsSome (λ digit. digit ≤ 7) d
-    → HoldsSome (λ mode. IsMode mode) (option_and_then (λ first. option_and_then (λ second. option_and_then (λ third. option_map (λ fourth. 512 * first + 64 * second + 8 * third + fourth) d) c) b) a)
-mode_small None b c d one two three four = tt
-mode_small (Some w) None c d one two three four = tt
-mode_small (Some w) (Some x) None d one two three four = tt
-mode_small (Some w) (Some x) (Some y) None one two three four = tt
-mode_small (Some w) (Some x) (Some y) (Some z) one two three four = omega (arith, one, two, three, four)
+some_holds : {A : Type 0} (P : A → Type 0) (o : Option A) → IfSome o P → HoldsSome P o
+some_holds P (Some x) h = h
+some_holds P None h = tt
 
 pub mode_fits : OfAll (λ mode. IsMode mode) spelling.mode_of
-mode_fits [] = tt
-mode_fits (a ∷ []) = tt
-mode_fits (a ∷ b ∷ []) = tt
-mode_fits (a ∷ b ∷ c ∷ []) = tt
-mode_fits (a ∷ b ∷ c ∷ d ∷ []) = mode_small _ _ _ _ (octal_digit a) (octal_digit b) (octal_digit c) (octal_digit d)
-mode_fits (a ∷ b ∷ c ∷ d ∷ e ∷ word) = tt
+mode_fits word = some_holds (λ mode. IsMode mode) (spelling.mode_of word) (mode_is word)
 
 -- ---- an attribute: 2 to 128 hexadecimal digits
 

@@ -4,6 +4,7 @@ pub mod Sets
 pub mod WordsBack
 pub mod Ids
 pub mod Back
+pub mod FileWordsBack
 pub mod QueriesBack
 pub mod ChangesBack
 pub mod CallsBack

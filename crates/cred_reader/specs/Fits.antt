@@ -33,6 +33,8 @@ use Rattle.cred_event.specs.declared.event.Event.TheVariants.{OpenFile, CloseFil
 use Rattle.cred_event.specs.declared.event.Event.TheVariants.{Exit, Sweep, Dumpable, Dumped}
 use Rattle.cred_event.specs.declared.event.Event.TheVariants.{Ptrace, Chown, Chmod, SetAttr, Stat}
 use Rattle.cred_event.specs.declared.event.Event.TheVariants.{Raw}
+use Rattle.cred_event.specs.declared.content.FileCall.{FileCall}
+use Rattle.cred_event.specs.declared.content.FileCall.TheVariants as call
 use Rattle.cred_event.specs.declared.answer.Told.{Told}
 use Rattle.cred_event.specs.declared.answer.Told.TheVariants as told
 use Rattle.cred_event.specs.declared.answer.Answer.{Answer}
@@ -112,6 +114,12 @@ pub record AreBytes (bytes : List ℕ) : Type 0 where
   pub some : 1 ≤ length bytes
   pub few : length bytes ≤ 64
   pub each : All (λ byte. byte < 256) bytes
+
+abbrev pub FitsFileCall : FileCall → Type 0
+FitsFileCall (call.Chown file owner group) = IsArg owner × IsArg group
+FitsFileCall (call.Chmod file mode) = IsMode mode
+FitsFileCall (call.SetAttr file attr) = IfSome attr AreBytes
+FitsFileCall (call.Stat file) = ⊤
 
 abbrev pub FitsEvent : Event → Type 0
 FitsEvent (Init task process user group ns) =

@@ -12,7 +12,8 @@ pub enum Status {
     /// The words are no command, and the usage line was written.
     Usage,
     /// The input is no script, and its first bad line was written; or an input of `audit` has no
-    /// line `report`, or the word of `decode` spells no attribute, and the reason was written.
+    /// line `report`, the word of `decode` spells no attribute, that of `encode` is no text of a
+    /// file's capabilities, or that of `capdata` spells no record, and the reason was written.
     Bad,
     /// The input could not be read.
     ReadFault,

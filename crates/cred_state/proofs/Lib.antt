@@ -4,6 +4,7 @@ pub mod Broadcasts
 pub mod Inits
 pub mod Creating
 pub mod Begins
+pub mod Raw
 pub mod Acts
 pub mod Reserved
 pub mod Reading
@@ -20,6 +21,7 @@ pub mod Lines
 pub mod Keeping
 pub mod Returns
 pub mod Entering
+pub mod FileCalls
 pub mod LentForEvent
 pub mod Asking
 pub mod Deciding

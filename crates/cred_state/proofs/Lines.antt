@@ -4,15 +4,17 @@ use Rattle.std.specs.List.{All}
 use Rattle.std.proofs.lemmas.Option.{same_Some}
 use Rattle.std.proofs.lemmas.List.Elements.{All-contains, All-cons, All-nil}
 use Rattle.cred_event.specs.declared.content.Stage.{Stage}
-use Rattle.cred_event.specs.declared.content.Stage.TheVariants.{First, Acting, Asking, Opening, TakingTarget, Signalling, Tracing, ReleasingTarget, Preparing, Altering, Committing, Aborting, Overriding, TakingAccess, ReleasingAccess, Reverting, Releasing, Retrying}
+use Rattle.cred_event.specs.declared.content.Stage.TheVariants.{First, Acting, Asking, Opening, TakingTarget, Signalling, Tracing, ReleasingTarget, Preparing, Altering, Committing, Aborting, Overriding, TakingAccess, ReleasingAccess, Reverting, Releasing, Retrying, Calling}
 use Rattle.cred_event.specs.declared.event.Event.{Event}
 use Rattle.cred_event.specs.declared.event.Event.TheVariants.{Ask, Alter, OpenFile}
 use Rattle.cred_event.specs.declared.event.Event.TheVariants as event
 use Rattle.cred_event.specs.declared.event.Change.TheVariants as change
 use Rattle.cred_event.specs.declared.event.Query.TheVariants.{Capable, Check}
 use Rattle.cred_event.specs.declared.content.Content.{Content}
-use Rattle.cred_event.specs.declared.content.Content.TheVariants.{Nothing, One, Id, Question, Open, Fcap, Signal, Ptrace, Change, Access}
-use Rattle.cred_model.specs.Course.{event_in, hold_label, new_label, target_label, access_label}
+use Rattle.cred_event.specs.declared.content.Content.TheVariants.{Nothing, One, Id, Question, Open, Fcap, Signal, Ptrace, Change, Access, OnFile}
+use Rattle.cred_event.specs.declared.content.FileCall.{FileCall}
+use Rattle.cred_event.specs.declared.content.FileCall.TheVariants.{Chown, Chmod, SetAttr, Stat}
+use Rattle.cred_model.specs.Course.{calling, event_in, hold_label, new_label, target_label, access_label}
 use Rattle.cred_model.specs.State.{State}
 use Rattle.cred_names.specs.Labels.{event_labels, labels}
 use Rattle.cred_tables.specs.Out.{needs_tokens}
@@ -41,6 +43,18 @@ module _ (line : ℕ) (content : Content) where
 abbrev OfEvent : ℕ → Content → Option Event → Type 0
 OfEvent line content None = Unit {0}
 OfEvent line content (Some event) = All (IsLines line content) (event_labels event)
+
+-- a call on a file names the hold
+names_called : (line task : ℕ) (call : FileCall)
+    → OfEvent line (OnFile task call) (Some (calling (hold_label line) call))
+names_called line task (Chown file owner group) =
+    one line (OnFile task (Chown file owner group)) (hold_label line) (inl refl)
+names_called line task (Chmod file mode) =
+    one line (OnFile task (Chmod file mode)) (hold_label line) (inl refl)
+names_called line task (SetAttr file attr) =
+    one line (OnFile task (SetAttr file attr)) (hold_label line) (inl refl)
+names_called line task (Stat file) =
+    one line (OnFile task (Stat file)) (hold_label line) (inl refl)
 
 names_at : (line : ℕ) (content : Content) (stage : Stage) → OfEvent line content (event_in line content stage)
 names_at line (One event) First = λ k d lt. inl (k, lt, at_itself (event_labels event) k d lt)
@@ -92,6 +106,9 @@ names_at line (Access task file want) ReleasingAccess = one line (Access task fi
 names_at line (Access task file want) Reverting = none line (Access task file want)
 names_at line (Access task file want) Aborting = one line (Access task file want) (new_label line) (inr (inl refl))
 names_at line (Access task file want) Releasing = one line (Access task file want) (hold_label line) (inl refl)
+names_at line (OnFile task call) First = one line (OnFile task call) (hold_label line) (inl refl)
+names_at line (OnFile task call) Calling = names_called line task call
+names_at line (OnFile task call) Releasing = one line (OnFile task call) (hold_label line) (inl refl)
 names_at line content stage = tt
 
 -- an event of a line names labels of its content, or the line's own
@@ -137,6 +154,14 @@ abbrev IfWaiting : ℕ → Content → Option Event → Type 0
 IfWaiting line content None = Unit {0}
 IfWaiting line content (Some event) = may_need_tokens event ≡ true → IsWaiting line content event
 
+-- a call on a file waits for no decision
+called_at_once : (line task : ℕ) (call : FileCall)
+    → IfWaiting line (OnFile task call) (Some (calling (hold_label line) call))
+called_at_once line task (Chown file owner group) = λ waits. cc
+called_at_once line task (Chmod file mode) = λ waits. cc
+called_at_once line task (SetAttr file attr) = λ waits. cc
+called_at_once line task (Stat file) = λ waits. cc
+
 waiting_at : (line : ℕ) (content : Content) (stage : Stage) → IfWaiting line content (event_in line content stage)
 waiting_at line (One event) First = λ waits. refl
 waiting_at line (Id task call) First = λ waits. cc
@@ -177,6 +202,9 @@ waiting_at line (Access task file want) ReleasingAccess = λ waits. cc
 waiting_at line (Access task file want) Reverting = λ waits. cc
 waiting_at line (Access task file want) Aborting = λ waits. cc
 waiting_at line (Access task file want) Releasing = λ waits. cc
+waiting_at line (OnFile task call) First = λ waits. cc
+waiting_at line (OnFile task call) Calling = called_at_once line task call
+waiting_at line (OnFile task call) Releasing = λ waits. cc
 waiting_at line content stage = tt
 
 is_waiting : (line : ℕ) (content : Content) (stage : Stage) (event : Event) → event_in line content stage ≡ Some event → may_need_tokens event ≡ true
@@ -217,3 +245,4 @@ same_event line content stage other a b one two waits wait label here there =
     by (Signal task to) is iz = same_Some _ _ (sym is ∙ iz)
     by (Ptrace task to mode) is iz = cc
     by (Change task change) is iz = same_Some _ _ (sym is ∙ iz)
+    by (OnFile task call) is iz = cc

@@ -7,15 +7,16 @@ use Rattle.std.specs.declared.option.Option.{Option}
 use Rattle.std.specs.Option.{option_and_then, option_map}
 use Rattle.atomic_table.specs.Seated.{TableId}
 use Rattle.cred_record.specs.Credential.{Credential}
+use Rattle.cred_record.specs.File.{File}
 use Rattle.cred_event.specs.declared.event.Event.{Event}
 use Rattle.cred_event.specs.declared.event.Event.TheVariants.{Ask, Signal, Alter, OpenFile}
 use Rattle.cred_event.specs.declared.event.Change.TheVariants.{Exec}
 use Rattle.cred_event.specs.declared.event.Change.{Change}
 use Rattle.cred_model.specs.Change.{Made, by_change}
 use Rattle.cred_model.specs.Named.{change_files}
-use Rattle.cred_model.specs.Script.{Script, chain_of, info_of}
+use Rattle.cred_model.specs.Script.{Script, chain_of}
 use Rattle.cred_model.specs.State.{State, Prepared, Numbered, numbered, prepared_of, held_by}
-use Rattle.cred_model.specs.State.{open_of}
+use Rattle.cred_model.specs.State.{info_of, open_of}
 use Rattle.cred_words.specs.Lists.{IsTaken}
 use Rattle.cred_hold.specs.Tokens.{Loan, Held, Written, loan}
 use Rattle.cred_work.specs.declared.lent.Lent.{Lent}
@@ -111,12 +112,12 @@ AreTaken (e ∷ back) old new = (mid : List Loan) × IsTaken old e mid × AreTak
 abbrev pub HoldsApart : List ℕ → List Loan → Type 0
 HoldsApart slots out = All (λ e. IsSome e.held → All (λ slot. e.slot ≢ slot) slots) out
 
--- a change made this of the base, as the script has its file and its root ids
+-- a change made this of the base, as its file stands and as the script has its root ids
 abbrev pub IsMadeOf :
-    Script → List ℕ → Credential → Change → Result Made Answer → Type 0
-IsMadeOf script chain base change made =
+    Script → List File → List ℕ → Credential → Change → Result Made Answer → Type 0
+IsMadeOf script infos chain base change made =
     IsChainOf script change base.ns chain
-    × (made ≡ by_change (info_of script (change_files change)) chain base change)
+    × (made ≡ by_change (info_of infos (change_files change)) chain base change)
 
 -- what a change made was put
 abbrev pub IsMadePut : Written → Result Made Answer → Type 0

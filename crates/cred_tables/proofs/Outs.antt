@@ -150,6 +150,7 @@ module _ (a b : State) (like : IsLike a b) where
     prepared = refl;
     deferred = refl;
     dumpable = refl;
+    infos = refl;
     slots = like.slots;
     creds = like.creds;
   }
@@ -311,6 +312,7 @@ module _ (s : State) (sound : IsSound s) (label : ℕ) (p : Prepared) (is : prep
     prepared = refl;
     deferred = refl;
     dumpable = refl;
+    infos = refl;
     slots = map_same (λ (x : SealedCred). x.slot) (λ x. cond (x.slot == p.slot) (record { cred = no_credential; slot = x.slot }) x) s.creds
         (λ x. slot_stays x (x.slot == p.slot));
     creds = λ k d lt. under (get_or (refs s) k d) (kept_clear k d lt) (slice_get s.creds (get_or (refs s) k d)) refl;

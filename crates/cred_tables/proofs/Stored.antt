@@ -70,7 +70,7 @@ refs-counted {a = a} {t = t} is k d lt =
 
 -- the parts of a state
 abbrev pub parts_in : State → Parts
-parts_in s = as_parts s.tasks s.casts s.files s.holds s.prepared s.dumpable
+parts_in s = as_parts s.tasks s.casts s.files s.holds s.prepared s.dumpable s.infos
 
 -- The state in which the credential is put in the slot's place is like the one in which it is
 -- sealed, since nothing else that stood there is referred to any more.
@@ -98,6 +98,7 @@ stored_like {parts = parts} store t before c slot made is sealed within alone sa
       prepared = ap (λ (p : Parts). p.prepared) same;
       deferred = same_deferred;
       dumpable = ap (λ (p : Parts). p.dumpable) same;
+      infos = ap (λ (p : Parts). p.infos) same;
       slots = slots-creds_in put t.sealed ∙ sealed
           ∙ sym (ap (λ (cs : List SealedCred). map (λ sealed. sealed.slot) cs) (sym creds) ∙ slots-push before);
       creds = λ k d lt.
@@ -135,6 +136,7 @@ spare_like {parts = parts} store t slot v is none = record {
   prepared = refl;
   deferred = refl;
   dumpable = refl;
+  infos = refl;
   slots = slots-creds_in (slice_set store slot v) t.sealed ∙ sym (slots-creds_in store t.sealed);
   creds = λ k d lt.
       let n : ℕ = get_or (refs (state_of parts store t)) k d in

@@ -1,6 +1,6 @@
 -- How the state of a run is kept: the tasks, the open broadcasts, the open files, the holds, the
--- prepared labels and the processes that are dumpable as they are, the credentials in the shared
--- words of their slots, and a table of slots that counts references.
+-- prepared labels, the processes that are dumpable and the declared files as they are, the
+-- credentials in the shared words of their slots, and a table of slots that counts references.
 use Rattle.std.specs.Prelude.{◌≡◌, ℕ, ◌<◌, ◌≤◌, ◌==◌, List, ◌∷◌, [], ◌++◌, count_by, length, map}
 use Rattle.std.specs.Prelude.{slice_get, slice_index_or, slice_set, false, Some, None}
 use Rattle.std.specs.declared.option.Option.{Option}
@@ -9,6 +9,7 @@ use Rattle.std.specs.Option.{IsSome, option_map_or}
 use Rattle.cred_ids.specs.Limits.{SLOTS}
 use Rattle.atomic_table.specs.Seated.{TableId}
 use Rattle.cred_record.specs.Credential.{Credential, first_credential}
+use Rattle.cred_record.specs.File.{File}
 use Rattle.cred_model.specs.State.{State, Task, Broadcast, OpenFile, Hold, Prepared, SealedCred}
 use Rattle.cred_model.specs.State.{Numbered, ProcessFlag}
 use Rattle.cred_event.specs.declared.event.Change.{Change}
@@ -52,8 +53,8 @@ pub record AreFilled (store : List (Option Credential)) (t : Table) : Type 0 whe
   pub each : (n slot : ℕ) → slice_get t.sealed n ≡ Some slot → 0 < references_to t n
       → IsSome (slice_index_or store slot None)
 
--- What refers to credentials: a list for each kind of thing that does; and the open broadcasts and
--- the flags of the processes, which refer to none.
+-- What refers to credentials: a list for each kind of thing that does; and the open broadcasts, the
+-- flags of the processes and the declared files as they stand, which refer to none.
 pub record Parts : Type 0 where
   pub tasks : List Task
   pub casts : List Broadcast
@@ -61,16 +62,18 @@ pub record Parts : Type 0 where
   pub holds : List Hold
   pub prepared : List Prepared
   pub dumpable : List ProcessFlag
+  pub infos : List File
 
 abbrev pub as_parts : List Task → List Broadcast → List OpenFile → List Hold → List Prepared
-    → List ProcessFlag → Parts
-as_parts tasks casts files holds prepared dumpable = record {
+    → List ProcessFlag → List File → Parts
+as_parts tasks casts files holds prepared dumpable infos = record {
   tasks = tasks;
   casts = casts;
   files = files;
   holds = holds;
   prepared = prepared;
   dumpable = dumpable;
+  infos = infos;
 }
 
 -- the broadcasts that a commit of this change leaves open: an execve drops that of its process
@@ -106,6 +109,7 @@ state_of parts store table = record {
   prepared = parts.prepared;
   deferred = table.deferred;
   dumpable = parts.dumpable;
+  infos = parts.infos;
   creds = creds_in store table.sealed;
 }
 

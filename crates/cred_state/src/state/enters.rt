@@ -7,9 +7,8 @@ ghost use Rattle.cred_model.specs.Answers.{checked, reply};
 ghost use Rattle.cred_model.specs.Change as model;
 ghost use Rattle.cred_model.specs.Script.{Script as Declared};
 ghost use Rattle.cred_model.specs.Like.{Gives, GivesLike};
-ghost use Rattle.cred_model.specs.Script.{info_of};
 ghost use Rattle.cred_model.specs.Slots.{kept};
-ghost use Rattle.cred_model.specs.State.{held_by};
+ghost use Rattle.cred_model.specs.State.{held_by, info_of};
 ghost use Rattle.cred_model.specs.Named.{event_files, query_files};
 ghost use Rattle.cred_model.specs.Step.{by_alter, by_ask, by_open, by_signal, done};
 ghost use Rattle.cred_record.specs.Credential.{Credential};
@@ -48,7 +47,7 @@ impl State {
         requires out { AreOut self.old.state self.old.words.out }
         ensures ok { (script : Declared) (line : ℕ) (chain : List ℕ)
             → IsChain script lent chain
-            → IsRight (info_of script (event_files (work_event lent))) chain lent
+            → IsRight (info_of self.old.state.infos (event_files (work_event lent))) chain lent
             → IfOk result (λ answer.
             GivesLike self.old.state (done script self.old.state line (work_event lent)) answer
             self.new.state) }
@@ -147,7 +146,7 @@ impl State {
         requires sound { IsSound self.old.state }
         requires out { AreOut self.old.state self.old.words.out }
         ensures made { (script : Declared) (chain : List ℕ)
-            → IsMadeOf script chain base.cred change made
+            → IsMadeOf script self.old.state.infos chain base.cred change made
             → GivesLike self.old.state (by_alter script self.old.state base.label change) result
             self.new.state }
         ensures taken { AreTaken (loan writer.label writer.slot None ∷ hold_loan base ∷ [])
@@ -176,7 +175,7 @@ impl State {
         requires sound { IsSound self.old.state }
         requires out { AreOut self.old.state self.old.words.out }
         ensures made { (script : Declared) (chain : List ℕ) (base : Credential)
-            → IsMadeOf script chain base change made
+            → IsMadeOf script self.old.state.infos chain base change made
             → IsBase self.old.state label base
             → GivesLike self.old.state (by_alter script self.old.state label change) result
             self.new.state }
@@ -223,11 +222,11 @@ impl State {
     ) -> Result<Answer, Hold>
         requires own { (self.old.words.id ≡ cells.now) × (hold.id ≡ cells.now) }
         requires apart { HoldsApart (kept self.old.state) self.old.words.out }
-        ensures ok { IfOk result (λ answer. (script : Declared) (want : Wanted)
+        ensures ok { IfOk result (λ answer. (want : Wanted)
             → IfSome may (λ may. IfSome (held_by self.old.state hold.label) (λ held.
-            checked held.cred (info_of script (file ∷ [])) want
+            checked held.cred (info_of self.old.state.infos (file ∷ [])) want
             ≡ (if may then Done else Eacces)))
-            → Gives self.old.state (by_open script self.old.state hold.label file want fd) answer
+            → Gives self.old.state (by_open self.old.state hold.label file want fd) answer
             self.new.state) }
         ensures taken { OnOk result (IsTaken self.old.words.out (hold_loan hold)
             self.new.words.out) }
@@ -248,11 +247,10 @@ impl State {
 
     /// What a question is answered, where this was told of the credential that its label holds.
     pub(crate) fn enter_ask(&self, label: u32, told: Answer) -> Answer
-        ensures { (script : Declared) (query : Asked)
+        ensures { (query : Asked)
             → IfSome (held_by self.now.state label) (λ held.
-            told ≡ reply (info_of script (query_files query)) held.cred query)
-            → Gives self.now.state (by_ask script self.now.state label query) result
-            self.now.state }
+            told ≡ reply (info_of self.now.state.infos (query_files query)) held.cred query)
+            → Gives self.now.state (by_ask self.now.state label query) result self.now.state }
     {
         let Some(_) = self.held(label) else {
             return Answer::NoHold(label);
@@ -309,11 +307,11 @@ impl State {
         fd: u32,
         may: bool,
     ) -> Result<Answer, NoMemory>
-        ensures ok { IfOk result (λ answer. (script : Declared) (want : Wanted)
+        ensures ok { IfOk result (λ answer. (want : Wanted)
             → IfSome (held_by self.old.state label) (λ held.
-            checked held.cred (info_of script (file ∷ [])) want
+            checked held.cred (info_of self.old.state.infos (file ∷ [])) want
             ≡ (if may then Done else Eacces))
-            → Gives self.old.state (by_open script self.old.state label file want fd) answer
+            → Gives self.old.state (by_open self.old.state label file want fd) answer
             self.new.state) }
         ensures kept { kept self.new.state ≡ kept self.old.state }
         ensures words { (self.new.words ≡ self.old.words) × (self.new.places ≡ self.old.places) }

@@ -1,6 +1,6 @@
 use Rattle.std.proofs.Common.{length}
 use Rattle.cred_inspect.proofs.ReportLine.{Passed}
-use Rattle.cred_inspect.proofs.parts.parts_of.Given as goal
+use Rattle.cred_inspect.proofs.parts.input_parts.Given as goal
 
 abbrev pub invariant-loop-rest : goal.invariant-loop-rest
 invariant-loop-rest l = Passed l.input l.rest

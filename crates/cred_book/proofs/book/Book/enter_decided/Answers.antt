@@ -1,5 +1,6 @@
 use Rattle.std.proofs.Common.{◌≡◌, ℕ, List, [], ◌∷◌, ◌++◌, sym, ap, ◌∙◌, subst}
 use Rattle.std.specs.Option.{IfSome}
+use Rattle.cred_record.specs.File.{File}
 use Rattle.cred_event.specs.declared.answer.Answer.{Answer}
 use Rattle.cred_event.specs.declared.entry.Entry.{Entry}
 use Rattle.cred_event.specs.declared.event.Event.{Event}
@@ -11,13 +12,13 @@ use Rattle.cred_script.specs.Lines.{line_at}
 use Rattle.cred_cursor.specs.Cursor.{MovesOnTo}
 use Rattle.cred_work.specs.Decisions.{IsRight, work_event}
 use Rattle.cred_model.specs.Named.{event_files}
-use Rattle.cred_model.specs.Script.{info_of}
+use Rattle.cred_model.specs.State.{info_of}
 use Rattle.cred_work.specs.declared.lent.Lent.{Lent}
 use Rattle.cred_work.specs.Work.{Work}
 use Rattle.cred_tables.specs.Out.{AreBack}
 use Rattle.cred_tables.proofs.Outs.{out_like}
 use Rattle.cred_state.specs.TokensOut.{AreTaken, IsChain, entries_of}
-use Rattle.cred_book.specs.Book.{Recorded, answer_of}
+use Rattle.cred_book.specs.Book.{Recorded, answer_of, infos_in}
 use Rattle.cred_book.proofs.Entered.{enters, follows_sound, out_left, replays}
 use Rattle.cred_book.proofs.Finished.{left_there, lent_waits}
 use Rattle.cred_book.proofs.book.Book.enter_decided.Goals as goal
@@ -42,9 +43,12 @@ invariant_of-self-in-Ok-enter c =
     = subst (λ (l : Lent). AreTaken (entries_of l) b.state.words.out c.enter.new.self.words.out) lent c.in-Ok-enter.ensures.taken in
     let its : work_event c.apart-asked.result.1 ≡ work_event w.lent = ap work_event lent in
     let chain = subst (λ (l : Lent). IsChain b.script l w.chain) (sym lent) (subst (λ (r : Recorded). IsChain r.script w.lent w.chain) (sym c.self.view_is) c.requires.of.chain) in
-    let right = subst (λ (l : Lent). IsRight (info_of b.script (event_files (work_event l))) w.chain l) (sym lent)
-    (subst (λ f. IsRight f w.chain w.lent)
-    (c.requires.of.file ∙ ap (λ (r : Recorded). info_of r.script (event_files (work_event w.lent))) (sym c.self.view_is)) c.requires.decided.right) in
+    let file : w.file ≡ info_of b.state.state.infos (event_files (work_event w.lent))
+    = c.requires.of.file
+    ∙ ap (λ (r : Recorded). info_of (infos_in r) (event_files (work_event w.lent))) (sym c.self.view_is)
+    ∙ ap (λ (is : List File). info_of is (event_files (work_event w.lent))) (sym c.self.invariant.0.0.infos) in
+    let right = subst (λ (l : Lent). IsRight (info_of b.state.state.infos (event_files (work_event l))) w.chain l) (sym lent)
+    (subst (λ f. IsRight f w.chain w.lent) file c.requires.decided.right) in
     let ok : GivesLike b.state.state (done b.script b.state.state w.line (work_event w.lent)) c.in-Ok-enter.answer c.enter.new.self.state
     = subst (λ (e : Event). GivesLike b.state.state (done b.script b.state.state w.line e) c.in-Ok-enter.answer c.enter.new.self.state) its
     (c.in-Ok-enter.ensures.ok b.script w.line w.chain chain right) in
@@ -74,9 +78,12 @@ returns-in-Ok-enter-clause-entered c =
     = subst (λ (l : Lent). AreBack (entries_of l) b.state.words c.enter.new.self.words) lent c.in-Ok-enter.ensures.back in
     let its : work_event c.apart-asked.result.1 ≡ work_event w.lent = ap work_event lent in
     let chain = subst (λ (l : Lent). IsChain b.script l w.chain) (sym lent) (subst (λ (r : Recorded). IsChain r.script w.lent w.chain) (sym c.self.view_is) c.requires.of.chain) in
-    let right = subst (λ (l : Lent). IsRight (info_of b.script (event_files (work_event l))) w.chain l) (sym lent)
-    (subst (λ f. IsRight f w.chain w.lent)
-    (c.requires.of.file ∙ ap (λ (r : Recorded). info_of r.script (event_files (work_event w.lent))) (sym c.self.view_is)) c.requires.decided.right) in
+    let file : w.file ≡ info_of b.state.state.infos (event_files (work_event w.lent))
+    = c.requires.of.file
+    ∙ ap (λ (r : Recorded). info_of (infos_in r) (event_files (work_event w.lent))) (sym c.self.view_is)
+    ∙ ap (λ (is : List File). info_of is (event_files (work_event w.lent))) (sym c.self.invariant.0.0.infos) in
+    let right = subst (λ (l : Lent). IsRight (info_of b.state.state.infos (event_files (work_event l))) w.chain l) (sym lent)
+    (subst (λ f. IsRight f w.chain w.lent) file c.requires.decided.right) in
     let ok : GivesLike b.state.state (done b.script b.state.state w.line (work_event w.lent)) c.in-Ok-enter.answer c.enter.new.self.state
     = subst (λ (e : Event). GivesLike b.state.state (done b.script b.state.state w.line e) c.in-Ok-enter.answer c.enter.new.self.state) its
     (c.in-Ok-enter.ensures.ok b.script w.line w.chain chain right) in
@@ -109,9 +116,12 @@ returns-in-Ok-enter-clause-passes c =
     let lent : c.apart-asked.result.1 ≡ w.lent = ap (λ (x : Work). x.lent) (sym apart) in
     let its : work_event c.apart-asked.result.1 ≡ work_event w.lent = ap work_event lent in
     let chain = subst (λ (l : Lent). IsChain b.script l w.chain) (sym lent) (subst (λ (r : Recorded). IsChain r.script w.lent w.chain) (sym c.self.view_is) c.requires.of.chain) in
-    let right = subst (λ (l : Lent). IsRight (info_of b.script (event_files (work_event l))) w.chain l) (sym lent)
-    (subst (λ f. IsRight f w.chain w.lent)
-    (c.requires.of.file ∙ ap (λ (r : Recorded). info_of r.script (event_files (work_event w.lent))) (sym c.self.view_is)) c.requires.decided.right) in
+    let file : w.file ≡ info_of b.state.state.infos (event_files (work_event w.lent))
+    = c.requires.of.file
+    ∙ ap (λ (r : Recorded). info_of (infos_in r) (event_files (work_event w.lent))) (sym c.self.view_is)
+    ∙ ap (λ (is : List File). info_of is (event_files (work_event w.lent))) (sym c.self.invariant.0.0.infos) in
+    let right = subst (λ (l : Lent). IsRight (info_of b.state.state.infos (event_files (work_event l))) w.chain l) (sym lent)
+    (subst (λ f. IsRight f w.chain w.lent) file c.requires.decided.right) in
     let ok : GivesLike b.state.state (done b.script b.state.state w.line (work_event w.lent)) c.in-Ok-enter.answer c.enter.new.self.state
     = subst (λ (e : Event). GivesLike b.state.state (done b.script b.state.state w.line e) c.in-Ok-enter.answer c.enter.new.self.state) its
     (c.in-Ok-enter.ensures.ok b.script w.line w.chain chain right) in

@@ -92,5 +92,6 @@ returns c =
       made = m.made;
       falls = m.falls;
       counts = m.counts;
+      files = m.files;
       err = tt;
     }

@@ -2,9 +2,8 @@ use Rattle.std.proofs.Common.{if◌then◌else◌, ◌≡◌, ◌∷◌, [], Non
 use Rattle.cred_event.specs.declared.answer.Answer.TheVariants.{Done, Eacces}
 use Rattle.cred_model.specs.Answers.{checked, reply}
 use Rattle.cred_model.specs.Named.{query_files}
-use Rattle.cred_model.specs.Script.{info_of}
 use Rattle.cred_model.specs.Slots.{kept}
-use Rattle.cred_model.specs.State.{held_by}
+use Rattle.cred_model.specs.State.{held_by, info_of}
 use Rattle.cred_model.proofs.Likes.{does_same}
 use Rattle.cred_hold.specs.Tokens.{loan}
 use Rattle.cred_tables.proofs.Back.{has_taken, taken_has}
@@ -38,9 +37,9 @@ returns-in-Some-clause-ok c = λ script line chain is right.
     let r = rw (a.is, c.in-Some.is) at right in
     let has = has_taken out (hold_loan hold) c.take_hold_back.new.self.words.out c.take_hold_back.ensures.taken in
     let own = held_own s out c.requires.sound c.requires.out hold.label hold.slot hold.cred has in
-    let told = one_right (λ x. reply (info_of script (query_files a.query)) x a.query) c.in-Some.told (held_by s hold.label) hold.cred own r in
+    let told = one_right (λ x. reply (info_of s.infos (query_files a.query)) x a.query) c.in-Some.told (held_by s hold.label) hold.cred own r in
     let asked = rw (c.take_hold_back.ensures.state, c.label-label.ensures) at c.enter_ask.ensures in
-    rw (a.is, c.take_hold_back.ensures.state) (does_same _ _ _ (asked script a.query told))
+    rw (a.is, c.take_hold_back.ensures.state) (does_same _ _ _ (asked a.query told))
 
 pub returns-in-Ok-clause-ok : goal.returns-in-Ok-clause-ok
 returns-in-Ok-clause-ok c = λ script line chain is right.
@@ -51,8 +50,8 @@ returns-in-Ok-clause-ok c = λ script line chain is right.
     let r = rw a.is at right in
     let has = has_taken out (hold_loan hold) c.enter_open.new.self.words.out c.in-Ok.ensures.taken in
     let own = held_own s out c.requires.sound c.requires.out hold.label hold.slot hold.cred has in
-    let may = held_right (λ m x. checked x (info_of script (a.file ∷ [])) a.want ≡ (if m then Done else Eacces)) a.may (held_by s hold.label) hold.cred r own in
-    rw a.is (does_same _ _ _ (c.in-Ok.ensures.ok script a.want may))
+    let may = held_right (λ m x. checked x (info_of s.infos (a.file ∷ [])) a.want ≡ (if m then Done else Eacces)) a.may (held_by s hold.label) hold.cred r own in
+    rw a.is (does_same _ _ _ (c.in-Ok.ensures.ok a.want may))
 
 pub returns-in-Some-may-clause-ok : goal.returns-in-Some-may-clause-ok
 returns-in-Some-may-clause-ok c = λ script line chain is right.

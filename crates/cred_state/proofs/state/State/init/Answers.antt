@@ -27,14 +27,14 @@ returns-in-Some-clause-ok c = does_same _ _ _ (init_busy c.args.self.now.state c
 pub returns-then-alive-clause-ok : goal.returns-then-alive-clause-ok
 returns-then-alive-clause-ok c =
     let t = c.self.inside in
-    let s = state_of (as_parts t.tasks t.casts t.files t.holds t.prepared t.dump) t.master.slots t.slots in
+    let s = state_of (as_parts t.tasks t.casts t.files t.holds t.prepared t.dump t.infos) t.master.slots t.slots in
     let idle = rw (← c.self.view_is) at c.in_default.ensures in
     rw (← c.self.view_is) (does_same _ _ _ (init_exists s c.args.number c.args.process c.args.user c.args.group c.args.ns c.args.root idle (sym c.alive.ensures ∙ c.if-alive.true)))
 
 pub returns-then-full-clause-ok : goal.returns-then-full-clause-ok
 returns-then-full-clause-ok c =
     let t = c.self.inside in
-    let s = state_of (as_parts t.tasks t.casts t.files t.holds t.prepared t.dump) t.master.slots t.slots in
+    let s = state_of (as_parts t.tasks t.casts t.files t.holds t.prepared t.dump t.infos) t.master.slots t.slots in
     let idle = rw (← c.self.view_is) at c.in_default.ensures in
     let new = none_by_test _ c.alive.result c.alive.ensures c.if-alive.false in
     let many = many_by_test (length t.tasks) c.full.result c.full.ensures.full c.if-full.true in
