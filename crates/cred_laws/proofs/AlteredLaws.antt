@@ -122,11 +122,11 @@ module _ (script : Script) (journal : List Entry) (k : ℕ) (entry : Entry) (is 
   others : (event : Event) (left : List ℕ) (t : State) → ((label : ℕ) → has_altered label entry ≡ false) → ((label : ℕ) → alters event label ≡ false)
       → PreparedChange script s event left t → All (IsOf k t.creds) s.prepared → All (IsOf (k + 1) t.creds) t.prepared
   others event left t none plain (SamePrepared same) made =
-      subst (All (IsOf (k + 1) t.creds)) (sym same) (λ i d lt. lifts t.creds _ (none _) (made i d lt))
+      subst (All (IsOf (k + 1) t.creds)) (sym same) (λ i d lt. lifts t.creds (get_or s.prepared i d) (none (get_or s.prepared i d).label) (made i d lt))
   others event left t none plain (Prepares p prepared fresh unheld new stands free) made =
       let after = IsOf (k + 1) t.creds in
       subst (All after) (sym prepared)
-      (All-push after s.prepared p (λ i d lt. lifts t.creds _ (none _) (made i d lt))
+      (All-push after s.prepared p (λ i d lt. lifts t.creds (get_or s.prepared i d) (none (get_or s.prepared i d).label) (made i d lt))
       (subst (λ o. IfSome o (λ last. IsMadeFrom (IsFileOf script journal (k + 1) p.label last.change) script (numbered t.creds p.base) last)) (sym fresh) tt))
   others event left t none plain (Alters label to p base answer prepared found at so acts) made =
       absurd (
@@ -136,7 +136,7 @@ module _ (script : Script) (journal : List Entry) (k : ℕ) (entry : Entry) (is 
   others event left t none plain (Ends label place p ends prepared at found) made =
       let after = IsOf (k + 1) t.creds in
       subst (All after) (sym prepared)
-      (All-remove after s.prepared place (λ i d lt. lifts t.creds _ (none _) (made i d lt)))
+      (All-remove after s.prepared place (λ i d lt. lifts t.creds (get_or s.prepared i d) (none (get_or s.prepared i d).label) (made i d lt)))
 
   by_others : IsSound s → AreMadeFrom (IsFileOf script journal k) script s → ((label : ℕ) → has_altered label entry ≡ false)
       → ((label : ℕ) → alters entry.event label ≡ false) → AreMadeFrom (IsFileOf script journal (k + 1)) script (step script s entry.line entry.event).1
@@ -153,9 +153,9 @@ module _ (script : Script) (journal : List Entry) (k : ℕ) (entry : Entry) (is 
   module _ (label : ℕ) (change : Change) (event_is : entry.event ≡ Alter label change) (sound : IsSound s)
       (made : AreMadeFrom (IsFileOf script journal k) script s) where
     refused_all : is_ok entry.answer ≡ false → All (IsOf (k + 1) s.creds) s.prepared
-    refused_all no i d lt =
+    refused_all denied i d lt =
         let p = get_or s.prepared i d in
-        let none : has_altered p.label entry ≡ false = ap (λ b. alters entry.event p.label && b) no ∙ and_false (alters entry.event p.label) in
+        let none : has_altered p.label entry ≡ false = ap (λ b. alters entry.event p.label && b) denied ∙ and_false (alters entry.event p.label) in
         lifts s.creds p none (made i d lt)
       where
         and_false : (b : Bool) → (b && false) ≡ false
@@ -197,7 +197,7 @@ module _ (script : Script) (journal : List Entry) (k : ℕ) (entry : Entry) (is 
         (λ p found. some_case Q (numbered s.creds p.base) _ _ (λ answered. refused_all (ap is_ok (sym answered)))
         (λ base at. made_case Q (by_change (info_of s.infos (change_files change)) (chain_of script base.cred.ns) base.cred change) _
         (change_told (info_of s.infos (change_files change)) (chain_of script base.cred.ns) base.cred change)
-        (λ refused no answered. refused_all (ap is_ok (sym answered) ∙ no))
+        (λ refused denied answered. refused_all (ap is_ok (sym answered) ∙ denied))
         (λ m so ok answered.
         let to : Changed = record { change = change; cred = m.cred; gains = m.gains } in
         All-map (IsOf (k + 1) s.creds) (relabelled label to) s.prepared (λ i d lt.
