@@ -59,8 +59,8 @@ class Decision:
     and `file` the file that it is decided on, as it stood.
     """
 
-    __slots__ = ("after", "before", "change", "file", "flag", "index", "line", "reason", "target", "task",
-                 "told", "words")  # fmt: skip
+    __slots__ = ("after", "before", "change", "file", "flag", "index", "line", "reason", "target",
+                 "task", "told", "words")  # fmt: skip
 
     def __init__(self, index, line, words, told, task, before=None, after=None):
         self.index, self.line, self.words, self.told, self.task = index, line, words, told, task
