@@ -61,6 +61,12 @@ pub held_cred : (found : Option Numbered) (c : Credential)
 held_cred None c is = cc
 held_cred (Some held) c is = (held, refl, cc)
 
+-- where it holds none
+pub none_held : (found : Option Numbered) → None ≡ option_map (λ held. held.cred) found
+    → found ≡ None
+none_held None is = refl
+none_held (Some held) is = cc
+
 -- ---- a change of a file
 
 module _ (s : State) (hold place : ℕ) (rule : Credential → File → Result File Denial) where
