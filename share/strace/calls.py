@@ -26,6 +26,11 @@ ALL_CAPABILITIES = (1 << len(CAPABILITIES)) - 1
 
 CAP_BITS = {f"1<<CAP_{name}": 1 << place for place, name in enumerate(CAPABILITIES)}
 
+# The versions of a record of capset(2), and of how many groups of three words each one has.
+VERSION = "_LINUX_CAPABILITY_VERSION_"
+VERSIONS = {"1": (0x19980330, 1), "2": (0x20071026, 2), "3": (0x20080522, 2)}
+LOWER = (1 << 32) - 1
+
 # capabilities(7), "The securebits flags", with those of Linux 6.14 and later.
 SECUREBITS = {f"SECBIT_{name}": 1 << place for place, name in enumerate(FLAG_NAMES)}
 
@@ -124,29 +129,56 @@ def setgroups(args: Args, result: Result) -> Said | None:
     return told(" ".join(["setgroups", *(word for word in words if word)]), result)
 
 
+def capability_set(text: str, groups: int) -> int | None:
+    """The set of a record, with all bits that are seen.
+
+    Each bit of the lower word has a name. What strace writes as a number is of the upper one.
+    """
+    if not text:
+        return None
+    words = [word.partition(" ")[0] for word in text.split("|")]
+    plain = [word for word in words if word not in CAP_BITS]
+    named = lines.bits("|".join(set(words) - set(plain)) or "0", CAP_BITS)
+    others = lines.bits("|".join(plain) or "0", {})
+    if named is None or others is None or others > LOWER:
+        return None
+    return named | others << 32 * (groups - 1)
+
+
 def sets(args: Args, result: Result) -> list[int] | None:
-    """The permitted, the inheritable and the effective set that capset(2) or capget(2) names."""
+    """The effective, the permitted and the inheritable set that capset(2) or capget(2) names."""
     version = lines.fields(args[0]).get("version", "") if len(args) == 2 else ""
-    if not version.startswith("_LINUX_CAPABILITY_VERSION_"):
+    if not version.startswith(VERSION):
         if result.error is None and len(args) == 2 and is_address(args[0]):
             raise Unheld(ADDRESSES)
         if result.error is None and version[:1].isdigit() and "???" not in version:
             raise Unheld(NUMBERS)
         return None
+    _, groups = VERSIONS.get(version.removeprefix(VERSION), (0, 2))
     named = lines.fields(args[1])
     found = [
-        lines.bits(named.get(name, ""), CAP_BITS)
-        for name in ("permitted", "inheritable", "effective")
+        capability_set(named.get(name, ""), groups)
+        for name in ("effective", "permitted", "inheritable")
     ]
-    return None if None in found else [(value or 0) & ALL_CAPABILITIES for value in found]
+    return None if None in found else [value or 0 for value in found]
 
 
-def capset(args: Args, result: Result) -> Said | None:
-    """capset(2), of the task itself."""
+def record(version: str, target: int, found: list[int]) -> str:
+    """The record of capset(2) with these sets, in hexadecimal digits (capset(2))."""
+    number, groups = VERSIONS[version]
+    words = [number, target]
+    for group in range(groups):
+        words += [value >> 32 * group & LOWER for value in found]
+    return b"".join(word.to_bytes(4, "little") for word in words).hex()
+
+
+def capset(args: Args, result: Result, target: int = 0) -> Said | None:
+    """capset(2), of the task itself: the record that the kernel was handed."""
     found = sets(args, result)
-    if found is None:
+    version = lines.fields(args[0]).get("version", "").removeprefix(VERSION) if args else ""
+    if found is None or version not in VERSIONS:
         return None
-    return told("capset " + " ".join(f"{value:x}" for value in found), result)
+    return told(f"capsetraw {record(version, target, found)}", result)
 
 
 def capget(args: Args, result: Result) -> Said | None:
@@ -156,7 +188,7 @@ def capget(args: Args, result: Result) -> Said | None:
         return None
     # Version 1 has the lower 32 bits alone.
     mask = "ffffffff&=" if "VERSION_1" in args[0] else ""
-    permitted, inheritable, effective = (f"{mask}{value:x}" for value in found)
+    effective, permitted, inheritable = (f"{mask}{value & ALL_CAPABILITIES:x}" for value in found)
     return Said("caps", f"ok {permitted} {inheritable} {effective} * *")
 
 
@@ -346,4 +378,4 @@ OWN_CALLS: dict[str, Reading] = {
 ID_CALLS |= {name + "32": read for name, read in ID_CALLS.items()}
 OWN_CALLS |= {name + "32": read for name, read in OWN_CALLS.items() if name != "prctl"}
 
-SET_CALLS: dict[str, Reading] = {"capset": capset, "capget": capget}
+SET_CALLS = ("capset", "capget")

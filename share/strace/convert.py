@@ -4,9 +4,9 @@ from __future__ import annotations
 
 from collections.abc import Callable, Iterable
 
-from . import asks, changes, moves, traces
+from . import asks, changes, filecalls, moves, traces
 from .calls import ID_CALLS, OWN_CALLS, SET_CALLS, Said, Unheld, answer
-from .changes import Changes
+from .changes import Changes, Known
 from .enters import Entries, is_map
 from .files import Files, Found, Missing
 from .lines import fields
@@ -45,7 +45,7 @@ class Converter(Sayer):
         asking: bool = False,
         folder: str | None = None,
         root: str = "/",
-        known: dict[str, int] | None = None,
+        known: Known | None = None,
     ) -> None:
         super().__init__(asking)
         self.files = files
@@ -53,7 +53,7 @@ class Converter(Sayer):
         self.stopped: Stop | None = None
         self.strangers: set[int] = set()
         self.paths = Paths(files, folder is not None, self.tasks.find)
-        self.changes = Changes(self.paths, known or {})
+        self.changes = Changes(self.paths, known or Known())
         self.entries = Entries(self.tasks)
         self.most = 1
         # How many lines the log has, and how many calls are left where the script ends before it.
@@ -63,7 +63,7 @@ class Converter(Sayer):
         self._root = root.rstrip("/") or "/"
         self._moves = Moves(self.paths, lambda: self.tasks.by_pid.values())
         self._follow = self._moves.handlers()
-        self._asks = asks.Asks(self.paths, self.script, self.changes)
+        self._asks = asks.Asks(self.paths, self.script, self.changes, self.passed)
         self._handlers: dict[str, Callable[[Task, Call], None]] = {}
         self._take_handlers()
 
@@ -79,9 +79,10 @@ class Converter(Sayer):
             (("kill", "tkill", "tgkill"), self.kill),
             ((*traces.CALLS, *traces.LINKS), self.trace),
             (self._follow, self.move),
-            (changes.CALLS, self.change),
+            (changes.CALLS, self._asks.change),
             (("unshare", "setns"), self.change_namespace),
             (asks.ACCESSES, self.access),
+            ((*filecalls.STAT, *filecalls.GET), self._asks.tell),
             (("write",), self.write),
             (("setsid", "seccomp"), self.mark),
         )
@@ -97,11 +98,12 @@ class Converter(Sayer):
         items = list(items)
         tasks = [self.tasks.first(first)]
         tasks += [self.tasks.spawn(pid, tasks[0], THREAD) for pid in start.threads[1:]]
-        for one in tasks:
-            one.ids = start.ids.copy()
+        for one, ids in zip(tasks, start.ids, strict=True):
+            one.ids = ids.copy()
         where = tasks[0].where
         where.root = Located(self._root)
         where.mounts = Mounts(where.root, outside=self._root.rstrip("/"))
+        where.mounts.belongs(tasks[0].process.space)
         where.folder = self.begins(items, tasks[0])
         self.script.begin_with(start.inits(), start.lines)
         self.script.known = self.files
@@ -116,10 +118,8 @@ class Converter(Sayer):
         self.together = Together(items, SAYING)
         try:
             for self.at, item in enumerate(items):
+                self.due_lines()
                 self.item(item)
-            for task in list(self.tasks.by_pid.values()):
-                if task.process.making:
-                    self.goes_on(task.process)
         except Stop as stop:
             self.stopped = stop
             rest = items[self.at :]
@@ -177,8 +177,6 @@ class Converter(Sayer):
         if task is None:
             self.stranger(item)
             return
-        if task.number in task.process.making and item.name not in ENDS:
-            self.goes_on(task.process)
         try:
             self._handlers[item.name](task, item)
         except (Unheld, Missing) as reason:
@@ -234,9 +232,10 @@ class Converter(Sayer):
         if "CLONE_PIDFD" in flags:
             self._moves.with_pidfd(task, call, child)
         if "CLONE_NEWNS" in flags:
-            self._moves.new_mounts(child)
+            self._moves.new_mounts(child, "CLONE_NEWUSER" in flags)
         if "CLONE_NEWUSER" in flags:
             self.entries.sits(child, self.entries.made(task))
+            child.where.mounts.belongs(child.process.space)
             self.script.goes_on_as(task.name, child.name)
             self.room(call.first, 0)
         else:
@@ -249,11 +248,8 @@ class Converter(Sayer):
 
     def gone(self, ended: list[Task], line: int) -> None:
         """These tasks of one process are gone."""
-        if any(task.number in task.process.making for task in ended):
-            self.goes_on(ended[0].process)
         for task in ended:
             self.tasks.end(task)
-        self.complete(ended[0].process)
         self.script.add(line, *(Line(f"{task.name} exit") for task in ended))
 
     def execute(self, task: Task, call: Call) -> None:
@@ -282,15 +278,16 @@ class Converter(Sayer):
         asked = [*scripts, program][:1] if said == "eacces" else scripts
         for found in asked:
             name = self.script.file(call.first, found)
-            facts = asks.facts_of(task, found)
+            facts = asks.facts_of(task, found, self.changes.now(found))
             answered = said if said == "eacces" else "ok"
             self.say(task, call, Said(f"check {name} x", answered), facts)
         if said != "eacces":
             name = self.script.file(call.first, program)
-            self.say(task, call, Said(f"exec {name}", said), asks.facts_of(task, program))
+            facts = asks.facts_of(task, program, self.changes.now(program))
+            self.say(task, call, Said(f"exec {name}", said), facts)
         if said == "ok":
             where = Located(program.path) if scripts else named
-            self.executed(task, where, program.file.words, call.first)
+            self.executed(task, where, self.changes.now(program), call.first)
 
     def executed(self, task: Task, program: Located, words: str, line: int) -> None:
         """The task has executed a program: it is the only one of its process."""
@@ -300,8 +297,6 @@ class Converter(Sayer):
         if process.space.parent is not None and process.space.uids is None:
             process.space.early.append((line, *task.ids.users[:2]))
         task.descriptors = task.descriptors.copy()
-        if task.process.making:
-            self.apart(task.process)
         for other in [one for one in task.process.threads if one is not task]:
             self.tasks.end(other)
 
@@ -368,13 +363,6 @@ class Converter(Sayer):
         else:
             self.passed.call(call)
 
-    def change(self, task: Task, call: Call) -> None:
-        """chmod(2) and what else changes a file."""
-        if not call.context:
-            self.passed.call(call)
-        if call.result.value == 0:
-            self.changes.changes(task, call)
-
     def write(self, task: Task, call: Call) -> None:
         """write(2), of a map of a user namespace."""
         found = task.descriptors.get(argument(call, 0), FILE) or self.paths.base(task, call.args[0])
@@ -401,6 +389,7 @@ class Converter(Sayer):
             self._moves.unshare(task, flags)
             if "CLONE_NEWUSER" in flags:
                 space = self.entries.made(task)
+                task.where.mounts.belongs(space)
         if space is not None:
             before = self.entries.enter(task, space)
             self.script.add(call.first, Line(f"{before} exit"))

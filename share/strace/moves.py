@@ -4,6 +4,7 @@ from __future__ import annotations
 
 import re
 from collections.abc import Callable, Iterable
+from contextlib import suppress
 from dataclasses import replace
 
 from . import lines
@@ -117,22 +118,36 @@ class Moves:
     def mount(self, task: Task, call: Call) -> None:
         """mount(2): another file system, or another part of one, or other flags."""
         flags = set(argument(call, 3).split("|"))
-        if flags & PROPAGATION:
+        mounts = task.where.mounts
+        if kind := flags & PROPAGATION:
+            with suppress(Unheld):
+                place = self.paths.locate(task, call, 1).place
+                mounts.is_seen(place, kind.pop(), "MS_REC" in flags)
             return
         target = self.paths.locate(task, call, 1)
         kept = Mount(target.place, "MS_NOSUID" in flags, "MS_NOEXEC" in flags)
-        over = task.where.mounts.over
         if "MS_REMOUNT" in flags:
-            over[point_of(target, over) or target.place] = kept
-        elif flags & {"MS_BIND", "MS_MOVE"}:
+            # The flags of a mount are its own, whoever else sees it.
+            mounts.over[point_of(target, mounts.over) or target.place] = kept
+            return
+        if flags & {"MS_BIND", "MS_MOVE"}:
             source = self.paths.locate(task, call, 0)
             if "MS_MOVE" in flags and source.point:
-                over.pop(source.point, None)
-            over[target.place] = bound(source)
+                self.unmounts(mounts, source.point, call)
+            kept = bound(source)
         elif lines.string(argument(call, 2)) == "proc":
-            over[target.place] = Mount("/proc", kept.nosuid, kept.noexec)
+            kept = replace(kept, source="/proc")
         else:
-            over[target.place] = Mount(f"@{call.first}:/", kept.nosuid, kept.noexec)
+            kept = replace(kept, source=f"@{call.first}:/")
+        self.mounts(mounts, target.place, kept, call)
+
+    def mounts(self, mounts: Mounts, point: str, mount: Mount, call: Call) -> None:
+        """Something is mounted at a place."""
+        mounts.change(point, call.first, lambda over: over.update({point: mount}))
+
+    def unmounts(self, mounts: Mounts, point: str, call: Call) -> None:
+        """What is mounted at a place isn't any more."""
+        mounts.change(point, call.first, lambda over: over.pop(point, None))
 
     def umount(self, task: Task, call: Call) -> None:
         """umount2(2): what was there before is there again."""
@@ -142,7 +157,7 @@ class Moves:
             return
         point = point_of(target, task.where.mounts.over)
         if point is not None:
-            del task.where.mounts.over[point]
+            self.unmounts(task.where.mounts, point, call)
 
     def open_tree(self, task: Task, call: Call) -> None:
         """open_tree(2): a part of a file system, which move_mount(2) mounts."""
@@ -163,17 +178,20 @@ class Moves:
         loose = task.descriptors.get(argument(call, 0), LOOSE)
         if not isinstance(loose, Located):
             loose = self.paths.locate(task, call, 1, 0)
-            task.where.mounts.over.pop(loose.point or "", None)
-        task.where.mounts.over[target.place] = bound(loose)
+            self.unmounts(task.where.mounts, loose.point or "", call)
+        self.mounts(task.where.mounts, target.place, bound(loose), call)
         task.descriptors.opens(descriptor(argument(call, 0)), FILE, loose)
 
     def mount_setattr(self, task: Task, call: Call) -> None:
         """mount_setattr(2): other flags."""
-        given = lines.fields(argument(call, 3)).get("attr_set", "")
-        if "MOUNT_ATTR_NOSUID" not in given and "MOUNT_ATTR_NOEXEC" not in given:
-            return
+        fields = lines.fields(argument(call, 3))
+        given, kind = fields.get("attr_set", ""), fields.get("propagation", "")
         loose = task.descriptors.get(argument(call, 0), LOOSE)
         found = loose if isinstance(loose, Located) else self.paths.locate(task, call, 1, 0)
+        if kind in PROPAGATION and found is not loose:
+            task.where.mounts.is_seen(found.place, kind, "AT_RECURSIVE" in argument(call, 2))
+        if "MOUNT_ATTR_NOSUID" not in given and "MOUNT_ATTR_NOEXEC" not in given:
+            return
         nosuid, noexec = "MOUNT_ATTR_NOSUID" in given, "MOUNT_ATTR_NOEXEC" in given
         mount = Mount(found.place, nosuid, noexec)
         if found is loose:
@@ -190,8 +208,10 @@ class Moves:
         if path and plain and not path.startswith(("/proc", "/dev")):
             before = task.where
             mounts = Mounts(before.mounts.root, number=before.mounts.number)
+            mounts.doubts = before.mounts.doubts
             where = Where(mounts, before.root, before.folder)
-            task.descriptors.opens(call.result.value, FILE, lambda: self.lies(where, path))
+            end = path.rpartition("/")[2]
+            task.descriptors.opens(call.result.value, FILE, lambda: self.lies(where, path), end)
             return
         try:
             path, base = self.paths.named(task, call, place, place - 1 if place else None)
@@ -265,16 +285,19 @@ class Moves:
         if "CLONE_FS" in flags or "CLONE_NEWNS" in flags:
             task.where = task.where.copy()
         if "CLONE_NEWNS" in flags:
-            self.new_mounts(task)
+            self.new_mounts(task, "CLONE_NEWUSER" in flags)
         if "CLONE_FILES" in flags:
             task.descriptors = task.descriptors.copy()
         if "CLONE_NEWPID" in flags:
             task.process.below = Pids()
 
-    def new_mounts(self, task: Task) -> None:
-        """unshare(2) or clone(2) with CLONE_NEWNS."""
+    def new_mounts(self, task: Task, of_user: bool) -> None:
+        """unshare(2) or clone(2) with CLONE_NEWNS, perhaps with CLONE_NEWUSER."""
         where = task.where.copy()
-        where.mounts = task.where.mounts.copy()
+        before = task.where.mounts
+        other = before.space is not None and task.process.space is not before.space
+        where.mounts = before.copy(slave=of_user or other)
+        where.mounts.space = None if of_user else task.process.space
         task.where = where
 
     def enter_mounts(self, task: Task, mounts: Mounts | None, line: int) -> None:

@@ -259,8 +259,8 @@ def main(words: list[str]) -> int:
     """Writes names, or sets."""
     parser = argparse.ArgumentParser(
         prog="credtrace-names",
-        description="Writes the sets of a report, a script, of `decode`, `capdata` or credtrace-compare as "
-        "names of capabilities, and securebits as theirs.",
+        description="Writes the sets of a report, a script, of `decode`, `capdata` or of "
+        "credtrace-compare as names of capabilities, and securebits as theirs.",
     )
     parser.add_argument(
         "--to-script",

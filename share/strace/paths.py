@@ -98,9 +98,19 @@ class Paths:
     def both(self, task: Task, path: str, base: Located | None) -> Located:
         """Where a path leads, behind symbolic links too where this machine has them."""
         found = self.lead(task, path, base)
-        if self.files.listed is not None or found.real is not None:
+        if self.files.listed is not None:
+            other = None if found.place in self.files.hard else self.files.same.get(found.place)
+            return replace(found, real=self.files.one(other)) if other else found
+        if found.real is not None:
             return found
         return replace(found, real=self.lead(task, path, base, follow=True).place)
+
+    def is_link(self, found: Located) -> bool:
+        """Whether a symbolic link lies there. In a list one is known by what it is of."""
+        if self.files.listed is None:
+            return link_of(found.place) is not None
+        other = None if found.place in self.files.hard else self.files.same.get(found.place)
+        return other is not None and os.path.basename(other) != os.path.basename(found.place)
 
     def lead(self, task: Task, path: str, base: Located | None, follow: bool = False) -> Located:
         """The place to which a path leads, behind symbolic links where they are to be followed."""
@@ -114,6 +124,12 @@ class Paths:
             raise Unheld(no_folder(path, task.pid))
         if not self.is_known(found):
             raise Unheld(no_folder(path, task.pid))
+        if found.doubt:
+            raise Unheld(
+                f"line {found.doubt} mounts or unmounts what {path} leads through, in another "
+                "mount namespace: whether it is seen here too the log doesn't tell "
+                "(mount_namespaces(7))"
+            )
         return found
 
     def is_known(self, found: Located) -> bool:

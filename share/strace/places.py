@@ -14,6 +14,8 @@ from collections.abc import Callable
 from dataclasses import dataclass, field, replace
 from itertools import count
 
+from .spaces import Space
+
 # How many symbolic links are followed (path_resolution(7)).
 LINKS = 40
 
@@ -42,6 +44,8 @@ class Located:
     real: str | None = None
     # The mount namespace whose mounts it was found through, where that is known.
     within: int | None = None
+    # The line of the log that may have mounted another file there.
+    doubt: int = 0
 
     def start(self, follows: bool) -> str:
         """Where a path goes on from here."""
@@ -54,7 +58,21 @@ ROOT = Located("/")
 BEGIN = Located("")
 
 
-@dataclass
+@dataclass(frozen=True)
+class Kind:
+    """Who sees what is mounted below a place (mount_namespaces(7), "Shared subtrees")."""
+
+    # MS_SHARED, MS_SLAVE, MS_PRIVATE or MS_UNBINDABLE; nothing where the log doesn't tell.
+    name: str = ""
+    # The mounts of a peer group have one number; whether others than those may be in it.
+    group: int = 0
+    alone: bool = False
+
+
+NUMBERS = count(1)
+
+
+@dataclass(eq=False)
 class Mounts:
     """The mounts of a mount namespace that the log made, by the place that each covers."""
 
@@ -64,10 +82,65 @@ class Mounts:
     number: int = field(default_factory=count().__next__)
     # The root where the log begins, if it is another: what strace tells may be from outside of it.
     outside: str = ""
+    # All namespaces that were copied from one another, and what is said of who sees what below a
+    # place; where another one has mounted something of which nobody knows whether it is seen here,
+    # by the line of the log.
+    family: list[Mounts] = field(default_factory=list, repr=False)
+    kinds: dict[str, Kind] = field(default_factory=dict)
+    doubts: dict[str, int] = field(default_factory=dict)
+    # The user namespace that it is of, where that is known.
+    space: Space | None = None
 
-    def copy(self) -> Mounts:
-        """The same for a new mount namespace."""
-        return Mounts(self.root, dict(self.over), outside=self.outside)
+    def __post_init__(self) -> None:
+        """It is one of its family."""
+        self.family.append(self)
+
+    def copy(self, slave: bool = False) -> Mounts:
+        """The same for a new mount namespace, a slave where it is of another user namespace."""
+        kinds = dict(self.kinds)
+        if slave:
+            kinds = {"": Kind()} | kinds
+            kinds = {place: slave_of(kind) for place, kind in kinds.items()}
+        made = Mounts(self.root, dict(self.over), outside=self.outside, family=self.family)
+        made.kinds, made.doubts = kinds, dict(self.doubts)
+        return made
+
+    def belongs(self, space: Space) -> None:
+        """It is of this user namespace, where it wasn't of one already."""
+        self.space = self.space or space
+
+    def kind(self, place: str) -> Kind:
+        """Who sees what is mounted at a place."""
+        above = [one for one in self.kinds if one == "" or is_below(place, one)]
+        return self.kinds[max(above, key=len)] if above else Kind()
+
+    def is_seen(self, place: str, name: str, all_below: bool) -> None:
+        """mount(2) with MS_PRIVATE and its kin."""
+        kind = self.kind(place)
+        if name == "MS_SLAVE":
+            kind = slave_of(kind)
+        elif name != "MS_SHARED":
+            kind = Kind(name)
+        elif kind.name != "MS_SHARED":
+            kind = Kind(name, next(NUMBERS), alone=kind.name not in ("", "MS_SLAVE"))
+        if all_below:
+            self.kinds = {one: old for one, old in self.kinds.items() if not is_below(one, place)}
+        self.kinds["" if place == "/" else place] = kind
+
+    def change(self, point: str, line: int, make: Callable[[dict[str, Mount]], None]) -> None:
+        """Something is mounted at a place or no longer, here and where that is seen too."""
+        make(self.over)
+        here = self.kind(point)
+        for other in self.family:
+            there = other.kind(point)
+            if other is self or here.name not in ("", "MS_SHARED"):
+                continue
+            if there.name in ("MS_PRIVATE", "MS_UNBINDABLE"):
+                continue
+            if here.name and here.group == there.group:
+                make(other.over)
+            elif not here.alone:
+                other.doubts[point] = line
 
     def entered(self, place: str) -> tuple[str, Mount | None]:
         """What is there: the mount that covers the place, if one does."""
@@ -88,6 +161,16 @@ class Mounts:
             if mount.source == place != point:
                 return parent(point)
         return parent(place)
+
+
+def slave_of(kind: Kind) -> Kind:
+    """What a mount is that only receives from then on."""
+    return kind if kind.name in ("MS_PRIVATE", "MS_UNBINDABLE") else replace(kind, name="MS_SLAVE")
+
+
+def is_below(place: str, folder: str) -> bool:
+    """Whether it is that place, or one in a folder there."""
+    return place == folder or place.startswith(folder.rstrip("/") + "/")
 
 
 def parent(place: str) -> str:
@@ -143,6 +226,7 @@ class Where:
         """Goes along the path, one name after another."""
         follows = link is not no_link
         place, mount, point = base.start(follows), base.mount, base.point
+        doubt = 0 if base is self.root else base.doubt
         root = self.root.start(follows)
         names = path.split("/")[::-1]
         links = LINKS
@@ -161,10 +245,11 @@ class Where:
                 names += target.split("/")[::-1]
                 place = root if target.startswith("/") else place
                 continue
+            doubt = self.mounts.doubts.get(covered, doubt)
             place, found = self.mounts.entered(covered)
             if found is not None:
                 mount, point = found, covered
-        return Located(place, mount, point)
+        return Located(place, mount, point, doubt=doubt)
 
     def _above(self, place: str) -> str:
         """The folder above, which for a folder without any name is one that nobody knows."""

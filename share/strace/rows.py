@@ -9,9 +9,10 @@ program says of the task; where that couldn't be asked it is told as what may be
 from __future__ import annotations
 
 import re
-from dataclasses import dataclass, field
+from dataclasses import dataclass, field, replace
 from pathlib import Path
 
+from . import filerows
 from .calls import ID_CALLS
 from .probe import Probe, Values
 from .refusals import by_capability, has_kill
@@ -39,12 +40,15 @@ EXECVE_FLAG = "an execve makes its process dumpable unless an id becomes another
 ALL = (
     FILESYSTEM_IDS, SECUREBITS, UNMAPPED, DENIED_GROUPS, DIRECTORIES, NOT_MODE, COUNTS, CONTINUE,
     NO_NEW_PRIVS_FILE, NO_NEW_PRIVS_IDS, UNMAPPED_OWNER, SET_ID, PLAIN_FILE, TRACED, CREATOR,
-    LOOKS, EXECVE_FLAG,
+    LOOKS, EXECVE_FLAG, *filerows.ALL,
 )  # fmt: skip
 
 # What a kept row may have changed.
 IDS, CAPS, FILE_IDS = "ids", "caps", "file ids"
-BOUNDING, BITS, GROUPS = "bounding", "bits", "groups"
+BOUNDING, BITS, GROUPS, FILE = "bounding", "bits", "groups", "file"
+
+# The forms of which a file's state decides, or tells.
+OF_FILES = (*filerows.FORMS, "stat", "exec", "open", "check", "access")
 
 # What the log explains itself.
 LOG = "the log:"
@@ -94,20 +98,22 @@ class Known:
 DEPENDS: dict[str, tuple[str, ...]] = (
     {"ids": (IDS,), "bset": (BOUNDING,), "bits": (BITS,), "groups": (GROUPS,)}
     | dict.fromkeys(("caps", "ambis", "capdrop"), (CAPS,))
-    | dict.fromkeys(("capset", "ambraise"), (CAPS, BOUNDING, BITS))
+    | dict.fromkeys(("capsetraw", "ambraise"), (CAPS, BOUNDING, BITS))
     | dict.fromkeys(("securebits", "keepcaps"), (CAPS, BITS))
     | dict.fromkeys((*ID_CALLS, "signal"), (IDS, CAPS))
     | dict.fromkeys(("setfsuid", "setfsgid", "exec", "ptrace"), (FILE_IDS, CAPS, IDS))
     | dict.fromkeys(("open", "check", "access"), (FILE_IDS, CAPS, IDS, GROUPS))
+    | dict.fromkeys(filerows.FORMS, (FILE_IDS, CAPS, GROUPS))
 )
 
 # What each form changes, where the kernel makes it and the program refuses it, or the reverse.
 CHANGED: dict[str, tuple[str, ...]] = (
     {"capdrop": (BOUNDING,), "setgroups": (GROUPS,), "exec": (IDS, CAPS, FILE_IDS)}
-    | dict.fromkeys(("ambraise", "amblower", "ambclear", "capset"), (CAPS,))
+    | dict.fromkeys(("ambraise", "amblower", "ambclear", "capsetraw"), (CAPS,))
     | dict.fromkeys(("securebits", "keepcaps"), (BITS, CAPS))
     | dict.fromkeys(set(ID_CALLS) - {"setgroups"}, (IDS, FILE_IDS, CAPS))
     | {"setfsuid": (FILE_IDS, CAPS), "setfsgid": (FILE_IDS,), "nonewprivs": (BITS, IDS, CAPS)}
+    | dict.fromkeys(filerows.FORMS, ())
 )
 
 # The answers that rules give. Another one, as that a task isn't there, no row explains.
@@ -122,6 +128,8 @@ class Explainer:
     tracer: bool | None = None
     files: dict[str, str] = field(default_factory=dict)
     tasks: dict[str, Known] = field(default_factory=dict)
+    # By which rows a file may be another one than the program says.
+    changed: dict[str, list[Kept]] = field(default_factory=dict)
     _told: set[str] = field(default_factory=set)
 
     def text(self, begins: str, sure: bool = True, since: str = "", why: str = "") -> str:
@@ -150,7 +158,7 @@ class Explainer:
 
     def see(self, number: int, line: Line) -> None:
         """Keeps what a line means for later ones."""
-        words = line.text.split()
+        words = line.words
         if words[0] == "file":
             self.files[words[1]] = line.text
             return
@@ -166,7 +174,17 @@ class Explainer:
             if keeps_filesystem_id(words, self.probe.before(number)):
                 known.keep(Kept(FILESYSTEM_IDS, FILE_IDS, number, line.text))
         elif words[1] == "exec":
-            known.keep(*self.executed(number, line, self.files.get(words[2], "")))
+            changed = self.changed.get(words[2], [])
+            known.keep(*(replace(one, part=part) for one in changed for part in (IDS, CAPS)))
+            known.keep(*self.executed(number, line, self.file(line)))
+        elif words[1] in filerows.FORMS:
+            rows_of = [Kept(one, FILE, number, line.text) for one in filerows.kept(line)]
+            self.changed[words[2]] = rows_of + self.changed.get(words[2], [])
+
+    def file(self, line: Line) -> str:
+        """The file of a line, as a line that declares it."""
+        name, now = line.words[2], line.facts.words
+        return f"file {name} {now}" if now else self.files.get(name, "")
 
     def executed(self, number: int, line: Line, file: str) -> list[Kept]:
         """What an execve may have made of the credential otherwise."""
@@ -199,7 +217,7 @@ class Explainer:
 
     def explain(self, number: int, line: Line, report: str) -> str | None:
         """The reason why the kernel's answer is another one than the report's."""
-        words = line.text.split()
+        words = line.words
         known = self.known(words[0])
         kernel, told = (line.answer or "").split()[0], report.split()[0]
         # Then the thread that makes the call first may, and another one may not.
@@ -221,6 +239,8 @@ class Explainer:
                     parts = CHANGED.get(words[1], ())
                     known.keep(*(Kept(kept.row, part, kept.number, kept.text) for part in parts))
                 return self.text(kept.row, kept.sure, f"line {kept.number}: {kept.text}")
+        for kept in self.changed.get(words[2], []) if words[1] in OF_FILES else []:
+            return self.text(kept.row, kept.sure, f"line {kept.number}: {kept.text}")
         if words[1] == "ptrace":
             return self.text(LOOKS if kernel == "eperm" else CREATOR, sure=False)
         if words[1] == "dumped":
@@ -231,7 +251,7 @@ class Explainer:
 
     def own(self, number: int, line: Line, kernel: str, told: str) -> tuple[str, str] | None:
         """The row that explains an answer by itself, with its text; the log may explain it too."""
-        words, facts = line.text.split(), line.facts
+        words, facts = line.words, line.facts
         form, pair = words[1], (kernel, told)
         if pair == ("eperm", "ok") and facts.filtered:
             where = f"{LOG} line {facts.filtered} of it installs a seccomp filter"
@@ -247,9 +267,12 @@ class Explainer:
         if form == "exec" and kernel in ("eperm", "einval") and told == "ok":
             before = self.probe.before(number)
             under = before is None or before.no_new_privs
-            holds = under and " caps " in self.files.get(words[2], "")
+            holds = under and " caps " in self.file(line)
             text = self.text(NO_NEW_PRIVS_FILE, before is not None) if holds else ""
             return (NO_NEW_PRIVS_FILE, text) if holds else None
+        if form in filerows.FORMS:
+            begins = filerows.refused(line, pair)
+            return (begins, self.text(begins)) if begins else None
         if form in ("exec", "open", "check", "access"):
             return self.refused(number, line, pair)
         return None
@@ -267,7 +290,7 @@ class Explainer:
 
     def refused(self, number: int, line: Line, pair: tuple[str, str]) -> tuple[str, str] | None:
         """Why the kernel refuses a file that the program allows."""
-        if pair == ("eperm", "ok") and not line.text.split()[1] == "exec":
+        if pair == ("eperm", "ok") and not line.words[1] == "exec":
             return "", self.text(NOT_MODE)
         if pair != ("eacces", "ok"):
             return None

@@ -168,6 +168,11 @@ def led(said: Said, space: Space) -> Said | None:
         words[1:] = [value for value in values if value]
         if words[0] in ("setfsuid", "setfsgid"):
             answer[2:] = [told(answer[2], space, groups)]
+    elif words[0] == "chown":
+        owners = [outer(word, space, place == 1) for place, word in enumerate(words[1:])]
+        if None in owners:
+            return None
+        words[1:] = [value for value in owners if value]
     elif words[0] == "ids":
         answer[1:] = [told(word, space, place >= 4) for place, word in enumerate(answer[1:])]
     elif words[0] == "groups":

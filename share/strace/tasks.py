@@ -5,7 +5,6 @@ from __future__ import annotations
 from dataclasses import dataclass, field
 
 from . import lines
-from .log import Call
 from .opened import Descriptors
 from .pids import Pids, foreign
 from .places import Located, Where
@@ -27,10 +26,8 @@ class Process:
     # Its PID namespace, and that of its children.
     pids: Pids = field(default_factory=Pids)
     below: Pids = field(default_factory=Pids)
-    # The call that its threads make one after another, by the number of the task that made it.
-    making: dict[int, Call] = field(default_factory=dict)
-    # Who makes a call only later whose line stands already.
-    ahead: set[int] = field(default_factory=set)
+    # The threads that still make the call that is one line of all.
+    joining: set[int] = field(default_factory=set)
 
 
 @dataclass
@@ -129,6 +126,10 @@ class Tasks:
         if number is None:
             return None
         return self.by_pid.get(number if told else asker.process.pids.of(number))
+
+    def lives(self, task: Task) -> bool:
+        """Whether the task hasn't ended."""
+        return task in task.process.threads
 
     def end(self, task: Task) -> None:
         """The task is gone."""
