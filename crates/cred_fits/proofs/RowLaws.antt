@@ -1,5 +1,5 @@
 -- Each event is given one of the answers of its row.
-use Rattle.std.proofs.Common.{◌≡◌, ℕ, ◌-◌, ◌==◌, nat_lt, Bool, true, false, cond, List, [], ◌∷◌, length, slice_get, slice_set, not, Option, Some, None, Result, Ok, Err, ok_or, refl, ap, arith}
+use Rattle.std.proofs.Common.{◌≡◌, ℕ, ◌-◌, ◌==◌, ◌||◌, nat_lt, Bool, true, false, cond, List, [], ◌∷◌, length, slice_get, slice_set, not, Option, Some, None, Result, Ok, Err, ok_or, refl, ap, arith}
 use Rattle.std.specs.List.{find, position, count_by}
 use Rattle.std.proofs.lemmas.Bool.Decides.{nat_tests}
 use Rattle.std.specs.Option.{option_map_or, option_and_then}
