@@ -426,9 +426,9 @@ of_dumpable s task value =
 
 -- a call that is refused gives an owner or a group
 refused_gives : (able gives own : Bool) → (able || not gives || own) ≡ false → gives ≡ true
-refused_gives true gives own no = cc
-refused_gives false true own no = refl
-refused_gives false false own no = cc
+refused_gives true gives own refused = cc
+refused_gives false true own refused = refl
+refused_gives false false own refused = cc
 
 of_chown : (s : State) (hold place : ℕ) (owner group : Arg) → Tells (rows.chown_row owner group) s (by_file s hold place (λ c file. chown c file owner group))
 of_chown s hold place owner group =
