@@ -1,1 +1,2 @@
 pub mod FirstFiles
+pub mod Taken
