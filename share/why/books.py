@@ -2,6 +2,7 @@
 
 from __future__ import annotations
 
+from .filing import Version
 from .looking import Flag
 from .reason import Fault, Reason
 from .script import File
@@ -20,24 +21,14 @@ class Task:
         self.overrides = []
 
 
-class Info:
-    """A file as the script declares it, and the calls that have changed it since."""
-
-    __slots__ = ("changes", "file")
-
-    def __init__(self, file: File, changes: tuple[Decision, ...] = ()):
-        self.file, self.changes = file, changes
-
-
 class Label:
     """What a label holds, or what is prepared under it: then `slot` is kept."""
 
-    __slots__ = ("access", "change", "credential", "info", "line", "slot", "task")
+    __slots__ = ("access", "change", "credential", "file", "line", "slot", "task")
 
     def __init__(self, credential, line, task=None, slot=None):
         self.credential, self.line, self.task, self.slot = credential, line, task, slot
-        self.change, self.access = None, False
-        self.info: Info | None = None
+        self.change, self.file, self.access = None, None, False
 
 
 class Cast:
@@ -65,10 +56,10 @@ class Decision:
     `change` has the words of what is committed or followed; of a signal and of a look, whether it
     stays in one process. `target` is the credential of who is signalled or looked into, or the
     creator of a task. `flag` is what may have made the process that is looked into dumpable or not,
-    and `info` the file that it is about.
+    and `file` the file that it is decided on, as it stood.
     """
 
-    __slots__ = ("after", "before", "change", "flag", "index", "info", "line", "reason", "target",
+    __slots__ = ("after", "before", "change", "file", "flag", "index", "line", "reason", "target",
                  "task", "told", "words")  # fmt: skip
 
     def __init__(self, index, line, words, told, task, before=None, after=None):
@@ -76,7 +67,7 @@ class Decision:
         self.before, self.after = before, after
         self.target = self.change = None
         self.flag: Flag | None = None
-        self.info: Info | None = None
+        self.file: File | Version | None = None
         self.reason: Reason | Fault | None = None
 
     @property

@@ -4,9 +4,9 @@ from __future__ import annotations
 
 from collections.abc import Callable
 
-from . import access, adjust, changing, execve, ids, looking, sources
+from . import access, adjust, execve, filing, ids, looking, sources
 from .asking import KINDS, Values
-from .books import Decision, Info
+from .books import Decision
 from .journal import Journal
 from .names import ALL, LAST, cap_number
 from .reason import BITS, CAPS, GROUPS, IDS, Fault, NotFound, Reason
@@ -15,9 +15,6 @@ from .script import File
 # What a change is decided on; and behind it, where it leads to other ids.
 BEFORE = {"exec": (IDS, CAPS, BITS), "setfsuid": (IDS, CAPS, BITS), "setfsgid": (IDS, CAPS)}
 AFTER = {"exec": (IDS, CAPS), "setfsuid": (IDS, CAPS), "setfsgid": (IDS, CAPS)}
-
-# The events that set ids.
-IDENTIFYING = ("begin", "act", "raw")
 
 
 class Explainer:
@@ -30,19 +27,14 @@ class Explainer:
         # Whether it is also told why an event was not refused.
         self.full = journal.whole is not None
 
-    def file(self, info: Info) -> File:
-        """A file as it was at an event."""
-        file = info.file
-        for it in info.changes:
-            form, words = it.words[0], it.words[3:]
-            left_out = sets_group_id(it) and changing.leaves_out(file, words, *self.asked(it))
-            file = changing.after(form, words, file, left_out)
-        return file
+    def asked(self, credential: int) -> tuple:
+        """The ids, the sets and the groups of a credential."""
+        values = self.values
+        return values.ids(credential), values.caps(credential), values.groups(credential)
 
-    def asked(self, decision: Decision) -> tuple:
-        """What a call on a file is decided on."""
-        values, before = self.values, decision.before
-        return values.ids(before), values.caps(before), values.groups(before)
+    def file_of(self, decision: Decision) -> File:
+        """The file of a decision, as it stood."""
+        return filing.stands(decision.file, self.asked)
 
     def roots(self, credential: int) -> list[int]:
         """The root ids of a credential's namespace and of those above it."""
@@ -52,8 +44,7 @@ class Explainer:
         """Has all asked for that the sentences of a decision rest on."""
         event, want = decision.words[0], self.values.want
         before, after = decision.before, decision.after
-        for it in decision.info.changes if decision.info else ():
-            want(it.before if sets_group_id(it) else None, IDS, CAPS, GROUPS)
+        self.wants_of_file(decision)
         if self.full:
             want(before, *KINDS)
             want(after, *KINDS)
@@ -62,7 +53,7 @@ class Explainer:
             return
         if decision.reason is not None or not (decision.refused or after is not None):
             return
-        if event in IDENTIFYING:
+        if event in ("begin", "act", "raw"):
             want(before, IDS, CAPS, *((BITS,) if not decision.refused else ()))
             want(after, IDS, CAPS)
         elif event == "commit":
@@ -71,10 +62,9 @@ class Explainer:
             want(after, *AFTER.get(call, (CAPS,)))
         elif event == "change":
             self.wants_of_change(decision.words[2], before)
-        elif event in ("ask", "open"):
-            if event == "open" or decision.words[2] == "check":
-                want(before, IDS, CAPS, GROUPS)
-        elif event in changing.FORMS:
+        elif event in filing.EVENTS or event == "open":
+            want(before, IDS, CAPS, GROUPS)
+        elif event == "ask" and decision.words[2] == "check":
             want(before, IDS, CAPS, GROUPS)
         elif event == "signal":
             want(before, IDS, CAPS)
@@ -85,6 +75,12 @@ class Explainer:
             self.wants_of_flag(decision)
         elif event == "init":
             want(after, CAPS)
+
+    def wants_of_file(self, decision: Decision) -> None:
+        """What the mode of a file that was changed rests on."""
+        if isinstance(decision.file, filing.Version):
+            for credential in decision.file.credentials():
+                self.values.want(credential, IDS, CAPS, GROUPS)
 
     def wants_of_flag(self, decision: Decision) -> None:
         """What the flag of a process rests on."""
@@ -114,24 +110,21 @@ class Explainer:
         if decision.before is None and decision.after is not None:
             return [self.born(decision)]
         found = self.allowed(decision) if self.full else []
-        if decision.words[0] in IDENTIFYING:
+        if decision.words[0] in ("begin", "act", "raw"):
             found += self.identified(decision)
         return found
 
     def allowed(self, decision: Decision) -> list[Reason]:
         """Why a rule doesn't refuse an event."""
         words, before, values = decision.words, decision.before, self.values
-        if words[0] in IDENTIFYING:
+        if words[0] in filing.EVENTS:
+            return filing.allowed(words, self.file_of(decision), *self.asked(before))
+        if words[0] in ("begin", "act", "raw"):
             call = self.call_of(decision)
             return [ids.allowed(call[0], call[1:], values.ids(before), values.caps(before))]
         if words[0] == "open" or words[0] == "ask" and words[2] == "check":
             want = words[3] if words[0] == "open" else words[4]
-            return [access.allowed(self.file(decision.info), want, *self.asked(decision))]
-        if words[0] in changing.FORMS:
-            file = self.file(decision.info)
-            return changing.allowed(words[0], words[3:], file, *self.asked(decision))
-        if words[0] == "stat":
-            self.stated(decision)
+            return [access.allowed(self.file_of(decision), want, *self.asked(before))]
         if words[0] == "signal":
             asked = values.ids(before), values.caps(before), values.ids(decision.target)
             return [access.signal_allowed(*asked, decision.change)]
@@ -143,13 +136,6 @@ class Explainer:
                 raise Fault(f"it was answered {' '.join(decision.told)}, but it is {text}")
             return [Reason(text, sources.DUMPABLE)]
         return []
-
-    def stated(self, decision: Decision) -> None:
-        """What stat tells is the file as it is."""
-        file = self.file(decision.info)
-        flag = str(int(file.attribute is not None))
-        if decision.told != ["ok", str(file.owner), str(file.group), file.text, flag]:
-            raise Fault(f"it was told {' '.join(decision.told)} of {file}")
 
     def flag_of(self, decision: Decision) -> tuple[bool, str]:
         """Whether the process is dumpable, and since when."""
@@ -190,7 +176,9 @@ class Explainer:
         """Why a rule refuses an event."""
         event, words, told = decision.words[0], decision.words, decision.told[0]
         before, values = decision.before, self.values
-        if event in IDENTIFYING:
+        if event in filing.EVENTS:
+            return filing.refusal(words, told, self.file_of(decision), *self.asked(before))
+        if event in ("begin", "act", "raw"):
             call = self.call_of(decision)
             error = decision.told[2] if told == "aborted" else told
             found = ids.refusal(call[0], call[1:], error, values.ids(before), values.caps(before))
@@ -199,16 +187,13 @@ class Explainer:
                 return Reason(text, f"{found.source}; {sources.THREADS}")
             return found
         if event == "change":
-            return self.change_refused(decision, words[2:], told, before)
-        if event in changing.FORMS:
-            file = self.file(decision.info)
-            return changing.refusal(event, words[3:], told, file, *self.asked(decision))
+            return self.change_refused(decision)
         if event == "ask":
-            found = self.question_refused(decision, words[2:], told, before)
+            found = self.question_refused(decision)
             return by_access(found) if self.is_access(decision.line) else found
         if event == "open" and told == "eacces":
-            file = self.file(decision.info)
-            return access.refusal(file, words[3], *self.asked(decision), sources.OPEN)
+            file = self.file_of(decision)
+            return access.refusal(file, words[3], *self.asked(before), sources.OPEN)
         # Within one process a signal is always allowed.
         if event == "signal" and told == "eperm" and not decision.change:
             return self.signal_refused(decision)
@@ -222,26 +207,24 @@ class Explainer:
         """Whether a line is a call of access(2)."""
         return self.journal.script.line(line).split(" ")[1:2] == ["access"]
 
-    def change_refused(
-        self, decision: Decision, words: list[str], told: str, before: int
-    ) -> Reason:
+    def change_refused(self, decision: Decision) -> Reason:
         """Why a change is refused."""
+        words, told, before = decision.words[2:], decision.told[0], decision.before
         values = self.values
         if words[0] == "exec":
-            file, asked = self.file(decision.info), self.asked(decision)
-            return execve.refusal(file, told, *asked, values.bits(before), self.roots(before))
+            asked = *self.asked(before), values.bits(before), self.roots(before)
+            return execve.refusal(self.file_of(decision), told, *asked)
         needs = adjust.NEEDS.get(words[0], ())
         caps = values.caps(before) if CAPS in needs else None
         bits = values.bits(before) if BITS in needs else None
         return adjust.refusal(words, told, caps, bits)
 
-    def question_refused(
-        self, decision: Decision, words: list[str], told: str, before: int
-    ) -> Reason:
+    def question_refused(self, decision: Decision) -> Reason:
         """Why a question is refused."""
+        words, told = decision.words[2:], decision.told[0]
         if words[0] == "check" and told == "eacces":
-            file = self.file(decision.info)
-            return access.refusal(file, words[2], *self.asked(decision))
+            asked = self.asked(decision.before)
+            return access.refusal(self.file_of(decision), words[2], *asked)
         source = {"capable": sources.LIST, "bset": sources.BOUND_READ, "ambis": sources.IS_SET}
         if told == "einval" and words[0] in source and cap_number(words[1]) > LAST:
             return adjust.no_capability(words[1], source[words[0]])
@@ -268,7 +251,7 @@ class Explainer:
         before, after = decision.before, decision.after
         sets = values.caps(before), values.caps(after)
         if words[0] == "exec":
-            file = self.file(decision.info)
+            file = self.file_of(decision)
             asked = values.ids(before), values.ids(after), *sets, values.bits(before)
             return execve.changes(file, decision.told, *asked, self.roots(before), self.mask)
         if words[0] in ("setfsuid", "setfsgid"):
@@ -290,12 +273,6 @@ class Explainer:
             except (Fault, NotFound) as fault:
                 found.append(fault)
         return found
-
-
-def sets_group_id(decision: Decision) -> bool:
-    """Whether it is a chmod(2) that may be without a bit that it asks for."""
-    words = decision.words
-    return words[0] == "chmod" and bool(int(words[3], 8) & changing.SET_GID)
 
 
 def by_access(reason: Reason) -> Reason:

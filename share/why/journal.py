@@ -7,26 +7,19 @@ can be told with what stood in its way. No rule on credentials is known here.
 from __future__ import annotations
 
 from . import stood
-from .books import Cast, Decision, Home, Info, Label, Task
-from .infos import Infos
-from .changing import FORMS
+from .books import Cast, Decision, Home, Label, Task
+from .filed import Filed
+from .filing import Version, named
 from .looking import Flag
 from .looks import Looks
 from .reason import CAPS, IDS, Fault
-from .script import Script
+from .script import File, Script
 
 RULED = frozenset(("eperm", "einval", "eacces"))
 HOLDS = 512
 
 
-def file_name(words: list[str]) -> str:
-    """The file that an event names, if it names one."""
-    asks = words[0] in ("ask", "change") and words[2] in ("check", "exec")
-    place = 3 if asks else 2 if words[0] in (*FORMS, "stat", "open") else 0
-    return words[place] if place else ""
-
-
-class Journal(Looks, Infos):
+class Journal(Looks, Filed):
     """The entries of a report, followed one after another."""
 
     def __init__(self, script: Script, report: str, line: int | None = None) -> None:
@@ -39,10 +32,10 @@ class Journal(Looks, Infos):
         self.labels: dict[str, Label] = {}
         self.gone_labels: dict[str, tuple[int, str]] = {}
         self.files: dict[str, tuple[int, int]] = {}
+        self.infos: dict[str, File | Version] = dict(script.files)
         self.gone_files: dict[str, int] = {}
         self.casts: dict[str, Cast] = {}
         self.flags: dict[str, Flag] = {}
-        self.infos = {name: Info(file) for name, file in script.files.items()}
         self.ended_casts: dict[int, str] = {}
         self.slots: dict[int, int] = {}
         self.namespaces: dict[int, int] = {}
@@ -86,7 +79,7 @@ class Journal(Looks, Infos):
     def decide(self, words, told, task, before=None, after=None) -> Decision:
         """Keeps an entry that is told."""
         decision = Decision(self.index, self.line, words, told, task, before, after)
-        decision.info = self.infos.get(file_name(words))
+        decision.file = self.infos.get(named(words) or "")
         self.decisions.append(decision)
         return decision
 
@@ -219,7 +212,7 @@ class Journal(Looks, Infos):
             self.refuse(words, told, task, before)
             return
         label.change, label.access = words[2:], words[2] == "access"
-        label.info = self.decide(words, told, task, before).info
+        label.file = self.decide(words, told, task, before).file
 
     def on_commit(self, words, told):
         """A prepared credential becomes the task's."""
@@ -232,7 +225,7 @@ class Journal(Looks, Infos):
         task = self.tasks[label.task]
         number = self.seal(told, 1, task)
         decision = self.decide(words, told, label.task, task.current, number)
-        decision.change, decision.info = label.change, label.info
+        decision.change, decision.file = label.change, label.file
         if len(told) > 3:
             self.flagged(task, number, "execve", told[-3:] == ["0", "0", "0"])
         else:
@@ -302,6 +295,17 @@ class Journal(Looks, Infos):
         waiting = {name: None for name in self.processes[task.process] if name != task.name}
         cast = self.casts[task.process] = Cast(self.line, words[1], words[2:], waiting)
         self.completed(task.process, cast)
+
+    def on_raw(self, words, told):
+        """A call that sets the ids of one thread alone."""
+        task = self.tasks.get(words[1])
+        if told[0] != "ok":
+            self.refuse(words, told, words[1], task.current if task else None)
+            return
+        number = self.seal(told, 1, task)
+        self.decide(words, told, words[1], task.current, number)
+        self.flagged(task, number)
+        self.current(task, number)
 
     def on_act(self, words, told):
         """A waiting thread makes the call too."""

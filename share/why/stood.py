@@ -4,6 +4,7 @@ a limit. Each sentence has its condition, which is asked of the journal's books.
 from __future__ import annotations
 
 from . import sources
+from .filing import EVENTS
 from .names import CALLS, counted, listed
 from .reason import Fault, Reason
 
@@ -29,7 +30,7 @@ def source_of(words) -> str:
     """What the kernel's documentation has of an event on a label."""
     return {
         "ask": sources.ACCESSING, "open": sources.OPEN_FILES, "signal": sources.ACCESSING,
-        "ptrace": sources.ACCESSING,
+        "ptrace": sources.ACCESSING, **dict.fromkeys(EVENTS, sources.ACCESSING),
         "drop": sources.MANAGING, "override": sources.OVERRIDING, "revert": sources.OVERRIDING,
     }.get(words[0], sources.ALTERING)  # fmt: skip
 

@@ -47,6 +47,15 @@ pub fn read_data(bytes: &[u8]) -> Result<CapData, DataRefusal>
     ensures refusal { IfErr result (λ e. e ≡ refusal_of bytes.now) }
     ensures function { result_ok result ≡ data_of bytes.now }
 {
+    record_of(bytes)
+}
+
+/// The same, by the relation alone.
+fn record_of(bytes: &[u8]) -> Result<CapData, DataRefusal>
+    ensures value { IfOk result (λ d. Spells bytes.now d) }
+    ensures each_value { (d : Data) → Spells bytes.now d → result ≡ Ok d }
+    ensures refusal { IfErr result (λ e. e ≡ refusal_of bytes.now) }
+{
     if bytes.len() < 8 {
         return Err(DataRefusal::BadLength(bytes.len()));
     }

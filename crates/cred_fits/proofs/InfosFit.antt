@@ -4,6 +4,7 @@ use Rattle.std.specs.Prelude.{bit_and}
 use Rattle.std.specs.List.{All}
 use Rattle.std.specs.Option.{IfSome}
 use Rattle.std.proofs.lemmas.List.Elements.{All-cons, All-head, All-tail, All-map}
+use Rattle.std.proofs.lemmas.Nat.{and_le_l}
 use Rattle.cred_ids.specs.declared.arg.Arg.{Arg}
 use Rattle.cred_ids.specs.declared.arg.Arg.TheVariants.{Keep, Set}
 use Rattle.cred_ids.specs.Id.{IsId}
@@ -36,7 +37,7 @@ all_set P (y ∷ xs) (suc i) x all h = All-cons P y (slice_set xs i x) (All-head
 -- ---- what a call makes of a file
 
 fewer_bits : (mode mask : ℕ) → IsMode mode → IsMode (bit_and mode mask)
-fewer_bits mode mask small = grind (arith)
+fewer_bits mode mask small = omega (arith, and_le_l mode mask, small)
 
 id_chosen : (old : ℕ) (arg : Arg) → IsId old → IsArg arg → IsId (chosen old arg)
 id_chosen old Keep was fits = was

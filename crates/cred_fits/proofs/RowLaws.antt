@@ -1,5 +1,5 @@
 -- Each event is given one of the answers of its row.
-use Rattle.std.proofs.Common.{◌≡◌, ℕ, ◌-◌, ◌==◌, nat_lt, Bool, true, false, cond, List, [], ◌∷◌, length, slice_get, slice_set, not, Option, Some, None, Result, Ok, Err, ok_or, refl, ap, arith}
+use Rattle.std.proofs.Common.{◌≡◌, ℕ, ◌-◌, ◌==◌, ◌||◌, nat_lt, Bool, true, false, cond, List, [], ◌∷◌, length, slice_get, slice_set, not, Option, Some, None, Result, Ok, Err, ok_or, refl, ap, arith}
 use Rattle.std.specs.List.{find, position, count_by}
 use Rattle.std.proofs.lemmas.Bool.Decides.{nat_tests}
 use Rattle.std.specs.Option.{option_map_or, option_and_then}
@@ -426,9 +426,9 @@ of_dumpable s task value =
 
 -- a call that is refused gives an owner or a group
 refused_gives : (able gives own : Bool) → (able || not gives || own) ≡ false → gives ≡ true
-refused_gives true gives own no = cc
-refused_gives false true own no = refl
-refused_gives false false own no = cc
+refused_gives true gives own refused = cc
+refused_gives false true own refused = refl
+refused_gives false false own refused = cc
 
 of_chown : (s : State) (hold place : ℕ) (owner group : Arg) → Tells (rows.chown_row owner group) s (by_file s hold place (λ c file. chown c file owner group))
 of_chown s hold place owner group =

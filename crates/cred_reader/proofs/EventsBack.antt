@@ -257,8 +257,11 @@ ptrace_real_back script from hold to target fits = record {
 call_words : (name hold file : List ℕ) → 32 ∷ (name ++ codes " h" ++ hold ++ codes " " ++ file) ≡ spaced (name ∷ (codes "h" ++ hold) ∷ file ∷ [])
 call_words name hold file = simp (append_assoc, append-nil)
 
-call_words_more : (name hold file more : List ℕ) → 32 ∷ (name ++ codes " h" ++ hold ++ codes " " ++ file ++ codes " " ++ more) ≡ spaced (name ∷ (codes "h" ++ hold) ∷ file ∷ more ∷ [])
-call_words_more name hold file more = simp (append_assoc, append-nil)
+chmod_words : (hold file mode : List ℕ) → 32 ∷ (codes "chmod h" ++ hold ++ codes " " ++ file ++ 32 ∷ mode) ≡ spaced (codes "chmod" ∷ (codes "h" ++ hold) ∷ file ∷ mode ∷ [])
+chmod_words hold file mode = simp (append_assoc, append-nil)
+
+attr_words : (hold file digits : List ℕ) → 32 ∷ (codes "setattr h" ++ hold ++ codes " " ++ file ++ codes " " ++ digits) ≡ spaced (codes "setattr" ∷ (codes "h" ++ hold) ∷ file ∷ digits ∷ [])
+attr_words hold file digits = simp (append_assoc, append-nil)
 
 chown_words : (hold file owner group : List ℕ) → 32 ∷ (codes "chown h" ++ hold ++ codes " " ++ file ++ (32 ∷ owner) ++ (32 ∷ group)) ≡ spaced (codes "chown" ∷ (codes "h" ++ hold) ∷ file ∷ owner ∷ group ∷ [])
 chown_words hold file owner group = simp (append_assoc, append-nil)
@@ -279,7 +282,7 @@ chmod_back : (script : Script) (hold : ℕ) (file : ℕ) (mode : ℕ) → FitsEv
 unfolding spec.read_event spec.event_names spec.event_named spec.file_event file_calls.file_call_of file_calls.chmod_of
 chmod_back script hold file mode fits own =
     with_three (codes "chmod") (codes "h" ++ decimal hold) (file_text script file) (mode_word mode)
-    (rw (mode_spaced mode) (call_words_more (codes "chmod") (decimal hold) (file_text script file) (mode_word mode)))
+    (rw (mode_spaced mode) (chmod_words (decimal hold) (file_text script file) (mode_word mode)))
     refl (rw (decimal_inner hold (long_number hold fits.0)) refl) (file_plain script file own) (mode_plain mode)
     (rw (number_back hold fits.0, file_back script file own, mode_back mode fits.1) refl)
 
@@ -288,7 +291,7 @@ setattr_back : (script : Script) (hold : ℕ) (file : ℕ) (bytes : List ℕ) �
 unfolding spec.read_event spec.event_names spec.event_named spec.file_event file_calls.file_call_of file_calls.set_attr_of
 setattr_back script hold file bytes fits own =
     with_three (codes "setattr") (codes "h" ++ decimal hold) (file_text script file) (encode_lower bytes)
-    (call_words_more (codes "setattr") (decimal hold) (file_text script file) (encode_lower bytes))
+    (attr_words (decimal hold) (file_text script file) (encode_lower bytes))
     refl (rw (decimal_inner hold (long_number hold fits.0)) refl) (file_plain script file own) (attr_plain bytes fits.1)
     (rw (number_back hold fits.0, file_back script file own, attr_back bytes fits.1) refl)
 

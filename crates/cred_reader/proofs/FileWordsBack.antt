@@ -94,8 +94,8 @@ two_plain : (high low : ℕ) (more : List ℕ) → IsHexByte high → IsHexByte 
 two_plain high low more h l m = rw (hex_inner high h, hex_inner low l, m, hex_no_dash high h) refl
 
 no_0x : (t : Bool) (high low : ℕ) (more : List ℕ) → (high == 48) ≡ t → (low == 120) ≡ false → without_0x (high ∷ low ∷ more) ≡ high ∷ low ∷ more
-no_0x true high low more zero other = rw (zero, other) refl
-no_0x false high low more zero other = rw zero refl
+no_0x true high low more first second = rw (first, second) refl
+no_0x false high low more first second = rw first refl
 
 are_bytes : (bytes : List ℕ) → All (λ byte. byte < 256) bytes → IsBytes bytes
 are_bytes [] h k = omega arith

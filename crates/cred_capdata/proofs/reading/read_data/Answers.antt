@@ -1,15 +1,5 @@
-use Rattle.std.proofs.Common.{◌≡◌, Ok, ap, arith}
-use Rattle.std.proofs.lemmas.Grind.{common_steps}
-use Rattle.cred_capdata.proofs.RecordLaws.{no_bytes_spell_two}
 use Rattle.cred_capdata.proofs.DataOf.{read-is}
 use Rattle.cred_capdata.proofs.reading.read_data.Goals as goal
 
-pub returns-clause-value : goal.returns-clause-value
-returns-clause-value c = grind (arith, common_steps)
-
-pub returns-clause-each_value : goal.returns-clause-each_value
-returns-clause-each_value c =
-    λ a spells. ap Ok (no_bytes_spell_two c.args.bytes.now _ a (returns-clause-value c) spells)
-
 pub returns-clause-function : goal.returns-clause-function
-returns-clause-function c = read-is c.args.bytes.now c.result (returns-clause-value c) (returns-clause-each_value c)
+returns-clause-function c = read-is c.args.bytes.now c.record_of.result c.record_of.ensures.value c.record_of.ensures.each_value

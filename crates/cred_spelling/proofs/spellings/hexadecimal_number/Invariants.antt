@@ -1,7 +1,7 @@
 use Rattle.std.proofs.Common.{◌≡◌, ◌<◌, ◌^◌, drop}
 use Rattle.cred_spelling.specs.Spellings.{hexadecimal_number}
 use Rattle.cred_spelling.proofs.Hexadecimals.{hexadecimal_after}
-use Rattle.cred_spelling.proofs.spellings.hexadecimal.Given as goal
+use Rattle.cred_spelling.proofs.spellings.hexadecimal_number.Given as goal
 
 abbrev pub invariant-loop-byte : goal.invariant-loop-byte
 invariant-loop-byte l = record {
