@@ -14,6 +14,7 @@ from dataclasses import dataclass
 from pathlib import Path
 
 HERE = Path(__file__).resolve().parent
+TOP = HERE.parent
 PROGRAM, DIR = sys.argv[1], Path(sys.argv[2])
 # A run takes a few milliseconds. One that takes so many seconds hangs.
 LIMIT = 20
@@ -140,7 +141,8 @@ def rounds(task, count):
 
 
 def main():
-    """Each command, on what asks for memory in most of its places."""
+    """Each command, on what asks for memory in most of its places; then the program's stored run,
+    and lanes whose decisions take the most memory."""
     script, lanes = ((HERE / name).read_bytes() for name in ("faults.trace", "lanes.trace"))
     more = b"".join(b"lane %d\n" % lane + rounds(lane, 30) for lane in range(1, 5))
     report = refuse_text("run", ("run",), script, 0)
@@ -159,6 +161,11 @@ def main():
     refuse_lanes("lanes", lanes, "memory")
     refuse_lanes("longer lanes", lanes + more, "memory")
     refuse_lanes("lanes", lanes, "threads")
+    refuse_text("the stored run", ("run",), (TOP / "crates/credtrace/stdin").read_bytes(), 0)
+    for name in ("execve-beside-a-call", "access-by-two"):
+        script = (TOP / f"cases/lanes/{name}.trace").read_bytes()
+        for of in ("memory", "threads"):
+            refuse_lanes(f"lanes/{name}", script, of)
 
 
 if __name__ == "__main__":

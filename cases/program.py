@@ -1,5 +1,6 @@
 """A program that is held to the cases."""
 import difflib
+import os
 import re
 import subprocess
 from dataclasses import dataclass
@@ -24,6 +25,11 @@ def difference(wanted, written):
     """How what was written differs from what was wanted, a line each, the first of them."""
     lines = [it.decode(errors="replace").splitlines() for it in (wanted, written)]
     return "\n".join([*difflib.unified_diff(*lines, "wanted", "written", lineterm="")][:40])
+
+
+def shown(words):
+    """The words of a command line, as a text: they may be any bytes."""
+    return os.fsencode(" ".join(words)).decode("ascii", errors="backslashreplace")
 
 
 def lacks(entries, report):
@@ -70,7 +76,7 @@ class Program:
             [*self.argv, *words], input=given, stdout=subprocess.PIPE, timeout=LIMIT, check=False
         )
         if done.returncode != status:
-            told = f"{' '.join(words)} ends with status {done.returncode}, not {status}"
+            told = f"{shown(words)} ends with status {done.returncode}, not {status}"
             raise Failure(f"{told}:\n{done.stdout[:1000].decode(errors='replace')}")
         return done.stdout
 
@@ -79,7 +85,7 @@ class Program:
         written = self.run(words, given, status)
         if self.seen(written) != self.seen(wanted):
             told = difference(self.seen(wanted), self.seen(written))
-            raise Failure(f"{' '.join(words)} writes otherwise:\n{told}")
+            raise Failure(f"{shown(words)} writes otherwise:\n{told}")
         return written
 
     def finds_legal(self, given, report):

@@ -4,6 +4,7 @@ README.md says what each kind of file is. A file NAME.py has a function `cases()
 whose expected answers it works out by itself, from the manual page's words.
 """
 import importlib.util
+import os
 import re
 from dataclasses import dataclass
 from pathlib import Path
@@ -98,9 +99,10 @@ def of_rows(word):
 
 
 def of_words(file, name):
-    """The cases of a file of rows, each the words of a command line."""
-    for number, (words, written) in enumerate(rows(file), 1):
-        yield Case(f"{name}:{number}", tuple(words.decode().split()), UNREAD, written)
+    """The cases of a file of rows, each the words of a command line, which may be any bytes."""
+    for number, (line, written) in enumerate(rows(file), 1):
+        words = tuple(os.fsdecode(it) for it in line.split())
+        yield Case(f"{name}:{number}", words, UNREAD, written)
 
 
 def of_generator(file, name):

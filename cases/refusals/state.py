@@ -1,15 +1,22 @@
 """Each refusal of an event, in the middle of a script: all that comes behind it is answered as if
-it had not been there.
+it had not been there. So it is in a lane, too.
 
 docs/FORMATS.md, "The report": "A refusal changes nothing, with three exceptions. Before `table
 full` the sweep was made that looked for a slot, and it stands. `stale` gives up the label and its
-slot. `aborted` ends the process". So a script with the refused line must be reported as the one in whose
-place a comment stands, but for the entries of that line; in the first two exceptions as the one
-where a `sweep` or an `abort` stands in its place.
+slot. `aborted` ends the process". So a script with the refused line must be reported as the one in
+whose place a comment stands, but for the entries of that line; in the first two exceptions as the
+one where a `sweep` or an `abort` stands in its place.
 """
+from textwrap import shorten
+
 import suite
 
 INIT = "init t1 p1 0 0 n0"
+# Where a script's setup ends: a comment, or in its place the line that opens a lane. A lane's
+# questions, changes, signals and openings are decided beside the lock. docs/LANES.md: "A script
+# that opens one lane at most has no second legal journal".
+SETUP_ENDS = ("#", ())
+LANE = ("lane 1", ())
 
 
 def own(line, answer):
@@ -32,10 +39,20 @@ def report_of(lines):
     return ("".join(f"{it}\n" for it in its) for its in ([line for line, _ in lines], entries))
 
 
+def named(line):
+    """A line as a name, which is no longer than a line."""
+    return shorten(line[0], 60, placeholder=" ..")
+
+
 def cases_of(name, before, after, refused):
-    """The script without a refused line, and the same with each of these lines."""
+    """The script without a refused line, and the same with each of these lines; and each of them in
+    a lane, where it may stand there."""
+    in_lane = [LANE if it == SETUP_ENDS else it for it in before]
     for line in (("#", ()), *refused):
-        yield suite.script(f"{name}: {line[0]}", *report_of([*before, line, *after]))
+        yield suite.script(f"{name}: {named(line)}", *report_of([*before, line, *after]))
+        if LANE in in_lane and not line[0].startswith("init "):
+            its = report_of([*in_lane, line, *after])
+            yield suite.script(f"{name}, in a lane: {named(line)}", *its)
 
 
 # Of a process of root's two threads, p1, the first has begun a call that the second has yet to
@@ -47,6 +64,7 @@ BEFORE = (
     own(INIT, "ok c0 s0"),
     own("init t2 p2 1000 1000 n0", "ok c1 s1"),
     own("init t5 p5 2000 2000 n0", "ok c2 s2"),
+    SETUP_ENDS,
     ("t1 spawn t3", ("spawn t1 t3 -> ok c0 s0",)),
     ("t5 fork t4 p4", ("fork t5 t4 p4 -> ok c2 s2",)),
     own("take h1 t1", "ok c0 s0"),
@@ -226,7 +244,7 @@ def at_first():
 
 def of_holds():
     """512 holds: the next label holds nothing, and neither does a question."""
-    before = [("file a reg 0 0 0600", ()), own(INIT, "ok c0 s0")]
+    before = [("file a reg 0 0 0600", ()), own(INIT, "ok c0 s0"), SETUP_ENDS]
     before.append(asking("t1 open a r f1", "ok c0 s0", "open {0} a r f1 -> ok"))
     before += [own(f"take h{label} t1", "ok c0 s0") for label in range(1, 513)]
     after = (
@@ -245,7 +263,7 @@ def of_holds():
 
 def of_prepared():
     """64 labels are prepared: the next keeps no slot."""
-    before = [own(INIT, "ok c0 s0"), own("take h1 t1", "ok c0 s0")]
+    before = [own(INIT, "ok c0 s0"), SETUP_ENDS, own("take h1 t1", "ok c0 s0")]
     before += [own(f"prepare h{label} t1 h1", f"ok s{label - 1}") for label in range(2, 66)]
     after = (
         own("abort h5", "ok"),
@@ -260,6 +278,7 @@ def of_tasks():
     """64 tasks live: there is no other."""
     inits = [f"init t{task} p{task} 0 0 n0" for task in range(1, 65)]
     before = [own(line, f"ok c{number} s{number}") for number, line in enumerate(inits)]
+    before.append(SETUP_ENDS)
     one_more = own("init t65 p65 0 0 n0", "too many tasks")
     after = (
         ("t2 exit", ("exit t2 -> ok",)),
@@ -276,7 +295,7 @@ def of_tasks():
 
 def of_files():
     """256 files are open: there is no other."""
-    before = [("file a reg 0 0 0600", ()), own(INIT, "ok c0 s0")]
+    before = [("file a reg 0 0 0600", ()), own(INIT, "ok c0 s0"), SETUP_ENDS]
     opened = ((f"t1 open a r f{fd}", f"open {{0}} a r f{fd} -> ok") for fd in range(1, 257))
     before += [asking(line, "ok c0 s0", entry) for line, entry in opened]
     after = (
@@ -293,6 +312,7 @@ def of_overrides():
     access(2)."""
     before = [
         own(INIT, "ok c0 s0"),
+        SETUP_ENDS,
         own("take h1 t1", "ok c0 s0"),
         own("prepare h2 t1 h1", "ok s1"),
         own("change h2 access", "ok"),
@@ -308,10 +328,86 @@ def of_overrides():
     yield from cases_of("overrides", before, after, refused)
 
 
+def of_execve():
+    """A program that isn't given all that its file permits. What a label has prepared before stays,
+    and is committed; what it has not prepared yet is not there.
+
+    capabilities(7), "Safety checking for capability-dumb binaries": "If the process did not obtain
+    the full set of file permitted capabilities, then execve(2) fails with the error EPERM".
+    """
+    # cap_net_raw=ep, which the bounding set lacks. The first credential is deferred.
+    before = (
+        ("file a reg 0 0 0755 caps 0100000200200000000000000000000000000000", ()),
+        own(INIT, "ok c0 s0"),
+        SETUP_ENDS,
+        own("take h1 t1", "ok c0 s0"),
+        own("prepare h2 t1 h1", "ok s1"),
+        own("change h2 capdrop 13", "ok"),
+        own("commit h2", "ok c1 s1"),
+        own("drop h1", "ok"),
+        own("take h3 t1", "ok c1 s1"),
+        own("prepare h4 t1 h3", "ok s2"),
+        own("change h4 keepcaps 1", "ok"),
+        own("prepare h5 t1 h3", "ok s3"),
+    )
+    after = (
+        own("ask h3 bits", "ok 0 0"),
+        own("commit h5", "no prepared h5"),
+        own("change h5 setfsuid 7", "ok was 0"),
+        own("prepare h6 t1 h3", "ok s4"),
+        own("commit h4", "ok c2 s2"),
+        asking("t1 bits", "ok c2 s2", "ask {0} bits -> ok 16 0"),
+        own("commit h5", "stale c1 c2"),
+        own("drop h3", "ok"),
+        own("sweep", "ok"),
+        own("begin t1 setuid 0", "ok c3 s0 left 0"),
+    )
+    in_a_call = ("prepare {1} t1 {0} -> ok s4", "change {1} exec a -> eperm", "abort {1} -> ok")
+    refused = (
+        own("change h4 exec a", "eperm"),
+        own("change h5 exec a", "eperm"),
+        asking("t1 exec a", "ok c1 s1", *in_a_call),
+    )
+    yield from cases_of("an execve", before, after, refused)
+
+
+def of_calls():
+    """Calls of ids whose arguments are invalid: neither of the process's threads gets anything.
+
+    setgroups(2): "EINVAL size is greater than NGROUPS_MAX"; docs/RULES.md: "more than 1,024 groups
+    are EINVAL", "`-1` is EINVAL for setuid and seteuid, tested before EPERM", and it is so for the
+    calls of group ids.
+    """
+    # The first credential is deferred.
+    before = (
+        own(INIT, "ok c0 s0"),
+        SETUP_ENDS,
+        ("t1 spawn t2", ("spawn t1 t2 -> ok c0 s0",)),
+        own("begin t1 setresgid 0 0 0", "ok c1 s1 left 1"),
+        own("act 4", "ok t2 c2 s2 left 0"),
+    )
+    # The lines of the two calls that are made.
+    sets, leaves = len(before) + 3, len(before) + 7
+    after = (
+        asking("t2 groups", "ok c2 s2", "ask {0} groups -> ok"),
+        own("begin t1 setgroups 3 1 2", "ok c3 s3 left 1"),
+        own(f"act {sets}", "ok t2 c4 s4 left 0"),
+        asking("t2 groups", "ok c4 s4", "ask {0} groups -> ok 1 2 3"),
+        own("sweep", "ok"),
+        own("begin t2 setresuid 5 5 5", "ok c5 s0 left 1"),
+        own(f"act {leaves}", "ok t1 c6 s1 left 0"),
+    )
+    many = "setgroups " + " ".join(str(it) for it in range(1, 1026))
+    calls = (many, "setuid -1", "seteuid -1", "setgid -1", "setegid -1")
+    refused = [own(f"begin t1 {call}", "einval") for call in calls]
+    refused.append((f"t2 {many}", (f"begin t2 {many} -> einval",)))
+    yield from cases_of("a call of ids", before, after, refused)
+
+
 def exceptions():
     """256 slots are live, of which a sweep frees none: `table full` has made it. Then a commit
     comes too late: what was prepared is given up, as by `abort`, and its slot is taken next."""
-    before = [own(INIT, "ok c0 s0")]
+    before = [own(INIT, "ok c0 s0"), SETUP_ENDS]
     for number in range(255):
         before.append(own(f"take h{number + 1} t1", f"ok c{number} s{number}"))
         before.append(own("begin t1 setuid 0", f"ok c{number + 1} s{number + 1} left 0"))
@@ -329,15 +425,16 @@ def exceptions():
     yield from cases_of("slots", before, after, refused)
     before = (
         own(INIT, "ok c0 s0"),
+        SETUP_ENDS,
         own("take h1 t1", "ok c0 s0"),
         own("prepare h2 t1 h1", "ok s1"),
         own("change h2 keepcaps 1", "ok"),
         own("begin t1 setuid 0", "ok c1 s2 left 0"),
     )
     after = (own("commit h2", "no prepared h2"), own("begin t1 setuid 0", "ok c2 s1 left 0"))
-    late = (own("abort h2", "ok"), own("commit h2", "stale c0 c1"))
-    for line in late:
-        yield suite.script(f"too late: {line[0]}", *report_of([*before, line, *after]))
+    late = [own("abort h2", "ok"), own("commit h2", "stale c0 c1")]
+    # Without either of them the label would stay.
+    yield from list(cases_of("too late", before, after, late))[2:]
 
 
 def cases():
@@ -345,4 +442,5 @@ def cases():
     yield from cases_of("a call is open", BEFORE, AFTER, REFUSED)
     yield from at_first()
     yield from (*of_holds(), *of_prepared(), *of_tasks(), *of_files(), *of_overrides())
+    yield from (*of_execve(), *of_calls())
     yield from exceptions()

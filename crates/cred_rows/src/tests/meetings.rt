@@ -17,7 +17,7 @@ pub(crate) struct Meeting {
     pub(crate) apart: Option<(&'static str, &'static str)>,
 }
 
-pub(crate) const MEETINGS: [Meeting; 9] = [
+pub(crate) const MEETINGS: [Meeting; 11] = [
     Meeting {
         name: "over a broadcast",
         head: "init t1 p1 0 0 n0\nt1 spawn t2\nlane 1\nt1 ids\nlane 2\nt2 ids\n\
@@ -216,6 +216,58 @@ pub(crate) const MEETINGS: [Meeting; 9] = [
                 "13 ask h100130 ids -> ok 0 0 0 7 0 0 0 0",
             ],
         ],
+        apart: None,
+    },
+    // A signal waits for its decision while its target leaves root; it is decided on the credential
+    // that its hold has. The next one is decided, and not yet entered, while the target ends.
+    Meeting {
+        name: "over signals",
+        head: "init t1 p1 1000 1000 n0\ninit t2 p2 0 0 n0\ninit t3 p3 0 0 n0\nlane 1\n\
+            t1 signal t2\nt1 signal t2\nlane 2\nt3 ids\nt2 setresuid 1000 1000 1000\n\
+            t3 ids\nt2 exit\nt3 ids\n",
+        pairs: 0,
+        tail: "",
+        stops: &[
+            Stop(At(2, 8, BeforeDecision), &[At(1, 5, BeforeDecision)]),
+            Stop(At(1, 5, BeforeDecision), &[At(2, 10, BeforeDecision)]),
+            Stop(At(2, 10, BeforeDecision), &[At(1, 6, AfterDecision)]),
+            Stop(At(1, 6, AfterDecision), &[At(2, 12, BeforeDecision)]),
+        ],
+        entries: &[&[
+            "5 takereal h100051 t2 -> ok c1 s1",
+            "9 begin t2 setresuid 1000 1000 1000 -> ok c3 s3 left 0",
+            "5 signal t1 h100050 t2 h100051 -> eperm",
+            "6 takereal h100061 t2 -> ok c3 s3",
+            "11 exit t2 -> ok",
+            "6 signal t1 h100060 t2 h100061 -> no task t2",
+        ]],
+        apart: None,
+    },
+    // A file is to be opened while its opener follows a call that leaves root; that is decided on
+    // the credential that the hold has. The next descriptor is decided, and not yet taken, while a
+    // task of the other lane takes it.
+    Meeting {
+        name: "over opened files",
+        head: "file s reg 0 0 0600\ninit t1 p1 0 0 n0\ninit t3 p3 0 0 n0\nt1 spawn t2\n\
+            lane 1\nt1 open s r f1\nt1 open s r f2\nlane 2\nt3 ids\n\
+            t2 setresuid 5 5 5\nt3 open s r f2\nt3 ids\n",
+        pairs: 0,
+        tail: "",
+        stops: &[
+            Stop(At(2, 9, BeforeDecision), &[At(1, 6, BeforeDecision)]),
+            Stop(At(1, 6, BeforeDecision), &[At(2, 11, BeforeDecision)]),
+            Stop(At(2, 11, BeforeDecision), &[At(1, 7, AfterDecision)]),
+            Stop(At(1, 7, AfterDecision), &[At(2, 12, BeforeDecision)]),
+        ],
+        entries: &[&[
+            "6 take h100060 t1 -> ok c0 s0",
+            "10 begin t2 setresuid 5 5 5 -> ok c2 s2 left 1",
+            "10 act 10 -> ok t1 c3 s3 left 0",
+            "6 open h100060 s r f1 -> ok",
+            "7 take h100070 t1 -> ok c3 s3",
+            "11 open h100110 s r f2 -> ok",
+            "7 open h100070 s r f2 -> exists f2",
+        ]],
         apart: None,
     },
     Meeting {

@@ -1,0 +1,274 @@
+"""Tries wrong ways of running lanes: bench/wrong-workers.sh calls it.
+
+No contract says that two lanes overlap, that a decision is made where the lock is free, or that a
+worker comes to the gate. The meetings of `cred_rows` (src/tests/meetings.rt) show it. Here each
+wrong body is put into a copy of the crates, and the meetings are held there, unproved, by `rt try
+--test`: one of them at least must fail. First they are held by the crates as they are, and must
+pass. The first that goes otherwise is told, with status 1.
+"""
+import argparse
+import re
+import shutil
+import subprocess
+import sys
+import tempfile
+from concurrent.futures import ThreadPoolExecutor
+from dataclasses import dataclass
+from pathlib import Path
+
+TOP = Path(__file__).resolve().parent.parent
+TESTS = "crates/cred_rows/src/tests"
+TEST = "tests::gates::lanes_meet_at_their_decisions"
+# The modules that the meetings use. The tests of the others are left out of the copy.
+MODULES = ("cuts", "faults", "gate", "gates", "meetings", "runs")
+# How long the meetings may take, in seconds. A lane that waits in vain takes some thirty; on a busy
+# machine many more.
+LIMIT = 1200
+WORKERS = "crates/cred_lanes/src/workers.rt"
+WORK = "crates/cred_work/src/work.rt"
+PROGRAM = "crates/cred_program/src/program.rt"
+
+
+@dataclass(frozen=True)
+class Wrong:
+    """A wrong body: what it does, and in which files which text becomes which."""
+
+    name: str
+    does: str
+    edits: tuple
+
+
+# What each is made of: the worker's parallel map, its decision, and what `lanes` calls.
+MAP = """\
+    let done = thread::map_vec(
+        rt,
+        turns.into_turns(),
+        &|turn: Turn<K>| -> Result<Turn<K>, NoMemory>
+            requires { turn.numbers.out ≡ None }
+            ensures { IfOk result (Finished K.script turn) }
+        { work(rt, alloc, kernel, gate, turn) },
+    )?;
+"""
+USES_MAP = "use std::thread;\n"
+DECIDED = """\
+                let Ok(()) = decide(alloc, kernel, gate, turn.lane(), work) else {
+"""
+LINE = "    let line = work.line();\n"
+BEFORE = "    gate.pause(lane, line, Place::BeforeDecision);\n"
+PERFORM = "    kernel.do_work(alloc, work)?;\n"
+AFTER = "    gate.pause(lane, line, Place::AfterDecision);\n"
+BOTH = BEFORE + PERFORM + AFTER
+LANES = "Ok(Some(Command::Lanes)) => read_and_lanes(rt, alloc, source, sink, gate),"
+USAGE = "/// Writes the usage line.\nfn tell_usage"
+USES_IO = "use cred_io::{Sink, Source};\n"
+
+
+def decides_as(body):
+    """The worker's decision, made otherwise."""
+    return ((WORKERS, BOTH, body),)
+
+
+def passes_over(lent):
+    """The gate is passed over where this is lent."""
+    line = "    /// The line whose event waits.\n"
+    is_one = f"""\
+    /// Whether this is lent.
+    pub fn is_passed_over(&self) -> bool {{
+        matches!(&self.parts.lent, Some(Lent::{lent} {{ .. }}))
+    }}
+
+"""
+    body = """\
+    let is_passed_over = work.is_passed_over();
+    if !is_passed_over {
+        gate.pause(lane, line, Place::BeforeDecision);
+    }
+    kernel.do_work(alloc, work)?;
+    if !is_passed_over {
+        gate.pause(lane, line, Place::AfterDecision);
+    }
+"""
+    return ((WORK, line, is_one + line), *decides_as(body))
+
+
+ONE_BY_ONE = """\
+    let mut done = Vec::new(alloc);
+    for turn in turns.into_turns() {
+        done.push(work(rt, alloc, kernel, gate, turn))?;
+    }
+"""
+FROM_THE_LAST = """\
+    let mut left = turns.into_turns();
+    let mut done = Vec::new(alloc);
+    while let Some(turn) = left.pop() {
+        done.push(work(rt, alloc, kernel, gate, turn))?;
+    }
+    done.reverse();
+"""
+LOCKED = """\
+                let locked = kernel.lock(rt);
+                let decided = decide(alloc, kernel, gate, turn.lane(), work);
+                drop(locked);
+                let Ok(()) = decided else {
+"""
+THEN_RUN = """\
+/// Runs the lanes as threads, and then all lines in order: that report is written.
+fn lanes_then_run<R: Threads + Wait + Sync, S: Source, K: Sink, G: Gate + Sync>(
+    rt: &R,
+    alloc: Global,
+    source: &mut S,
+    sink: &mut K,
+    gate: &G,
+) -> Status {
+    let Ok(bytes) = read_all(alloc, source, 1_048_576) else {
+        return Status::ReadFault;
+    };
+    let (Ok(mut one), Ok(mut two)) = (
+        SureSource::of(alloc, bytes.items()),
+        SureSource::of(alloc, bytes.items()),
+    ) else {
+        return Status::Memory;
+    };
+    let mut aside = SureSink::new(alloc);
+    read_and_lanes(rt, alloc, &mut one, &mut aside, gate);
+    read_and_run(alloc, &mut two, sink)
+}
+
+"""
+USES_MORE_IO = "use cred_io::{Sink, Source, SureSink, SureSource, read_all};\n"
+
+BODIES = (
+    Wrong(
+        "one-by-one",
+        "the lanes run one after another",
+        ((WORKERS, MAP, ONE_BY_ONE), (WORKERS, USES_MAP, "")),
+    ),
+    Wrong(
+        "from-the-last",
+        "the lanes run one after another, the last one first",
+        ((WORKERS, MAP, FROM_THE_LAST), (WORKERS, USES_MAP, "")),
+    ),
+    Wrong(
+        "run",
+        "`lanes` does what `run` does",
+        ((PROGRAM, LANES, "Ok(Some(Command::Lanes)) => read_and_run(alloc, source, sink),"),),
+    ),
+    Wrong(
+        "then-run",
+        "the lanes run as threads, and then the report of `run` is written",
+        (
+            (PROGRAM, USAGE, THEN_RUN + USAGE),
+            (PROGRAM, LANES, LANES.replace("read_and_lanes", "lanes_then_run")),
+            (PROGRAM, USES_IO, USES_MORE_IO),
+        ),
+    ),
+    Wrong("locked", "a worker decides under the lock", ((WORKERS, DECIDED, LOCKED),)),
+    Wrong("no-gate", "a worker comes to no gate", decides_as(PERFORM)),
+    Wrong("no-gate-of-signals", "none for signals", passes_over("Signalling")),
+    Wrong("no-gate-of-files", "none for files that are opened", passes_over("Opening")),
+    Wrong("no-gate-of-questions", "none for questions", passes_over("Asking")),
+    Wrong("no-gate-of-changes", "none for changes", passes_over("Altering")),
+    Wrong("before-alone", "it comes to the place before alone", decides_as(BEFORE + PERFORM)),
+    Wrong("after-alone", "it comes to the place after alone", decides_as(PERFORM + AFTER)),
+    Wrong(
+        "exchanged",
+        "it comes to the places the other way round",
+        decides_as(AFTER + PERFORM + BEFORE),
+    ),
+    Wrong("next-line", "it comes with the next line", ((WORKERS, LINE, LINE.replace(";", " + 1;")),)),
+)
+
+
+class Failure(Exception):
+    """What went otherwise."""
+
+
+def copied(folder):
+    """Copies the crates, with the tests of the meetings alone."""
+    ignore = shutil.ignore_patterns("out", "must-fail", "proofs")
+    shutil.copytree(TOP / "crates", folder / "crates", ignore=ignore)
+    for name in ("crates.txt", "HANDLES"):
+        shutil.copy(TOP / name, folder / name)
+    tests = folder / TESTS
+    for file in tests.rglob("*.rt"):
+        if file.stem not in (*MODULES, "mod"):
+            file.unlink()
+        elif file.stem != "gates":
+            # A test stands last in its file.
+            file.write_text(file.read_text().partition("#[test]\n")[0])
+    used = [it for it in (tests / "mod.rt").read_text().splitlines()
+            if not it.startswith("mod ") or it[4:-1] in MODULES]
+    (tests / "mod.rt").write_text("\n".join(used) + "\n")
+
+
+def planted(folder, body):
+    """Puts a wrong body in place. What it stands in place of must stand there once."""
+    for file, old, new in body.edits:
+        text = (folder / file).read_text()
+        if text.count(old) != 1:
+            raise Failure(f"{body.name}: {text.count(old)} times in {file}:\n{old}")
+        (folder / file).write_text(text.replace(old, new))
+
+
+def held(folder):
+    """Holds the meetings: what is told of the one that fails, or nothing where all pass."""
+    words = ["rt", "try", "--test", "--seconds", str(LIMIT)]
+    done = subprocess.run(
+        words,
+        cwd=folder / "crates/cred_rows",
+        stdin=subprocess.DEVNULL,
+        stdout=subprocess.PIPE,
+        stderr=subprocess.STDOUT,
+        text=True,
+        errors="replace",
+        check=False,
+    )
+    ended = re.search(rf"^test {TEST} \.\.\. (ok|FAILED)(?:\n *(.*))?", done.stdout, re.M)
+    if not ended:
+        raise Failure(f"the meetings weren't held:\n{done.stdout[-2000:]}")
+    return None if ended[1] == "ok" else ended[2]
+
+
+def tried(body):
+    """Holds the meetings with a wrong body, or with the crates as they are, in a copy."""
+    with tempfile.TemporaryDirectory(prefix="wrong-workers-") as name:
+        folder = Path(name)
+        copied(folder)
+        if body:
+            planted(folder, body)
+        return held(folder)
+
+
+def given():
+    """The words of the command line."""
+    parser = argparse.ArgumentParser(description="Tries wrong ways of running lanes.")
+    parser.add_argument("--jobs", type=int, default=2, metavar="N", help="so many side by side")
+    parser.add_argument("names", nargs="*", metavar="NAME", help="these of them alone")
+    words = parser.parse_args()
+    known = [it.name for it in BODIES]
+    for it in words.names:
+        if it not in known:
+            parser.error(f"{it}: there is none of this name, but {', '.join(known)}")
+    return words
+
+
+def main():
+    """Tries them, so many side by side."""
+    words = given()
+    bodies = [it for it in BODIES if not words.names or it.name in words.names]
+    with ThreadPoolExecutor(max(words.jobs, 1)) as pool:
+        # The crates as they are come first.
+        for body, told in zip([None, *bodies], pool.map(tried, [None, *bodies])):
+            name = f"{body.name} ({body.does})" if body else "the crates as they are"
+            if (told is None) == (body is not None):
+                pool.shutdown(cancel_futures=True)
+                raise Failure(f"{name}: {told or 'all meetings pass'}")
+            print(f"{name}: {told or 'all meetings pass'}", flush=True)
+    print(f"wrong-workers: {len(bodies)} refused")
+
+
+if __name__ == "__main__":
+    try:
+        main()
+    except Failure as why:
+        sys.exit(f"wrong-workers: {why}")
