@@ -72,11 +72,11 @@ row script entries 'proved s, KiB' 'plain s, KiB' 'mark, KiB' \
 for name in calls changes holds checks broadcast; do
   "$proved" run < "$dir/$name" > "$dir/report"
   case $name in
-    calls) mark=38.8 ;;
-    changes) mark=70.4 ;;
-    holds) mark=21 ;;
-    checks) mark=49.4 ;;
-    broadcast) mark=117.3 ;;
+    calls) mark=39.5 ;;
+    changes) mark=71.9 ;;
+    holds) mark=21.1 ;;
+    checks) mark=49.7 ;;
+    broadcast) mark=123 ;;
   esac
   ours=$(seconds "$proved" "$name")
   theirs=- a=0 b=0

@@ -160,6 +160,16 @@ const ROWS: [Row; 34] = [
             "0 One(Act 20000)",
         ],
     ),
+    (
+        // Who may look into whom, and whether a process is dumpable.
+        "t1 ptrace fs t2\nt3 ptrace real t4\nt5 dumpable 2\nt6 dumped\n",
+        &[
+            "0 Ptrace 1 2 Fs",
+            "0 Ptrace 3 4 Real",
+            "0 One(Dumpable 5 2)",
+            "0 One(Dumped 6)",
+        ],
+    ),
     ("", &[]),
     ("t1 ids", &["0 Question 1 Ids"]),
     // A lane line belongs to the lane that it opens.
