@@ -44,13 +44,19 @@ def named(line):
     return shorten(line[0], 60, placeholder=" ..")
 
 
+def of_setup(line):
+    """Whether a line may stand in the setup alone: a first task, or a change of a file."""
+    words = line[0].split()
+    return words[0] == "init" or words[1:2] and words[1] in ("chown", "chmod", "setattr", "clearattr")
+
+
 def cases_of(name, before, after, refused):
     """The script without a refused line, and the same with each of these lines; and each of them in
     a lane, where it may stand there."""
     in_lane = [LANE if it == SETUP_ENDS else it for it in before]
     for line in (("#", ()), *refused):
         yield suite.script(f"{name}: {named(line)}", *report_of([*before, line, *after]))
-        if LANE in in_lane and not line[0].startswith("init "):
+        if LANE in in_lane and not of_setup(line):
             its = report_of([*in_lane, line, *after])
             yield suite.script(f"{name}, in a lane: {named(line)}", *its)
 
