@@ -1,5 +1,5 @@
 -- The files of a state are in range, whatever an event makes of them.
-use Rattle.std.proofs.Common.{◌≡◌, ℕ, zero, suc, Bool, true, false, cond, not, List, [], ◌∷◌, slice_get, slice_set, Option, Some, None, Result, Ok, Err, refl, sym, subst, arith}
+use Rattle.std.proofs.Common.{◌≡◌, ℕ, zero, suc, Bool, true, false, ◌||◌, cond, not, List, [], ◌∷◌, slice_get, slice_set, Option, Some, None, Result, Ok, Err, refl, sym, subst, arith}
 use Rattle.std.specs.Prelude.{bit_and}
 use Rattle.std.specs.List.{All}
 use Rattle.std.specs.Option.{IfSome}
@@ -65,7 +65,7 @@ chowned_fits f owner group was o g = record {
 given_fits : (c : Credential) (f : File) (mode : ℕ) → IsMode mode → IsMode (given_mode c f mode)
 given_fits c f mode small = by (capable c FSETID) (in_group c f.group)
   where
-    by : (able member : Bool) → IsMode (cond (cond able true member) mode (without mode SET_GROUP))
+    by : (able member : Bool) → IsMode (cond (able || member) mode (without mode SET_GROUP))
     by true member = small
     by false true = small
     by false false = fewer_bits mode _ small
