@@ -85,10 +85,10 @@ module _ (script : Script) (s : State) (label : ℕ) (ch : Change) (p : Prepared
       ap (λ (c : Credential). by_change (info_of s.infos (change_files ch)) (chain_of script c.ns) c ch) base_is
       ∙ sym (chain_right script ch own.ns chain (info_of s.infos (change_files ch)) own is)
 
-  pub alter_refused : (answer : Answer) → IsMadeOf script chain own ch (Err answer) → outcome s (by_alter script s label ch) ≡ (answer, s)
+  pub alter_refused : (answer : Answer) → IsMadeOf script s.infos chain own ch (Err answer) → outcome s (by_alter script s label ch) ≡ (answer, s)
   alter_refused answer (is, refused) = rw (prepared, sealed, by_same is ∙ sym refused) refl
 
-  pub alter_made : (made : Made) → IsMadeOf script chain own ch (Ok made)
+  pub alter_made : (made : Made) → IsMadeOf script s.infos chain own ch (Ok made)
       → outcome s (by_alter script s label ch) ≡ (made.answer, altered s label (record { change = ch; cred = made.cred; gains = made.gains }))
   alter_made made (is, done) = rw (prepared, sealed, by_same is ∙ sym done) refl
 

@@ -4,7 +4,7 @@ use Rattle.cred_state.proofs.state.State.put_file.Goals as goal
 use Rattle.cred_record.specs.declared.refusal.Denial.TheVariants.{Perm, Invalid}
 
 pub replace-requires : goal.replace-requires
-replace-requires c = rw (← c.self.view_is) at c.requires
+replace-requires c = rw (← c.self.view_is) at c.requires.there
 
 pub invariant_of-self : goal.invariant_of-self
 invariant_of-self c = (kept_infos c.self.invariant.0 c.replace.new.self, c.self.invariant.1)

@@ -26,5 +26,5 @@ returns-in-Ok-apply_parts-clause-ok c =
     let s = c.args.self.now.state in
     let becomes = c.in-Ok-apply_parts.ensures.made (cred_under s.creds c.in-Ok.now.number)
     (sym c.read_parts-parts.ensures.parts.0) in
-    rw c.read_parts-parts.ensures.same
+    rw (← c.read_parts-parts.ensures.same)
     (c.raw_with.ensures.ok c.args.call.now (rw c.read_parts-parts.ensures.same becomes))
