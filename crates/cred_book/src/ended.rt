@@ -26,8 +26,8 @@ pub(crate) fn lines_without_events(alloc: Global, script: &Script) -> Result<Vec
     ensures setup { SetupFirst script.now }
     ensures fixed { FixesFiles script.now }
 {
-    // What counts a script's lines says of them too that the setup's come first, and that those that
-    // change a file are among them; what counts its lanes, that no label stands in two.
+    // What counts a script's lines says of them too that the setup's come first, and that those
+    // that change a file are among them; what counts its lanes, that no label stands in two.
     let _ = script.lines();
     let mut ended: Vec<u32> = vec![in alloc; 0; script.lanes() as usize + 1]?;
     let mut number = 1;

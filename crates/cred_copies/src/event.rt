@@ -10,8 +10,8 @@ use cred_record::Attr;
 ///
 /// # Errors
 ///
-/// `NoMemory` where the list of a `setgroups`, or the bytes of an attribute, could not be copied; no
-/// other event takes memory.
+/// `NoMemory` where the list of a `setgroups`, or the bytes of an attribute, could not be copied;
+/// no other event takes memory.
 #[inline(always)]
 pub fn copy_event(e: &Event) -> Result<Event, NoMemory>
     ensures equal { IfOk result (λ copied. copied ≡ e.now) }

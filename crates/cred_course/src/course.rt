@@ -73,8 +73,8 @@ impl Course {
     ///
     /// # Errors
     ///
-    /// `NoMemory` where the list of a `setgroups`, or the bytes of an attribute, could not be copied;
-    /// no other event takes memory.
+    /// `NoMemory` where the list of a `setgroups`, or the bytes of an attribute, could not be
+    /// copied; no other event takes memory.
     #[inline(always)]
     pub fn event(&self, content: &Content) -> Result<Option<Event>, NoMemory>
         requires { Leads content.now self.now }

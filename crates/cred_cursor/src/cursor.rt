@@ -25,8 +25,8 @@ pub fn first_cursor(script: &Script, lane: u32) -> Option<Course>
 ///
 /// # Errors
 ///
-/// `NoMemory` where the list of a `setgroups`, or the bytes of an attribute, could not be copied; no
-/// other event takes memory.
+/// `NoMemory` where the list of a `setgroups`, or the bytes of an attribute, could not be copied;
+/// no other event takes memory.
 // Called for each event of a lane, from one place of it.
 #[inline(always)]
 pub fn next_event(script: &Script, course: Course) -> Result<Option<Event>, NoMemory>

@@ -420,8 +420,8 @@ by_stat s hold place = do
   file ← ok_or (slice_get s.infos place) (NoHold hold)
   Ok (Told (told.File file.owner file.group file.mode (is_some file.attr)), s)
 
--- A task makes an id call for itself alone: no other thread of its process waits for a step (nptl(7),
--- "NPTL and process credential changes").
+-- A task makes an id call for itself alone: no other thread of its process waits for a step
+-- (nptl(7), "NPTL and process credential changes").
 abbrev pub by_raw : State → ℕ → IdCall → Result (Answer × State) Answer
 by_raw s task call = do
   owner ← ok_or (task_of s task) (NoTask task)

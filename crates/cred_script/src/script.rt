@@ -82,8 +82,8 @@ impl Script {
         &self.files
     }
 
-    /// How many lines there are. The setup's come before all others, and those that change a file are
-    /// among them.
+    /// How many lines there are. The setup's come before all others, and those that change a file
+    /// are among them.
     pub fn lines(&self) -> u32
         ensures count { result ≡ length self.now.lines }
         ensures few { result ≤ LINE_LIMIT }
