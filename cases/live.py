@@ -28,7 +28,7 @@ LIMITS = re.compile(rb"-> (?:table full|too many|too deep)")
 NO_SCRIPT = "bad scripts, and texts without a call"
 OF_LIMITS = "limits of this program"
 # Subjects that have no case for a kernel.
-OTHERS = ("audit", "decode", "words", "limits")
+OTHERS = ("audit", "decode", "encode", "capdata", "words", "limits")
 SAME, NOTHING = 1, 2
 # How many lines of a long script are asked where few cases are.
 BRIEF = 400

@@ -7,7 +7,7 @@ from dataclasses import dataclass
 
 import suite
 
-COMMANDS = ("run", "lanes", "audit", "decode", "gen")
+COMMANDS = ("run", "lanes", "audit", "decode", "encode", "capdata", "gen")
 # A script that gives a lane its lines.
 LANE = re.compile(rb"^ *lane ", re.M)
 # The answer of an entry, and in it the numbers of credentials and of slots.

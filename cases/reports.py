@@ -154,9 +154,16 @@ class Script:
             told = f"ok t{other} {sealed.removeprefix('ok ')} left {len(others) - left}"
             self.entry(f"act {len(self.lines)}", told)
 
-    def changes(self, task, change, refusal=None, answer="ok", then=""):
-        """A change of the task's credential, answered so; `then` ends the answer of its commit."""
-        self.line(f"t{task} {change}")
+    def raw(self, task, call, refusal=None):
+        """A call that sets the ids of one thread alone."""
+        self.line(f"t{task} raw {call}")
+        self.entry(f"raw t{task} {call}", refusal or self.becomes(task, self.slots.keep()))
+
+    def changes(self, task, change, refusal=None, answer="ok", then="", by=None):
+        """A change of the task's credential, answered so; `then` ends the answer of its commit. The
+        call is written `by` other words where it has some.
+        """
+        self.line(f"t{task} {by or change}")
         held, prepared, _ = self.labels()
         slot = self.slots.keep()
         self.entry(f"take {held} t{task}", self.named(self.current[task]))

@@ -44,13 +44,19 @@ def named(line):
     return shorten(line[0], 60, placeholder=" ..")
 
 
+def of_setup(line):
+    """Whether a line may stand in the setup alone: a first task, or a change of a file."""
+    words = line[0].split()
+    return words[0] == "init" or words[1:2] and words[1] in ("chown", "chmod", "setattr", "clearattr")
+
+
 def cases_of(name, before, after, refused):
     """The script without a refused line, and the same with each of these lines; and each of them in
     a lane, where it may stand there."""
     in_lane = [LANE if it == SETUP_ENDS else it for it in before]
     for line in (("#", ()), *refused):
         yield suite.script(f"{name}: {named(line)}", *report_of([*before, line, *after]))
-        if LANE in in_lane and not line[0].startswith("init "):
+        if LANE in in_lane and not of_setup(line):
             its = report_of([*in_lane, line, *after])
             yield suite.script(f"{name}, in a lane: {named(line)}", *its)
 
@@ -117,6 +123,9 @@ AFTER = (
     own("abort h6", "ok"),
     own("prepare h9 t1 h12", "ok s5"),
     ("t9 exit", ("exit t9 -> ok",)),
+    asking("t3 stat a", "ok c9 s10", "stat {0} a -> ok 0 0 0600 0"),
+    asking("t3 stat b", "ok c9 s10", "stat {0} b -> ok 0 0 0755 1"),
+    ("t3 dumped", ("dumped t3 -> ok 1",)),
 )
 
 # Each row of docs/FORMATS.md, "Where each answer is decided", with the refusals that this script
@@ -178,6 +187,13 @@ REFUSED = (
     own("begin t5 setuid 0", "eperm"),
     own("begin t5 setuid -1", "einval"),
     own("begin t5 setgroups", "eperm"),
+    ("t9 raw setuid 0", ("raw t9 setuid 0 -> no task t9",)),
+    ("t1 raw setuid 0", (f"raw t1 setuid 0 -> busy {CALL}",)),
+    ("t3 raw setuid -1", (f"raw t3 setuid -1 -> busy {CALL}",)),
+    ("t2 raw setuid 1000", ("raw t2 setuid 1000 -> overridden 1",)),
+    ("t5 raw setuid 0", ("raw t5 setuid 0 -> eperm",)),
+    ("t5 raw setuid -1", ("raw t5 setuid -1 -> einval",)),
+    ("t5 raw setgroups", ("raw t5 setgroups -> eperm",)),
     own("act 1", "no broadcast 1"),
     ("t9 spawn t8", ("spawn t9 t8 -> no task t9",)),
     ("t1 spawn t8", (f"spawn t1 t8 -> busy {CALL}",)),
@@ -203,6 +219,23 @@ REFUSED = (
         "signal t5 {0} t1 {1} -> eperm",
         "drop {1} -> ok",
     ),
+    ("t9 dumpable 0", ("dumpable t9 0 -> no task t9",)),
+    ("t1 dumpable 2", ("dumpable t1 2 -> einval",)),
+    ("t9 dumped", ("dumped t9 -> no task t9",)),
+    asking("t1 ptrace fs t9", "ok c3 s8", "takereal {1} t9 -> no task t9"),
+    asking(
+        "t5 ptrace real t1",
+        "ok c2 s2",
+        "takereal {1} t1 -> ok c3 s8",
+        "ptrace real t5 {0} t1 {1} -> eperm",
+        "drop {1} -> ok",
+    ),
+    ("t9 stat a", ("take {0} t9 -> no task t9",)),
+    asking("t5 chown a 2000 -1", "ok c2 s2", "chown {0} a 2000 -1 -> eperm"),
+    asking("t5 chmod a 0666", "ok c2 s2", "chmod {0} a 0666 -> eperm"),
+    asking("t5 setattr a 0100", "ok c2 s2", "setattr {0} a 0100 -> eperm"),
+    asking("t5 clearattr b", "ok c2 s2", "clearattr {0} b -> eperm"),
+    asking("t1 setattr a 0100", "ok c3 s8", "setattr {0} a 0100 -> einval"),
 )
 
 
@@ -393,6 +426,7 @@ def exceptions():
         own("sweep", "ok"),
         own("begin t1 setuid 0", "table full"),
         own("prepare h300 t1 h1", "table full"),
+        ("t1 raw setuid 0", ("raw t1 setuid 0 -> table full",)),
     )
     yield from cases_of("slots", before, after, refused)
     before = (

@@ -5,7 +5,7 @@ empty or begins with `-`."
 """
 from suite import Case
 
-USAGE = b"usage: credtrace run|lanes|audit|gen N|decode HEX\n"
+USAGE = b"usage: credtrace run|lanes|audit|gen N|decode HEX|encode TEXT|capdata HEX\n"
 
 
 def cases():

@@ -71,12 +71,18 @@ NAMED = [
         "file a reg 0 0 0755 caps 00000002feffffff000000007f01000080000000",
     ),
     ("file a reg 0 0 0755 caps 0x00", "file a reg 0 0 0755 caps 0x00"),
+    (
+        "t1 setattr ping cap_net_raw=ep",
+        "t1 setattr ping 0100000200200000000000000000000000000000",
+    ),
+    ("t1 setattr ping 0x00", "t1 setattr ping 0x00"),
     ("# t1 capset none", "# t1 capset none"),
     ("t1  caps", "t1  caps"),
 ]
 
 # What is no set, no flags and no attribute; some of it as setcap(8) refuses it.
-NO_NAMES = ["t1 capset CAP_FOO 0 0", "t1 capset all-CAP_FOO 0 0", "t1 securebits SECBIT_FOO"]
+NO_NAMES = ["t1 setattr a cap_foo=ep", "t1 capset CAP_FOO 0 0", "t1 capset all-CAP_FOO 0 0"]
+NO_NAMES += ["t1 securebits SECBIT_FOO"]
 NO_NAMES += [f"file a reg 0 0 0755 caps {text}" for text in (
     "cap_foo=ep", "cap_kill", "cap_kill,=p", "+ep", "none=p", "cap_kill=x", "41=p",
     "cap_kill=ep cap_chown=p", "cap_kill=p cap_chown=ep",
@@ -95,6 +101,11 @@ COMPARED = [
         "t1 capset 2000 0 0)",
         "line 9: pid 7 capset({version=3}, ..) = -1 EPERM: the kernel eperm, the report ok (line 4: "
         "t1 capset CAP_NET_RAW none none)",
+    ),
+    (
+        "version 1 target 0 perm 400 inh 0 eff 2000 v3 22050820000000000000000000000000",
+        "version 1 target 0 perm CAP_NET_BIND_SERVICE inh none eff CAP_NET_RAW v3 "
+        "22050820000000000000000000000000",
     ),
     ("    since line 4: t1 securebits 16", "    since line 4: t1 securebits SECBIT_KEEP_CAPS"),
 ]

@@ -139,7 +139,7 @@ PLACES = [
     ("a root that is shared", "7 clone(child_stack=NULL, flags=CLONE_FS|SIGCHLD) = 8\n"
      '8 chroot("FOLDER/jail") = 0\n' + TOOL.format("/bin/tool"), "4755"),
     ("a change", TOOL.format("FOLDER/usr/bin/tool") + '7 chmod("FOLDER/usr/bin/tool", 0755) = 0\n',
-     "line 2 changes FOLDER/usr/bin/tool, or puts another file there"),
+     "line 2 changes FOLDER/usr/bin/tool, and of what it was before that nobody tells the"),
     ("a change before", '7 chmod("FOLDER/usr/bin/tool", 0755) = 0\n'
      + TOOL.format("FOLDER/usr/bin/tool"), "0755"),
     ("a change by a descriptor", TOOL.format("FOLDER/usr/bin/tool")
@@ -176,7 +176,7 @@ PLACES = [
      + '7 renameat(AT_FDCWD, "FOLDER/usr", AT_FDCWD, "FOLDER/old") = 0\n',
      "line 2 changes FOLDER/usr/bin/tool"),
     ("a link that is removed", '7 chroot("FOLDER/jail") = 0\n' + TOOL.format("/bin/tool")
-     + '7 unlink("/bin") = 0\n', "line 3 changes FOLDER/jail/bin/tool"),
+     + '7 unlink("/bin") = 0\n', "line 3 makes FOLDER/jail/bin another link than it was"),
     ("another link that is removed", TOOL.format("FOLDER/usr/bin/tool")
      + '7 unlink("FOLDER/jail/bin") = 0\n', "0755"),
     ("a descriptor of another mount namespace", '7 openat(AT_FDCWD, "FOLDER/jail/usr/bin/tool", '
@@ -235,6 +235,11 @@ FILES = """/bin/sh reg 0 0 0755
 /home/tool reg 0 0 0755
 / dir 0 0 0755
 /home dir 0 0 0750
+/srv/prober before reg 0 0 0755 caps 0100000200200000000000000000000000000000
+/srv/prober reg 1000 1000 0755
+/srv/link -> /srv/prober
+/srv/kept before reg 0 0 4755
+/srv/kept reg 0 0 0755
 """
 IDS = "7 getresuid([1000], [1000], [1000]) = 0\n"
 RUNS = '7 execve("{}", [], 0x7 /* 9 vars */) = {}\n'
@@ -243,6 +248,16 @@ NO_ROW = "no row explains it"
 TRACED = "execve is of a program: there are no scripts, and nobody traces the task"
 COUNTS = "a capability counts alike for every file and every task"
 BITS = "a securebit above bit 7 is EPERM"
+
+# A child of user 1000 that executes a program, and asks what it has then.
+CHILD = ("7 fork() = {0}\n{0} setuid(1000) = 0\n{0} execve(\"{1}\", [], 0x7 /* 9 vars */) = 0\n"
+         "{0} capget({{version=_LINUX_CAPABILITY_VERSION_3, pid=0}}, "
+         "{{effective={2}, permitted={2}, inheritable=0}}) = 0\n")
+HAS, LACKS = "1<<CAP_NET_RAW", "0"
+OWNED = '7 chown("/srv/prober", 1000, 1000) = 0\n'
+STAT = '7 newfstatat(AT_FDCWD, "{}", {{st_mode=S_IFREG|{}, st_uid={}, st_gid={}, ...}}, 0) = 0\n'
+THREAD = "7 clone(child_stack=NULL, flags=CLONE_VM|CLONE_FS|CLONE_FILES|CLONE_THREAD) = {}\n"
+DENIED = "-1 EPERM (Operation not permitted)"
 
 # A log with where it begins, the status of credtrace-compare, what it says and what it mustn't.
 DIFFERENCES = [
@@ -392,15 +407,63 @@ DIFFERENCES = [
     ("a thread that goes on before the last", ROOT, BEGINS
      + "7 clone(child_stack=NULL, flags=CLONE_VM|CLONE_FS|CLONE_FILES|CLONE_THREAD) = 8\n"
      "8 setuid(5) = 0\n8 getuid() = 5\n7 setuid(5) = 0\n", 0, ["agree: 4"], []),
-    ("one thread alone", ROOT, BEGINS
-     + "7 clone(child_stack=NULL, flags=CLONE_VM|CLONE_FS|CLONE_FILES|CLONE_THREAD) = 8\n"
-     "8 setuid(5) = 0\n8 getuid() = 5\n7 getuid() = 0\n", 3, ["not all 2 threads"], []),
+    ("one thread alone", ROOT, BEGINS + THREAD.format(8)
+     + "8 setuid(5) = 0\n8 getuid() = 5\n7 getuid() = 0\n", 0, ["agree: 5"], ["left: "]),
+    ("threads that leave by themselves", ROOT, BEGINS + THREAD.format(8) + THREAD.format(9)
+     + "8 setresuid(5, 5, 5) = 0\n9 setresuid(6, 6, 6) = 0\n8 setuid(0) = " + DENIED
+     + "\n7 setgid(7) = 0\n9 getuid() = 6\n8 getgid() = 0\n7 getegid() = 7\n", 0,
+     ["agree: 10"], ["left: "]),
+    ("libc's call that one thread can't make", ROOT, BEGINS + THREAD.format(8)
+     + "8 setresuid(5, 5, 5) = 0\n8 setresuid(7, 7, 7) = " + DENIED
+     + "\n7 setresuid(7, 7, 7) = 0\n7 getuid() = 7\n8 getuid() = 5\n", 0, ["agree: 7"], []),
+    ("libc's call, between whose parts a thread does more", ROOT, BEGINS + THREAD.format(8)
+     + THREAD.format(9) + "8 setuid(5) = 0\n9 getuid() = 0\n7 getuid() = 0\n9 setuid(5) = 0\n"
+     "7 setuid(5) = 0\n8 getuid() = 5\n9 getuid() = 5\n", 0, ["agree: 8"], []),
+    ("the same call by each thread at its time", ROOT, BEGINS + THREAD.format(8)
+     + "8 setuid(5) = 0\n8 getuid() = 5\n7 getuid() = 0\n7 setuid(5) = 0\n", 0,
+     ["agree: 6"], []),
+    ("a thread that is made in the middle", ROOT, BEGINS + THREAD.format(8)
+     + "8 setuid(5) = 0\n" + THREAD.format(9) + "7 setuid(5) = 0\n9 getuid() = 0\n"
+     "8 getuid() = 5\n", 0, ["agree: 7"], []),
+    ("what a chown takes", ROOT, BEGINS + CHILD.format(8, "/srv/prober", HAS) + OWNED
+     + CHILD.format(9, "/srv/link", LACKS), 0, ["agree: 10"], ["left: "]),
+    ("what stat tells after a chown", ROOT, BEGINS + STAT.format("/srv/link", "0755", 0, 0) + OWNED
+     + STAT.format("/srv/link", "0755", 1000, 1000), 0, ["agree: 3"], []),
+    ("what stat tells otherwise", ROOT, BEGINS + OWNED
+     + STAT.format("/srv/prober", "S_ISUID|0755", 1000, 1000), 1, [NO_ROW], []),
+    ("what getxattr tells after a chown", ROOT, BEGINS + OWNED + '7 getxattr("/srv/prober", '
+     '"security.capability", 0x7ffe, 24) = -1 ENODATA (No data available)\n', 0, ["agree: 3"], []),
+    ("a stranger's chmod", ROOT, BEGINS + "7 fork() = 8\n8 setuid(1001) = 0\n"
+     '8 fchmodat(AT_FDCWD, "/srv/prober", 0777) = ' + DENIED + "\n" + OWNED
+     + '8 openat(AT_FDCWD, "/srv/prober", O_RDONLY) = 3\n8 fchmod(3, 04755) = ' + DENIED + "\n",
+     0, ["agree: 7"], []),
+    ("a name more", ROOT, BEGINS + '7 link("/srv/prober", "/srv/again") = 0\n'
+     '7 setxattr("/srv/again", "security.capability", "\\1\\0\\0\\2\\0\\4\\0\\0\\0\\0\\0\\0\\0\\0'
+     '\\0\\0\\0\\0\\0", 20, 0) = 0\n' + CHILD.format(8, "/srv/prober", "1<<CAP_NET_BIND_SERVICE")
+     + '7 unlink("/srv/prober") = 0\n7 removexattr("/srv/again", "security.capability") = 0\n'
+     + CHILD.format(9, "/srv/again", LACKS), 0, ["agree: 11"], ["left: "]),
+    ("a chown that keeps both ids", ROOT, BEGINS + '7 chown("/srv/kept", -1, -1) = 0\n'
+     + STAT.format("/srv/kept", "0755", 0, 0), 0,
+     ["a chown that keeps both ids changes nothing", "it takes set-id bits"], [NO_ROW]),
+    ("a chown of a set-user-ID file by who has CAP_CHOWN alone", ROOT, BEGINS
+     + '7 chown("/srv/kept", 5, 5) = ' + DENIED + "\n", 0, ["CAP_CHOWN is enough"], [NO_ROW]),
+    ("bytes that are no attribute", ROOT, BEGINS + "7 fork() = 8\n8 setuid(5) = 0\n8 setxattr("
+     '"/srv/prober", "security.capability", "\\1", 1, 0) = -1 EINVAL (Invalid argument)\n', 0,
+     ["setxattr of bytes that are no attribute"], [NO_ROW]),
+    ("a file that isn't mapped", ROOT, BEGINS + "7 setuid(1000) = 0\n7 unshare(CLONE_NEWUSER) = 0\n"
+     '7 chmod("/home/tool", 0777) = ' + DENIED + "\n", 0,
+     ["chown, chmod and setxattr ask for their capability alone"], [NO_ROW]),
+    ("another process changes a file, and the list tells what it was", ROOT, BEGINS
+     + "7 fork() = 8\n7 fork() = 9\n8 setuid(1000) = 0\n"
+     + RUNS.replace("7 ", "8 ").format("/srv/prober", 0)
+     + '9 chown("/srv/prober", 1000, 1000) = 0\n', 3, ["line 6 changes /srv/prober"], []),
 ]
 
 # What the tools are told besides.
 JAIL = ["--root", "FOLDER/jail"]
 WORDS = {
     "another process changes a file": ["--task", "8"],
+    "another process changes a file, and the list tells what it was": ["--task", "8"],
     "a root that is named": JAIL,
     "a root that is named, and what -y tells of it": JAIL,
     "a root of a container, and what -y tells of it": JAIL,

@@ -95,7 +95,8 @@ def check_entry(name: str, line: str, data: dict, place: int) -> None:
         wrong(f"{name}: a refusal isn't drawn as one, or something else is")
     row = data["rows"][data["of"][place]][0]
     task = re.match(
-        r"(?:init|begin|spawn|fork|exit|override|revert|signal|dumpable|dumped|ptrace \w+) (t\d+)",
+        r"(?:init|begin|raw|spawn|fork|exit|override|revert|signal|dumpable|dumped|ptrace \w+) "
+        r"(t\d+)",
         event,
     )
     task = task or re.match(r"(?:take|takereal|prepare) h\d+ (t\d+)", event)
@@ -116,7 +117,7 @@ def check_bands(name: str, lines: list[str], data: dict) -> None:
         if told[0] != "ok":
             continue
         row = data["rows"][data["of"][place - 1]][0]
-        if words[0] in ("init", "begin", "commit"):
+        if words[0] in ("init", "begin", "raw", "commit"):
             expected.add((place, row, told[1]))
         elif words[0] in ("spawn", "fork"):
             expected.add((place, words[2], told[1]))
@@ -160,7 +161,7 @@ def check_ends(name: str, lines: list[str], data: dict) -> None:
 
 def bands_ended(event: str, told: list[str]) -> int:
     """How many bands an entry ends: that of a task that ends, that which another one replaces."""
-    if told[0] != "ok" or event not in ("exit", "begin", "act", "commit"):
+    if told[0] != "ok" or event not in ("exit", "begin", "raw", "act", "commit"):
         return 0
     return 1 + (int(told[4]) if "ended" in told else 0)
 

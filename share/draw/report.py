@@ -23,6 +23,8 @@ WORDS = {
     "ARG": f"(?:-1|{NUM})",
     "SET": "(?:0|[1-9a-f][0-9a-f]{0,15})",
     "WANT": "(?:r|w|x|rw|rx|wx|rwx)",
+    "MODE": "[0-7]{4}",
+    "HEX": "(?:[0-9a-f]{2}){1,64}",
     # What a name may have is the script's concern: here it is a word of printable ASCII.
     "NAME": "[!-~]{1,255}",
 }
@@ -70,6 +72,12 @@ FORMS = {
     "ptrace": ["ptrace (fs|real) T H T H -> ok"],
     "dumpable": ["dumpable T NUM -> ok"],
     "dumped": ["dumped T -> ok (0|1)"],
+    "chown": ["chown H NAME ARG ARG -> ok"],
+    "chmod": ["chmod H NAME MODE -> ok"],
+    "setattr": ["setattr H NAME HEX -> ok"],
+    "clearattr": ["clearattr H NAME -> ok"],
+    "stat": ["stat H NAME -> ok NUM NUM MODE (0|1)"],
+    "raw": [f"raw T ({ID_CALLS}) -> ok C S"],
     "sweep": ["sweep -> ok"],
 }
 

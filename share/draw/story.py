@@ -187,6 +187,11 @@ class Story:
         self.seal(self.becomes(row, told[0], told[1]), row, before, [])
         self.begun[str(entry.line)] = self.count, row
 
+    def on_raw(self, row: Row, _: str, *call: str, told: list[str], **_entry) -> None:
+        """A call of one thread alone."""
+        before = self.current.get(row.name)
+        self.seal(self.becomes(row, told[0], told[1]), row, before, [])
+
     def on_act(self, row: Row, line: str, *, told: list[str], **_entry) -> None:
         """A call: a thread follows."""
         before = self.current.get(row.name)

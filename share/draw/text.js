@@ -23,6 +23,12 @@ const SHORT = {
   ptrace: (words) => ["ptrace", words[1], words[4]],
   dumpable: (words) => ["dumpable", words[2]],
   dumped: () => ["dumped"],
+  chown: (words) => ["chown", ...words.slice(2)],
+  chmod: (words) => ["chmod", ...words.slice(2)],
+  setattr: (words) => ["setattr", words[2]],
+  clearattr: (words) => ["clearattr", words[2]],
+  stat: (words) => ["stat", words[2]],
+  raw: (words) => ["raw", ...words.slice(2)],
   init: (words) => ["init", ...words.slice(3)],
   spawn: (words) => ["spawn", words[2]],
   fork: (words) => ["fork", words[2]],
@@ -49,7 +55,7 @@ function shortOf(model, place) {
   const short = SHORT[event] || ((all) => [all[0], labelOf(all[1])]);
   let text = short(words).join(" ").trim();
   if (model.kind(place) === "x") return answer.join(" ") + ": " + text;
-  if ((event === "ask" || event === "dumped") && answer.length > 1) text += " = " + answer.slice(1).join(" ");
+  if ((event === "ask" || event === "dumped" || event === "stat") && answer.length > 1) text += " = " + answer.slice(1).join(" ");
   if (event === "ask" && words[2] === "check") text += ": ok";
   return text;
 }

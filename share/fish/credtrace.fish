@@ -6,3 +6,5 @@ complete -c credtrace -n $first -a lanes -d 'Read a script, run its lanes as thr
 complete -c credtrace -n $first -a audit -d 'Say whether a report is its script\'s'
 complete -c credtrace -n $first -a gen -d 'Run a script of N calls that it makes itself and sum up its report'
 complete -c credtrace -n $first -a decode -d 'Say what the bytes of a capability attribute say'
+complete -c credtrace -n $first -a encode -d 'Say which bytes a text of file capabilities is'
+complete -c credtrace -n $first -a capdata -d 'Say what the bytes of a record of capset(2) say'

@@ -22,6 +22,8 @@ BUSY = "a program that runs isn't opened for writing (ETXTBSY)"
 DESCRIPTORS = "a descriptor is one of its process, not of the whole system"
 SPACES_OF_PROCESS = "the threads of a process are in one user namespace"
 LOOKS = "the driver doesn't ask who may look into whom"
+CHANGED = "the driver changes no file"
+RAW = "the driver makes no call for one thread alone, and none by a record"
 NO_SPACES = "user namespaces can't be created here"
 EVERY_ID = ((0, 0xFFFFFFFF),)
 NOT_MAPPED = "ids that aren't mapped here"
@@ -57,6 +59,10 @@ def forms(script: Script) -> Iterator[str]:
             yield OPENER
         elif words[1] in ("ptrace", "dumpable", "dumped"):
             yield LOOKS
+        elif words[1] in ("chown", "chmod", "setattr", "clearattr", "stat"):
+            yield CHANGED
+        elif words[1] in ("raw", "capsetraw"):
+            yield RAW
         elif words[1] == "open":
             if words[3] not in OPENS or "w" in words[3] and script.files[words[2]].is_dir:
                 yield NO_EXECUTE

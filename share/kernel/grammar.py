@@ -28,7 +28,8 @@ QUERY = ("ids", "caps", "groups", "bits", "capable CAP", "bset CAP", "ambis CAP"
 OF_TASK = (
     *IDCALL, *CHANGE, *QUERY, "open NAME WANT F", "close F", "fcap F CAP", "access NAME WANT",
     "signal T", "spawn T", "fork T P", "exit", "ptrace fs T", "ptrace real T", "dumpable NUM",
-    "dumped",
+    "dumped", "chown NAME ARG ARG", "chmod NAME MODE", "setattr NAME HEX", "clearattr NAME",
+    "stat NAME", "capsetraw HEX", *(f"raw {it}" for it in IDCALL),
 )  # fmt: skip
 LINES = (
     "file NAME KIND ID ID MODE(?: nosuid)?(?: caps HEX)?", "ns NUM ID NUM", "init T P ID ID N",
@@ -46,7 +47,8 @@ assert {it.split()[0] for it in QUERY} == set(QUERIES)
 
 
 DECLARE = ("file", "ns", "init")
-NAMES = ("exec", "check", "access", "open")
+FILE_CALLS = ("chown", "chmod", "setattr", "clearattr", "stat")
+NAMES = ("exec", "check", "access", "open", *FILE_CALLS)
 
 
 def in_range(words: list[str]) -> bool:

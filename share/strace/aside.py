@@ -38,7 +38,7 @@ def text_of(lines: list[Line]) -> str:
 
 def refused(line: Line) -> bool:
     """Whether the kernel refused a call that would have changed something."""
-    answer, form = line.answer, line.text.split()[1:2]
+    answer, form = line.answer, line.words[1:2]
     return answer is not None and not answer.startswith("ok") and form[0] in CHANGED
 
 
@@ -49,7 +49,7 @@ def stands_aside(line: Line, answer: str | None) -> bool:
 
 def outside_of_rules(line: Line) -> bool:
     """Whether something else than the rules may have refused it, as the log itself tells."""
-    denied = line.facts.denied and line.text.split()[1] == "setgroups"
+    denied = line.facts.denied and line.words[1] == "setgroups"
     return refused(line) and bool(line.facts.filtered or denied)
 
 

@@ -2,14 +2,20 @@
 
 from __future__ import annotations
 
-from . import lines
-from .calls import Unheld, answer
+from . import changes, filecalls, lines, spaces
+from .calls import Said, Unheld, answer
 from .changes import Changes
+from .filecalls import attribute_of, stat_of
 from .files import Found, Missing
+from .history import SET_ID_BITS, Change
 from .log import Call
 from .moves import argument, open_flags
+from .opened import told as told_path
+from .passed import Passed
 from .paths import Paths
+from .places import Located
 from .script import Facts, Line, Script
+from .spaces import led
 from .tasks import Task
 
 ACCESSES = ("access", "faccessat", "faccessat2")
@@ -46,21 +52,25 @@ def opened(call: Call) -> tuple[int, str, str | None]:
     return place, "open", None if "O_PATH" in flags else want
 
 
-def facts_of(task: Task, found: Found) -> Facts:
-    """What is known of a file besides."""
-    words, space = found.file.words.split(), task.process.space
+def facts_of(task: Task, found: Found, now: str) -> Facts:
+    """What is known of a file besides; `now` is what it is here."""
+    words, space = now.split(), task.process.space
     unmapped = not (space.inside(int(words[1]), False) and space.inside(int(words[2]), True))
     filtered = task.process.filtered
-    return Facts(found.place, found.file.noexec, filtered, unmapped, words=found.file.words)
+    inside = space.parent is not None
+    return Facts(found.place, found.file.noexec, filtered, unmapped, words=now, inside=inside)
 
 
 class Asks:
-    """Writes the lines of such calls."""
+    """Writes the lines of such calls, and of those that change a file or tell what it is."""
 
-    def __init__(self, paths: Paths, script: Script, changes: Changes) -> None:
+    def __init__(
+        self, paths: Paths, script: Script, changes: Changes, passed: Passed
+    ) -> None:
         self._paths = paths
         self._script = script
         self._changes = changes
+        self._passed = passed
 
     def file(self, task: Task, call: Call, place: int) -> Found | None:
         """A file that the list of files names, or that was executed before."""
@@ -91,8 +101,139 @@ class Asks:
         if found is None:
             return None
         name = self._script.file(call.first, found)
-        facts = facts_of(task, found)
+        facts = facts_of(task, found, self._changes.now(found))
         if form == "open":
             opens = Line(f"{task.name} open {name} {want} {DESCRIPTOR}", call, said, facts)
             return [opens, Line(f"{task.name} close {DESCRIPTOR}")]
         return [Line(f"{task.name} {form} {name} {want}", call, said, facts)]
+
+    def _located(self, task: Task, call: Call) -> Located | None:
+        """Where the file of a call lies that changes it or tells what it is."""
+        if call.name in filecalls.BY_DESCRIPTOR:
+            return self._paths.base(task, argument(call, 0))
+        place = 1 if call.name in filecalls.AT_FOLDER else 0
+        path, base = self._paths.named(task, call, place, place - 1 if place else None)
+        found = self._paths.both(task, path, base)
+        return None if filecalls.of_link(call) and self._paths.is_link(found) else found
+
+    def access(self, task: Task, call: Call) -> None:
+        """access(2), of a file that the list names or that was executed."""
+        found = self.lines(task, call)
+        self._script.add(call.first, *(found or ()))
+        if not found:
+            self._passed.call(call)
+
+    def change(self, task: Task, call: Call) -> None:
+        """chmod(2) and what else changes a file, or puts another one in its place."""
+        if not call.context and self.changed(task, call):
+            return
+        if not call.context:
+            self._passed.call(call)
+        if call.result.value == 0 and call.name in changes.LINKED:
+            self._changes.links(task, call)
+        elif call.result.value == 0:
+            self._changes.changes(task, call)
+
+    def tell(self, task: Task, call: Call) -> None:
+        """stat(2) and its kin, of a file that has changed in the log."""
+        found = [] if call.context else self.tells(task, call)
+        self._script.add(call.first, *found)
+        if not found and not call.context:
+            self._passed.call(call)
+
+    def changed(self, task: Task, call: Call) -> bool:
+        """Writes the lines of a call that changes a file, where that is said; and whether it is."""
+        form, said = filecalls.changing(call), answer(call.result)
+        if form is None or said not in ("ok", "eperm", "einval"):
+            return False
+        name, words = form
+        try:
+            located = self._located(task, call)
+            outside = led(Said(f"{name} {' '.join(words)}", said), task.process.space)
+            if located is None or outside is None:
+                return located is None
+            is_said = self._changes.is_said(located, call.first)
+            files = self._changes.names_of(located) if is_said else []
+        except (Unheld, Missing, IndexError):
+            if said == "ok":
+                self._changes.lost(self._end(task, call), call.first)
+            return False
+        words = tuple(outside.words.split()[1:])
+        lines = [self._of_file(task, call, found, name, words, said) for found in files]
+        self._script.add(call.first, *lines)
+        history = self._changes.history(located)
+        history.lines.add(call.first)
+        if said == "ok":
+            history.changes.append(Change(call.first, name, words, task.ids.users[3]))
+        if not is_said:
+            self._passed.call(call)
+        return True
+
+    def _of_file(
+        self, task: Task, call: Call, found: Found, form: str, words: tuple[str, ...], said: str
+    ) -> Line:
+        """A line of a call on a file."""
+        name = self._script.file(call.first, found)
+        text = " ".join([task.name, form, name, *words])
+        return Line(text, call, said, facts_of(task, found, self._changes.now(found)))
+
+    def tells(self, task: Task, call: Call) -> list[Line]:
+        """The lines of a call that tells what a file is, where the file has changed before."""
+        if not self._changes.any_change():
+            return []
+        told = stat_of(call)
+        attribute = attribute_of(call) if call.name in filecalls.GET else None
+        if (told is None and attribute is None) or not self._may_tell(task, call):
+            return []
+        try:
+            located = self._located(task, call)
+            changed = self._changes.has_changed(located) if located else None
+            if located is None or changed is None:
+                return []
+            files = self._changes.names_of(located) if changed else []
+        except (Unheld, Missing, IndexError):
+            return []
+        space = task.process.space
+        owner, group = (
+            spaces.told(str(told[name]) if told and name in told else "*", space, name == "gid")
+            for name in ("uid", "gid")
+        )
+        self._note(located, told, owner, group, attribute)
+        mode = f"{told['mode']:04o}" if told else "*"
+        flag = "*" if attribute is None else str(int(attribute[0]))
+        said = f"ok {owner} {group} {mode} {flag}"
+        return [self._of_file(task, call, found, "stat", (), said) for found in files]
+
+    def _may_tell(self, task: Task, call: Call) -> bool:
+        """Whether it may be of a file that changes: most stats of a long log are of others."""
+        return self._changes.may_tell(self._end(task, call))
+
+    def _end(self, task: Task, call: Call) -> str:
+        """How the path of the file ends, as far as that is known."""
+        path: str | None = ""
+        if call.name not in filecalls.BY_DESCRIPTOR:
+            path = lines.string(argument(call, 1 if call.name in filecalls.AT_FOLDER else 0))
+        shown = told_path(argument(call, 0)) if path == "" else None
+        if path == "":
+            path = shown[0] if shown else task.descriptors.end(argument(call, 0))
+        return (path or "").rpartition("/")[2]
+
+    def _note(
+        self,
+        located: Located,
+        told: dict[str, int] | None,
+        owner: str,
+        group: str,
+        attribute: tuple[bool, str | None] | None,
+    ) -> None:
+        """What is told of a file may be what it was before the log's changes."""
+        history = self._changes.history(located)
+        if told is not None:
+            mode = told["mode"]
+            history.tells(bits=mode & ~SET_ID_BITS, set_id=mode & SET_ID_BITS)
+        if owner != "*":
+            history.tells(owner=int(owner))
+        if group != "*":
+            history.tells(group=int(group))
+        if attribute is not None and (attribute[1] or not attribute[0]):
+            history.tells(caps=attribute[1])

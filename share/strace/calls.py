@@ -26,9 +26,9 @@ ALL_CAPABILITIES = (1 << len(CAPABILITIES)) - 1
 
 CAP_BITS = {f"1<<CAP_{name}": 1 << place for place, name in enumerate(CAPABILITIES)}
 
-# The versions of a record of capset(2): how many groups of three words each one has.
+# The versions of a record of capset(2), and of how many groups of three words each one has.
 VERSION = "_LINUX_CAPABILITY_VERSION_"
-GROUPS_OF = {"1": 1, "2": 2, "3": 2}
+VERSIONS = {"1": (0x19980330, 1), "2": (0x20071026, 2), "3": (0x20080522, 2)}
 LOWER = (1 << 32) - 1
 
 # capabilities(7), "The securebits flags", with those of Linux 6.14 and later.
@@ -154,7 +154,7 @@ def sets(args: Args, result: Result) -> list[int] | None:
         if result.error is None and version[:1].isdigit() and "???" not in version:
             raise Unheld(NUMBERS)
         return None
-    groups = GROUPS_OF.get(version.removeprefix(VERSION), 2)
+    _, groups = VERSIONS.get(version.removeprefix(VERSION), (0, 2))
     named = lines.fields(args[1])
     found = [
         capability_set(named.get(name, ""), groups)
@@ -163,13 +163,22 @@ def sets(args: Args, result: Result) -> list[int] | None:
     return None if None in found else [value or 0 for value in found]
 
 
-def capset(args: Args, result: Result) -> Said | None:
-    """capset(2), of the task itself."""
+def record(version: str, target: int, found: list[int]) -> str:
+    """The record of capset(2) with these sets, in hexadecimal digits (capset(2))."""
+    number, groups = VERSIONS[version]
+    words = [number, target]
+    for group in range(groups):
+        words += [value >> 32 * group & LOWER for value in found]
+    return b"".join(word.to_bytes(4, "little") for word in words).hex()
+
+
+def capset(args: Args, result: Result, target: int = 0) -> Said | None:
+    """capset(2), of the task itself: the record that the kernel was handed."""
     found = sets(args, result)
-    if found is None:
+    version = lines.fields(args[0]).get("version", "").removeprefix(VERSION) if args else ""
+    if found is None or version not in VERSIONS:
         return None
-    effective, permitted, inheritable = (f"{value & ALL_CAPABILITIES:x}" for value in found)
-    return told(f"capset {permitted} {inheritable} {effective}", result)
+    return told(f"capsetraw {record(version, target, found)}", result)
 
 
 def capget(args: Args, result: Result) -> Said | None:
@@ -369,4 +378,4 @@ OWN_CALLS: dict[str, Reading] = {
 ID_CALLS |= {name + "32": read for name, read in ID_CALLS.items()}
 OWN_CALLS |= {name + "32": read for name, read in OWN_CALLS.items() if name != "prctl"}
 
-SET_CALLS: dict[str, Reading] = {"capset": capset, "capget": capget}
+SET_CALLS = ("capset", "capget")

@@ -10,6 +10,7 @@ import zlib
 from dataclasses import dataclass
 from pathlib import Path
 
+from .changes import Known
 from .convert import Converter
 from .files import BadList, Files, read_list
 from .kin import matched
@@ -22,6 +23,9 @@ from .start import BadStart, Start, start_of, start_of_threads
 
 # The exit statuses: the script holds the whole log; it ends before; there is none.
 WHOLE, ENDS_BEFORE, NONE = 0, 1, 2
+
+# How often a log is gone through at most, to find out which files change in it.
+RUNS = 9
 
 
 class Fault(Exception):
@@ -114,15 +118,18 @@ def converted(options: Options, asks: bool = False) -> Converter:
     except BadList as fault:
         raise Fault(f"{options.files}: {fault}") from None
     start = start_from(options.start)
-    known: dict[str, int] = {}
+    known = Known()
     reader, items, first = items_of(options, Converter(Files(listed)).wanted(), start)
-    while True:
-        converter = Converter(Files(listed), asks, options.folder, options.root, known)
+    for count in range(RUNS):
+        # Whatever isn't known by then isn't guessed.
+        known.sure = known.sure or count == RUNS - 1
+        files = Files(listed, known.histories)
+        converter = Converter(files, asks, options.folder, options.root, known)
         converter.run(items, first, start)
-        # A file that was used before it changed: the script ends where it was used.
-        if set(converter.changes.found) <= set(known):
+        # A file that was used before it changed was another one, or the script ends where it was.
+        if converter.changes.settled():
             break
-        known |= converter.changes.found
+        known = converter.changes.next
     converter.notes = start.notes + converter.notes + since_the_log(converter.files, options.logs)
     converter.passed.names(reader.passed)
     converter.count = reader.count
@@ -154,6 +161,7 @@ def items_of(
         if len(start.threads) == 1:
             start.threads = begun
         first = start.threads[0] if start.threads else reader.first_pid or 0
+        items = matched(items, first)
         if options.task is not None:
             first, items = family(items, options.task, options.start is not None)
     except (BadLog, NoProcess) as fault:
@@ -161,7 +169,7 @@ def items_of(
     except (OSError, zlib.error) as fault:
         reason = fault.strerror if isinstance(fault, OSError) else None
         raise Fault(f"{name}: {reason or fault}") from None
-    return reader, matched(items, first), first
+    return reader, items, first
 
 
 def read(reader: Reader, logs: list[str]) -> list[Item]:

@@ -20,7 +20,8 @@ AGREES, DIFFERS, NOT_COMPARED, ENDS_BEFORE = 0, 1, 2, 3
 
 # The entries that decide a line; the others take hold of a credential and drop it.
 DECIDING = frozenset(
-    "begin act ask change open signal spawn fork exit dumpable dumped ptrace".split()
+    "begin act raw ask change open signal spawn fork exit dumpable dumped ptrace chown chmod "
+    "setattr clearattr stat".split()
 )
 
 

@@ -4,9 +4,9 @@ from __future__ import annotations
 
 from collections.abc import Callable, Iterable
 
-from . import asks, changes, moves, traces
+from . import asks, changes, filecalls, moves, traces
 from .calls import ID_CALLS, OWN_CALLS, SET_CALLS, Said, Unheld, answer
-from .changes import Changes
+from .changes import Changes, Known
 from .enters import Entries, is_map
 from .files import Files, Found, Missing
 from .lines import fields
@@ -15,6 +15,7 @@ from .moves import Moves, argument, clone_flags
 from .opened import FILE, told
 from .paths import Paths
 from .places import BEGIN, Located, Mounts, Where
+from .rest import look_on
 from .saying import Sayer
 from .script import TASKS, Facts, Line, Stop
 from .start import Start
@@ -45,7 +46,7 @@ class Converter(Sayer):
         asking: bool = False,
         folder: str | None = None,
         root: str = "/",
-        known: dict[str, int] | None = None,
+        known: Known | None = None,
     ) -> None:
         super().__init__(asking)
         self.files = files
@@ -53,17 +54,16 @@ class Converter(Sayer):
         self.stopped: Stop | None = None
         self.strangers: set[int] = set()
         self.paths = Paths(files, folder is not None, self.tasks.find)
-        self.changes = Changes(self.paths, known or {})
+        self.changes = Changes(self.paths, known or Known())
         self.entries = Entries(self.tasks)
         self.most = 1
         # How many lines the log has, and how many calls are left where the script ends before it.
-        self.count = 0
-        self.left = 0
+        self.count = self.left = 0
         self._folder = folder
         self._root = root.rstrip("/") or "/"
         self._moves = Moves(self.paths, lambda: self.tasks.by_pid.values())
         self._follow = self._moves.handlers()
-        self._asks = asks.Asks(self.paths, self.script, self.changes)
+        self._asks = asks.Asks(self.paths, self.script, self.changes, self.passed)
         self._handlers: dict[str, Callable[[Task, Call], None]] = {}
         self._take_handlers()
 
@@ -79,9 +79,10 @@ class Converter(Sayer):
             (("kill", "tkill", "tgkill"), self.kill),
             ((*traces.CALLS, *traces.LINKS), self.trace),
             (self._follow, self.move),
-            (changes.CALLS, self.change),
+            (changes.CALLS, self._asks.change),
             (("unshare", "setns"), self.change_namespace),
-            (asks.ACCESSES, self.access),
+            (asks.ACCESSES, self._asks.access),
+            ((*filecalls.STAT, *filecalls.GET), self._asks.tell),
             (("write",), self.write),
             (("setsid", "seccomp"), self.mark),
         )
@@ -97,8 +98,8 @@ class Converter(Sayer):
         items = list(items)
         tasks = [self.tasks.first(first)]
         tasks += [self.tasks.spawn(pid, tasks[0], THREAD) for pid in start.threads[1:]]
-        for one in tasks:
-            one.ids = start.ids.copy()
+        for one, ids in zip(tasks, start.ids, strict=True):
+            one.ids = ids.copy()
         where = tasks[0].where
         where.root = Located(self._root)
         where.mounts = Mounts(where.root, outside=self._root.rstrip("/"))
@@ -117,30 +118,27 @@ class Converter(Sayer):
         self.together = Together(items, SAYING)
         try:
             for self.at, item in enumerate(items):
+                self.due_lines()
                 self.item(item)
-            for task in list(self.tasks.by_pid.values()):
-                if task.process.making:
-                    self.goes_on(task.process)
         except Stop as stop:
             self.stopped = stop
             rest = items[self.at :]
             self.left = sum(isinstance(item, Call) and item.name in SAYING for item in rest)
         self.script.head(*self.entries.head(self.script))
+        if self.stopped is not None:
+            look_on(self, items)
 
     def is_part(self) -> bool:
         """Whether the script isn't the whole log: it ends before, or lacks tasks."""
-        return self.stopped is not None or bool(self.strangers)
+        return bool(self.stopped or self.strangers)
 
     def what_is_left(self) -> list[str]:
         """What of the log the script doesn't have."""
         found = []
         if self.stopped:
-            lines_left = self.count - self.stopped.line + 1
-            found.append(str(self.stopped))
-            found.append(
-                f"left: {lines_left} of {self.count} lines of the log, with {self.left} calls that "
-                "a script has lines for"
-            )
+            rest = f"{self.count - self.stopped.line + 1} of {self.count} lines of the log, with "
+            rest += f"{self.left} calls that a script has lines for"
+            found += [str(self.stopped), f"left: {rest}"]
         if self.strangers:
             found.append(f"left: the calls of {len(self.strangers)} tasks that no call made")
         return found
@@ -166,6 +164,7 @@ class Converter(Sayer):
             self.tasks.rename(item.old, item.pid)
             return
         task = self.tasks.by_pid.get(item.pid)
+        self.paths.line = item.last
         if isinstance(item, Gone):
             if task:
                 self.gone([task], item.last)
@@ -178,8 +177,6 @@ class Converter(Sayer):
         if task is None:
             self.stranger(item)
             return
-        if task.number in task.process.making and item.name not in ENDS:
-            self.goes_on(task.process)
         try:
             self._handlers[item.name](task, item)
         except (Unheld, Missing) as reason:
@@ -240,6 +237,7 @@ class Converter(Sayer):
             self.entries.sits(child, self.entries.made(task))
             child.where.mounts.belongs(child.process.space)
             self.script.goes_on_as(task.name, child.name)
+            self.stays_undumpable(child, call)
             self.room(call.first, 0)
         else:
             self.say(task, call, Said(f"fork {child.name} p{child.process.number}", "ok"))
@@ -251,11 +249,8 @@ class Converter(Sayer):
 
     def gone(self, ended: list[Task], line: int) -> None:
         """These tasks of one process are gone."""
-        if any(task.number in task.process.making for task in ended):
-            self.goes_on(ended[0].process)
         for task in ended:
             self.tasks.end(task)
-        self.complete(ended[0].process)
         self.script.add(line, *(Line(f"{task.name} exit") for task in ended))
 
     def execute(self, task: Task, call: Call) -> None:
@@ -284,26 +279,27 @@ class Converter(Sayer):
         asked = [*scripts, program][:1] if said == "eacces" else scripts
         for found in asked:
             name = self.script.file(call.first, found)
-            facts = asks.facts_of(task, found)
+            facts = asks.facts_of(task, found, self.changes.now(found))
             answered = said if said == "eacces" else "ok"
             self.say(task, call, Said(f"check {name} x", answered), facts)
         if said != "eacces":
             name = self.script.file(call.first, program)
-            self.say(task, call, Said(f"exec {name}", said), asks.facts_of(task, program))
+            facts = asks.facts_of(task, program, self.changes.now(program))
+            self.say(task, call, Said(f"exec {name}", said), facts)
         if said == "ok":
             where = Located(program.path) if scripts else named
-            self.executed(task, where, program.file.words, call.first)
+            self.executed(task, where, self.changes.now(program), call.first)
 
     def executed(self, task: Task, program: Located, words: str, line: int) -> None:
         """The task has executed a program: it is the only one of its process."""
         process = task.process
         process.program = program
+        acting = task.ids.acting()
         task.ids.executes(words.split())
+        process.dumpable = task.ids.acting() == acting
         if process.space.parent is not None and process.space.uids is None:
             process.space.early.append((line, *task.ids.users[:2]))
         task.descriptors = task.descriptors.copy()
-        if task.process.making:
-            self.apart(task.process)
         for other in [one for one in task.process.threads if one is not task]:
             self.tasks.end(other)
 
@@ -330,7 +326,8 @@ class Converter(Sayer):
         others = [one for one in tasks if one is None or one.process is not task.process]
         if len(others) != 1 or others[0] is None:
             return False
-        self.say(task, call, Said(f"ptrace {mode} {others[0].name}", said))
+        facts = Facts(inside=others[0].process.space.parent is not None)
+        self.say(task, call, Said(f"ptrace {mode} {others[0].name}", said), facts)
         return True
 
     def trace(self, task: Task, call: Call) -> None:
@@ -363,21 +360,6 @@ class Converter(Sayer):
         elif not succeeds or call.name not in SILENT:
             self.passed.call(call)
 
-    def access(self, task: Task, call: Call) -> None:
-        """access(2), of a file that the list names or that was executed."""
-        found = self._asks.lines(task, call)
-        if found:
-            self.script.add(call.first, *found)
-        else:
-            self.passed.call(call)
-
-    def change(self, task: Task, call: Call) -> None:
-        """chmod(2) and what else changes a file."""
-        if not call.context:
-            self.passed.call(call)
-        if call.result.value == 0:
-            self.changes.changes(task, call)
-
     def write(self, task: Task, call: Call) -> None:
         """write(2), of a map of a user namespace."""
         found = task.descriptors.get(argument(call, 0), FILE) or self.paths.base(task, call.args[0])
@@ -409,4 +391,5 @@ class Converter(Sayer):
             before = self.entries.enter(task, space)
             self.script.add(call.first, Line(f"{before} exit"))
             self.script.goes_on_as(before, task.name)
+            self.stays_undumpable(task, call)
             self.room(call.first, 0)

@@ -96,6 +96,8 @@ def form_of(words: list[str]) -> Form | None:
     first = words[0] if words else ""
     second = words[1] if len(words) > 1 else ""
     third = words[2] if len(words) > 2 else ""
+    if is_task(first) and second == "raw" and third:
+        return in_table(found[ID_CALLS], third, "T raw")
     if is_task(first):
         parts = ((ID_CALLS, "T"), (CHANGES, "T"), (QUERIES, "T"))
         asked = [in_table(found[name], second, before) for name, before in parts]
@@ -150,6 +152,8 @@ def beginnings(words: list[str]) -> tuple[int, set[str]]:
     own = {form for row in tables()[LINES] for form in quoted(row[0]) if form.startswith("T ")}
     of_tasks = {keyword(form) for form in own} - {"IDCALL", "CHANGE", "QUERY"}
     first = words[0] if words else ""
+    if is_task(first) and words[1:2] == ["raw"]:
+        return 2, keywords(ID_CALLS)
     if is_task(first):
         return 1, of_tasks | keywords(ID_CALLS, CHANGES, QUERIES)
     tables_of = {"begin": (ID_CALLS,), "ask": (QUERIES,), "change": (CHANGES,)}

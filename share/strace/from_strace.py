@@ -40,7 +40,9 @@ def table(converter: Converter) -> str:
 
 def list_of(converter: Converter) -> str:
     """The list of all files that were asked for."""
-    return listing(converter.files.seen)
+    files = converter.files
+    used = {place: files.one(place) for place in files.seen if place not in files.hard}
+    return listing(files.seen, {place: one for place, one in used.items() if one != place})
 
 
 def main(words: list[str]) -> int:

@@ -13,6 +13,9 @@ OTHERWISE = {
     "execve": "exec", "execveat": "exec", "kill": "signal", "tgkill": "signal", "openat": "open",
     "faccessat": "access", "clone": "fork or spawn", "vfork": "fork", "pthread_create": "spawn",
     "exit_group": "exit", "capget": "caps", "cap_get_proc": "caps", "cap_set_proc": "capset",
+    "lchown": "chown", "fchown": "chown", "fchownat": "chown", "fchmod": "chmod",
+    "fchmodat": "chmod", "setxattr": "setattr", "removexattr": "clearattr", "lstat": "stat",
+    "fstat": "stat", "statx": "stat", "getxattr": "stat", "syscall": "raw",
     "getgroups": "groups", "initgroups": "setgroups", "no_new_privs": "nonewprivs",
     "prctl": "capdrop, keepcaps, nonewprivs, securebits or ambraise",
 }  # fmt: skip

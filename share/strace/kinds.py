@@ -52,6 +52,17 @@ KINDS: dict[str, Callable[[str], bool]] = {
 }
 
 
+# The versions of a record of capset(2), with how many bytes each has.
+RECORDS = {0x19980330: 20, 0x20071026: 32, 0x20080522: 32}
+
+
+def is_record(word: str, task: str) -> bool:
+    """Whether the bytes are a record of capset(2) that the task may hand over."""
+    record = bytes.fromhex(word.removeprefix("0x"))
+    version, target = (int.from_bytes(record[at : at + 4], "little") for at in (0, 4))
+    return RECORDS.get(version) == len(record) and str(target) in ("0", task[1:])
+
+
 # The numbers that a word may have, where it isn't all of its kind.
 WITHIN = {("ns", 1): (1, 15), ("ns", 3): (0, 15), ("lane", 1): (1, 16)}
 
@@ -79,6 +90,8 @@ def wrong_word(form: str, words: list[str]) -> tuple[int, str] | None:
         if fits is None and kind.islower() and kind != word:
             either = "`nosuid` or `caps`" if words[0] == "file" and place == 6 else f"`{kind}`"
             return place, either
+    if expected[1:2] == ["capsetraw"] and len(words) == 3 and not is_record(words[2], words[0]):
+        return 2, "record of capset(2) about 0 or the task itself"
     return (len(words), "HEX") if expected[-1] == "HEX" and len(words) < len(expected) else None
 
 

@@ -60,12 +60,18 @@ ASKED = {
     "recvmsg": re.compile(r".*(?:SCM_RIGHTS|<unfinished \.\.\.>$)"),
     "recvmmsg": re.compile(r".*(?:SCM_RIGHTS|<unfinished \.\.\.>$)"),
 }
+ASKED |= dict.fromkeys(
+    ("getxattr", "lgetxattr", "fgetxattr"), re.compile(r'.*(?:"security\.capability"|<unfinished)')
+)
 
 # A result that strace made up (-e inject): the kernel never saw the call.
 INJECTED = " (INJECTED)"
 
 # Calls of which there are many in a long log, and of which those that failed otherwise say nothing.
-PATH_CALLS = frozenset("open openat openat2 creat access faccessat faccessat2".split())
+PATH_CALLS = frozenset(
+    "open openat openat2 creat access faccessat faccessat2 stat lstat fstat stat64 lstat64 fstat64 "
+    "newfstatat fstatat64 statx".split()
+)
 REFUSED = re.compile(r" = -1 E(?:ACCES|PERM|INVAL)\b")
 
 # An open as most are, which needs no whole reading.

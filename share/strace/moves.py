@@ -38,6 +38,10 @@ CLONE_BITS = {
 
 OPENS = ("open", "openat", "openat2", "creat")
 
+# Calls after which a task's paths lead elsewhere.
+FOLLOWED = ("chdir", "fchdir", "chroot", "pivot_root", "mount", "umount", "umount2", "move_mount")
+FOLLOWED += ("setns", "unshare")
+
 # Calls that make descriptors of which the log doesn't tell what they are of.
 GIVEN = ("recvmsg", "recvmmsg", "ioctl", "pidfd_getfd", "open_by_handle_at")
 RIGHTS = re.compile(r"SCM_RIGHTS, cmsg_data=\[((?:[^<\]]|<[^<>]*>)*)\]")
@@ -210,7 +214,8 @@ class Moves:
             mounts = Mounts(before.mounts.root, number=before.mounts.number)
             mounts.doubts = before.mounts.doubts
             where = Where(mounts, before.root, before.folder)
-            task.descriptors.opens(call.result.value, FILE, lambda: self.lies(where, path))
+            end = path.rpartition("/")[2]
+            task.descriptors.opens(call.result.value, FILE, lambda: self.lies(where, path), end)
             return
         try:
             path, base = self.paths.named(task, call, place, place - 1 if place else None)

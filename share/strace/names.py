@@ -135,7 +135,7 @@ def clause(word: str, flags: dict[str, int]) -> None:
 
 
 def to_names(line: str) -> str:
-    """A line of a report, of a script, of `decode` or of credtrace-compare, with names."""
+    """A line of a report, of a script, of `decode` or `capdata`, or of credtrace-compare, with names."""
     if not NAMED.search(line):
         return line
     if since := SINCE.match(line):
@@ -188,8 +188,10 @@ def name_words(words: list[str], event: int, told: int) -> None:
     elif told and verb == "commit" and words[told + 4 : told + 5] == ["gain"]:
         in_names(words, told + 5, 3)
     elif verb == "version":
-        in_names(words, 3, 1)
-        in_names(words, 5, 1)
+        # `decode` writes two sets, `capdata` three behind the target: each behind its own word.
+        for place, word in enumerate(words[:-1]):
+            if word in ("perm", "inh", "eff"):
+                in_names(words, place + 1, 1)
 
 
 def in_names(words: list[str], place: int, count: int) -> None:
@@ -207,6 +209,8 @@ def to_script(line: str) -> str:
         place = words.index("caps", 6) + 1
         if not re.fullmatch(r"(?:0x)?[0-9a-fA-F]+", "".join(words[place:])):
             return " ".join([*words[:place], encoded(words[place:])])
+    if words[1:2] == ["setattr"] and not re.fullmatch(r"(?:0x)?[0-9a-fA-F]*", "".join(words[3:])):
+        return " ".join([*words[:3], encoded(words[3:])])
     what = 2 if words[:1] == ["change"] else 1
     word = words[what] if what < len(words) else ""
     if word == "capset":
@@ -255,8 +259,8 @@ def main(words: list[str]) -> int:
     """Writes names, or sets."""
     parser = argparse.ArgumentParser(
         prog="credtrace-names",
-        description="Writes the sets of a report, a script, of `decode` or of credtrace-compare as "
-        "names of capabilities, and securebits as theirs.",
+        description="Writes the sets of a report, a script, of `decode`, `capdata` or of "
+        "credtrace-compare as names of capabilities, and securebits as theirs.",
     )
     parser.add_argument(
         "--to-script",

@@ -25,17 +25,27 @@ class Descriptors:
 
     def __init__(self) -> None:
         self._of: dict[int, tuple[str, What | Later]] = {}
+        # How the path ends by which a descriptor was opened.
+        self._ends: dict[int, str] = {}
 
     def copy(self) -> Descriptors:
         """The same for a child."""
         made = Descriptors()
-        made._of = dict(self._of)
+        made._of, made._ends = dict(self._of), dict(self._ends)
         return made
 
-    def opens(self, number_of: int | None, kind: str, what: What | Later) -> None:
-        """A descriptor is new."""
+    def opens(self, number_of: int | None, kind: str, what: What | Later, end: str = "") -> None:
+        """A descriptor is new; of a path that is looked up later it is known how that ends."""
         if number_of is not None and number_of >= 0:
             self._of[number_of] = (kind, what)
+            self._ends[number_of] = end or (
+                what.place.rpartition("/")[2] if isinstance(what, Located) else ""
+            )
+
+    def end(self, text: str) -> str:
+        """How the path ends that the descriptor of an argument is of, as far as that is known."""
+        place = descriptor(text)
+        return self._ends.get(place, "") if place in self._of else ""
 
     def closes(self, number_of: int | None) -> None:
         """A descriptor is closed, or is of something else than before."""
@@ -47,7 +57,7 @@ class Descriptors:
         if old is None or new is None or old not in self._of:
             self.closes(new)
         else:
-            self._of[new] = self._of[old]
+            self._of[new], self._ends[new] = self._of[old], self._ends.get(old, "")
 
     def get(self, text: str, kind: str) -> What | None:
         """What the descriptor of an argument is of, where it is of this kind."""

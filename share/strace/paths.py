@@ -47,6 +47,9 @@ class Paths:
         self.files = files
         # Whether the folder where the log begins is known.
         self.known = known
+        # Where in the log it is, and the lines at which symbolic links were others.
+        self.line = 0
+        self.relinked: dict[str, int] = {}
         self.of_pid = find
 
     def base(self, task: Task, text: str) -> Located | None:
@@ -98,9 +101,25 @@ class Paths:
     def both(self, task: Task, path: str, base: Located | None) -> Located:
         """Where a path leads, behind symbolic links too where this machine has them."""
         found = self.lead(task, path, base)
-        if self.files.listed is not None or found.real is not None:
+        if self.files.listed is not None:
+            other = None if found.place in self.files.hard else self.files.same.get(found.place)
+            return replace(found, real=self.files.one(other)) if other else found
+        if found.real is not None:
             return found
         return replace(found, real=self.lead(task, path, base, follow=True).place)
+
+    def link_here(self, place: str) -> str | None:
+        """To where a symbolic link leads that this machine has, where it was there already."""
+        if self.relinked.get(place, 0) > self.line:
+            raise Unheld(f"line {self.relinked[place]} makes {place} another link than it was")
+        return link_of(place)
+
+    def is_link(self, found: Located) -> bool:
+        """Whether a symbolic link lies there. In a list one is known by what it is of."""
+        if self.files.listed is None:
+            return link_of(found.place) is not None
+        other = None if found.place in self.files.hard else self.files.same.get(found.place)
+        return other is not None and os.path.basename(other) != os.path.basename(found.place)
 
     def lead(self, task: Task, path: str, base: Located | None, follow: bool = False) -> Located:
         """The place to which a path leads, behind symbolic links where they are to be followed."""
@@ -109,15 +128,16 @@ class Paths:
         special = self.special(task, path)
         if special is not None:
             return special
-        found = task.where.locate(path, base, link_of if follow else no_link)
+        found = task.where.locate(path, base, self.link_here if follow else no_link)
         if found is None:
             raise Unheld(no_folder(path, task.pid))
         if not self.is_known(found):
             raise Unheld(no_folder(path, task.pid))
         if found.doubt:
             raise Unheld(
-                f"line {found.doubt} mounts or unmounts what {path} leads through, in another mount "
-                "namespace: whether it is seen here too the log doesn't tell (mount_namespaces(7))"
+                f"line {found.doubt} mounts or unmounts what {path} leads through, in another "
+                "mount namespace: whether it is seen here too the log doesn't tell "
+                "(mount_namespaces(7))"
             )
         return found
 

@@ -42,7 +42,7 @@ class Probe:
     ) -> None:
         self._lines = lines
         self._numbers = set(numbers) | {
-            number for number, line in enumerate(lines, 1) if matters(line.text)
+            number for number, line in enumerate(lines, 1) if matters(line.words)
         }
         self._run = run
         self._files = files
@@ -105,9 +105,8 @@ class Probe:
         return {number: value for number, value in found.items() if value is not None}
 
 
-def matters(text: str) -> bool:
+def matters(words: list[str]) -> bool:
     """Whether a line may leave another credential in Linux."""
-    words = text.split()
     if len(words) < 3:
         return False
     if words[1] in ("setresuid", "setresgid"):

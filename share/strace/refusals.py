@@ -15,14 +15,14 @@ KILL = 1 << CAPABILITIES.index("KILL")
 
 def wanted(line: Line) -> int:
     """What a line asks of a file: the bits of reading, writing and executing."""
-    words = line.text.split()
+    words = line.words
     return 1 if words[1] == "exec" else sum(BITS[letter] for letter in words[3])
 
 
 def mode_allows(before: Values, line: Line) -> bool:
     """Whether owner, group and mode alone allow it (path_resolution(7), "Permissions")."""
     _, owner, group, mode, *_ = line.facts.words.split()
-    real = line.text.split()[1] == "access"
+    real = line.words[1] == "access"
     user, group_id = (ids[0 if real else 3] for ids in (before.users, before.group_ids))
     shift = 0
     if user == int(owner):

@@ -9,9 +9,10 @@ program says of the task; where that couldn't be asked it is told as what may be
 from __future__ import annotations
 
 import re
-from dataclasses import dataclass, field
+from dataclasses import dataclass, field, replace
 from pathlib import Path
 
+from . import filerows
 from .calls import ID_CALLS
 from .probe import Probe, Values
 from .refusals import by_capability, has_kill
@@ -34,17 +35,24 @@ SET_ID = "a set-id bit in force makes a file privileged"
 PLAIN_FILE = "a plain file is not privileged"
 TRACED = "execve is of a program: there are no scripts, and nobody traces the task"
 CREATOR = "looking into a task asks for CAP_SYS_PTRACE in the effective set"
+OUTER = "CAP_SYS_PTRACE over the target's user namespace is enough where the target isn't dumpable"
 LOOKS = "one rule for each look into a task"
 EXECVE_FLAG = "an execve makes its process dumpable unless an id becomes another"
 ALL = (
     FILESYSTEM_IDS, SECUREBITS, UNMAPPED, DENIED_GROUPS, DIRECTORIES, NOT_MODE, COUNTS, CONTINUE,
     NO_NEW_PRIVS_FILE, NO_NEW_PRIVS_IDS, UNMAPPED_OWNER, SET_ID, PLAIN_FILE, TRACED, CREATOR,
-    LOOKS, EXECVE_FLAG,
+    OUTER, LOOKS, EXECVE_FLAG, *filerows.ALL,
 )  # fmt: skip
 
 # What a kept row may have changed.
 IDS, CAPS, FILE_IDS = "ids", "caps", "file ids"
-BOUNDING, BITS, GROUPS = "bounding", "bits", "groups"
+BOUNDING, BITS, GROUPS, FILE = "bounding", "bits", "groups", "file"
+
+# The forms of which a file's state decides, or tells.
+OF_FILES = (*filerows.FORMS, "stat", "exec", "open", "check", "access")
+
+# CAP_DAC_OVERRIDE and CAP_DAC_READ_SEARCH, by which any file may be read.
+READS = 0b110
 
 # What the log explains itself.
 LOG = "the log:"
@@ -79,10 +87,12 @@ class Known:
     """What is known of a task besides its credential."""
 
     kept: list[Kept] = field(default_factory=list)
+    # The execve by which its process isn't dumpable in Linux, though it is in the program.
+    flag: Kept | None = None
 
     def copy(self) -> Known:
         """The same for a child."""
-        return Known(self.kept[:])
+        return Known(self.kept[:], self.flag)
 
     def keep(self, *kept: Kept) -> None:
         """These rows may explain what comes; the newest is asked first."""
@@ -94,20 +104,22 @@ class Known:
 DEPENDS: dict[str, tuple[str, ...]] = (
     {"ids": (IDS,), "bset": (BOUNDING,), "bits": (BITS,), "groups": (GROUPS,)}
     | dict.fromkeys(("caps", "ambis", "capdrop"), (CAPS,))
-    | dict.fromkeys(("capset", "ambraise"), (CAPS, BOUNDING, BITS))
+    | dict.fromkeys(("capsetraw", "ambraise"), (CAPS, BOUNDING, BITS))
     | dict.fromkeys(("securebits", "keepcaps"), (CAPS, BITS))
     | dict.fromkeys((*ID_CALLS, "signal"), (IDS, CAPS))
     | dict.fromkeys(("setfsuid", "setfsgid", "exec", "ptrace"), (FILE_IDS, CAPS, IDS))
     | dict.fromkeys(("open", "check", "access"), (FILE_IDS, CAPS, IDS, GROUPS))
+    | dict.fromkeys(filerows.FORMS, (FILE_IDS, CAPS, GROUPS))
 )
 
 # What each form changes, where the kernel makes it and the program refuses it, or the reverse.
 CHANGED: dict[str, tuple[str, ...]] = (
     {"capdrop": (BOUNDING,), "setgroups": (GROUPS,), "exec": (IDS, CAPS, FILE_IDS)}
-    | dict.fromkeys(("ambraise", "amblower", "ambclear", "capset"), (CAPS,))
+    | dict.fromkeys(("ambraise", "amblower", "ambclear", "capsetraw"), (CAPS,))
     | dict.fromkeys(("securebits", "keepcaps"), (BITS, CAPS))
     | dict.fromkeys(set(ID_CALLS) - {"setgroups"}, (IDS, FILE_IDS, CAPS))
     | {"setfsuid": (FILE_IDS, CAPS), "setfsgid": (FILE_IDS,), "nonewprivs": (BITS, IDS, CAPS)}
+    | dict.fromkeys(filerows.FORMS, ())
 )
 
 # The answers that rules give. Another one, as that a task isn't there, no row explains.
@@ -122,6 +134,8 @@ class Explainer:
     tracer: bool | None = None
     files: dict[str, str] = field(default_factory=dict)
     tasks: dict[str, Known] = field(default_factory=dict)
+    # By which rows a file may be another one than the program says.
+    changed: dict[str, list[Kept]] = field(default_factory=dict)
     _told: set[str] = field(default_factory=set)
 
     def text(self, begins: str, sure: bool = True, since: str = "", why: str = "") -> str:
@@ -146,11 +160,11 @@ class Explainer:
         Its sets and bits are new there, and its ids are what they were.
         """
         kept = [one for one in self.known(before).kept if one.part in (IDS, FILE_IDS, GROUPS)]
-        self.tasks[after] = Known(kept)
+        self.tasks[after] = Known(kept, self.known(before).flag)
 
     def see(self, number: int, line: Line) -> None:
         """Keeps what a line means for later ones."""
-        words = line.text.split()
+        words = line.words
         if words[0] == "file":
             self.files[words[1]] = line.text
             return
@@ -165,8 +179,28 @@ class Explainer:
         elif words[1] in ("setresuid", "setresgid") and words[3] == "-1":
             if keeps_filesystem_id(words, self.probe.before(number)):
                 known.keep(Kept(FILESYSTEM_IDS, FILE_IDS, number, line.text))
+        elif words[1] == "dumpable":
+            known.flag = None
         elif words[1] == "exec":
-            known.keep(*self.executed(number, line, self.files.get(words[2], "")))
+            known.flag = self.flag(number, line)
+            changed = self.changed.get(words[2], [])
+            known.keep(*(replace(one, part=part) for one in changed for part in (IDS, CAPS)))
+            known.keep(*self.executed(number, line, self.file(line)))
+        elif words[1] in filerows.FORMS:
+            rows_of = [Kept(one, FILE, number, line.text) for one in filerows.kept(line)]
+            self.changed[words[2]] = rows_of + self.changed.get(words[2], [])
+
+    def file(self, line: Line) -> str:
+        """The file of a line, as a line that declares it."""
+        name, now = line.words[2], line.facts.words
+        return f"file {name} {now}" if now else self.files.get(name, "")
+
+    def flag(self, number: int, line: Line) -> Kept | None:
+        """Whether an execve may have left the process as one that isn't dumpable."""
+        before, words = self.probe.before(number), self.file(line).split()
+        if before is not None and len(words) > 5 and stays_dumpable(before, words):
+            return None
+        return Kept(EXECVE_FLAG, FILE, number, line.text, sure=before is not None)
 
     def executed(self, number: int, line: Line, file: str) -> list[Kept]:
         """What an execve may have made of the credential otherwise."""
@@ -199,7 +233,7 @@ class Explainer:
 
     def explain(self, number: int, line: Line, report: str) -> str | None:
         """The reason why the kernel's answer is another one than the report's."""
-        words = line.text.split()
+        words = line.words
         known = self.known(words[0])
         kernel, told = (line.answer or "").split()[0], report.split()[0]
         # Then the thread that makes the call first may, and another one may not.
@@ -221,6 +255,13 @@ class Explainer:
                     parts = CHANGED.get(words[1], ())
                     known.keep(*(Kept(kept.row, part, kept.number, kept.text) for part in parts))
                 return self.text(kept.row, kept.sure, f"line {kept.number}: {kept.text}")
+        for kept in self.changed.get(words[2], []) if words[1] in OF_FILES else []:
+            return self.text(kept.row, kept.sure, f"line {kept.number}: {kept.text}")
+        flag = self.known(words[3] if words[1] == "ptrace" else words[0]).flag
+        if flag and (words[1] == "dumped" or (words[1], kernel) == ("ptrace", "eperm")):
+            return self.text(flag.row, flag.sure, f"line {flag.number}: {flag.text}")
+        if words[1] == "ptrace" and kernel == "eperm" and line.facts.inside:
+            return self.text(OUTER, sure=False)
         if words[1] == "ptrace":
             return self.text(LOOKS if kernel == "eperm" else CREATOR, sure=False)
         if words[1] == "dumped":
@@ -231,7 +272,7 @@ class Explainer:
 
     def own(self, number: int, line: Line, kernel: str, told: str) -> tuple[str, str] | None:
         """The row that explains an answer by itself, with its text; the log may explain it too."""
-        words, facts = line.text.split(), line.facts
+        words, facts = line.words, line.facts
         form, pair = words[1], (kernel, told)
         if pair == ("eperm", "ok") and facts.filtered:
             where = f"{LOG} line {facts.filtered} of it installs a seccomp filter"
@@ -247,9 +288,12 @@ class Explainer:
         if form == "exec" and kernel in ("eperm", "einval") and told == "ok":
             before = self.probe.before(number)
             under = before is None or before.no_new_privs
-            holds = under and " caps " in self.files.get(words[2], "")
+            holds = under and " caps " in self.file(line)
             text = self.text(NO_NEW_PRIVS_FILE, before is not None) if holds else ""
             return (NO_NEW_PRIVS_FILE, text) if holds else None
+        if form in filerows.FORMS:
+            begins = filerows.refused(line, pair)
+            return (begins, self.text(begins)) if begins else None
         if form in ("exec", "open", "check", "access"):
             return self.refused(number, line, pair)
         return None
@@ -267,7 +311,7 @@ class Explainer:
 
     def refused(self, number: int, line: Line, pair: tuple[str, str]) -> tuple[str, str] | None:
         """Why the kernel refuses a file that the program allows."""
-        if pair == ("eperm", "ok") and not line.text.split()[1] == "exec":
+        if pair == ("eperm", "ok") and not line.words[1] == "exec":
             return "", self.text(NOT_MODE)
         if pair != ("eacces", "ok"):
             return None
@@ -296,6 +340,20 @@ def keeps_filesystem_id(words: list[str], before: Values | None) -> bool:
     )
     kept = words[2] in ("-1", str(real)) and words[4] in ("-1", str(saved))
     return kept and effective != filesystem
+
+
+def stays_dumpable(before: Values, words: list[str]) -> bool:
+    """Whether Linux has a process dumpable after the execve of this file: its new effective ids are
+    the real ones, and it may read the file."""
+    mode, owner, group = int(words[5], 8), int(words[3]), int(words[4])
+    in_force = not before.no_new_privs and "nosuid" not in words
+    user = owner if in_force and mode & 0o4000 else before.users[1]
+    group_id = group if in_force and mode & 0o2010 == 0o2010 else before.group_ids[1]
+    shift = 6 if owner == before.users[3] else 0
+    if not shift and group in (before.group_ids[3], *before.groups):
+        shift = 3
+    reads = bool(mode >> shift & 4) or bool(before.sets[2] & READS)
+    return (user, group_id) == (before.users[0], before.group_ids[0]) and reads
 
 
 def keeps_ambient(before: Values, words: list[str]) -> bool:

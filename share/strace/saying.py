@@ -4,15 +4,15 @@ from __future__ import annotations
 
 from dataclasses import replace
 
-from .calls import ID_CALLS, OWN_CALLS, SET_CALLS, Said, Unheld
+from .calls import ID_CALLS, OWN_CALLS, Said, Unheld, capget, capset
 from .lines import fields, pid
 from .log import EXECUTIONS, UNKNOWN, Call
 from .moves import argument
 from .passed import Passed
-from .script import NO_FACTS, Facts, Line, Script, Stop
+from .script import NO_FACTS, Facts, Line, Script
 from .spaces import led
-from .tasks import Process, Task, Tasks
-from .together import Together
+from .tasks import Task, Tasks
+from .together import Joined, Together
 
 NO_MAP = (
     "the log has no write into the uid_map of its user namespace: record with "
@@ -35,24 +35,39 @@ class Sayer:
         # Where in the log it is, and what comes there.
         self.at = 0
         self.together = Together([], ())
+        # Calls of all threads of a process, by the place of the log where their lines stand.
+        self.due: dict[int, list[Joined]] = {}
 
     def say(
-        self, task: Task, call: Call, said: Said | None, facts: Facts = NO_FACTS
+        self,
+        task: Task,
+        call: Call,
+        said: Said | None,
+        facts: Facts = NO_FACTS,
+        raw: bool = False,
     ) -> None:
-        """The task says this in the script, or the call is passed over."""
+        """The task says this in the script, or the call is passed over.
+
+        An id call is every thread's of the process, unless it is a raw one.
+        """
         said = said and self.by_map(task, call, said)
         if said is None:
             self.passed.call(call)
             return
         words = said.words.split()
         if said.answer.startswith("ok"):
-            for one in task.process.threads if words[0] in ID_CALLS else [task]:
+            all_threads = words[0] in ID_CALLS and not raw
+            acting = task.ids.acting()
+            for one in task.process.threads if all_threads else [task]:
                 one.ids.after(words)
+            if words[0] == "dumpable" or task.ids.acting() != acting:
+                task.process.dumpable = words == ["dumpable", "1"]
         space = task.process.space
         denied = space.parent is not None and (space.gids is None or space.denied)
         if task.process.filtered or denied:
             facts = replace(facts, filtered=task.process.filtered, denied=denied)
-        line = Line(f"{task.name} {said.words}", call, said.answer, facts)
+        text = f"{task.name} {'raw ' if raw else ''}{said.words}"
+        line = Line(text, call, said.answer, facts)
         changed = call.name in CHANGING and words[0] not in QUESTIONS
         asked = self.asking and changed and said.answer.startswith("ok")
         self.script.add(call.first, line, *([Line(f"{task.name} caps")] if asked else []))
@@ -66,6 +81,11 @@ class Sayer:
             raise Unheld(NO_MAP)
         return found
 
+    def stays_undumpable(self, task: Task, call: Call) -> None:
+        """A first task of a namespace is dumpable in a script, and this one isn't."""
+        if not task.process.dumpable:
+            self.script.add(call.first, Line(f"{task.name} dumpable 0"))
+
     def own_call(self, task: Task, call: Call) -> None:
         """A call that changes or asks the credential of the thread that makes it."""
         if argument(call, 0) == "PR_SET_SECCOMP" and call.result.error is None:
@@ -76,59 +96,38 @@ class Sayer:
         """capset(2) or capget(2), where it is of the task itself."""
         named = fields(argument(call, 0)).get("pid", "")
         known = task.pid != UNKNOWN
-        mine = pid(named) == 0 or not known or self.tasks.find(named, task) is task
-        said = SET_CALLS[call.name](call.args, call.result)
+        nobody = pid(named) == 0
+        mine = nobody or not known or self.tasks.find(named, task) is task
+        if call.name == "capget":
+            said = capget(call.args, call.result)
+        else:
+            said = capset(call.args, call.result, 0 if nobody else task.number)
         self.say(task, call, said if mine else None)
 
     def id_call(self, task: Task, call: Call) -> None:
-        """A call that is one line where every thread of the process makes it."""
+        """A call that is one line where every thread of the process makes it, else the thread's."""
+        process = task.process
+        if task.number in process.joining:
+            process.joining.discard(task.number)
+            return
         said = ID_CALLS[call.name](call.args, call.result)
-        making = task.process.making
-        if task.number in task.process.ahead:
-            task.process.ahead.discard(task.number)
+        if said is None or len(process.threads) == 1:
+            self.say(task, call, said)
             return
-        first = next(iter(making.values()), call)
-        if said is None:
-            self.passed.call(call)
-        elif (first.name, first.args) != (call.name, call.args):
-            self.apart(task.process)
-        else:
-            making[task.number] = call
-            self.complete(task.process)
-
-    def complete(self, process: Process) -> None:
-        """The call is one line as soon as every thread has made it, the one who began it last."""
-        making = process.making
-        if not making or len(making) < len(process.threads):
+        joined = self.together.joined(process, task, self.at)
+        if joined is None:
+            self.say(task, call, said, raw=True)
             return
-        number_of, call = list(making.items())[-1]
-        if len({made.result for made in making.values()}) > 1:
-            self.apart(process)
-        making.clear()
-        task = next(thread for thread in process.threads if thread.number == number_of)
-        self.say(task, call, ID_CALLS[call.name](call.args, call.result))
+        process.joining = {made.thread.number for made in joined.made} - {task.number}
+        self.due.setdefault(joined.stands, []).append(joined)
 
-    def goes_on(self, process: Process) -> None:
-        """A thread goes on that has made the call: its line stands here if all others make it."""
-        leaving = self.together.leaving(process, self.at)
-        call = next(iter(process.making.values()))
-        for thread in leaving:
-            self.tasks.end(thread)
-            self.script.add(call.first, Line(f"{thread.name} exit"))
-        later = self.together.will_follow(process, self.at)
-        if later is None:
-            self.apart(process)
-        else:
-            process.making |= dict(later)
-            process.ahead |= {number for number, _ in later}
-            self.complete(process)
-
-    def apart(self, process: Process) -> None:
-        """The threads don't all make the call, or not with the same result."""
-        call = next(iter(process.making.values()))
-        raise Stop(
-            call.first,
-            f"pid {call.pid} makes {call.text}, and not all {len(process.threads)} threads of its "
-            "process make it, or with another result (docs/LINUX.md: an id call is every thread's, "
-            "whatever line makes it)",
-        )
+    def due_lines(self) -> None:
+        """The lines of calls of all threads that stand here."""
+        for joined in self.due.pop(self.at, ()):
+            made = joined.last()
+            call = self.together.call(made.place)
+            for thread in joined.leaving:
+                if self.tasks.lives(thread):
+                    self.tasks.end(thread)
+                    self.script.add(call.first, Line(f"{thread.name} exit"))
+            self.say(made.thread, call, ID_CALLS[call.name](call.args, call.result))

@@ -40,8 +40,10 @@ class Facts:
     maker: bool = False
     # Whether the task is in a namespace of the log that takes no groups.
     denied: bool = False
-    # The file as the script has it.
+    # The file as it is there, and whether the task, or one that is looked into, is in a user
+    # namespace of the log.
     words: str = ""
+    inside: bool = False
 
 
 NO_FACTS = Facts()
@@ -55,6 +57,12 @@ class Line:
     call: Call | None = None
     answer: str | None = None
     facts: Facts = NO_FACTS
+
+    @property
+    def words(self) -> list[str]:
+        """The words of the line. A raw call has those of the same call of all threads."""
+        words = self.text.split()
+        return words[:1] + words[2:] if words[1:2] == ["raw"] else words
 
 
 @dataclass

@@ -111,6 +111,10 @@ class Ids:
         """The same for a child."""
         return replace(self, users=self.users[:], groups=self.groups[:], others=self.others[:])
 
+    def acting(self) -> tuple[int, int, int, int]:
+        """The effective and the filesystem ids: where one changes, the process isn't dumpable."""
+        return self.users[1], self.users[3], self.groups[1], self.groups[3]
+
     def after(self, words: list[str]) -> None:
         """A call that succeeded has changed them."""
         name, values = words[0], [int(word) for word in words[1:] if re.fullmatch(r"-?\d+", word)]
@@ -168,6 +172,11 @@ def led(said: Said, space: Space) -> Said | None:
         words[1:] = [value for value in values if value]
         if words[0] in ("setfsuid", "setfsgid"):
             answer[2:] = [told(answer[2], space, groups)]
+    elif words[0] == "chown":
+        owners = [outer(word, space, place == 1) for place, word in enumerate(words[1:])]
+        if None in owners:
+            return None
+        words[1:] = [value for value in owners if value]
     elif words[0] == "ids":
         answer[1:] = [told(word, space, place >= 4) for place, word in enumerate(answer[1:])]
     elif words[0] == "groups":

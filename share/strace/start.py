@@ -22,8 +22,8 @@ class Start:
 
     lines: list[str] = field(default_factory=list)
     notes: list[str] = field(default_factory=list)
-    # The ids of the first process, and the pids of its threads where they are known.
-    ids: Ids = field(default_factory=Ids)
+    # The ids of each thread of the first process, and their pids where they are known.
+    ids: list[Ids] = field(default_factory=lambda: [Ids()])
     threads: list[int] = field(default_factory=list)
     task: str = "t1"
     # Whether strace has CAP_SYS_PTRACE, where it began with the same credential.
@@ -84,6 +84,14 @@ class Status:
         """Whether it is no task of root's alone."""
         return self.users != [0] * 4
 
+    def ids(self) -> Ids:
+        """The ids, as calls change them."""
+        return Ids(self.users[:], self.groups[:], self.others[:], self.no_new_privs)
+
+    def set_ids(self) -> tuple[list[int], list[int], list[int]]:
+        """The ids that libc sets in all threads of a process alike."""
+        return self.users[:3], self.groups[:3], sorted(self.others)
+
 
 def status_of(text: str) -> Status:
     """The text of /proc/PID/status, or a part of it that has all of the credential."""
@@ -129,14 +137,6 @@ def start_of_threads(texts: dict[int, str]) -> Start:
     process = next((one.process for one in found.values() if one.process in found), min(found))
     pids = [process, *sorted(pid for pid in found if pid != process)]
     statuses = [found[pid] for pid in pids if pid is not None]
-    first = statuses[0]
-    for pid, one in zip(pids, statuses, strict=True):
-        if (one.users[:3], one.groups[:3], sorted(one.others)) != (
-            first.users[:3],
-            first.groups[:3],
-            sorted(first.others),
-        ):
-            raise BadStart(f"thread {pid} has other ids than the first: no line leads to that")
     start = start_of_all(statuses)
     start.threads = [pid for pid in pids if pid is not None]
     return start
@@ -146,21 +146,25 @@ def start_of_all(statuses: list[Status]) -> Start:
     """The lines that lead the threads of a process from root to what they are.
 
     While a task is still root it takes all that it will have; NO_SETUID_FIXUP keeps its sets over
-    the change of ids; what it shall not have it gives up last. The ids are those of the process.
+    the change of ids; what it shall not have it gives up last. Where the threads have other ids
+    than one another each sets its own.
     """
     start, first = Start(), statuses[0]
     for number, status in enumerate(statuses, 1):
         start.task = f"t{number}"
         first_part(start, status)
     start.task = "t1"
-    set_groups(start, first)
-    if first.users_change():
-        start.call("setresuid {} {} {}".format(*first.users))
+    if all(status.set_ids() == first.set_ids() for status in statuses):
+        set_ids(start, first, "")
+    else:
+        for number, status in enumerate(statuses, 1):
+            start.task = f"t{number}"
+            set_ids(start, status, "raw ")
     for number, status in enumerate(statuses, 1):
         start.task = f"t{number}"
         last_part(start, status)
     start.traces = bool(first.effective >> CAPABILITIES.index("SYS_PTRACE") & 1)
-    start.ids = Ids(first.users[:], first.groups[:], first.others[:], first.no_new_privs)
+    start.ids = [status.ids() for status in statuses]
     if any(status.securebits is None for status in statuses):
         start.notes.append(
             "/proc/PID/status doesn't tell securebits: they begin as 0 (or add `Securebits: N`)"
@@ -179,16 +183,18 @@ def first_part(start: Start, status: Status) -> None:
         start.call(f"securebits {NO_SETUID_FIXUP}")
 
 
-def set_groups(start: Start, status: Status) -> None:
-    """The group ids, and the supplementary groups as far as a script holds them."""
+def set_ids(start: Start, status: Status, raw: str) -> None:
+    """The ids, and the supplementary groups as far as a script holds them."""
     if len(status.others) > GROUPS:
         start.notes.append(
             f"the task has {len(status.others)} groups, of which a script holds the first {GROUPS}"
         )
     if status.others:
-        start.call("setgroups " + " ".join(map(str, status.others[:GROUPS])))
+        start.call(f"{raw}setgroups " + " ".join(map(str, status.others[:GROUPS])))
     if status.groups != [0] * 4:
-        start.call("setresgid {} {} {}".format(*status.groups))
+        start.call(raw + "setresgid {} {} {}".format(*status.groups))
+    if status.users_change():
+        start.call(raw + "setresuid {} {} {}".format(*status.users))
 
 
 def last_part(start: Start, status: Status) -> None:

@@ -5,7 +5,6 @@ from __future__ import annotations
 from dataclasses import dataclass, field
 
 from . import lines
-from .log import Call
 from .opened import Descriptors
 from .pids import Pids, foreign
 from .places import Located, Where
@@ -27,10 +26,10 @@ class Process:
     # Its PID namespace, and that of its children.
     pids: Pids = field(default_factory=Pids)
     below: Pids = field(default_factory=Pids)
-    # The call that its threads make one after another, by the number of the task that made it.
-    making: dict[int, Call] = field(default_factory=dict)
-    # Who makes a call only later whose line stands already.
-    ahead: set[int] = field(default_factory=set)
+    # Whether others may look into it, as far as its calls tell (prctl(2), PR_SET_DUMPABLE).
+    dumpable: bool = True
+    # The threads that still make the call that is one line of all.
+    joining: set[int] = field(default_factory=set)
 
 
 @dataclass
@@ -73,6 +72,7 @@ class Tasks:
         process = Process(self._processes, program=parent.process.program)
         process.space = parent.process.space
         process.session, process.filtered = parent.process.session, parent.process.filtered
+        process.dumpable = parent.process.dumpable
         process.pids = Pids() if "CLONE_NEWPID" in flags else parent.process.below
         process.below = process.pids
         process.pids.begins(pid)
@@ -129,6 +129,10 @@ class Tasks:
         if number is None:
             return None
         return self.by_pid.get(number if told else asker.process.pids.of(number))
+
+    def lives(self, task: Task) -> bool:
+        """Whether the task hasn't ended."""
+        return task in task.process.threads
 
     def end(self, task: Task) -> None:
         """The task is gone."""

@@ -3,15 +3,18 @@
 The threads make the call one after another, and who has made it may go on before the last one has.
 The line may stand at any place between the first and the last of them, as long as the others do
 nothing in between that their ids decide. A thread that is on its way out isn't asked by libc: if
-all that comes of it is its end, it may as well have ended before.
+all that comes of it is its end, it may as well have ended before. Where no such place is there, or
+no other thread makes the call, it is a raw one of the thread that makes it.
 """
 
 from __future__ import annotations
 
 from bisect import bisect_right
 from collections.abc import Collection
+from dataclasses import dataclass
 
-from .log import Call, Item
+from .calls import ID_CALLS
+from .log import CREATIONS, Call, Gone, Item
 from .tasks import Process, Task
 
 # What a thread may still do of which nobody asks what its ids are: to end, and to signal others of
@@ -22,51 +25,91 @@ UNASKED = ("exit", "exit_group", "tgkill")
 SIGNALS = frozenset({"kill", "tkill", "tgkill"})
 
 
+@dataclass(frozen=True)
+class Made:
+    """A thread's call: where it is, and what of the thread comes before it and after it."""
+
+    thread: Task
+    place: int
+    before: int
+    after: int
+
+
+@dataclass(frozen=True)
+class Joined:
+    """A call of all threads: before which item of the log its line stands, and who makes it."""
+
+    stands: int
+    made: list[Made]
+    leaving: list[Task]
+
+    def last(self) -> Made:
+        """The last of the calls. By libc's order it is that of the thread that began it all."""
+        return max(self.made, key=lambda one: one.place)
+
+
 class Together:
     """What each task does next in the log."""
 
     def __init__(self, items: list[Item], saying: Collection[str]) -> None:
         self._items = items
-        self._saying = frozenset(saying) - SIGNALS
+        saying = frozenset(saying) - SIGNALS
         self._places: dict[int, list[int]] = {}
         self._last: dict[int, int] = {}
         for place, item in enumerate(items):
-            if not isinstance(item, Call):
-                continue
-            if item.name in self._saying:
+            if isinstance(item, Gone) or (isinstance(item, Call) and item.name in saying):
                 self._places.setdefault(item.pid, []).append(place)
-            if item.name not in UNASKED:
+            if isinstance(item, Call) and item.name not in UNASKED:
                 self._last[item.pid] = place
 
-    def next_of(self, pid: int, place: int) -> tuple[int, Call] | None:
-        """The next call of a task that a script has a line for."""
+    def joined(self, process: Process, caller: Task, place: int) -> Joined | None:
+        """The calls that are one line with this one; None where it is the thread's own."""
+        made = [Made(caller, place, place, self._after(caller.pid, place))]
+        leaving = []
+        for thread in process.threads:
+            found = None if thread is caller else self._follows(thread, made[0])
+            if found is not None:
+                made.append(found)
+            elif thread is not caller and self._last.get(thread.pid, -1) <= place:
+                leaving.append(thread)
+            elif thread is not caller:
+                return None
+        after = min(one.after for one in made)
+        if len(made) == 1 or max(one.before for one in made) >= after:
+            return None
+        return Joined(min(after, max(one.place for one in made)), made, leaving)
+
+    def call(self, place: int) -> Call:
+        """The call at a place."""
+        item = self._items[place]
+        assert isinstance(item, Call)
+        return item
+
+    def _after(self, pid: int, place: int) -> int:
+        """Where a task next does something that its ids decide, or ends."""
         places = self._places.get(pid, [])
         found = bisect_right(places, place)
-        if found == len(places):
-            return None
-        item = self._items[places[found]]
-        return (places[found], item) if isinstance(item, Call) else None
+        return places[found] if found < len(places) else len(self._items)
 
-    def leaving(self, process: Process, place: int) -> list[Task]:
-        """The threads that haven't made the call, and of which little more than the end comes."""
-        return [
-            thread
-            for thread in process.threads
-            if thread.number not in process.making and self._last.get(thread.pid, -1) <= place
-        ]
-
-    def will_follow(self, process: Process, place: int) -> list[tuple[int, Call]] | None:
-        """The calls of the threads that haven't made it yet, where each makes it next."""
-        call = next(iter(process.making.values()))
-        found = []
-        for thread in process.threads:
-            if thread.number in process.making:
-                continue
-            after = self.next_of(thread.pid, place)
-            if after is None or not is_same(after[1], call):
+    def _follows(self, thread: Task, first: Made) -> Made | None:
+        """The call of another thread, where its next id call is the same one."""
+        call, before = self.call(first.place), first.place
+        places = self._places.get(thread.pid, [])
+        for place in places[bisect_right(places, first.place) :]:
+            item = self._items[place]
+            if not isinstance(item, Call) or makes_thread(item):
                 return None
-            found.append((thread.number, after[1]))
-        return found
+            if item.name in ID_CALLS:
+                after = self._after(thread.pid, place)
+                return Made(thread, place, before, after) if is_same(item, call) else None
+            before = place
+        return None
+
+
+def makes_thread(call: Call) -> bool:
+    """Whether the call made a thread of its process, of which nobody knows whether it follows."""
+    made = call.name in CREATIONS and call.result.error is None
+    return made and any("CLONE_THREAD" in arg for arg in call.args)
 
 
 def is_same(one: Call, other: Call) -> bool:

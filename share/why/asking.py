@@ -3,8 +3,8 @@
 A sealed credential is never changed, so what is asked of it holds wherever it is asked. What the
 script's own questions were told is taken as it is. The rest is asked in copies of the script:
 behind the line that sealed a credential the copy asks the task that has it. A copy leaves out what
-changes no credential: comments, questions, access(2), signals, looks into other tasks. A line is written as its events where
-lanes took turns in it, or where it has to be asked before it ends.
+changes nothing: comments, questions, access(2), signals, looks into other tasks. A line is written
+as its events where lanes took turns in it, or where it has to be asked before it ends.
 """
 
 from __future__ import annotations
@@ -21,7 +21,11 @@ from .script import QUERIES
 LINES, BYTES = 20000, 1 << 20
 KINDS = (IDS, CAPS, GROUPS, BITS)
 # What leaves everything as it is: a line that begins so, or the word behind its task.
-NOTHING = QUERIES | {"fcap", "access", "signal", "ptrace", "dumpable", "dumped"}
+NOTHING = QUERIES | {"fcap", "access", "signal", "ptrace", "dumpable", "dumped", "stat"}
+# Events that aren't written as their lines are: the line stands for them.
+BY_LINE = (
+    "open", "close", "spawn", "fork", "exit", "raw", "chown", "chmod", "setattr", "clearattr",
+)  # fmt: skip
 CALL_LABEL = re.compile(r"\bh\d{6}\b")
 
 
@@ -199,11 +203,11 @@ class Copy:
         for index in range(first, behind):
             event = self.journal.entries[index].partition(" -> ")[0].split(" ", 1)[1]
             word = event.split(" ", 1)[0]
-            if word in ("open", "close", "spawn", "fork", "exit"):
+            if word in BY_LINE:
                 self.add(text)
             elif word in ("begin", "act"):
                 self.keep(line, event)
-            elif word not in ("signal", "ask", "ptrace", "dumpable", "dumped"):
+            elif word not in ("signal", "ask", "ptrace", "dumpable", "dumped", "stat"):
                 self.add(CALL_LABEL.sub(self.label, event))
             if index in after:
                 self.question(after[index])

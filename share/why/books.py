@@ -2,8 +2,10 @@
 
 from __future__ import annotations
 
+from .filing import Version
 from .looking import Flag
 from .reason import Fault, Reason
+from .script import File
 
 
 class Task:
@@ -22,11 +24,11 @@ class Task:
 class Label:
     """What a label holds, or what is prepared under it: then `slot` is kept."""
 
-    __slots__ = ("access", "change", "credential", "line", "slot", "task")
+    __slots__ = ("access", "change", "credential", "file", "line", "slot", "task")
 
     def __init__(self, credential, line, task=None, slot=None):
         self.credential, self.line, self.task, self.slot = credential, line, task, slot
-        self.change, self.access = None, False
+        self.change, self.file, self.access = None, None, False
 
 
 class Cast:
@@ -53,17 +55,19 @@ class Decision:
 
     `change` has the words of what is committed or followed; of a signal and of a look, whether it
     stays in one process. `target` is the credential of who is signalled or looked into, or the
-    creator of a task. `flag` is what may have made the process that is looked into dumpable or not.
+    creator of a task. `flag` is what may have made the process that is looked into dumpable or not,
+    and `file` the file that it is decided on, as it stood.
     """
 
-    __slots__ = ("after", "before", "change", "flag", "index", "line", "reason", "target", "task",
-                 "told", "words")  # fmt: skip
+    __slots__ = ("after", "before", "change", "file", "flag", "index", "line", "reason", "target",
+                 "task", "told", "words")  # fmt: skip
 
     def __init__(self, index, line, words, told, task, before=None, after=None):
         self.index, self.line, self.words, self.told, self.task = index, line, words, told, task
         self.before, self.after = before, after
         self.target = self.change = None
         self.flag: Flag | None = None
+        self.file: File | Version | None = None
         self.reason: Reason | Fault | None = None
 
     @property

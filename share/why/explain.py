@@ -4,12 +4,13 @@ from __future__ import annotations
 
 from collections.abc import Callable
 
-from . import access, adjust, execve, ids, looking, sources
+from . import access, adjust, execve, filing, ids, looking, sources
 from .asking import KINDS, Values
 from .books import Decision
 from .journal import Journal
 from .names import ALL, LAST, cap_number
 from .reason import BITS, CAPS, GROUPS, IDS, Fault, NotFound, Reason
+from .script import File
 
 # What a change is decided on; and behind it, where it leads to other ids.
 BEFORE = {"exec": (IDS, CAPS, BITS), "setfsuid": (IDS, CAPS, BITS), "setfsgid": (IDS, CAPS)}
@@ -25,7 +26,15 @@ class Explainer:
         self.mask = mask
         # Whether it is also told why an event was not refused.
         self.full = journal.whole is not None
-        self.files = journal.script.files
+
+    def asked(self, credential: int) -> tuple:
+        """The ids, the sets and the groups of a credential."""
+        values = self.values
+        return values.ids(credential), values.caps(credential), values.groups(credential)
+
+    def file_of(self, decision: Decision) -> File:
+        """The file of a decision, as it stood."""
+        return filing.stands(decision.file, self.asked)
 
     def roots(self, credential: int) -> list[int]:
         """The root ids of a credential's namespace and of those above it."""
@@ -35,6 +44,7 @@ class Explainer:
         """Has all asked for that the sentences of a decision rest on."""
         event, want = decision.words[0], self.values.want
         before, after = decision.before, decision.after
+        self.wants_of_file(decision)
         if self.full:
             want(before, *KINDS)
             want(after, *KINDS)
@@ -43,7 +53,7 @@ class Explainer:
             return
         if decision.reason is not None or not (decision.refused or after is not None):
             return
-        if event in ("begin", "act"):
+        if event in ("begin", "act", "raw"):
             want(before, IDS, CAPS, *((BITS,) if not decision.refused else ()))
             want(after, IDS, CAPS)
         elif event == "commit":
@@ -52,9 +62,10 @@ class Explainer:
             want(after, *AFTER.get(call, (CAPS,)))
         elif event == "change":
             self.wants_of_change(decision.words[2], before)
-        elif event in ("ask", "open"):
-            if event == "open" or decision.words[2] == "check":
-                want(before, IDS, CAPS, GROUPS)
+        elif event in filing.EVENTS or event == "open":
+            want(before, IDS, CAPS, GROUPS)
+        elif event == "ask" and decision.words[2] == "check":
+            want(before, IDS, CAPS, GROUPS)
         elif event == "signal":
             want(before, IDS, CAPS)
             want(decision.target, IDS)
@@ -64,6 +75,12 @@ class Explainer:
             self.wants_of_flag(decision)
         elif event == "init":
             want(after, CAPS)
+
+    def wants_of_file(self, decision: Decision) -> None:
+        """What the mode of a file that was changed rests on."""
+        if isinstance(decision.file, filing.Version):
+            for credential in decision.file.credentials():
+                self.values.want(credential, IDS, CAPS, GROUPS)
 
     def wants_of_flag(self, decision: Decision) -> None:
         """What the flag of a process rests on."""
@@ -93,20 +110,21 @@ class Explainer:
         if decision.before is None and decision.after is not None:
             return [self.born(decision)]
         found = self.allowed(decision) if self.full else []
-        if decision.words[0] in ("begin", "act"):
+        if decision.words[0] in ("begin", "act", "raw"):
             found += self.identified(decision)
         return found
 
     def allowed(self, decision: Decision) -> list[Reason]:
         """Why a rule doesn't refuse an event."""
         words, before, values = decision.words, decision.before, self.values
-        if words[0] in ("begin", "act"):
+        if words[0] in filing.EVENTS:
+            return filing.allowed(words, self.file_of(decision), *self.asked(before))
+        if words[0] in ("begin", "act", "raw"):
             call = self.call_of(decision)
             return [ids.allowed(call[0], call[1:], values.ids(before), values.caps(before))]
         if words[0] == "open" or words[0] == "ask" and words[2] == "check":
-            name, want = words[2:4] if words[0] == "open" else words[3:5]
-            asked = values.ids(before), values.caps(before), values.groups(before)
-            return [access.allowed(self.files[name], want, *asked)]
+            want = words[3] if words[0] == "open" else words[4]
+            return [access.allowed(self.file_of(decision), want, *self.asked(before))]
         if words[0] == "signal":
             asked = values.ids(before), values.caps(before), values.ids(decision.target)
             return [access.signal_allowed(*asked, decision.change)]
@@ -158,7 +176,9 @@ class Explainer:
         """Why a rule refuses an event."""
         event, words, told = decision.words[0], decision.words, decision.told[0]
         before, values = decision.before, self.values
-        if event in ("begin", "act"):
+        if event in filing.EVENTS:
+            return filing.refusal(words, told, self.file_of(decision), *self.asked(before))
+        if event in ("begin", "act", "raw"):
             call = self.call_of(decision)
             error = decision.told[2] if told == "aborted" else told
             found = ids.refusal(call[0], call[1:], error, values.ids(before), values.caps(before))
@@ -167,14 +187,13 @@ class Explainer:
                 return Reason(text, f"{found.source}; {sources.THREADS}")
             return found
         if event == "change":
-            return self.change_refused(words[2:], told, before)
+            return self.change_refused(decision)
         if event == "ask":
-            found = self.question_refused(words[2:], told, before)
+            found = self.question_refused(decision)
             return by_access(found) if self.is_access(decision.line) else found
         if event == "open" and told == "eacces":
-            file = self.files[words[2]]
-            sets = values.ids(before), values.caps(before), values.groups(before)
-            return access.refusal(file, words[3], *sets, sources.OPEN)
+            file = self.file_of(decision)
+            return access.refusal(file, words[3], *self.asked(before), sources.OPEN)
         # Within one process a signal is always allowed.
         if event == "signal" and told == "eperm" and not decision.change:
             return self.signal_refused(decision)
@@ -188,24 +207,24 @@ class Explainer:
         """Whether a line is a call of access(2)."""
         return self.journal.script.line(line).split(" ")[1:2] == ["access"]
 
-    def change_refused(self, words: list[str], told: str, before: int) -> Reason:
+    def change_refused(self, decision: Decision) -> Reason:
         """Why a change is refused."""
+        words, told, before = decision.words[2:], decision.told[0], decision.before
         values = self.values
         if words[0] == "exec":
-            asked = values.ids(before), values.caps(before), values.groups(before)
-            file = self.files[words[1]]
-            return execve.refusal(file, told, *asked, values.bits(before), self.roots(before))
+            asked = *self.asked(before), values.bits(before), self.roots(before)
+            return execve.refusal(self.file_of(decision), told, *asked)
         needs = adjust.NEEDS.get(words[0], ())
         caps = values.caps(before) if CAPS in needs else None
         bits = values.bits(before) if BITS in needs else None
         return adjust.refusal(words, told, caps, bits)
 
-    def question_refused(self, words: list[str], told: str, before: int) -> Reason:
+    def question_refused(self, decision: Decision) -> Reason:
         """Why a question is refused."""
-        values = self.values
+        words, told = decision.words[2:], decision.told[0]
         if words[0] == "check" and told == "eacces":
-            asked = values.ids(before), values.caps(before), values.groups(before)
-            return access.refusal(self.files[words[1]], words[2], *asked)
+            asked = self.asked(decision.before)
+            return access.refusal(self.file_of(decision), words[2], *asked)
         source = {"capable": sources.LIST, "bset": sources.BOUND_READ, "ambis": sources.IS_SET}
         if told == "einval" and words[0] in source and cap_number(words[1]) > LAST:
             return adjust.no_capability(words[1], source[words[0]])
@@ -232,7 +251,7 @@ class Explainer:
         before, after = decision.before, decision.after
         sets = values.caps(before), values.caps(after)
         if words[0] == "exec":
-            file = self.files[words[1]]
+            file = self.file_of(decision)
             asked = values.ids(before), values.ids(after), *sets, values.bits(before)
             return execve.changes(file, decision.told, *asked, self.roots(before), self.mask)
         if words[0] in ("setfsuid", "setfsgid"):

@@ -8,16 +8,18 @@ from __future__ import annotations
 
 from . import stood
 from .books import Cast, Decision, Home, Label, Task
+from .filed import Filed
+from .filing import Version, named
 from .looking import Flag
 from .looks import Looks
 from .reason import CAPS, IDS, Fault
-from .script import Script
+from .script import File, Script
 
 RULED = frozenset(("eperm", "einval", "eacces"))
 HOLDS = 512
 
 
-class Journal(Looks):
+class Journal(Looks, Filed):
     """The entries of a report, followed one after another."""
 
     def __init__(self, script: Script, report: str, line: int | None = None) -> None:
@@ -30,6 +32,7 @@ class Journal(Looks):
         self.labels: dict[str, Label] = {}
         self.gone_labels: dict[str, tuple[int, str]] = {}
         self.files: dict[str, tuple[int, int]] = {}
+        self.infos: dict[str, File | Version] = dict(script.files)
         self.gone_files: dict[str, int] = {}
         self.casts: dict[str, Cast] = {}
         self.flags: dict[str, Flag] = {}
@@ -76,6 +79,7 @@ class Journal(Looks):
     def decide(self, words, told, task, before=None, after=None) -> Decision:
         """Keeps an entry that is told."""
         decision = Decision(self.index, self.line, words, told, task, before, after)
+        decision.file = self.infos.get(named(words) or "")
         self.decisions.append(decision)
         return decision
 
@@ -208,7 +212,7 @@ class Journal(Looks):
             self.refuse(words, told, task, before)
             return
         label.change, label.access = words[2:], words[2] == "access"
-        self.decide(words, told, task, before)
+        label.file = self.decide(words, told, task, before).file
 
     def on_commit(self, words, told):
         """A prepared credential becomes the task's."""
@@ -221,7 +225,7 @@ class Journal(Looks):
         task = self.tasks[label.task]
         number = self.seal(told, 1, task)
         decision = self.decide(words, told, label.task, task.current, number)
-        decision.change = label.change
+        decision.change, decision.file = label.change, label.file
         if len(told) > 3:
             self.flagged(task, number, "execve", told[-3:] == ["0", "0", "0"])
         else:
@@ -291,6 +295,17 @@ class Journal(Looks):
         waiting = {name: None for name in self.processes[task.process] if name != task.name}
         cast = self.casts[task.process] = Cast(self.line, words[1], words[2:], waiting)
         self.completed(task.process, cast)
+
+    def on_raw(self, words, told):
+        """A call that sets the ids of one thread alone."""
+        task = self.tasks.get(words[1])
+        if told[0] != "ok":
+            self.refuse(words, told, words[1], task.current if task else None)
+            return
+        number = self.seal(told, 1, task)
+        self.decide(words, told, words[1], task.current, number)
+        self.flagged(task, number)
+        self.current(task, number)
 
     def on_act(self, words, told):
         """A waiting thread makes the call too."""

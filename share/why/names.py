@@ -33,6 +33,8 @@ CALLS = {
     "close": "close(2)", "access": "access(2)", "signal": "kill(2)", "fork": "fork(2)",
     "ptrace": "a ptrace access check", "dumpable": "prctl(2), PR_SET_DUMPABLE",
     "dumped": "prctl(2), PR_GET_DUMPABLE",
+    "chown": "chown(2)", "chmod": "chmod(2)", "setattr": "setxattr(2)",
+    "clearattr": "removexattr(2)", "stat": "stat(2)", "capsetraw": "capset(2)",
     "spawn": "clone(2), CLONE_THREAD", "exit": "_exit(2)", "init": "a first task",
     "ids": "getresuid(2), getresgid(2)", "caps": "capget(2)", "groups": "getgroups(2)",
     "bits": "prctl(2), PR_GET_SECUREBITS", "capable": "capget(2)",

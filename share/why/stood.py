@@ -4,6 +4,7 @@ a limit. Each sentence has its condition, which is asked of the journal's books.
 from __future__ import annotations
 
 from . import sources
+from .filing import EVENTS
 from .names import CALLS, counted, listed
 from .reason import Fault, Reason
 
@@ -29,7 +30,7 @@ def source_of(words) -> str:
     """What the kernel's documentation has of an event on a label."""
     return {
         "ask": sources.ACCESSING, "open": sources.OPEN_FILES, "signal": sources.ACCESSING,
-        "ptrace": sources.ACCESSING,
+        "ptrace": sources.ACCESSING, **dict.fromkeys(EVENTS, sources.ACCESSING),
         "drop": sources.MANAGING, "override": sources.OVERRIDING, "revert": sources.OVERRIDING,
     }.get(words[0], sources.ALTERING)  # fmt: skip
 
@@ -98,7 +99,7 @@ def overridden(journal, words, told) -> Reason:
     task = task_of(journal, words)
     held(task is not None and len(task.overrides) == int(told[1]), "it has other overrides")
     lines = [at(journal, line) for _, line in task.overrides]
-    what = CALLS.get(words[2] if words[0] == "begin" else words[0], words[0])
+    what = CALLS.get(words[2] if words[0] in ("begin", "raw") else words[0], words[0])
     text = f"{task.name} acts under {counted(len(lines), 'override')}, of {listed(lines)}"
     return Reason(f"{text}, where {what} is not allowed", sources.OVERRIDING)
 

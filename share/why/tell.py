@@ -8,7 +8,7 @@ from .asking import Values
 from .books import Decision
 from .explain import Explainer
 from .journal import Journal
-from .names import CALLS, ERRORS, KINDS, SETS, cap_name, cap_number, flags, named
+from .names import CALLS, ERRORS, ID_CALLS, KINDS, SETS, cap_name, cap_number, flags, named
 from .reason import A_FAULT, BITS, CAPS, GROUPS, IDS, Bad, Fault, NotFound, Reason
 from .script import DECLARATIONS, Script
 
@@ -38,6 +38,8 @@ def sentence(reason: Reason) -> str:
 
 def manual_name(words: list[str]) -> str:
     """What the manual calls the call of an event or of a line."""
+    if words[0] == "raw":
+        return f"{next(CALLS[word] for word in words if word in ID_CALLS)} of one thread alone"
     return CALLS.get(words[2] if words[0] in ("begin", "ask", "change") else words[0], words[0])
 
 

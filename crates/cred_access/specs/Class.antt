@@ -5,7 +5,7 @@ use Rattle.cred_access.specs.declared.class.Class.TheVariants as class
 use Rattle.cred_rules.specs.Access.{OWNER, GROUP, OTHERS}
 
 -- the place of the class's execute bit
-abbrev pub place : Class → ℕ
-place class.Owner = OWNER
-place class.Group = GROUP
-place class.Others = OTHERS
+abbrev pub class_place : Class → ℕ
+class_place class.Owner = OWNER
+class_place class.Group = GROUP
+class_place class.Others = OTHERS

@@ -1,7 +1,7 @@
 //! The three classes of tasks for which a file has permission bits.
 ghost use Rattle.std.specs.Prelude.{◌≡◌, ◌≤◌};
 ghost use Rattle.cred_record.specs.Credential.{Credential};
-ghost use Rattle.cred_access.specs.Class.{place};
+ghost use Rattle.cred_access.specs.Class.{class_place};
 ghost use Rattle.cred_rules.specs.Access.{in_group, class_of};
 
 use cred_ids::{Groups, Id, Ids4};
@@ -22,7 +22,7 @@ impl Class {
     /// The place in a mode of the class's execute bit. Its write bit and its read bit are the next
     /// two.
     pub fn place(self) -> u32
-        ensures value { result ≡ place self }
+        ensures value { result ≡ class_place self }
         ensures small { result ≤ 6 }
     {
         match self {
@@ -34,7 +34,7 @@ impl Class {
 }
 
 /// Whether the group is the task's filesystem group or one of its supplementary groups.
-fn in_group(gid: &Ids4, groups: &Groups, group: Id) -> bool
+pub fn has_group(gid: &Ids4, groups: &Groups, group: Id) -> bool
     ensures { (cred : Credential) → cred.gid ≡ gid.now → cred.groups ≡ groups.now
         → result ≡ in_group cred group }
 {
@@ -44,11 +44,11 @@ fn in_group(gid: &Ids4, groups: &Groups, group: Id) -> bool
 /// The one class of the file that a task with these ids and groups is in.
 pub fn class_of(uid: &Ids4, gid: &Ids4, groups: &Groups, file: &FileInfo) -> Class
     ensures { (cred : Credential) → cred.uid ≡ uid.now → cred.gid ≡ gid.now
-        → cred.groups ≡ groups.now → place result ≡ class_of cred file.now }
+        → cred.groups ≡ groups.now → class_place result ≡ class_of cred file.now }
 {
     if uid.fs == file.owner {
         Class::Owner
-    } else if in_group(gid, groups, file.group) {
+    } else if has_group(gid, groups, file.group) {
         Class::Group
     } else {
         Class::Others

@@ -1,7 +1,8 @@
 //! Whether a task may read, write, execute or search a file.
 ghost use Rattle.std.specs.Prelude.{◌≡◌};
 ghost use Rattle.cred_record.specs.Credential.{Credential};
-ghost use Rattle.cred_rules.specs.Access.{is_within, override_passes, read_search_passes, may};
+ghost use Rattle.cred_rules.specs.Access.{is_asked_within, override_passes, read_search_passes};
+ghost use Rattle.cred_rules.specs.Access.{may};
 
 use crate::class::class_of;
 use crate::mode::{has_execute_bit, permits};
@@ -10,8 +11,8 @@ use cred_ids::{Groups, Ids4};
 use cred_record::{Cred, FileInfo, FileKind, Want};
 
 /// Whether all that is asked for is permitted.
-fn is_within(asked: Want, permitted: Want) -> bool
-    ensures { result ≡ is_within asked permitted }
+fn is_asked_within(asked: Want, permitted: Want) -> bool
+    ensures { result ≡ is_asked_within asked permitted }
 {
     (!asked.r || permitted.r) && (!asked.w || permitted.w) && (!asked.x || permitted.x)
 }
@@ -61,7 +62,7 @@ pub fn may_by(
     ensures { (cred : Credential) → cred.uid ≡ uid.now → cred.gid ≡ gid.now
         → cred.groups ≡ groups.now → cred.eff ≡ effective → result ≡ may cred file.now want }
 {
-    is_within(want, permits(file.mode, class_of(uid, gid, groups, file)))
+    is_asked_within(want, permits(file.mode, class_of(uid, gid, groups, file)))
         || effective.has(Cap::DAC_OVERRIDE) && override_passes(file, want)
         || effective.has(Cap::DAC_READ_SEARCH) && read_search_passes(file, want)
 }

@@ -8,6 +8,7 @@ mod mode;
 mod real;
 mod rights;
 
+pub use class::has_group;
 pub use file::{may, may_by};
 pub use mode::has_bit;
 pub use real::access_cred;

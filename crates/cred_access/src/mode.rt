@@ -2,7 +2,7 @@
 ghost use Rattle.std.specs.Prelude.{◌≡◌, ◌<◌};
 ghost use Rattle.cred_rules.specs.Access.{permits, has_execute_bit};
 ghost use Rattle.cred_rules.specs.Bits.{has_bit};
-ghost use Rattle.cred_access.specs.Class.{place};
+ghost use Rattle.cred_access.specs.Class.{class_place};
 
 use crate::class::Class;
 use cred_record::Want;
@@ -24,7 +24,7 @@ pub fn has_bit(mode: u16, place: u32) -> bool
 
 /// What the mode permits a class.
 pub fn permits(mode: u16, class: Class) -> Want
-    ensures { result ≡ permits mode (place class) }
+    ensures { result ≡ permits mode (class_place class) }
 {
     let execute = class.place();
     Want {

@@ -17,7 +17,7 @@ use Rattle.cred_event.specs.declared.answer.Named.TheVariants.{Broadcast}
 use Rattle.cred_event.specs.declared.answer.Answer.{Answer}
 use Rattle.cred_event.specs.declared.answer.Answer.TheVariants.{Done, Began, Eperm, Einval, NoTask}
 use Rattle.cred_event.specs.declared.answer.Answer.TheVariants.{NoPrepared, Busy, Exists}
-use Rattle.cred_event.specs.declared.answer.Answer.TheVariants.{Overridden, TableFull}
+use Rattle.cred_event.specs.declared.answer.Answer.TheVariants.{Overridden, TableFull, Sealed}
 
 -- The call is invalid, whoever makes it: the one id that it sets is -1, or there are more groups
 -- than a task may have. The calls of two and of three ids never are.
@@ -58,6 +58,17 @@ begin_row call Einval = is_invalid call
 begin_row call TableFull = not (is_invalid call)
 begin_row call (Began cred slot left) = not (is_invalid call)
 begin_row call answer = false
+
+-- an id call of one thread alone
+abbrev pub raw_row : IdCall → Answer → Bool
+raw_row call (NoTask task) = true
+raw_row call (Busy cast) = true
+raw_row call (Overridden depth) = true
+raw_row call Eperm = may_be_denied call
+raw_row call Einval = is_invalid call
+raw_row call TableFull = not (is_invalid call)
+raw_row call (Sealed cred slot) = not (is_invalid call)
+raw_row call answer = false
 
 -- The number is none that the change takes.
 abbrev pub is_wrong : AdjCall → Bool

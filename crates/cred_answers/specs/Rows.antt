@@ -1,10 +1,14 @@
 -- Which answers an event may be given: its refusals in the order in which they are tested, and then
 -- what it is answered where none comes. The numbers of an answer don't matter.
-use Rattle.std.specs.Prelude.{ℕ, Bool, true, false, not, nat_lt, IsTrue, if◌then◌else◌}
+use Rattle.std.specs.Prelude.{ℕ, Bool, true, false, not, nat_lt, IsTrue, if◌then◌else◌, List}
+use Rattle.std.specs.declared.option.Option.{Option}
+use Rattle.cred_ids.specs.declared.arg.Arg.{Arg}
+use Rattle.cred_rules.specs.Files as files
 use Rattle.cred_caps.specs.Numbers.{LAST}
 use Rattle.cred_event.specs.declared.answer.Named.TheVariants.{Task, Process, Label, File}
 use Rattle.cred_event.specs.declared.answer.Counted.TheVariants.{Tasks, Files, Holds, Prepared}
 use Rattle.cred_event.specs.declared.answer.Told.TheVariants.{Ids, Caps, Groups, Bits, Flag}
+use Rattle.cred_event.specs.declared.answer.Told.TheVariants as told
 use Rattle.cred_event.specs.declared.answer.Answer.{Answer}
 use Rattle.cred_event.specs.declared.answer.Answer.TheVariants.{Done, Sealed, Kept, Was, Executed}
 use Rattle.cred_event.specs.declared.answer.Answer.TheVariants.{Acted, Told, Eperm, Einval}
@@ -19,7 +23,7 @@ use Rattle.cred_event.specs.declared.event.Query.{Query}
 use Rattle.cred_event.specs.declared.event.Query.TheVariants as query
 use Rattle.cred_event.specs.declared.event.Event.{Event}
 use Rattle.cred_event.specs.declared.event.Event.TheVariants as event
-use Rattle.cred_answers.specs.CallRows.{adjust_row, begin_row}
+use Rattle.cred_answers.specs.CallRows.{adjust_row, begin_row, raw_row}
 
 -- a first task
 abbrev pub init_row : Answer → Bool
@@ -240,6 +244,34 @@ dumped_row (NoTask task) = true
 dumped_row (Told (Flag flag)) = true
 dumped_row answer = false
 
+-- chown(2): a call that gives neither an owner nor a group is refused to nobody
+abbrev pub chown_row : Arg → Arg → Answer → Bool
+chown_row owner group (NoHold label) = true
+chown_row owner group Eperm = files.gives_one owner group
+chown_row owner group Done = true
+chown_row owner group answer = false
+
+-- chmod(2)
+abbrev pub chmod_row : Answer → Bool
+chmod_row (NoHold label) = true
+chmod_row Eperm = true
+chmod_row Done = true
+chmod_row answer = false
+
+-- setxattr(2) and removexattr(2): bytes that are no attribute are given to no file
+abbrev pub set_attr_row : Option (List ℕ) → Answer → Bool
+set_attr_row attr (NoHold label) = true
+set_attr_row attr Eperm = true
+set_attr_row attr Einval = not (files.is_attr attr)
+set_attr_row attr Done = files.is_attr attr
+set_attr_row attr answer = false
+
+-- stat(2)
+abbrev pub stat_row : Answer → Bool
+stat_row (NoHold label) = true
+stat_row (Told (told.File owner group mode attr)) = true
+stat_row answer = false
+
 -- what a question may be answered
 abbrev pub may_tell : Query → Answer → Bool
 may_tell query.Ids answer = ids_row answer
@@ -259,31 +291,36 @@ may_change (change.Exec file) answer = exec_row answer
 may_change change.Access answer = access_row answer
 
 -- what an event may be answered
-abbrev pub may : Event → Answer → Bool
-may (event.Init task process user group ns) answer = init_row answer
-may (event.Take label task side) answer = take_row answer
-may (event.TakeFile label fd) answer = takefile_row answer
-may (event.Release label) answer = release_row answer
-may (event.Ask label query) answer = may_tell query answer
-may (event.Signal from hold to target) answer = signal_row answer
-may (event.Prepare label task hold) answer = prepare_row answer
-may (event.Alter label change) answer = may_change change answer
-may (event.Commit label) answer = commit_row answer
-may (event.Abort label) answer = abort_row answer
-may (event.Override task label) answer = override_row answer
-may (event.Revert task) answer = revert_row answer
-may (event.Begin task call) answer = begin_row call answer
-may (event.Act cast) answer = act_row answer
-may (event.OpenFile hold file want fd) answer = open_row answer
-may (event.CloseFile fd) answer = close_row answer
-may (event.Spawn task child) answer = spawn_row answer
-may (event.Fork task child process) answer = fork_row answer
-may (event.Exit task) answer = exit_row answer
-may event.Sweep answer = sweep_row answer
-may (event.Dumpable task value) answer = dumpable_row value answer
-may (event.Dumped task) answer = dumped_row answer
-may (event.Ptrace from hold to target mode) answer = signal_row answer
+abbrev pub may_answer : Event → Answer → Bool
+may_answer (event.Init task process user group ns) answer = init_row answer
+may_answer (event.Take label task side) answer = take_row answer
+may_answer (event.TakeFile label fd) answer = takefile_row answer
+may_answer (event.Release label) answer = release_row answer
+may_answer (event.Ask label query) answer = may_tell query answer
+may_answer (event.Signal from hold to target) answer = signal_row answer
+may_answer (event.Prepare label task hold) answer = prepare_row answer
+may_answer (event.Alter label change) answer = may_change change answer
+may_answer (event.Commit label) answer = commit_row answer
+may_answer (event.Abort label) answer = abort_row answer
+may_answer (event.Override task label) answer = override_row answer
+may_answer (event.Revert task) answer = revert_row answer
+may_answer (event.Begin task call) answer = begin_row call answer
+may_answer (event.Act cast) answer = act_row answer
+may_answer (event.OpenFile hold file want fd) answer = open_row answer
+may_answer (event.CloseFile fd) answer = close_row answer
+may_answer (event.Spawn task child) answer = spawn_row answer
+may_answer (event.Fork task child process) answer = fork_row answer
+may_answer (event.Exit task) answer = exit_row answer
+may_answer event.Sweep answer = sweep_row answer
+may_answer (event.Dumpable task value) answer = dumpable_row value answer
+may_answer (event.Dumped task) answer = dumped_row answer
+may_answer (event.Ptrace from hold to target mode) answer = signal_row answer
+may_answer (event.Chown hold file owner group) answer = chown_row owner group answer
+may_answer (event.Chmod hold file mode) answer = chmod_row answer
+may_answer (event.SetAttr hold file attr) answer = set_attr_row attr answer
+may_answer (event.Stat hold file) answer = stat_row answer
+may_answer (event.Raw task call) answer = raw_row call answer
 
 -- the event may be given an answer of this form
 abbrev pub CanAnswer : Event → Answer → Type 0
-CanAnswer event answer = IsTrue (may event answer)
+CanAnswer event answer = IsTrue (may_answer event answer)

@@ -9,7 +9,7 @@ use cred_ids::{Arg, limits};
 use cred_record::{AdjCall, IdCall};
 
 /// Whether an id is given.
-fn is_given(id: Arg) -> bool
+pub(crate) fn is_given(id: Arg) -> bool
     ensures { result ≡ is_given id }
 {
     matches!(id, Arg::Set(_))
@@ -64,6 +64,19 @@ pub(crate) fn begin_row(call: &IdCall, answer: &Answer) -> bool
         Answer::Eperm => may_be_denied(call),
         Answer::Einval => is_invalid(call),
         Answer::TableFull | Answer::Began { .. } => !is_invalid(call),
+        _ => false,
+    }
+}
+
+/// An id call of one thread alone.
+pub(crate) fn raw_row(call: &IdCall, answer: &Answer) -> bool
+    ensures { result ≡ spec.raw_row call.now answer.now }
+{
+    match answer {
+        Answer::NoTask(_) | Answer::Busy(_) | Answer::Overridden(_) => true,
+        Answer::Eperm => may_be_denied(call),
+        Answer::Einval => is_invalid(call),
+        Answer::TableFull | Answer::Sealed { .. } => !is_invalid(call),
         _ => false,
     }
 }

@@ -5,6 +5,7 @@
 #![tactic(auto)]
 
 mod call_rows;
+mod file_rows;
 mod rows;
 mod told_rows;
 

@@ -2,7 +2,8 @@
 ghost use Rattle.std.specs.Prelude.{◌≡◌};
 ghost use Rattle.cred_answers.specs.Rows as spec;
 
-use crate::call_rows::{adjust_row, begin_row};
+use crate::call_rows::{adjust_row, begin_row, raw_row};
+use crate::file_rows::{chmod_row, chown_row, set_attr_row, stat_row};
 use crate::told_rows::may_tell;
 use cred_event::{Answer, Change, Counted, Event, Named, Told};
 
@@ -283,7 +284,7 @@ fn may_change(change: Change, answer: &Answer) -> bool
 
 /// Whether the event may be given an answer of this form.
 pub fn can_answer(event: &Event, answer: &Answer) -> bool
-    ensures { result ≡ spec.may event.now answer.now }
+    ensures { result ≡ spec.may_answer event.now answer.now }
 {
     match event {
         Event::Init { .. } => init_row(answer),
@@ -309,5 +310,10 @@ pub fn can_answer(event: &Event, answer: &Answer) -> bool
         Event::Dumpable { value, .. } => dumpable_row(*value, answer),
         Event::Dumped { .. } => dumped_row(answer),
         Event::Ptrace { .. } => signal_row(answer),
+        Event::Chown { owner, group, .. } => chown_row(*owner, *group, answer),
+        Event::Chmod { .. } => chmod_row(answer),
+        Event::SetAttr { attr, .. } => set_attr_row(attr, answer),
+        Event::Stat { .. } => stat_row(answer),
+        Event::Raw { call, .. } => raw_row(call, answer),
     }
 }

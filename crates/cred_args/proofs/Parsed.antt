@@ -16,8 +16,8 @@ use Rattle.clap.specs.declared.error.kind.ErrorKind.{ErrorKind}
 use Rattle.clap.specs.declared.error.kind.ErrorKind.TheVariants as kind
 use Rattle.clap.specs.declared.parser.matches.ArgMatches.{ArgMatches}
 use Rattle.clap.proofs.WalkLemmas.{first_value-rows}
-use Rattle.cred_args.specs.Line.{Finds, bare, line}
-use Rattle.cred_args.specs.Positionals.{Words, is_plain, split, positionals}
+use Rattle.cred_args.specs.Line.{Finds, bare_line, line}
+use Rattle.cred_args.specs.Positionals.{WordsGiven, is_plain, split, positionals}
 
 -- ---- the command that is built
 
@@ -28,7 +28,7 @@ abbrev no_help : App → App
 no_help a = record a { top = record a.top { disable_help_flag = true } }
 
 pub bared : (a b c : Command) → app_of a ≡ new_app (codes "credtrace") → out-Command b ≡ record (out-Command a) { no_binary_name = true }
-    → out-Command c ≡ record (out-Command b) { disable_help_flag = true } → app_of c ≡ bare
+    → out-Command c ≡ record (out-Command b) { disable_help_flag = true } → app_of c ≡ bare_line
 bared a b c is nameless helpless =
     let second : app_of c ≡ no_help (app_of b) = ap app_of_fields helpless in
     let first : app_of b ≡ no_name (app_of a) = ap app_of_fields nameless in
@@ -146,7 +146,7 @@ first_plain (x ∷ xs) more plain =
     (plain_word_of x xs (other (x == 45) parts.0), parts.1)
 
 -- the two positionals, as they are found
-abbrev given : List Text → Option Words
+abbrev given : List Text → Option WordsGiven
 given words =
     option_map (λ command. (command, first_of (codes "operand") (matches_of line words))) (first_of (codes "command") (matches_of line words))
 

@@ -12,8 +12,8 @@ command = record (new_rule (codes "command")) { required = true }
 abbrev pub operand : Rule
 operand = new_rule (codes "operand")
 
-abbrev pub bare : App
-bare = record (new_app (codes "credtrace")) {
+abbrev pub bare_line : App
+bare_line = record (new_app (codes "credtrace")) {
   top = record (new_app (codes "credtrace")).top {
     no_binary_name = true;
     disable_help_flag = true;
@@ -21,7 +21,7 @@ bare = record (new_app (codes "credtrace")) {
 }
 
 abbrev pub line : App
-line = with_rule (with_rule bare command) operand
+line = with_rule (with_rule bare_line command) operand
 
 -- what clap gives for the words: what it found, if nothing in them is refused; else the first
 -- fault, or lack of memory

@@ -12,18 +12,18 @@ is_plain [] = false
 is_plain (first ∷ rest) = not (first == 45)
 
 -- a command and its operand, if it has one
-abbrev pub Words : Type 0
-Words = List ℕ × Option (List ℕ)
+abbrev pub WordsGiven : Type 0
+WordsGiven = List ℕ × Option (List ℕ)
 
-abbrev pub split : List (List ℕ) → Option Words
+abbrev pub split : List (List ℕ) → Option WordsGiven
 split (command ∷ []) = Some (command, None)
 split (command ∷ operand ∷ []) = Some (command, Some operand)
 split words = None
 
 -- what a command line is: none where a word is no plain one, and where there are none or more
-abbrev pub positionals : List (List ℕ) → Option Words
+abbrev pub positionals : List (List ℕ) → Option WordsGiven
 positionals words = if list_all is_plain words then split words else None
 
 -- the words, wherever they lie
-abbrev pub seen : Positionals → Words
-seen given = (given.command.now, option_map (λ word. word.now) given.operand)
+abbrev pub words_seen : Positionals → WordsGiven
+words_seen given = (given.command.now, option_map (λ word. word.now) given.operand)

@@ -4,7 +4,7 @@ ghost use Rattle.std.specs.List.{list_all};
 ghost use Rattle.clap.specs.Words.{first_value, found_of};
 ghost use Rattle.cred_args.specs.Line.{Finds};
 ghost use Rattle.cred_args.specs.Positionals as spec;
-ghost use Rattle.cred_args.specs.Positionals.{positionals, seen};
+ghost use Rattle.cred_args.specs.Positionals.{positionals, words_seen};
 
 use clap::error::ErrorKind;
 use clap::{Arg, ArgMatches, Command, Error};
@@ -31,15 +31,15 @@ pub struct Positionals<'a> {
 ///
 /// `NoMemory` if an allocation of the parse fails.
 pub fn parse<'a>(alloc: Global, words: &'a [String]) -> Result<Option<Positionals<'a>>, NoMemory>
-    ensures { IfOk result (λ given. option_map seen given
+    ensures { IfOk result (λ given. option_map words_seen given
         ≡ positionals (map string_bytes words.now)) }
 {
     // clap would take a word that begins with `-` for a flag, and `--` for the end of flags.
     if !are_plain(words) {
         return Ok(None);
     }
-    match matched(alloc, words) {
-        Ok(matches) => Ok(found(&matches)),
+    match match_words(alloc, words) {
+        Ok(matches) => Ok(positionals_of(&matches)),
         Err(e) => match e.kind() {
             ErrorKind::OutOfMemory => Err(NoMemory),
             _ => Ok(None),
@@ -73,7 +73,7 @@ fn is_plain(word: &[u8]) -> bool
 /// # Errors
 ///
 /// clap's fault of the words, and `OutOfMemory` if an allocation fails.
-fn matched<'a>(alloc: Global, words: &'a [String]) -> Result<ArgMatches<'a>, Error>
+fn match_words<'a>(alloc: Global, words: &'a [String]) -> Result<ArgMatches<'a>, Error>
     ensures { Finds (map string_bytes words.now) result }
 {
     let command = Arg::new(alloc, COMMAND).required(true);
@@ -87,8 +87,8 @@ fn matched<'a>(alloc: Global, words: &'a [String]) -> Result<ArgMatches<'a>, Err
 }
 
 /// The positionals of what clap found.
-fn found<'a>(matches: &ArgMatches<'a>) -> Option<Positionals<'a>>
-    ensures { option_map seen result
+fn positionals_of<'a>(matches: &ArgMatches<'a>) -> Option<Positionals<'a>>
+    ensures { option_map words_seen result
         ≡ option_map (λ command. (command, first_value (found_of matches.now) (codes "operand")))
         (first_value (found_of matches.now) (codes "command")) }
 {

@@ -15,7 +15,7 @@ use Rattle.cred_report.specs.Events.{event_text}
 use Rattle.cred_report.specs.Answers.{answer_text}
 use Rattle.cred_audit.specs.Report.{IsReport, Begins, IsFault}
 use Rattle.cred_audit.specs.Next.{ComesNext, IsLaneAt}
-use Rattle.cred_audit.specs.Run.{IsAfter, IsRun, GoesOn, ReadsEntry, GoesWrong, RunHasEnded, IsLeft}
+use Rattle.cred_audit.specs.Run.{IsRunAfter, IsRun, GoesOn, ReadsEntry, GoesWrong, RunHasEnded, IsLeft}
 use Rattle.cred_audit.specs.declared.run.Run.{Run}
 use Rattle.cred_audit.proofs.Prefixes.{longer_begins}
 use Rattle.cred_laws.proofs.Prefixes.{so_far_prefix, comes_behind}
@@ -144,12 +144,12 @@ fault script bytes journal rest few so_far is not_right not_whole = record {
 -- number, and these are left.
 pub record Compared (script : Script) (bytes rest : List ℕ) (entry : ℕ) (run : Run) : Type 0 where
   pub journal : List Entry
-  pub after : IsAfter script journal run
+  pub after : IsRunAfter script journal run
   pub counts : length journal + 1 ≡ entry
   pub is : bytes ≡ text script journal ++ rest
   pub few : entry + length rest ≤ length bytes + 1
 
-pub nothing_compared : (script : Script) (bytes : List ℕ) (run : Run) → IsAfter script [] run → Compared script bytes bytes 1 run
+pub nothing_compared : (script : Script) (bytes : List ℕ) (run : Run) → IsRunAfter script [] run → Compared script bytes bytes 1 run
 nothing_compared script bytes run after = record {
   journal = [];
   after = after;

@@ -19,11 +19,11 @@ use Rattle.cred_sound.specs.Sound.{IsSound}
 use Rattle.cred_sound.proofs.Sound.{like_sound, sound_after}
 use Rattle.cred_script.specs.Lines.{line_at}
 use Rattle.cred_cursor.specs.Cursor.{IsOfLine, MovesOnTo}
-use Rattle.cred_cursor.specs.Cursors.{AreCursors, cursor_of, due_of, waits}
+use Rattle.cred_cursor.specs.LaneCursors.{AreCursors, cursor_of, due_of, waits}
 use Rattle.cred_cursor.proofs.AllLanes.{is_due, no_cursor, some_cursor}
 use Rattle.cred_cursor.proofs.Lanes.{lane_makes_due, lane_of_line, lane_of_course, SoFar-push}
 use Rattle.cred_cursor.proofs.Turns.{next_by, next_none, next_some, stands_at, lanes_go_on}
-use Rattle.cred_audit.specs.Run.{IsAfter, IsRun, GoesOn, RunHasEnded, IsLeft}
+use Rattle.cred_audit.specs.Run.{IsRunAfter, IsRun, GoesOn, RunHasEnded, IsLeft}
 use Rattle.cred_audit.specs.declared.run.Run.{Run}
 
 -- ---- where it stands
@@ -62,7 +62,7 @@ entry_is : (script : Script) (journal : List Entry) (course : Course) (event : E
 entry_is script journal course event line answer number is =
     ap (entry_with line event) (sym is) ∙ ap (λ n. entry_of script journal (record { line = n; event = event })) number
 
-made : (script : Script) (before after : Run) (line : ℕ) (event : Event) (answer : Answer) (journal : List Entry) → IsAfter script journal before
+made : (script : Script) (before after : Run) (line : ℕ) (event : Event) (answer : Answer) (journal : List Entry) → IsRunAfter script journal before
     → IsOutcomeLike (step script before.state line event) answer after.state
     → IsOutcomeLike (step script (replay script journal) line event) answer after.state
 made script before after line event answer journal is does =
@@ -74,7 +74,7 @@ next_is : (script : Script) (lane : ℕ) (before after : Run) (course : Course) 
     → option_and_then (λ (l : Line). event_at l.content course) (line_at script course.line) ≡ Some event
     → line ≡ course.line
     → IsOutcomeLike (step script before.state line event) answer after.state
-    → (journal : List Entry) → IsAfter script journal before → next script journal lane ≡ Some (entry_with line event answer)
+    → (journal : List Entry) → IsRunAfter script journal before → next script journal lane ≡ Some (entry_with line event answer)
 next_is script lane before after course event line answer due has number does journal is =
     let same = entry_is script journal course event line answer number (made script before after line event answer journal is does).answers in
     next_some script journal before.cursors lane course event is.cursors due has ∙ ap Some (sym same)
@@ -143,11 +143,11 @@ pub ended_by : (run : Run) (ended : Bool) → ended ≡ list_all is_none run.cur
 ended_by run true is = no_cursor_ended run (no_cursor run.cursors (sym is))
 ended_by run false is = let left = some_cursor run.cursors (sym is) in cursor_left run left.0 left.1
 
-pub nothing_run : (script : Script) (run : Run) → length script.lines ≤ LINE_LIMIT → run.state ≡ opening → AreCursors script [] run.cursors
-    → IsAfter script [] run
+pub nothing_run : (script : Script) (run : Run) → length script.lines ≤ LINE_LIMIT → run.state ≡ opening script → AreCursors script [] run.cursors
+    → IsRunAfter script [] run
 nothing_run script run few state cursors = record {
   few = few;
-  state = subst (λ (s : State). IsLike s opening) (sym state) (like_self opening);
+  state = subst (λ (s : State). IsLike s (opening script)) (sym state) (like_self (opening script));
   so_far = λ k lt. absurd (omega (arith, lt));
   cursors = cursors;
 }

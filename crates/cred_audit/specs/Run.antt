@@ -8,13 +8,13 @@ use Rattle.cred_model.specs.Script.{Script}
 use Rattle.cred_model.specs.Like.{IsLike}
 use Rattle.cred_model.specs.Journal.{SoFar, next, replay}
 use Rattle.cred_report.specs.Text.{entry_text}
-use Rattle.cred_cursor.specs.Cursors.{AreCursors}
+use Rattle.cred_cursor.specs.LaneCursors.{AreCursors}
 use Rattle.cred_audit.specs.Next.{ComesNext}
 use Rattle.cred_audit.specs.declared.run.Run.{Run}
 
 -- The run has come as far as the journal: no event can tell its state from the one that the journal
 -- leads to, the journal is one so far, and each lane's cursor is the journal's.
-pub record IsAfter (script : Script) (journal : List Entry) (run : Run) : Type 0 where
+pub record IsRunAfter (script : Script) (journal : List Entry) (run : Run) : Type 0 where
   pub few : length script.lines ≤ LINE_LIMIT
   pub state : IsLike run.state (replay script journal)
   pub so_far : SoFar script journal
@@ -22,7 +22,7 @@ pub record IsAfter (script : Script) (journal : List Entry) (run : Run) : Type 0
 
 -- the run has come as far as some journal
 abbrev pub IsRun : Script → Run → Type 0
-IsRun script run = (journal : List Entry) × IsAfter script journal run
+IsRun script run = (journal : List Entry) × IsRunAfter script journal run
 
 -- the journal with one entry more, or as it is
 abbrev pub grown : List Entry → Option Entry → List Entry
@@ -33,34 +33,34 @@ grown journal (Some entry) = journal ++ entry ∷ []
 -- come to the journal with it.
 pub record GoesOn (script : Script) (lane : ℕ) (before after : Run) (found : Option Entry)
     : Type 0 where
-  pub next : (journal : List Entry) → IsAfter script journal before
+  pub next : (journal : List Entry) → IsRunAfter script journal before
       → next script journal lane ≡ found
-  pub leads : (journal : List Entry) → IsAfter script journal before
-      → IsAfter script (grown journal found) after
+  pub leads : (journal : List Entry) → IsRunAfter script journal before
+      → IsRunAfter script (grown journal found) after
 
 -- Whatever script and journal it is that the run has come to, no lane has a next entry.
 abbrev pub RunHasEnded : Run → Type 0
 RunHasEnded run =
-    (script : Script) (journal : List Entry) → IsAfter script journal run
+    (script : Script) (journal : List Entry) → IsRunAfter script journal run
     → (lane : ℕ) → next script journal lane ≡ None
 
 -- Whatever script and journal it is that the run has come to, some lane has a next entry.
 abbrev pub IsLeft : Run → Type 0
 IsLeft run =
-    (script : Script) (journal : List Entry) → IsAfter script journal run
+    (script : Script) (journal : List Entry) → IsRunAfter script journal run
     → (lane : ℕ) × (is_some (next script journal lane) ≡ true)
 
 -- Whatever journal the run before had come to, the bytes begin with the text of an entry with which
 -- the run after has come to it, and this is what follows.
 pub record ReadsEntry (script : Script) (before after : Run) (bytes rest : List ℕ) : Type 0 where
   pub entry : Entry
-  pub leads : (journal : List Entry) → IsAfter script journal before
-      → IsAfter script (journal ++ entry ∷ []) after
+  pub leads : (journal : List Entry) → IsRunAfter script journal before
+      → IsRunAfter script (journal ++ entry ∷ []) after
   pub is : bytes ≡ entry_text script entry ++ rest
 
 -- Whatever journal the run has come to, the bytes begin with the text of no entry that comes next.
 abbrev pub GoesWrong : Script → Run → List ℕ → Type 0
 GoesWrong script run bytes =
-    (journal : List Entry) → IsAfter script journal run
+    (journal : List Entry) → IsRunAfter script journal run
     → (entry : Entry) (rest : List ℕ) → ComesNext script journal entry
     → bytes ≢ entry_text script entry ++ rest

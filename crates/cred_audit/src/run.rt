@@ -1,6 +1,6 @@
 //! A run of a script whose lanes take turns in any way, of which no journal is kept.
 ghost use Rattle.std.specs.Prelude.{◌≡◌, [], IfOk, OnErr, MatchBool};
-ghost use Rattle.cred_audit.specs.Run.{GoesOn, RunHasEnded, IsAfter, IsLeft, IsRun};
+ghost use Rattle.cred_audit.specs.Run.{GoesOn, RunHasEnded, IsRunAfter, IsLeft, IsRun};
 
 use cred_cursor::{Cursors, cursor_after, next_event};
 use cred_event::Entry;
@@ -23,10 +23,10 @@ impl Run {
     ///
     /// `NoMemory` if an allocation of the state or of the cursors fails.
     pub fn new(alloc: Global, script: &Script) -> Result<Run, NoMemory>
-        ensures { IfOk result (λ run. IsAfter script.now [] run) }
+        ensures { IfOk result (λ run. IsRunAfter script.now [] run) }
     {
         let cursors = Cursors::new(alloc, script)?;
-        let state = CachedState::new(alloc)?;
+        let state = CachedState::new(alloc, script)?;
         Ok(Run { state, cursors })
     }
 

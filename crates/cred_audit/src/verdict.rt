@@ -2,7 +2,7 @@
 ghost use Rattle.std.specs.Prelude.{◌≡◌, ◌≢◌, ◌++◌, [], IfOk, MatchOption, List, ℕ};
 ghost use Rattle.cred_report.specs.Text.{entry_text};
 ghost use Rattle.cred_audit.specs.Report.{IsVerdict};
-ghost use Rattle.cred_audit.specs.Run.{GoesWrong, IsAfter, IsRun, ReadsEntry};
+ghost use Rattle.cred_audit.specs.Run.{GoesWrong, IsRunAfter, IsRun, ReadsEntry};
 
 use crate::lane::lane_at;
 use crate::run::Run;
@@ -46,7 +46,7 @@ fn compare(
     script: &Script,
     report: &[u8],
 ) -> Result<Verdict, NoMemory>
-    requires { IsAfter script.now [] run.old }
+    requires { IsRunAfter script.now [] run.old }
     ensures { IfOk result (λ verdict. IsVerdict script.now report.now verdict) }
 {
     let mut rest = report;

@@ -8,6 +8,7 @@ use Rattle.std.proofs.lemmas.Option.{get_or_from_slice_get, slice_get_within}
 use Rattle.cred_ids.specs.Limits.{LINE_LIMIT}
 use Rattle.cred_event.specs.declared.event.Event.{Event}
 use Rattle.cred_event.specs.declared.entry.Entry.{Entry}
+use Rattle.cred_model.specs.Changing.{FixesFiles}
 use Rattle.cred_model.specs.Script.{Script, Line, SetupFirst}
 use Rattle.cred_model.specs.Course as model
 use Rattle.cred_model.specs.Course.{Course, Leads, event_at}
@@ -15,7 +16,7 @@ use Rattle.cred_model.specs.Journal.{SoFar, entry_of, next, replay}
 use Rattle.cred_script.specs.Lines.{line_at}
 use Rattle.cred_script.specs.Lanes.{lanes}
 use Rattle.cred_cursor.specs.Cursor.{IsLaneCursor, IsOfLine, MovesOnTo, left_at}
-use Rattle.cred_cursor.specs.Cursors.{AreCursors, AreOver, IsLeast, cursor_of, due_of}
+use Rattle.cred_cursor.specs.LaneCursors.{AreCursors, AreOver, IsLeast, cursor_of, due_of}
 use Rattle.cred_cursor.proofs.AllLanes.{cursor_at}
 use Rattle.cred_cursor.proofs.Courses.{line_is, of_line}
 use Rattle.cred_cursor.proofs.Lanes.{SoFar-push, due_here, lane_goes_on, lane_makes_due, lane_of_course, lane_of_line}
@@ -23,11 +24,11 @@ use Rattle.cred_cursor.proofs.Least.{least_due, least_is_due, none_due}
 use Rattle.cred_cursor.proofs.Turns.{due_is, lanes_go_on, next_none, next_some, stands_at}
 use Rattle.cred_hold.specs.Tokens as token
 use Rattle.cred_tables.specs.Kept.{Words}
-use Rattle.cred_tables.specs.Out.{waits_in}
+use Rattle.cred_tables.specs.Out.{needs_tokens}
 use Rattle.cred_left.proofs.Stages.{stage_is}
 use Rattle.cred_book.specs.Book.{Recorded, out_of}
 use Rattle.cred_book.specs.Counts.{AreEnded, Counts, HasEntered, IsSameOrNext, count_of, ended_of, lines_in}
-use Rattle.cred_book.specs.Cursor.{NoLineIsLeft, IsLeastLane, left, Stands, Makes}
+use Rattle.cred_book.specs.Cursor.{NoLineIsLeft, IsLeastLane, steps_left, BookStands, Makes}
 use Rattle.cred_left.specs.Waiting.{waiting}
 use Rattle.cred_book.specs.Cursor.{has_left}
 use Rattle.cred_book.specs.Works.{AreNamedApart, IsOutOf, lane_tokens}
@@ -45,11 +46,11 @@ use Rattle.cred_book.proofs.Works.{GoesOn, IsNowOut, after, grown, lent_stays, o
 -- one event more of the lane was entered, which was so many works', and its cursor went on
 pub record Moves (before after : Recorded) (lane works : ℕ) : Type 0 where
   pub script : after.script ≡ before.script
-  pub stands : Stands after
+  pub stands : BookStands after
   pub entry : Entry
   pub next : next before.script before.journal lane ≡ Some entry
   pub entered : after.journal ≡ before.journal ++ entry ∷ []
-  pub falls : left after < left before
+  pub falls : steps_left after < steps_left before
   pub counts : HasEntered before after lane works
 
 -- the sum over the cursors, where one moves on
@@ -92,7 +93,7 @@ entry_counts : {book : Recorded} {lane : ℕ} {course : Course} {event : Event} 
     (outs : List (Option ℕ)) (words : Words) → IsNowOut book.outs outs lane None
     → IsLaneCursor book.script (grown book lane course event to) lane to
     → AreCursors book.script (grown book lane course event to) (set book.cursors lane to)
-    → HasEntered book (after book lane course event to outs words) lane (count_of (waits_in (replay book.script book.journal) event))
+    → HasEntered book (after book lane course event to outs words) lane (count_of (needs_tokens (replay book.script book.journal) event))
 entry_counts {book = book} {lane = lane} {course = course} {event = event} {to = to} goes outs words out own now =
     let entry : Entry = entry_of book.script book.journal (record { line = course.line; event = event }) in
     let at = stands_at book.script book.journal book.cursors lane course goes.stands.cursors goes.due in
@@ -111,15 +112,15 @@ entry_counts {book = book} {lane = lane} {course = course} {event = event} {to =
     }
 
 -- the lane has a place among those whose works may be out
-pub lane_has_out : (book : Recorded) (lane : ℕ) (course : Course) → Stands book → due_of book.cursors lane ≡ Some course → lane < length book.outs
+pub lane_has_out : (book : Recorded) (lane : ℕ) (course : Course) → BookStands book → due_of book.cursors lane ≡ Some course → lane < length book.outs
 lane_has_out book lane course stands due =
     let within = lane_in book.script book.journal lane course (stands_at book.script book.journal book.cursors lane course stands.cursors due) in
     omega (arith, within, stands.outs)
 
 pub moves : {book : Recorded} {lane : ℕ} {course : Course} {event : Event} {to : Option Course} (goes : GoesOn book lane course event to)
     (outs : List (Option ℕ)) (words : Words) → IsNowOut book.outs outs lane None
-    → ((test : token.Entry → Bool) → count_by test book.words.out ≡ count_by test (lane_tokens book lane) + count_by test words.out)
-    → Moves book (after book lane course event to outs words) lane (count_of (waits_in (replay book.script book.journal) event))
+    → ((test : token.Loan → Bool) → count_by test book.words.out ≡ count_by test (lane_tokens book lane) + count_by test words.out)
+    → Moves book (after book lane course event to outs words) lane (count_of (needs_tokens (replay book.script book.journal) event))
 moves {book = book} {lane = lane} {course = course} {event = event} {to = to} goes outs words out back =
     let script = book.script in
     let stands = goes.stands in
@@ -138,6 +139,7 @@ moves {book = book} {lane = lane} {course = course} {event = event} {to = to} go
         places = length-set book.ended lane (get_or book.ended lane 0 + count_of (has_left to course.line)) ∙ stands.places;
         few = stands.few;
         setup = stands.setup;
+        fixed = stands.fixed;
         named = stands.named;
         outs = out.long ∙ stands.outs;
         works = works_stay goes outs words out;
@@ -174,11 +176,12 @@ pub record IsNew (book : Recorded) : Type 0 where
   pub places : length book.ended ≡ lanes book.script.lines + 1
   pub few : length book.script.lines ≤ LINE_LIMIT
   pub setup : SetupFirst book.script
+  pub fixed : FixesFiles book.script
   pub named : AreNamedApart book.script.lines
   pub outs : book.outs ≡ replicate (lanes book.script.lines + 1) None
   pub lent : book.words.out ≡ []
 
-pub nothing_run : (book : Recorded) → IsNew book → Stands book
+pub nothing_run : (book : Recorded) → IsNew book → BookStands book
 nothing_run book is =
     let none : (lane : ℕ) → out_of book lane ≡ None = λ lane. no_work book (lanes book.script.lines + 1) lane is.outs in
     record {
@@ -188,6 +191,7 @@ nothing_run book is =
       places = is.places;
       few = is.few;
       setup = is.setup;
+      fixed = is.fixed;
       named = is.named;
       outs = ap length is.outs ∙ length-replicate (lanes book.script.lines + 1) None;
       works = λ lane. where_some (IsOutOf book lane) (out_of book lane) (λ line out. let both : Some line ≡ None = sym out ∙ none lane in absurd (cc));
@@ -202,22 +206,22 @@ pub due_found : (inside book : Recorded) (lane : ℕ) (found is : Option Course)
 due_found inside book lane found is view due same = ap (λ (b : Recorded). due_of b.cursors lane) (sym view) ∙ sym due ∙ same
 
 -- the course that is due makes an event
-pub due_makes : (book : Recorded) (lane : ℕ) (course : Course) → Stands book → due_of book.cursors lane ≡ Some course
+pub due_makes : (book : Recorded) (lane : ℕ) (course : Course) → BookStands book → due_of book.cursors lane ≡ Some course
     → is_some (option_and_then (λ (line : Line). event_at line.content course) (line_at book.script course.line)) ≡ true
 due_makes book lane course stands due =
     lane_makes_due book.script book.journal lane course (stands_at book.script book.journal book.cursors lane course stands.cursors due)
 
-pub due_of_line : (book : Recorded) (lane : ℕ) (course : Course) → Stands book → due_of book.cursors lane ≡ Some course
+pub due_of_line : (book : Recorded) (lane : ℕ) (course : Course) → BookStands book → due_of book.cursors lane ≡ Some course
     → IsOfLine book.script course
 due_of_line book lane course stands due =
     lane_of_line book.script book.journal lane course (stands_at book.script book.journal book.cursors lane course stands.cursors due)
 
-pub due_goes_on : (book : Recorded) (lane : ℕ) (course : Course) → Stands book → due_of book.cursors lane ≡ Some course
+pub due_goes_on : (book : Recorded) (lane : ℕ) (course : Course) → BookStands book → due_of book.cursors lane ≡ Some course
     → is_some course.stage ≡ true
 due_goes_on book lane course stands due = (stands_at book.script book.journal book.cursors lane course stands.cursors due).1
 
 -- the lane has a number, and another line may be counted
-pub due_counts : (book : Recorded) (lane : ℕ) (course : Course) → Stands book → due_of book.cursors lane ≡ Some course
+pub due_counts : (book : Recorded) (lane : ℕ) (course : Course) → BookStands book → due_of book.cursors lane ≡ Some course
     → (lane < length book.ended) × (get_or book.ended lane 0 < LINE_LIMIT)
 due_counts book lane course stands due =
     let at = stands_at book.script book.journal book.cursors lane course stands.cursors due in
@@ -228,7 +232,7 @@ due_counts book lane course stands due =
     (omega (arith, within, stands.places), omega (arith, fewer, most, is, stands.few))
 
 -- one of its lines has not ended
-pub due_left : (book : Recorded) (lane : ℕ) (course : Course) → Stands book → due_of book.cursors lane ≡ Some course
+pub due_left : (book : Recorded) (lane : ℕ) (course : Course) → BookStands book → due_of book.cursors lane ≡ Some course
     → ended_of book.script book.journal lane < lines_in book.script lane
 due_left book lane course stands due =
     one_left book.script book.journal lane course (stands_at book.script book.journal book.cursors lane course stands.cursors due)
@@ -237,7 +241,7 @@ due_left book lane course stands due =
 
 -- an entry that waited for no decision
 pub makes_more : (before after : Recorded) (lane : ℕ) (next : Option Entry) (entry : Entry) → next ≡ Some entry
-    → waits_in (replay before.script before.journal) entry.event ≡ false → after.journal ≡ before.journal ++ entry ∷ []
+    → needs_tokens (replay before.script before.journal) entry.event ≡ false → after.journal ≡ before.journal ++ entry ∷ []
     → after.outs ≡ before.outs → after.words ≡ before.words → Makes before after lane next More
 makes_more before after lane next entry is free grown outs words = rw is (free, grown, outs, words)
 
@@ -245,22 +249,22 @@ pub makes_ended : (before after : Recorded) (lane : ℕ) (next : Option Entry) �
     → Makes before after lane next step.Ended
 makes_ended before after lane next is same = rw is same
 
-pub none_made : (book : Recorded) (lane : ℕ) → Stands book → due_of book.cursors lane ≡ None
+pub none_made : (book : Recorded) (lane : ℕ) → BookStands book → due_of book.cursors lane ≡ None
     → Makes book book lane (next book.script book.journal lane) step.Ended
 none_made book lane stands none =
     makes_ended book book lane (next book.script book.journal lane) (next_none book.script book.journal book.cursors lane stands.cursors none) refl
 
-pub none_counted : (book : Recorded) (lane : ℕ) → Stands book → due_of book.cursors lane ≡ None → Counts book book lane step.Ended
+pub none_counted : (book : Recorded) (lane : ℕ) → BookStands book → due_of book.cursors lane ≡ None → Counts book book lane step.Ended
 none_counted book lane stands none set_up =
     all_have_ended book.script book.journal book.cursors lane stands.cursors none set_up
 
 -- ---- the lane that is the least
 
-pub has_ended : (book : Recorded) → Stands book → AreOver book.cursors → NoLineIsLeft book
+pub has_ended : (book : Recorded) → BookStands book → AreOver book.cursors → NoLineIsLeft book
 has_ended book stands over =
     ap (option_map (entry_of book.script book.journal)) (none_due book.script book.journal book.cursors stands.cursors over)
 
-pub least_lane : (book : Recorded) (lane : ℕ) → Stands book → IsLeast book.cursors lane → IsLeastLane book lane
+pub least_lane : (book : Recorded) (lane : ℕ) → BookStands book → IsLeast book.cursors lane → IsLeastLane book lane
 least_lane book lane stands is =
     by (option_and_then (λ (line : Line). event_at line.content is.course) (line_at book.script is.course.line)) refl (due_makes book lane is.course stands due)
   where
@@ -277,7 +281,7 @@ least_lane book lane stands is =
       next = next_some book.script book.journal book.cursors lane is.course event stands.cursors due at;
     }
 
-pub least_by : (book : Recorded) (found : Option ℕ) → Stands book
+pub least_by : (book : Recorded) (found : Option ℕ) → BookStands book
     → MatchOption found (AreOver book.cursors) (IsLeast book.cursors) → MatchOption found (NoLineIsLeft book) (IsLeastLane book)
 least_by book None stands over = has_ended book stands over
 least_by book (Some lane) stands is = least_lane book lane stands is

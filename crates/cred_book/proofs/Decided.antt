@@ -9,7 +9,7 @@ use Rattle.cred_model.specs.Script.{Script}
 use Rattle.cred_model.specs.State.{State}
 use Rattle.cred_model.specs.Step.{step}
 use Rattle.cred_model.specs.Journal.{lane_of, replay}
-use Rattle.cred_tables.specs.Out.{waits_in}
+use Rattle.cred_tables.specs.Out.{needs_tokens}
 use Rattle.cred_book.specs.Counts.{Tally, count_of, decided_of, first_tally, is_of_lane, tallied}
 
 -- the state of a tally is the replayed one
@@ -21,21 +21,21 @@ tally_state script lane tally (entry ∷ journal) = tally_state script lane (tal
 
 decided_push : (script : Script) (journal : List Entry) (entry : Entry) (lane : ℕ)
     → decided_of script (journal ++ entry ∷ []) lane
-    ≡ decided_of script journal lane + count_of (is_of_lane script lane entry && waits_in (replay script journal) entry.event)
+    ≡ decided_of script journal lane + count_of (is_of_lane script lane entry && needs_tokens (replay script journal) entry.event)
 decided_push script journal entry lane =
-    ap (λ (t : Tally). t.decided) (fold_push (tallied script lane) first_tally journal entry)
-    ∙ ap (λ (s : State). decided_of script journal lane + count_of (is_of_lane script lane entry && waits_in s entry.event))
-    (tally_state script lane first_tally journal)
+    ap (λ (t : Tally). t.decided) (fold_push (tallied script lane) (first_tally script) journal entry)
+    ∙ ap (λ (s : State). decided_of script journal lane + count_of (is_of_lane script lane entry && needs_tokens s entry.event))
+    (tally_state script lane (first_tally script) journal)
 
 -- an entry of the lane
 pub decided_own : (script : Script) (journal : List Entry) (entry : Entry) (lane : ℕ) → lane_of script entry.line ≡ Some lane
     → decided_of script (journal ++ entry ∷ []) lane
-    ≡ decided_of script journal lane + count_of (waits_in (replay script journal) entry.event)
+    ≡ decided_of script journal lane + count_of (needs_tokens (replay script journal) entry.event)
 decided_own script journal entry lane of =
     let test : (lane == lane) ≡ true = grind (arith, nat_tests) in
     let own : is_of_lane script lane entry ≡ true = ap (λ o. option_map_or (λ own. own == lane) o false) of ∙ test in
     decided_push script journal entry lane
-    ∙ ap (λ b. decided_of script journal lane + count_of (b && waits_in (replay script journal) entry.event)) own
+    ∙ ap (λ b. decided_of script journal lane + count_of (b && needs_tokens (replay script journal) entry.event)) own
 
 -- one of another lane
 pub decided_other : (script : Script) (journal : List Entry) (entry : Entry) (lane other : ℕ) → lane_of script entry.line ≡ Some lane → other ≢ lane
@@ -44,5 +44,5 @@ decided_other script journal entry lane other of differ =
     let test : (lane == other) ≡ false = grind (arith, nat_tests) in
     let not : is_of_lane script other entry ≡ false = ap (λ o. option_map_or (λ own. own == other) o false) of ∙ test in
     decided_push script journal entry other
-    ∙ ap (λ b. decided_of script journal other + count_of (b && waits_in (replay script journal) entry.event)) not
+    ∙ ap (λ b. decided_of script journal other + count_of (b && needs_tokens (replay script journal) entry.event)) not
     ∙ omega arith

@@ -22,7 +22,7 @@ use Rattle.cred_hold.specs.Tokens as token
 use Rattle.cred_tables.specs.Out.{AreHome, AreOut}
 use Rattle.cred_tables.proofs.Bags.{count-same}
 use Rattle.cred_tables.proofs.Outs.{has_out, out_has}
-use Rattle.cred_state.proofs.Lines.{may_wait}
+use Rattle.cred_state.proofs.Lines.{may_need_tokens}
 use Rattle.cred_state.proofs.Stays.{EndsLabel, LetsGo, SealsIt, GivesUp, out_stays, token_stays}
 use Rattle.cred_book.proofs.ListAnswers.{list_stays}
 
@@ -60,23 +60,23 @@ left_out script before after journal entry follows does list = (
 -- ---- what is lent
 
 -- under labels that the event doesn't name, is their labels' after it too
-pub out_after : (script : Script) (journal grown : List Entry) (entry : Entry) (out : List token.Entry) → AreHome entry.event out
+pub out_after : (script : Script) (journal grown : List Entry) (entry : Entry) (out : List token.Loan) → AreHome entry.event out
     → AreOut (replay script journal) out → grown ≡ journal ++ entry ∷ [] → AreOut (replay script grown) out
 out_after script journal grown entry out home are is =
     rw is
     (subst (λ (s : State). AreOut s out) (sym (replay-push script journal entry))
     (out_stays script (replay script journal) entry.line entry.event out home are))
 
-ends_none : (event : Event) (label : ℕ) → may_wait event ≡ true → EndsLabel event label → ⊥
-ends_none event label may (LetsGo is) = let not = sym may ∙ ap may_wait is in cc
-ends_none event label may (GivesUp is) = let not = sym may ∙ ap may_wait is in cc
+ends_none : (event : Event) (label : ℕ) → may_need_tokens event ≡ true → EndsLabel event label → ⊥
+ends_none event label may (LetsGo is) = let not = sym may ∙ ap may_need_tokens is in cc
+ends_none event label may (GivesUp is) = let not = sym may ∙ ap may_need_tokens is in cc
 ends_none (Commit name) label may (SealsIt is) = cc
 ends_none (Override task name) label may (SealsIt is) = cc
 ends_none event label may (SealsIt is) = absurd is
 
 -- and so is what is left of it where an event is entered that was decided: such an event ends no label
-pub out_left : (script : Script) (journal grown : List Entry) (entry : Entry) (old new : List token.Entry) → may_wait entry.event ≡ true
-    → ((e : token.Entry) → Has new e → Has old e) → AreOut (replay script journal) old → grown ≡ journal ++ entry ∷ []
+pub out_left : (script : Script) (journal grown : List Entry) (entry : Entry) (old new : List token.Loan) → may_need_tokens entry.event ≡ true
+    → ((e : token.Loan) → Has new e → Has old e) → AreOut (replay script journal) old → grown ≡ journal ++ entry ∷ []
     → AreOut (replay script grown) new
 out_left script journal grown entry old new may there are is =
     rw is

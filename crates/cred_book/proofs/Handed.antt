@@ -1,5 +1,5 @@
 -- A lane's work goes out, and comes back decided.
-use Rattle.std.proofs.Common.{◌≡◌, ℕ, ◌+◌, ◌<◌, Bool, true, false, [], ◌∷◌, ◌++◌, set, Option, Some, None, refl, sym, ap, ◌∙◌, subst, arith}
+use Rattle.std.proofs.Common.{◌≡◌, ◌≢◌, ℕ, ◌+◌, ◌<◌, Bool, true, false, [], ◌∷◌, ◌++◌, set, Option, Some, None, refl, sym, ap, ◌∙◌, subst, arith}
 use Rattle.std.specs.List.{count_by}
 use Rattle.std.specs.Option.{IfSome, option_and_then, option_map_or}
 use Rattle.cred_event.specs.declared.content.Stage.{Stage}
@@ -8,8 +8,8 @@ use Rattle.cred_event.specs.declared.event.Event.TheVariants.{Ask, Signal, Alter
 use Rattle.cred_event.specs.declared.event.Change.TheVariants.{Exec}
 use Rattle.cred_event.specs.declared.entry.Entry as logged
 use Rattle.cred_record.specs.Credential.{Credential}
-use Rattle.cred_model.specs.Script.{Script, Line, chain_of, info_of}
-use Rattle.cred_model.specs.State.{State, Numbered, Prepared, numbered, prepared_of}
+use Rattle.cred_model.specs.Script.{Script, Line, chain_of}
+use Rattle.cred_model.specs.State.{State, Numbered, Prepared, info_of, numbered, prepared_of}
 use Rattle.cred_model.specs.Like.{IsLike}
 use Rattle.cred_model.specs.Course as model
 use Rattle.cred_model.specs.Course.{Course, event_at, event_in}
@@ -17,27 +17,28 @@ use Rattle.cred_model.specs.Journal.{entry_of, next, replay}
 use Rattle.cred_model.specs.Named.{event_files}
 use Rattle.cred_script.specs.Lines.{line_at}
 use Rattle.cred_cursor.specs.Cursor.{MovesOnTo}
-use Rattle.cred_cursor.specs.Cursors.{due_of}
+use Rattle.cred_cursor.specs.LaneCursors.{due_of}
 use Rattle.cred_cursor.proofs.Turns.{next_some}
 use Rattle.cred_sound.proofs.Sound.{sound_after}
 use Rattle.cred_words.specs.Lists.{Has}
-use Rattle.cred_hold.specs.Tokens.{Entry, entry}
-use Rattle.cred_work.specs.Decisions.{AreOf, event_of as its_event}
+use Rattle.cred_hold.specs.Tokens.{Loan, loan}
+use Rattle.cred_work.specs.Decisions.{AreOf, work_event as its_event}
 use Rattle.cred_work.specs.declared.lent.Lent.{Lent}
 use Rattle.cred_work.specs.declared.lent.Lent.TheVariants.{Altering}
 use Rattle.cred_work.specs.Work.{Work}
-use Rattle.cred_work.specs.Works.{IsUndecided}
+use Rattle.cred_work.specs.DecidedWorks.{IsUndecided}
 use Rattle.cred_tables.specs.Kept.{Words}
-use Rattle.cred_tables.specs.Out.{AreBack, AreOut, tokens_in, waits_in}
+use Rattle.cred_tables.specs.Out.{AreBack, AreOut, tokens_in, needs_tokens}
 use Rattle.cred_tables.proofs.Outs.{tokens_like}
-use Rattle.cred_state.specs.Lending.{IsChain, IsNs, entries_of, is_decided}
-use Rattle.cred_book.specs.Book.{Recorded, answer_of, out_of, with_event}
+use Rattle.cred_state.specs.TokensOut.{IsChain, IsNs, entries_of, needs_decision}
+use Rattle.cred_book.specs.Book.{Recorded, answer_of, infos_in, out_of, with_event}
 use Rattle.cred_book.specs.Counts.{Counts, HasEntered, count_of}
-use Rattle.cred_book.specs.Cursor.{Finishes, Makes, Stands, left, moved_on}
+use Rattle.cred_book.specs.Cursor.{Finishes, Makes, BookStands, steps_left, moved_on}
 use Rattle.cred_book.specs.Works.{IsChainFor, IsEntered, IsLanes, IsOutOf, MayMake, lane_tokens, with_work}
 use Rattle.cred_book.specs.declared.step.Step.TheVariants as step
 use Rattle.cred_book.proofs.Apart.{IsNext}
 use Rattle.cred_book.proofs.Cursors.{Moves, due_left, lane_has_out, makes_more, moves}
+use Rattle.cred_book.proofs.Files.{files_stay}
 use Rattle.cred_book.proofs.Finished.{all_taken, event_is, tokens_back}
 use Rattle.cred_book.proofs.Joined.{count-append}
 use Rattle.cred_book.proofs.Lent.{lane_tokens_are, lane_tokens_none, work_next, work_of}
@@ -52,19 +53,19 @@ lent_chain script s t like ns (Altering base writer (Exec file) made) is tokens 
     by (prepared_of s base.label) is (tokens ∙ sym (tokens_like s t like (Alter base.label (Exec file))))
   where
     of_base : (p : Prepared) (o : Option Numbered) → IfSome o (λ (found : Numbered). ns ≡ found.cred.ns)
-        → entry writer.label writer.slot None ∷ entry base.label base.slot (Some base.cred) ∷ []
-        ≡ option_map_or (λ (found : Numbered). entry base.label p.slot None ∷ entry base.label found.slot (Some found.cred) ∷ []) o []
+        → loan writer.label writer.slot None ∷ loan base.label base.slot (Some base.cred) ∷ []
+        ≡ option_map_or (λ (found : Numbered). loan base.label p.slot None ∷ loan base.label found.slot (Some found.cred) ∷ []) o []
         → chain_of script ns ≡ chain_of script base.cred.ns
     of_base p None is tokens = cc
     of_base p (Some found) is tokens =
-        let second : entry base.label base.slot (Some base.cred) ≡ entry base.label found.slot (Some found.cred) = cc in
-        let creds : Some base.cred ≡ Some found.cred = ap (λ (e : Entry). e.held) second in
+        let second : loan base.label base.slot (Some base.cred) ≡ loan base.label found.slot (Some found.cred) = cc in
+        let creds : Some base.cred ≡ Some found.cred = ap (λ (e : Loan). e.held) second in
         let same : base.cred ≡ found.cred = cc in
         ap (chain_of script) (is ∙ ap (λ (c : Credential). c.ns) (sym same))
 
     by : (o : Option Prepared) → IfSome o (λ (p : Prepared). IfSome (numbered s.creds p.base) (λ (found : Numbered). ns ≡ found.cred.ns))
-        → entry writer.label writer.slot None ∷ entry base.label base.slot (Some base.cred) ∷ []
-        ≡ option_map_or (λ (p : Prepared). option_map_or (λ (found : Numbered). entry base.label p.slot None ∷ entry base.label found.slot (Some found.cred) ∷ [])
+        → loan writer.label writer.slot None ∷ loan base.label base.slot (Some base.cred) ∷ []
+        ≡ option_map_or (λ (p : Prepared). option_map_or (λ (found : Numbered). loan base.label p.slot None ∷ loan base.label found.slot (Some found.cred) ∷ [])
         (numbered s.creds p.base) []) o []
         → chain_of script ns ≡ chain_of script base.cred.ns
     by None is tokens = cc
@@ -96,7 +97,7 @@ may_make script course event has = by (line_at script course.line) has
     by (Some line) has = of line course.stage has
 
 -- an event of another kind never waits
-pub never_waits : (s : State) (event : Event) → is_decided event ≡ false → waits_in s event ≡ false
+pub never_waits : (s : State) (event : Event) → needs_decision event ≡ false → needs_tokens s event ≡ false
 never_waits s (Ask label query) other = cc
 never_waits s (OpenFile hold file want fd) other = cc
 never_waits s (Signal from hold to target) other = cc
@@ -109,23 +110,23 @@ pub record IsDueWork (book : Recorded) (lane : ℕ) (course : Course) (work : Wo
   pub has : event_of book.script course ≡ Some (its_event work.lent)
   pub line : course.line ≡ work.line
   pub undecided : IsUndecided work
-  pub waits : waits_in (replay book.script book.journal) (its_event work.lent) ≡ true
+  pub waits : needs_tokens (replay book.script book.journal) (its_event work.lent) ≡ true
   pub own : AreOf book.words.id work.lent
   pub tokens : entries_of work.lent ≡ tokens_in (replay book.script book.journal) (its_event work.lent)
-  pub file : work.file ≡ info_of book.script (event_files (its_event work.lent))
+  pub file : work.file ≡ info_of (infos_in book) (event_files (its_event work.lent))
   pub chain : IsChainFor book (its_event work.lent) work.chain
 
 pub record HandsOut (before after : Recorded) (lane : ℕ) (work : Work) : Type 0 where
-  pub stands : Stands after
+  pub stands : BookStands after
   pub made : Makes before after lane (next before.script before.journal lane) (step.Work work)
   pub counts : Counts before after lane (step.Work work)
 
 makes_work : (before after : Recorded) (lane : ℕ) (comes : Option logged.Entry) (made : logged.Entry) (work : Work) → comes ≡ Some made
-    → waits_in (replay before.script before.journal) made.event ≡ true → work.line ≡ made.line → its_event work.lent ≡ made.event → IsUndecided work
+    → needs_tokens (replay before.script before.journal) made.event ≡ true → work.line ≡ made.line → its_event work.lent ≡ made.event → IsUndecided work
     → IsLanes after lane work → after ≡ with_work before lane work → Makes before after lane comes (step.Work work)
 makes_work before after lane comes made work is waits line event undecided lanes same = rw is (waits, line, event, undecided, lanes, same)
 
-pub hands_out : (book : Recorded) (lane : ℕ) (course : Course) (work : Work) → Stands book → out_of book lane ≡ None → IsDueWork book lane course work
+pub hands_out : (book : Recorded) (lane : ℕ) (course : Course) (work : Work) → BookStands book → out_of book lane ≡ None → IsDueWork book lane course work
     → HandsOut book (with_work book lane work) lane work
 hands_out book lane course work stands home is =
     let within = lane_has_out book lane course stands is.due in
@@ -164,17 +165,18 @@ made_event inside book course event found view made some = ap (λ (b : Recorded)
 pub record EntersMore (before after : Recorded) (lane : ℕ) : Type 0 where
   pub script : after.script ≡ before.script
   pub words : after.words ≡ before.words
-  pub stands : Stands after
+  pub stands : BookStands after
   pub made : Makes before after lane (next before.script before.journal lane) step.More
-  pub falls : left after < left before
+  pub falls : steps_left after < steps_left before
   pub counts : HasEntered before after lane 0
+  pub files : lane ≢ 0 → infos_in after ≡ infos_in before
 
 -- an event that waits for no decision
 pub enters_more : {book : Recorded} {lane : ℕ} {course : Course} {event : Event} {to : Option Course} (goes : GoesOn book lane course event to)
-    → out_of book lane ≡ None → waits_in (replay book.script book.journal) event ≡ false
+    → out_of book lane ≡ None → needs_tokens (replay book.script book.journal) event ≡ false
     → EntersMore book (moved_on (with_event book course.line event) lane course.line to) lane
 enters_more {book = book} {lane = lane} {course = course} {event = event} {to = to} goes home free =
-    let none : (test : Entry → Bool) → count_by test book.words.out ≡ count_by test (lane_tokens book lane) + count_by test book.words.out
+    let none : (test : Loan → Bool) → count_by test book.words.out ≡ count_by test (lane_tokens book lane) + count_by test book.words.out
     = λ test. let own : count_by test (lane_tokens book lane) ≡ 0 = ap (count_by test) (lane_tokens_none book lane home) in omega (arith, own) in
     let m = moves goes book.outs book.words (out_same book.outs lane None home) none in
     record {
@@ -186,18 +188,19 @@ enters_more {book = book} {lane = lane} {course = course} {event = event} {to = 
           (next_some book.script book.journal book.cursors lane course event goes.stands.cursors goes.due goes.has) free refl refl refl;
       falls = m.falls;
       counts = subst (λ b. HasEntered book (moved_on (with_event book course.line event) lane course.line to) lane (count_of b)) free m.counts;
+      files = files_stay goes;
     }
 
 -- ---- back
 
 -- the lane's cursor stands on the work's line
-pub work_course : (book : Recorded) (lane : ℕ) (work : Work) → Stands book → IsLanes book lane work
+pub work_course : (book : Recorded) (lane : ℕ) (work : Work) → BookStands book → IsLanes book lane work
     → (out : IsOutOf book lane work.line) × MakesNext book.script book.cursors lane (record { line = work.line; event = out.event })
 work_course book lane work stands is =
     let out = work_of book lane work.line stands is.out in
     (out, next_course book.script book.journal book.cursors lane (record { line = work.line; event = out.event }) stands.cursors (work_next book lane work.line out))
 
-pub course_is : (book : Recorded) (lane : ℕ) (work : Work) (course : Course) → Stands book → IsLanes book lane work → due_of book.cursors lane ≡ Some course
+pub course_is : (book : Recorded) (lane : ℕ) (work : Work) (course : Course) → BookStands book → IsLanes book lane work → due_of book.cursors lane ≡ Some course
     → course.line ≡ work.line
 course_is book lane work course stands is due =
     let at = (work_course book lane work stands is).1 in
@@ -208,10 +211,11 @@ course_is book lane work course stands is due =
 pub record ComesBack (before after : Recorded) (lane : ℕ) (work : Work) : Type 0 where
   pub script : after.script ≡ before.script
   pub cells : after.words.id ≡ before.words.id
-  pub stands : Stands after
+  pub stands : BookStands after
   pub made : Finishes before after lane work (next before.script before.journal lane)
-  pub falls : left after < left before
+  pub falls : steps_left after < steps_left before
   pub counts : HasEntered before after lane 1
+  pub files : lane ≢ 0 → infos_in after ≡ infos_in before
 
 makes_back : (before after : Recorded) (lane : ℕ) (comes : Option logged.Entry) (made : logged.Entry) (work : Work) → comes ≡ Some made
     → made.line ≡ work.line → made.event ≡ (its_event work.lent) → after.journal ≡ before.journal ++ made ∷ []
@@ -228,7 +232,7 @@ back_in book line event words = record (with_event book line event) { words = wo
 abbrev pub at_home : Recorded → ℕ → Recorded
 at_home book lane = record book { outs = set book.outs lane None }
 
-pub comes_back : (book entered : Recorded) (lane : ℕ) (course : Course) (to : Option Course) (work : Work) → Stands book
+pub comes_back : (book entered : Recorded) (lane : ℕ) (course : Course) (to : Option Course) (work : Work) → BookStands book
     → AreOut (replay book.script book.journal) book.words.out → IsLanes book lane work → due_of book.cursors lane ≡ Some course
     → IsEntered book entered work
     → IfSome (line_at book.script course.line) (λ line. MovesOnTo book.script lane (model.after line.content course (answer_of book course.line (its_event work.lent))) to)
@@ -245,14 +249,14 @@ comes_back book entered lane course to work stands are is due back passes =
     line : course.line ≡ work.line
     line = course_is book lane work course stands is due
 
-    has_taken : (e : Entry) → Has (entries_of work.lent) e → Has book.words.out e
+    has_taken : (e : Loan) → Has (entries_of work.lent) e → Has book.words.out e
     has_taken = all_taken (entries_of work.lent) book.words.out entered.words.out back.taken
 
     event : (its_event work.lent) ≡ out.event
     event = event_is book lane work stands is out has_taken
 
-    waits : waits_in (replay book.script book.journal) (its_event work.lent) ≡ true
-    waits = ap (waits_in (replay book.script book.journal)) event ∙ out.waits
+    waits : needs_tokens (replay book.script book.journal) (its_event work.lent) ≡ true
+    waits = ap (needs_tokens (replay book.script book.journal)) event ∙ out.waits
 
     goes : GoesOn book lane course (its_event work.lent) to
     goes =
@@ -271,7 +275,7 @@ comes_back book entered lane course to work stands are is due back passes =
         ∙ ap (tokens_in (replay book.script book.journal)) event
         ∙ sym (lane_tokens_are book lane work.line is.out out)
 
-    returned : (test : Entry → Bool) → count_by test book.words.out ≡ count_by test (lane_tokens book lane) + count_by test entered.words.out
+    returned : (test : Loan → Bool) → count_by test book.words.out ≡ count_by test (lane_tokens book lane) + count_by test entered.words.out
     returned test =
         back.words.out test ∙ count-append test (entries_of work.lent) entered.words.out
         ∙ ap (λ es. count_by test es + count_by test entered.words.out) tokens
@@ -279,7 +283,7 @@ comes_back book entered lane course to work stands are is due back passes =
     now : IsNowOut book.outs (set book.outs lane None) lane None
     now = out_set book.outs lane None (lane_has_out book lane course stands due)
 
-    m : Moves book (after book lane course (its_event work.lent) to (set book.outs lane None) entered.words) lane (count_of (waits_in (replay book.script book.journal) (its_event work.lent)))
+    m : Moves book (after book lane course (its_event work.lent) to (set book.outs lane None) entered.words) lane (count_of (needs_tokens (replay book.script book.journal) (its_event work.lent)))
     m = moves goes (set book.outs lane None) entered.words now returned
 
     entered_is : entered ≡ back_in book course.line (its_event work.lent) entered.words
@@ -295,4 +299,5 @@ comes_back book entered lane course to work stands are is due back passes =
           (next_some book.script book.journal book.cursors lane course (its_event work.lent) stands.cursors due goes.has) line refl refl refl back.words;
       falls = m.falls;
       counts = subst (λ b. HasEntered book (moved_on (at_home (back_in book course.line (its_event work.lent) entered.words) lane) lane course.line to) lane (count_of b)) waits m.counts;
+      files = files_stay goes;
     }

@@ -12,7 +12,7 @@ use Rattle.cred_model.specs.Journal.{due_in, next_event}
 use Rattle.cred_model.proofs.Lines.{answers_of-push_other}
 use Rattle.cred_script.specs.Lanes.{lanes}
 use Rattle.cred_cursor.specs.Cursor.{IsLaneCursor}
-use Rattle.cred_cursor.specs.Cursors.{AreCursors, cursor_of, due_of}
+use Rattle.cred_cursor.specs.LaneCursors.{AreCursors, cursor_of, due_of}
 use Rattle.cred_cursor.proofs.AllLanes.{is_due, other_cursor}
 use Rattle.cred_cursor.proofs.Courses.{line_is, next_is}
 use Rattle.cred_cursor.proofs.Lanes.{lane_makes_due, lane_over}

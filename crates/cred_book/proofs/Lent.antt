@@ -11,35 +11,35 @@ use Rattle.cred_model.specs.State.{State}
 use Rattle.cred_model.specs.Journal.{Due, due_in, replay}
 use Rattle.cred_names.specs.Labels.{event_labels}
 use Rattle.cred_words.specs.Lists.{Has}
-use Rattle.cred_hold.specs.Tokens.{Entry}
+use Rattle.cred_hold.specs.Tokens.{Loan}
 use Rattle.cred_work.specs.declared.lent.Lent.{Lent}
 use Rattle.cred_work.specs.declared.lent.Lent.TheVariants.{Asking, Opening, Signalling, Altering}
 use Rattle.cred_tables.specs.Kept.{Standing}
 use Rattle.cred_tables.specs.Out.{AreHome, AreOut, hold_token, kept_tokens, tokens_in}
 use Rattle.cred_tables.proofs.Outs.{IsToken, has_first, has_last, has_out, held_token, kept_token, out_has}
-use Rattle.cred_state.specs.Lending.{entries_of, with_lent}
+use Rattle.cred_state.specs.TokensOut.{entries_of, with_lent}
 use Rattle.cred_book.specs.Book.{Recorded, out_of}
-use Rattle.cred_book.specs.Cursor.{Stands}
+use Rattle.cred_book.specs.Cursor.{BookStands}
 use Rattle.cred_book.specs.Works.{IsOutOf, lane_tokens}
 use Rattle.cred_book.proofs.Apart.{IsNext, labels_apart}
 use Rattle.cred_book.proofs.Joined.{Passes, one_if, count-joined, has-append, some_passes, some_place}
 
 -- ---- the labels of an event's tokens
 
-hold_named : (s : State) (label : ℕ) (e : Entry) → Has (hold_token s label) e → label ≡ e.label
-hold_named s label e has = ap (λ (x : Entry). x.label) (held_token s label e has).is
+hold_named : (s : State) (label : ℕ) (e : Loan) → Has (hold_token s label) e → label ≡ e.label
+hold_named s label e has = ap (λ (x : Loan). x.label) (held_token s label e has).is
 
-kept_named : (s : State) (label : ℕ) (e : Entry) → Has (kept_tokens s label) e → label ≡ e.label
+kept_named : (s : State) (label : ℕ) (e : Loan) → Has (kept_tokens s label) e → label ≡ e.label
 kept_named s label e has = elim (kept_token s label e has).is [
-  | inl is ↦ ap (λ (x : Entry). x.label) is
-  | inr is ↦ ap (λ (x : Entry). x.label) is
+  | inl is ↦ ap (λ (x : Loan). x.label) is
+  | inr is ↦ ap (λ (x : Loan). x.label) is
 ]
 
 only : (label other : ℕ) → label ≡ other → Contains (label ∷ []) other
 only label other is = subst (λ n. Contains (label ∷ []) n) is (Contains-push [] label)
 
 -- are labels that it names
-pub tokens_named : (s : State) (event : Event) (e : Entry) → Has (tokens_in s event) e → Contains (event_labels event) e.label
+pub tokens_named : (s : State) (event : Event) (e : Loan) → Has (tokens_in s event) e → Contains (event_labels event) e.label
 tokens_named s (Ask label query) e has = only label e.label (hold_named s label e has)
 tokens_named s (OpenFile hold file want fd) e has = only hold e.label (hold_named s hold e has)
 tokens_named s (Signal from hold to target) e has = elim (has-append (hold_token s target) (hold_token s hold) e has) [
@@ -51,7 +51,7 @@ tokens_named s (Alter label change) e has = only label e.label (kept_named s lab
 tokens_named s event e has = absurd has
 
 -- are their labels'
-token_of : (s : State) (event : Event) (e : Entry) → Has (tokens_in s event) e → IsToken s e
+token_of : (s : State) (event : Event) (e : Loan) → Has (tokens_in s event) e → IsToken s e
 token_of s event e has = by event has
   where
     held : (label : ℕ) → Has (hold_token s label) e → IsToken s e
@@ -73,11 +73,11 @@ token_of s event e has = by event has
     by event has = absurd has
 
 -- what is lent besides
-pub out_lent : (s : State) (event : Event) (lent : Lent) (out : List Entry) → entries_of lent ≡ tokens_in s event → AreOut s out
+pub out_lent : (s : State) (event : Event) (lent : Lent) (out : List Loan) → entries_of lent ≡ tokens_in s event → AreOut s out
     → AreOut s (entries_of lent ++ out)
 out_lent s event lent out tokens are = has_out s (entries_of lent ++ out) (λ e has. by e (has-append (entries_of lent) out e has))
   where
-    by : (e : Entry) → Has (entries_of lent) e ⊎ Has out e → IsToken s e
+    by : (e : Loan) → Has (entries_of lent) e ⊎ Has out e → IsToken s e
     by e (inl has) = token_of s event e (subst (λ es. Has es e) tokens has)
     by e (inr has) = out_has s out e are has
 
@@ -90,7 +90,7 @@ words_lent before (Altering base writer change made) = refl
 -- ---- what a lane's work has
 
 -- the lane's work, where one is out
-pub work_of : (book : Recorded) (lane line : ℕ) → Stands book → out_of book lane ≡ Some line → IsOutOf book lane line
+pub work_of : (book : Recorded) (lane line : ℕ) → BookStands book → out_of book lane ≡ Some line → IsOutOf book lane line
 work_of book lane line stands out = subst (λ o. IfSome o (IsOutOf book lane)) out (stands.works lane)
 
 pub work_next : (book : Recorded) (lane line : ℕ) (work : IsOutOf book lane line)
@@ -100,7 +100,7 @@ work_next book lane line work = record { is = work.due; set_up = work.set_up }
 pub lane_tokens_are : (book : Recorded) (lane line : ℕ) → out_of book lane ≡ Some line → (work : IsOutOf book lane line)
     → lane_tokens book lane ≡ tokens_in (replay book.script book.journal) work.event
 lane_tokens_are book lane line out work =
-    let due : Option Due → List Entry = λ o. option_map_or (λ (due : Due). tokens_in (replay book.script book.journal) due.event) o [] in
+    let due : Option Due → List Loan = λ o. option_map_or (λ (due : Due). tokens_in (replay book.script book.journal) due.event) o [] in
     ap (λ o. cond (is_some o) (due (due_in book.script book.journal lane)) []) out ∙ ap due work.due
 
 pub lane_tokens_none : (book : Recorded) (lane : ℕ) → out_of book lane ≡ None → lane_tokens book lane ≡ []
@@ -108,18 +108,18 @@ lane_tokens_none book lane none =
     ap (λ o. cond (is_some o) (option_map_or (λ (due : Due). tokens_in (replay book.script book.journal) due.event) (due_in book.script book.journal lane) []) []) none
 
 -- a work that is out, one of whose tokens passes the test
-pub record HasLent (book : Recorded) (test : Entry → Bool) : Type 0 where
+pub record HasLent (book : Recorded) (test : Loan → Bool) : Type 0 where
   pub lane : ℕ
   pub line : ℕ
   pub out : out_of book lane ≡ Some line
   pub work : IsOutOf book lane line
-  pub it : Entry
+  pub it : Loan
   pub token : Has (tokens_in (replay book.script book.journal) work.event) it
   pub passes : test it ≡ true
 
-pub lent_by : (book : Recorded) (test : Entry → Bool) → Stands book → 0 < count_by test book.words.out → HasLent book test
+pub lent_by : (book : Recorded) (test : Loan → Bool) → BookStands book → 0 < count_by test book.words.out → HasLent book test
 lent_by book test stands some =
-    let tokens : ℕ → List Entry = λ lane. lane_tokens book lane in
+    let tokens : ℕ → List Loan = λ lane. lane_tokens book lane in
     let all = count-joined test tokens (range_with_len 0 (length book.outs)) in
     let at = some_place (λ lane. count_by test (tokens lane)) 0 (length book.outs) (omega (arith, some, stands.lent test, all)) in
     by at.0 (some_passes test (lane_tokens book at.0) at.1) (out_of book at.0) refl
@@ -139,7 +139,7 @@ lent_by book test stands some =
         }
 
 -- a token that is lent under this label
-abbrev pub under : ℕ → Entry → Bool
+abbrev pub under : ℕ → Loan → Bool
 under label e = e.label == label
 
 -- each token that is lent is a work's, whose event names its label
@@ -151,12 +151,12 @@ lent_under book label at =
 -- ---- a lane of which no work is out
 
 -- makes an event that names no label under which something is lent
-pub next_home : (book : Recorded) (lane : ℕ) (due : Due) → Stands book → out_of book lane ≡ None
+pub next_home : (book : Recorded) (lane : ℕ) (due : Due) → BookStands book → out_of book lane ≡ None
     → IsNext book.script book.journal lane due → AreHome due.event book.words.out
 next_home book lane due stands home next k d within names =
     let e = get_or book.words.out k d in
     let one : one_if (under e.label e) ≡ 1 = ap one_if (eq-eqb e.label e.label refl) in
-    let most = get_or-le-sum_by (λ (x : Entry). one_if (under e.label x)) book.words.out k d within in
+    let most = get_or-le-sum_by (λ (x : Loan). one_if (under e.label x)) book.words.out k d within in
     let at = lent_by book (under e.label) stands (omega (arith, one, most)) in
     let differ : lane ≢ at.lane = λ same. let both : Some at.line ≡ None = sym at.out ∙ ap (out_of book) (sym same) ∙ home in absurd (cc) in
     labels_apart book.script book.journal lane at.lane due (record { line = at.line; event = at.work.event }) e.label stands.named

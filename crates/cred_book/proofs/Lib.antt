@@ -8,6 +8,7 @@ pub mod Nexts
 pub mod Lent
 pub mod Works
 pub mod Cursors
+pub mod Files
 pub mod Finished
 pub mod Handed
 pub mod ListAnswers

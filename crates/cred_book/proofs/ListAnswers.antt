@@ -13,26 +13,27 @@ use Rattle.cred_rules.specs.Exec.{Executed, NoExec, exec}
 use Rattle.cred_rules.specs.SetId.{set_id}
 use Rattle.cred_copies.specs.Lists.{HoldsList}
 use Rattle.cred_event.specs.declared.event.Event.{Event}
-use Rattle.cred_event.specs.declared.event.Event.TheVariants.{Init, Take, TakeFile, Release, Ask, Signal, Prepare, Alter, Commit, Abort, Override, Revert, Begin, Act, OpenFile, CloseFile, Spawn, Fork, Exit, Sweep, Dumpable, Dumped, Ptrace}
+use Rattle.cred_event.specs.declared.event.Event.TheVariants.{Init, Take, TakeFile, Release, Ask, Signal, Prepare, Alter, Commit, Abort, Override, Revert, Begin, Act, OpenFile, CloseFile, Spawn, Fork, Exit, Sweep, Dumpable, Dumped, Ptrace, Chown, Chmod, SetAttr, Stat, Raw}
 use Rattle.cred_event.specs.declared.event.Change.{Change}
 use Rattle.cred_event.specs.declared.event.Change.TheVariants.{SetFs, Adjust, Exec, Access}
 use Rattle.cred_event.specs.declared.answer.Answer.{Answer}
 use Rattle.cred_event.specs.declared.answer.Answer.TheVariants.{Sealed, Kept, Began, Acted, Aborted, Stale}
 use Rattle.cred_event.specs.declared.answer.AbortCause.TheVariants as cause
-use Rattle.cred_model.specs.Script.{Script, info_of, chain_of, root_of, reaches}
+use Rattle.cred_model.specs.Changing.{changed_by}
+use Rattle.cred_model.specs.Script.{Script, chain_of, root_of, reaches}
 use Rattle.cred_model.specs.Dumpable.{differs, flag_of_value, flags_begun, flags_committed, is_dumpable, renewed}
 use Rattle.cred_model.specs.Ptrace.{may_trace}
-use Rattle.cred_model.specs.State.{State, Task, Broadcast, Prepared, Changed, Numbered, credential_of, opener_of, numbered, task_of, cast_of, cast_in, begun_by, open_of, hold_of, prepared_of, held_by}
+use Rattle.cred_model.specs.State.{State, Task, Broadcast, Prepared, Changed, Numbered, credential_of, opener_of, numbered, task_of, cast_of, cast_in, begun_by, open_of, hold_of, prepared_of, held_by, info_of}
 use Rattle.cred_model.specs.Named.{change_files}
 use Rattle.cred_model.specs.Answers.{checked}
-use Rattle.cred_model.specs.Change.{Made, made_by_rule, made_by_exec, executed, by_change, by_rule}
+use Rattle.cred_model.specs.Change.{Made, made_by_rule, made_by_exec, made_by_execve, by_change, by_rule}
 use Rattle.cred_model.specs.Ends.{is_thread_of, ended}
 use Rattle.cred_model.specs.Casts.{others_of, with_cast, waits_no_more}
 use Rattle.cred_model.specs.Like.{IsLike, IsOutcomeLike}
 use Rattle.cred_model.specs.Moves.{table_full, first_task, created, replaced, preparing, given_up}
 use Rattle.cred_model.specs.Moves.{committed}
-use Rattle.cred_model.specs.Step.{aborted, casts_after, commit_answer, committed_by, ends_with, follow, for_access, for_task, override_held, override_prepared, step, take_hold, try_commit}
-use Rattle.cred_sound.proofs.Tests.{IfAllowed, outcome_has, if_some, if_none, if_either, if_fewer, if_passed, if_idle, if_own, if_last, if_rule, if_ok, in_slots}
+use Rattle.cred_model.specs.Step.{aborted, by_file, casts_after, commit_answer, committed_by, ends_with, follow, for_access, for_task, outcome, override_held, override_prepared, step, take_hold, try_commit}
+use Rattle.cred_sound.proofs.Tests.{IfAllowed, outcome_has, if_some, if_none, if_either, if_fewer, if_passed, if_idle, if_own, if_last, if_file_rule, if_rule, if_ok, in_slots}
 
 -- the state is left where the answer holds a list
 abbrev Leaves : State → Answer × State → Type 0
@@ -61,7 +62,7 @@ executes_plainly : (r : Result Executed NoExec) → IsPlain (made_by_exec r)
 executes_plainly (Ok e) = λ list. list
 executes_plainly (Err why) = tt
 
-execs_plainly : (file : Option File) (chain : List ℕ) (base : Credential) → IsPlain (executed file chain base)
+execs_plainly : (file : Option File) (chain : List ℕ) (base : Credential) → IsPlain (made_by_execve file chain base)
 execs_plainly None chain base = tt
 execs_plainly (Some file) chain base = executes_plainly (exec base file chain)
 
@@ -114,6 +115,16 @@ prepares_override s owner label =
     (λ place at. if_some (Leaves s) (slice_get s.prepared place) _ _
     (λ p is. if_some (Leaves s) (for_access owner.number p) _ _
     (λ last changed. if_fewer (Leaves s) (length owner.overrides) DEPTH _ _ (λ list. absurd list))))
+
+-- a change of a file is told by no list
+files_plainly : (s : State) (event : Event) (hold place : ℕ)
+    → Leaves s (outcome s (by_file s hold place (changed_by event)))
+files_plainly s event hold place =
+    outcome_has (Leaves s) s _ (refuses s)
+    (if_some (Leaves s) (held_by s hold) _ _
+    (λ held at. if_some (Leaves s) (slice_get s.infos place) _ _
+    (λ old there. if_file_rule (Leaves s) (changed_by event held.cred old) _
+    (λ new ruled list. absurd list))))
 
 -- ---- every event
 
@@ -170,7 +181,7 @@ by_event script s line (Alter label change) =
     (if_some (Leaves s) (prepared_of s label) _ _
     (λ p is. if_some (Leaves s) (numbered s.creds p.base) _ _
     (λ base at.
-    let file = info_of script (change_files change) in
+    let file = info_of s.infos (change_files change) in
     let chain = chain_of script base.cred.ns in
     if_ok (Leaves s) (by_change file chain base.cred change) _
     (λ made so list.
@@ -230,7 +241,7 @@ by_event script s line (OpenFile hold place asked fd) =
     outcome_has (Leaves s) s _ (refuses s)
     (if_some (Leaves s) (held_by s hold) _ _
     (λ held is. if_none (Leaves s) (open_of s fd) _ _
-    (λ new. if_passed (Leaves s) (checked held.cred (info_of script (place ∷ [])) asked) _
+    (λ new. if_passed (Leaves s) (checked held.cred (info_of s.infos (place ∷ [])) asked) _
     (if_fewer (Leaves s) (length s.files) OPEN_FILES _ _ (λ list. absurd list)))))
 by_event script s line (CloseFile fd) =
     outcome_has (Leaves s) s _ (refuses s)
@@ -278,6 +289,32 @@ by_event script s line (Ptrace from hold to target mode) =
     (reaches script.namespaces own.cred.ns other.cred.ns)
     (is_dumpable s.dumpable receiver.process) mode) _ _
     (λ list. refl))))))
+by_event script s line (Chown hold place owner group) =
+    files_plainly s (Chown hold place owner group) hold place
+by_event script s line (Chmod hold place mode) = files_plainly s (Chmod hold place mode) hold place
+by_event script s line (SetAttr hold place attr) =
+    files_plainly s (SetAttr hold place attr) hold place
+by_event script s line (Stat hold place) =
+    outcome_has (Leaves s) s _ (refuses s)
+    (if_some (Leaves s) (held_by s hold) _ _
+    (λ held at. if_some (Leaves s) (slice_get s.infos place) _ _ (λ file there list. refl)))
+by_event script s line (Raw task call) =
+    outcome_has (Leaves s) s _ (refuses s)
+    (if_some (Leaves s) (task_of s task) _ _
+    (λ owner found. if_some (Leaves s) (numbered s.creds owner.current) _ _
+    (λ old at. if_idle (Leaves s) (cast_in s owner.process) _
+    (λ idle. if_own (Leaves s) owner _
+    (if_rule (Leaves s) (set_id old.cred call) _
+    (λ new ruled.
+    in_slots (Leaves s) s table_full
+    (λ s slot. (
+      Sealed (length s.creds) slot,
+      record (replaced s task old.number new slot) {
+        dumpable = renewed s.dumpable owner.process (differs old.cred new);
+      },
+    ))
+    (λ left fewer list. absurd list)
+    (λ left slot fewer free list. absurd list)))))))
 
 -- an event that is answered with a list leaves the state
 pub list_leaves : (script : Script) (s : State) (line : ℕ) (event : Event) → HoldsList (step script s line event).0 → (step script s line event).1 ≡ s

@@ -16,17 +16,17 @@ use Rattle.cred_names.specs.Labels.{event_labels}
 use Rattle.cred_sound.proofs.Sound.{sound_after}
 use Rattle.cred_script.specs.Lines.{line_at}
 use Rattle.cred_cursor.specs.Cursor.{MovesOnTo}
-use Rattle.cred_cursor.specs.Cursors.{AreCursors, due_of}
+use Rattle.cred_cursor.specs.LaneCursors.{AreCursors, due_of}
 use Rattle.cred_cursor.proofs.Turns.{lanes_go_on}
-use Rattle.cred_hold.specs.Tokens.{Entry}
+use Rattle.cred_hold.specs.Tokens.{Loan}
 use Rattle.cred_work.specs.declared.lent.Lent.{Lent}
 use Rattle.cred_tables.specs.Kept.{Words}
-use Rattle.cred_tables.specs.Out.{AreSameTokens, tokens_in, waits_in}
-use Rattle.cred_state.specs.Lending.{entries_of}
+use Rattle.cred_tables.specs.Out.{AreSameTokens, tokens_in, needs_tokens}
+use Rattle.cred_state.specs.TokensOut.{entries_of}
 use Rattle.cred_state.proofs.Stays.{StillWaits, waiting_stays}
 use Rattle.cred_book.specs.Book.{Recorded, answer_of, out_of, with_event}
 use Rattle.cred_book.specs.Counts.{IsOutNow}
-use Rattle.cred_book.specs.Cursor.{Stands, moved_on}
+use Rattle.cred_book.specs.Cursor.{BookStands, moved_on}
 use Rattle.cred_book.specs.Works.{IsOutOf, lane_tokens, tokens_out, with_out}
 use Rattle.cred_book.proofs.Apart.{IsNext, labels_apart}
 use Rattle.cred_book.proofs.Joined.{count-append, count-joined, sum-but_one}
@@ -93,7 +93,7 @@ module _ (book : Recorded) (lane : ℕ) (course : Course) (event : Event) (to : 
 
   -- how the lane goes on
   pub record GoesOn : Type 0 where
-    pub stands : Stands book
+    pub stands : BookStands book
     pub due : due_of book.cursors lane ≡ Some course
     pub has : event_of book.script course ≡ Some event
     pub passes : IfSome (line_at book.script course.line)
@@ -156,7 +156,7 @@ module _ {book : Recorded} {lane : ℕ} {course : Course} {event : Event} {to : 
 
     -- what is lent is still the tokens of the works, where the lane's own have come back
     pub lent_stays : lane < length book.outs
-        → ((test : Entry → Bool) → count_by test book.words.out ≡ count_by test (lane_tokens book lane) + count_by test words.out)
+        → ((test : Loan → Bool) → count_by test book.words.out ≡ count_by test (lane_tokens book lane) + count_by test words.out)
         → AreSameTokens words.out (tokens_out later)
     lent_stays within back test =
         let one = count-joined test (λ lane. lane_tokens later lane) (range_with_len 0 (length outs)) in
@@ -171,9 +171,9 @@ module _ {book : Recorded} {lane : ℕ} {course : Course} {event : Event} {to : 
 
 -- ---- a work that goes out
 
-module _ (book : Recorded) (lane line : ℕ) (event : Event) (lent : Lent) (stands : Stands book) (home : out_of book lane ≡ None)
+module _ (book : Recorded) (lane line : ℕ) (event : Event) (lent : Lent) (stands : BookStands book) (home : out_of book lane ≡ None)
     (next : IsNext book.script book.journal lane (record { line = line; event = event }))
-    (waits : waits_in (replay book.script book.journal) event ≡ true)
+    (waits : needs_tokens (replay book.script book.journal) event ≡ true)
     (tokens : entries_of lent ≡ tokens_in (replay book.script book.journal) event)
     (within : lane < length book.outs) where
   abbrev lending : Recorded
@@ -227,7 +227,7 @@ module _ (book : Recorded) (lane line : ℕ) (event : Event) (lent : Lent) (stan
       omega (arith, one, other, both, own, none, same, all, was)
 
   -- what is lent is the tokens of the works that are out now
-  pub lends : Stands lending
+  pub lends : BookStands lending
   lends = record {
     so_far = stands.so_far;
     cursors = stands.cursors;
@@ -235,6 +235,7 @@ module _ (book : Recorded) (lane line : ℕ) (event : Event) (lent : Lent) (stan
     places = stands.places;
     few = stands.few;
     setup = stands.setup;
+    fixed = stands.fixed;
     named = stands.named;
     outs = sets.long ∙ stands.outs;
     works = works_too;

@@ -2,6 +2,7 @@
 use Rattle.std.specs.Prelude.{ℕ, List, [], ◌∷◌, ◌++◌, slice_get}
 use Rattle.std.specs.declared.option.Option.{Option}
 use Rattle.std.specs.Option.{option_and_then}
+use Rattle.cred_record.specs.File.{File}
 use Rattle.cred_event.specs.declared.event.Event.{Event}
 use Rattle.cred_event.specs.declared.answer.Answer.{Answer}
 use Rattle.cred_event.specs.declared.entry.Entry.{Entry}
@@ -25,6 +26,10 @@ pub record Recorded : Type 0 where
 -- the line of the lane whose work is out
 abbrev pub out_of : Recorded → ℕ → Option ℕ
 out_of book lane = option_and_then (λ line. line) (slice_get book.outs lane)
+
+-- the script's files as they stand after the journal
+abbrev pub infos_in : Recorded → List File
+infos_in book = (replay book.script book.journal).infos
 
 -- the book in which an event of a line is entered, with its answer
 abbrev pub with_event : Recorded → ℕ → Event → Recorded

@@ -9,7 +9,7 @@ use Rattle.cred_model.specs.Script.{Script, Line}
 use Rattle.cred_model.specs.State.{State, opening}
 use Rattle.cred_model.specs.Step.{step}
 use Rattle.cred_model.specs.Journal.{due_in, lane_of, next_event}
-use Rattle.cred_tables.specs.Out.{waits_in}
+use Rattle.cred_tables.specs.Out.{needs_tokens}
 use Rattle.cred_book.specs.Book.{Recorded, out_of}
 use Rattle.cred_book.specs.declared.step.Step.{Step}
 use Rattle.cred_book.specs.declared.step.Step.TheVariants.{More, Ended}
@@ -32,20 +32,21 @@ pub record Tally : Type 0 where
   pub state : State
   pub decided : ℕ
 
-abbrev pub first_tally : Tally
-first_tally = record { state = opening; decided = 0 }
+abbrev pub first_tally : Script → Tally
+first_tally script = record { state = opening script; decided = 0 }
 
 -- The entry is a work's if its event waits for a decision in the state before it.
 abbrev pub tallied : Script → ℕ → Tally → Entry → Tally
 tallied script lane tally entry = record {
   state = (step script tally.state entry.line entry.event).1;
   decided = tally.decided
-      + count_of (is_of_lane script lane entry && waits_in tally.state entry.event);
+      + count_of (is_of_lane script lane entry && needs_tokens tally.state entry.event);
 }
 
 -- how many of the lane's entries were works'
 abbrev pub decided_of : Script → List Entry → ℕ → ℕ
-decided_of script journal lane = (fold (tallied script lane) first_tally journal).decided
+decided_of script journal lane =
+    (fold (tallied script lane) (first_tally script) journal).decided
 
 -- how many of these lines, the first of which has this number, are the lane's and have ended
 abbrev pub ended_from : List Entry → ℕ → ℕ → List Line → ℕ

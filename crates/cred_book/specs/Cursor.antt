@@ -7,16 +7,17 @@ use Rattle.std.specs.Option.{option_map_or}
 use Rattle.cred_ids.specs.Limits.{LINE_LIMIT}
 use Rattle.cred_event.specs.declared.entry.Entry.{Entry}
 use Rattle.cred_model.specs.Course.{Course}
+use Rattle.cred_model.specs.Changing.{FixesFiles}
 use Rattle.cred_model.specs.Script.{SetupFirst}
 use Rattle.cred_model.specs.Journal.{SoFar, lane_of, next, next_in_order, replay}
 use Rattle.cred_script.specs.Lanes.{lanes}
 use Rattle.cred_cursor.specs.Cursor.{left_at}
-use Rattle.cred_cursor.specs.Cursors.{AreCursors}
+use Rattle.cred_cursor.specs.LaneCursors.{AreCursors}
 use Rattle.cred_left.specs.Waiting.{waiting}
-use Rattle.cred_tables.specs.Out.{AreSameTokens, waits_in}
-use Rattle.cred_work.specs.Decisions.{event_of}
+use Rattle.cred_tables.specs.Out.{AreSameTokens, needs_tokens}
+use Rattle.cred_work.specs.Decisions.{work_event}
 use Rattle.cred_work.specs.Work.{Work}
-use Rattle.cred_work.specs.Works.{IsUndecided}
+use Rattle.cred_work.specs.DecidedWorks.{IsUndecided}
 use Rattle.cred_book.specs.Book.{Recorded, out_of}
 use Rattle.cred_book.specs.Counts.{AreEnded, count_of}
 use Rattle.cred_book.specs.Works.{AreNamedApart, IsBack, IsLanes, IsOutOf, tokens_out}
@@ -27,15 +28,17 @@ use Rattle.cred_book.specs.declared.step.Step.TheVariants as step
 
 -- Each entry is the next one of its line's lane after the entries before it, and each lane's cursor
 -- and its count of ended lines are the journal's. The script has no more lines than one may have,
--- the setup's come first, and no label stands in the lines of two lanes. Each work that is out is
--- that of its lane's next event, and what is lent is just the tokens of these works.
-pub record Stands (book : Recorded) : Type 0 where
+-- the setup's come first, those that change a file are among them, and no label stands in the lines
+-- of two lanes. Each work that is out is that of its lane's next event, and what is lent is just
+-- the tokens of these works.
+pub record BookStands (book : Recorded) : Type 0 where
   pub so_far : SoFar book.script book.journal
   pub cursors : AreCursors book.script book.journal book.cursors
   pub ended : AreEnded book.script book.journal book.ended
   pub places : length book.ended ≡ lanes book.script.lines + 1
   pub few : length book.script.lines ≤ LINE_LIMIT
   pub setup : SetupFirst book.script
+  pub fixed : FixesFiles book.script
   pub named : AreNamedApart book.script.lines
   pub outs : length book.outs ≡ lanes book.script.lines + 1
   pub works : (lane : ℕ) → IfSome (out_of book lane) (IsOutOf book lane)
@@ -55,8 +58,8 @@ moved_on book lane line cursor = record book {
 }
 
 -- how many steps may be left, at most: those of each lane's lines, and those of the tasks that wait
-abbrev pub left : Recorded → ℕ
-left book =
+abbrev pub steps_left : Recorded → ℕ
+steps_left book =
     sum_by (left_at book.script) book.cursors + waiting (replay book.script book.journal)
 
 -- What a step of the lane makes, where this is its next entry. One whose event waits for a decision
@@ -64,14 +67,14 @@ left book =
 -- was.
 abbrev pub Makes : Recorded → Recorded → ℕ → Option Entry → Step → Type 0
 Makes before after lane (Some entry) More =
-    (waits_in (replay before.script before.journal) entry.event ≡ false)
+    (needs_tokens (replay before.script before.journal) entry.event ≡ false)
     × (after.journal ≡ before.journal ++ entry ∷ [])
     × (after.outs ≡ before.outs)
     × (after.words ≡ before.words)
 Makes before after lane (Some entry) (step.Work work) =
-    (waits_in (replay before.script before.journal) entry.event ≡ true)
+    (needs_tokens (replay before.script before.journal) entry.event ≡ true)
     × (work.line ≡ entry.line)
-    × (event_of work.lent ≡ entry.event)
+    × (work_event work.lent ≡ entry.event)
     × IsUndecided work
     × IsLanes after lane work
     × (after ≡ with_work before lane work)
@@ -83,7 +86,7 @@ Makes before after lane next step = ⊥
 abbrev pub Finishes : Recorded → Recorded → ℕ → Work → Option Entry → Type 0
 Finishes before after lane work (Some entry) =
     (entry.line ≡ work.line)
-    × (entry.event ≡ event_of work.lent)
+    × (entry.event ≡ work_event work.lent)
     × (after.journal ≡ before.journal ++ entry ∷ [])
     × IsBack before after lane work
 Finishes before after lane work None = ⊥

@@ -1,10 +1,11 @@
 //! What a book of a script has before anything has run.
 ghost use Rattle.std.specs.Prelude.{◌≡◌, ◌≤◌, ◌+◌, [], length, replicate, None, IfOk, OnOk};
 ghost use Rattle.cred_ids.specs.Limits.{LINE_LIMIT};
+ghost use Rattle.cred_model.specs.Changing.{FixesFiles};
 ghost use Rattle.cred_model.specs.Script.{SetupFirst};
 ghost use Rattle.cred_model.specs.State.{opening};
 ghost use Rattle.cred_script.specs.Lanes.{lanes};
-ghost use Rattle.cred_cursor.specs.Cursors.{AreCursors};
+ghost use Rattle.cred_cursor.specs.LaneCursors.{AreCursors};
 ghost use Rattle.cred_book.specs.Counts.{AreEnded};
 ghost use Rattle.cred_book.specs.Works.{AreNamedApart};
 
@@ -38,7 +39,7 @@ pub(crate) struct Beginning {
 ///
 /// `NoMemory` if an allocation of the state, of the journal, of the cursors or of the counts fails.
 pub(crate) fn begin(alloc: Global, script: &Script) -> Result<Beginning, NoMemory>
-    ensures state { IfOk result (λ begun. begun.state.state ≡ opening) }
+    ensures state { IfOk result (λ begun. begun.state.state ≡ opening script.now) }
     ensures own { IfOk result (λ begun. begun.state.words.id ≡ begun.cells) }
     ensures lent { IfOk result (λ begun. begun.state.words.out ≡ []) }
     ensures journal { IfOk result (λ begun. begun.journal.items ≡ []) }
@@ -51,12 +52,13 @@ pub(crate) fn begin(alloc: Global, script: &Script) -> Result<Beginning, NoMemor
     ensures named { OnOk result (AreNamedApart script.now.lines) }
     ensures few { OnOk result (length script.now.lines ≤ LINE_LIMIT) }
     ensures setup { OnOk result (SetupFirst script.now) }
+    ensures fixed { OnOk result (FixesFiles script.now) }
 {
     let cursors = Cursors::new(alloc, script)?;
     let ended = lines_without_events(alloc, script)?;
     let outs = none_out(alloc, script)?;
     let journal = room_for_entries(alloc, script)?;
-    let (cells, state) = State::new(alloc)?;
+    let (cells, state) = State::new(alloc, script)?;
     Ok(Beginning {
         state,
         cells,

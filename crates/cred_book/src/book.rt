@@ -1,5 +1,5 @@
 //! The journal of a run.
-ghost use Rattle.std.specs.Prelude.{◌≡◌, ◌<◌, [], length, true, is_some, None, IfOk, IfSome};
+ghost use Rattle.std.specs.Prelude.{◌≡◌, ◌≢◌, ◌<◌, [], length, true, is_some, None, IfOk, IfSome};
 ghost use Rattle.std.specs.Prelude.{ℕ, MatchOption, OnOk, OnErr, slice_index_or};
 ghost use Rattle.cred_ids.specs.Limits.{LINE_LIMIT};
 ghost use Rattle.cred_model.specs.Course as course_model;
@@ -10,10 +10,10 @@ ghost use Rattle.cred_model.specs.Slots.{uses};
 ghost use Rattle.cred_script.specs.Lines.{line_at};
 ghost use Rattle.cred_cursor.specs.Cursor.{IsOfLine, MovesOnTo};
 ghost use Rattle.cred_tables.specs.Out.{AreHome};
-ghost use Rattle.cred_book.specs.Book.{with_event, answer_of, out_of};
+ghost use Rattle.cred_book.specs.Book.{with_event, answer_of, infos_in, out_of};
 ghost use Rattle.cred_book.specs.Counts.{Counts, ended_of};
-ghost use Rattle.cred_book.specs.Cursor.{NoLineIsLeft, IsLeastLane, Makes, Stands, has_left};
-ghost use Rattle.cred_book.specs.Cursor.{left, moved_on};
+ghost use Rattle.cred_book.specs.Cursor.{NoLineIsLeft, IsLeastLane, Makes, BookStands, has_left};
+ghost use Rattle.cred_book.specs.Cursor.{steps_left, moved_on};
 ghost use Rattle.cred_book.specs.declared.step.Step.TheVariants.{More};
 
 mod works;
@@ -111,7 +111,7 @@ impl Book {
     pub fn new(alloc: Global, script: Script) -> Result<(Book, Cells), NoMemory>
         ensures script { IfOk result (λ made. made.0.script ≡ script) }
         ensures journal { IfOk result (λ made. made.0.journal ≡ []) }
-        ensures stands { IfOk result (λ made. Stands made.0) }
+        ensures stands { IfOk result (λ made. BookStands made.0) }
         ensures own { IfOk result (λ made. made.0.words.id ≡ made.1) }
         ensures home { IfOk result (λ made. (made.0.words.out ≡ [])
             × ((lane : ℕ) → out_of made.0 lane ≡ None)) }
@@ -183,7 +183,7 @@ impl Book {
 
     /// How many lines of the lane have ended. No memory is taken.
     pub fn ended(&self, lane: u32) -> u32
-        requires { Stands self.now }
+        requires { BookStands self.now }
         ensures { result ≡ ended_of self.now.script self.now.journal lane }
     {
         self.ended.get(lane as usize).copied().unwrap_or(0)
@@ -247,15 +247,18 @@ impl Book {
     /// fails: the book is as it was.
     pub fn next(&mut self, cells: &Cells, lane: u32) -> Result<Step, NoMemory>
         requires own { self.old.words.id ≡ cells.now }
-        requires stands { Stands self.old }
+        requires stands { BookStands self.old }
         requires home { out_of self.old lane ≡ None }
         ensures script { self.new.script ≡ self.old.script }
         ensures cells { self.new.words.id ≡ self.old.words.id }
-        ensures stands { Stands self.new }
+        ensures stands { BookStands self.new }
         ensures made { IfOk result (λ step. Makes self.old self.new lane
             (model.next self.old.script self.old.journal lane) step) }
-        ensures falls { IfOk result (λ step. step ≡ More → left self.new < left self.old) }
+        ensures falls { IfOk result (λ step. step ≡ More
+            → steps_left self.new < steps_left self.old) }
         ensures counts { IfOk result (Counts self.old self.new lane) }
+        // Only the setup changes files.
+        ensures files { lane ≢ 0 → infos_in self.new ≡ infos_in self.old }
         ensures err { OnErr result (self.new ≡ self.old) }
     {
         let Some(course) = self.cursors.due(lane) else {
@@ -276,7 +279,7 @@ impl Book {
     /// The lane of the least line that has not ended; none where every line has. No memory is
     /// taken.
     pub fn least(&self) -> Option<u32>
-        requires { Stands self.now }
+        requires { BookStands self.now }
         ensures { MatchOption result (NoLineIsLeft self.now) (IsLeastLane self.now) }
     {
         self.cursors.least()

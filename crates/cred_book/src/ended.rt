@@ -1,6 +1,7 @@
 //! How many lines have ended before anything has run.
 ghost use Rattle.std.specs.Prelude.{◌≡◌, ◌≤◌, ◌+◌, [], length, IfOk, OnOk};
 ghost use Rattle.cred_ids.specs.Limits.{LINE_LIMIT};
+ghost use Rattle.cred_model.specs.Changing.{FixesFiles};
 ghost use Rattle.cred_model.specs.Script.{SetupFirst};
 ghost use Rattle.cred_script.specs.Lanes.{lanes};
 ghost use Rattle.cred_book.specs.Counts.{AreEnded};
@@ -23,9 +24,10 @@ pub(crate) fn lines_without_events(alloc: Global, script: &Script) -> Result<Vec
     ensures named { OnOk result (AreNamedApart script.now.lines) }
     ensures few { length script.now.lines ≤ LINE_LIMIT }
     ensures setup { SetupFirst script.now }
+    ensures fixed { FixesFiles script.now }
 {
-    // What counts a script's lines says of them too that the setup's come first, and what counts
-    // its lanes that no label stands in two.
+    // What counts a script's lines says of them too that the setup's come first, and that those
+    // that change a file are among them; what counts its lanes, that no label stands in two.
     let _ = script.lines();
     let mut ended: Vec<u32> = vec![in alloc; 0; script.lanes() as usize + 1]?;
     let mut number = 1;

@@ -19,7 +19,7 @@ pub(crate) fn none_out(alloc: Global, script: &Script) -> Result<Vec<Option<u32>
     Ok(outs)
 }
 
-/// What the script says of a file, in memory of its own.
+/// An equal file in memory of its own.
 ///
 /// # Errors
 ///

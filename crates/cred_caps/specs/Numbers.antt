@@ -35,8 +35,14 @@ SETPCAP = 8
 abbrev pub LINUX_IMMUTABLE : ℕ
 LINUX_IMMUTABLE = 9
 
+abbrev pub SYS_PTRACE : ℕ
+SYS_PTRACE = 19
+
 abbrev pub MKNOD : ℕ
 MKNOD = 27
+
+abbrev pub SETFCAP : ℕ
+SETFCAP = 31
 
 abbrev pub MAC_OVERRIDE : ℕ
 MAC_OVERRIDE = 32

@@ -7,21 +7,21 @@ use Rattle.cred_caps.specs.declared.secure.Flag.TheVariants.{NoRoot, NoSetuidFix
 use Rattle.cred_caps.specs.declared.secure.Flag.TheVariants.{NoAmbientRaise}
 
 -- the bit of a flag
-abbrev pub place : Flag → ℕ
-place NoRoot = 0
-place NoSetuidFixup = 2
-place KeepCaps = 4
-place NoAmbientRaise = 6
+abbrev pub flag_place : Flag → ℕ
+flag_place NoRoot = 0
+flag_place NoSetuidFixup = 2
+flag_place KeepCaps = 4
+flag_place NoAmbientRaise = 6
 
 -- the flag is set
 abbrev pub is_set : ℕ → Flag → Bool
-is_set bits f = bit_at bits (place f) == 1
+is_set bits f = bit_at bits (flag_place f) == 1
 
 -- its lock, the bit after it, is set
 abbrev pub is_locked : ℕ → Flag → Bool
-is_locked bits f = bit_at bits (place f + 1) == 1
+is_locked bits f = bit_at bits (flag_place f + 1) == 1
 
 -- the securebits with the flag set or unset, and every other of the eight bits as it was
-abbrev pub with_flag : ℕ → Flag → Bool → ℕ
-with_flag bits f true = bit_or bits (2 ^ place f)
-with_flag bits f false = bit_and bits (2 ^ 8 - 1 - 2 ^ place f)
+abbrev pub with_secure_flag : ℕ → Flag → Bool → ℕ
+with_secure_flag bits f true = bit_or bits (2 ^ flag_place f)
+with_secure_flag bits f false = bit_and bits (2 ^ 8 - 1 - 2 ^ flag_place f)

@@ -24,11 +24,20 @@ impl Cap {
     /// The greatest number of a capability.
     pub const LAST: u32 = 40;
 
+    /// CAP_CHOWN: gives files away, and to groups of others.
+    pub const CHOWN: Cap = Cap(0);
+
     /// CAP_DAC_OVERRIDE: passes the permission bits of files.
     pub const DAC_OVERRIDE: Cap = Cap(1);
 
     /// CAP_DAC_READ_SEARCH: reads any file, and searches any directory.
     pub const DAC_READ_SEARCH: Cap = Cap(2);
+
+    /// CAP_FOWNER: passes checks that the task owns the file.
+    pub const FOWNER: Cap = Cap(3);
+
+    /// CAP_FSETID: keeps the set-group-ID bit of a group that the task isn't in.
+    pub const FSETID: Cap = Cap(4);
 
     /// CAP_KILL: signals any process.
     pub const KILL: Cap = Cap(5);
@@ -42,6 +51,12 @@ impl Cap {
     /// CAP_SETPCAP: changes the bounding set, the securebits and, within the bounding set, the
     /// inheritable set.
     pub const SETPCAP: Cap = Cap(8);
+
+    /// CAP_SYS_PTRACE: looks into any process.
+    pub const SYS_PTRACE: Cap = Cap(19);
+
+    /// CAP_SETFCAP: sets the capabilities of files.
+    pub const SETFCAP: Cap = Cap(31);
 
     /// The capability of a number. `None` exactly above 40.
     pub fn new(n: u32) -> Option<Cap>

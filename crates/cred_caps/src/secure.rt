@@ -1,7 +1,7 @@
 //! The securebits of a task.
 ghost use Rattle.std.specs.Prelude.{◌≡◌, ◌<◌, ◌^◌};
 ghost use Rattle.std.specs.Option.{SomeIff};
-ghost use Rattle.cred_caps.specs.Secure.{place, is_set, is_locked, with_flag};
+ghost use Rattle.cred_caps.specs.Secure.{flag_place, is_set, is_locked, with_secure_flag};
 
 use crate::bits::SecureFlags;
 use bitflags::Flags;
@@ -40,7 +40,7 @@ impl Model for SecureBits {
 
 /// The bit of a flag, alone.
 fn bit(f: Flag) -> SecureFlags
-    ensures { result.0 ≡ 2 ^ place f }
+    ensures { result.0 ≡ 2 ^ flag_place f }
 {
     match f {
         Flag::NoRoot => SecureFlags(1),
@@ -104,7 +104,7 @@ impl SecureBits {
     /// flag and every lock stay, also the lock of this flag: whether the flag may change is for the
     /// caller to ask.
     pub fn with(&self, f: Flag, on: bool) -> SecureBits
-        ensures { result ≡ with_flag self.now f on }
+        ensures { result ≡ with_secure_flag self.now f on }
     {
         SecureBits {
             bits: if on {

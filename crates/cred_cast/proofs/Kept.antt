@@ -11,7 +11,7 @@ use Rattle.std.proofs.lemmas.List.Kept.{AllPairs-filter}
 use Rattle.std.proofs.lemmas.List.Quantifiers.{all_pairs_push}
 use Rattle.cred_ids.specs.Ordered.{in_order}
 use Rattle.cred_model.specs.State.{Broadcast}
-use Rattle.cred_model.specs.Casts.{waits_in, is_open, without, waits_no_more, with_child, joined, dropped}
+use Rattle.cred_model.specs.Casts.{waits_in, is_open, without_waiter, waits_no_more, with_child, joined, dropped}
 use Rattle.cred_model.proofs.Lists.{All-kept, AllPairs-map, AllPairs-weaker, Differ, found, none_passes}
 use Rattle.cred_model.proofs.Rising.{Below, any-in_order, length-in_order, rising-in_order, rising_differ}
 use Rattle.cred_sound.proofs.Unique.{none_has}
@@ -58,13 +58,13 @@ are_dropped process casts are =
 
 -- ---- a thread waits no longer
 
-fewer_wait : (task n : ℕ) (c : Broadcast) → waits_in n c ≡ false → waits_in n (without task c) ≡ false
+fewer_wait : (task n : ℕ) (c : Broadcast) → waits_in n c ≡ false → waits_in n (without_waiter task c) ≡ false
 fewer_wait task n c none =
     let goes_on : ℕ → Bool = λ m. not (m == task) in
     let same : ℕ → Bool = λ m. m == n in
     list_any_none same (filter goes_on c.waiting) (All-filter goes_on (λ m. same m ≡ false) c.waiting (none_passes same c.waiting none))
 
-was_waiting : (task n : ℕ) (c : Broadcast) → waits_in n (without task c) ≡ true → waits_in n c ≡ true
+was_waiting : (task n : ℕ) (c : Broadcast) → waits_in n (without_waiter task c) ≡ true → waits_in n c ≡ true
 was_waiting task n c is =
     elim (waits_in n c) as (λ b. waits_in n c ≡ b → b ≡ true) [
       | true ↦ λ _. refl
@@ -73,18 +73,18 @@ was_waiting task n c is =
 
 pub are_left : (task : ℕ) (casts : List Broadcast) → AreCasts casts → AreCasts (waits_no_more task casts)
 are_left task casts are =
-    let rest = map (without task) casts in
+    let rest = map (without_waiter task) casts in
     let goes_on : ℕ → Bool = λ m. not (m == task) in
     record {
       numbers = AllPairs-filter (Differ number_of) is_open rest
-          (AllPairs-kept (Differ number_of) (without task) casts (λ a b differ. differ) are.numbers);
+          (AllPairs-kept (Differ number_of) (without_waiter task) casts (λ a b differ. differ) are.numbers);
       processes = AllPairs-filter (Differ process_of) is_open rest
-          (AllPairs-kept (Differ process_of) (without task) casts (λ a b differ. differ) are.processes);
+          (AllPairs-kept (Differ process_of) (without_waiter task) casts (λ a b differ. differ) are.processes);
       apart = AllPairs-filter SharesNone is_open rest
-          (AllPairs-kept SharesNone (without task) casts
+          (AllPairs-kept SharesNone (without_waiter task) casts
           (λ a b apart n waits. fewer_wait task n b (apart n (was_waiting task n a waits))) are.apart);
       rising = All-filter is_open IsRising rest
-          (All-kept IsRising (without task) casts (λ c up. AllPairs-filter Below goes_on c.waiting up) are.rising);
+          (All-kept IsRising (without_waiter task) casts (λ c up. AllPairs-filter Below goes_on c.waiting up) are.rising);
       some = filter_passes is_open rest;
     }
 

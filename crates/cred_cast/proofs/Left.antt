@@ -8,7 +8,7 @@ use Rattle.std.proofs.lemmas.List.Folds.{find_at}
 use Rattle.std.proofs.lemmas.List.Quantifiers.{position-Some}
 use Rattle.std.proofs.lemmas.Option.{slice_get-get_or}
 use Rattle.cred_model.specs.State.{Broadcast}
-use Rattle.cred_model.specs.Casts.{waits_in, is_open, without, waits_no_more}
+use Rattle.cred_model.specs.Casts.{waits_in, is_open, without_waiter, waits_no_more}
 use Rattle.cred_model.proofs.Lists.{none_found}
 use Rattle.cred_model.proofs.Rising.{AllPairs-head, AllPairs-tail, Below}
 use Rattle.cred_cast.specs.Casts.{WaitsNowhere, SharesNone, AreCasts}
@@ -45,13 +45,13 @@ closed_there (c ∷ cs) (suc i) now are none within =
     ∙ ap (λ bs. c ∷ bs) (closed_there cs i now (All-tail IsOpen c cs are) none (omega arith))
 
 module _ (task : ℕ) where
-  same_without : (c : Broadcast) → waits_in task c ≡ false → without task c ≡ c
+  same_without : (c : Broadcast) → waits_in task c ≡ false → without_waiter task c ≡ c
   same_without c none = ap (λ (ws : List ℕ). record c { waiting = ws }) (stays task c.waiting none)
 
-  none_left : (casts : List Broadcast) → WaitsNowhere casts task → map (without task) casts ≡ casts
+  none_left : (casts : List Broadcast) → WaitsNowhere casts task → map (without_waiter task) casts ≡ casts
   none_left [] nowhere = refl
   none_left (c ∷ cs) nowhere =
-      ap (λ b. b ∷ map (without task) cs) (same_without c (All-head (λ b. waits_in task b ≡ false) c cs nowhere))
+      ap (λ b. b ∷ map (without_waiter task) cs) (same_without c (All-head (λ b. waits_in task b ≡ false) c cs nowhere))
       ∙ ap (λ bs. c ∷ bs) (none_left cs (All-tail (λ b. waits_in task b ≡ false) c cs nowhere))
 
   not_there : (a b : Broadcast) → SharesNone a b → waits_in task b ≡ true → waits_in task a ≡ false
@@ -64,16 +64,16 @@ module _ (task : ℕ) where
   -- at the place of the broadcast that it waits in
   left_at : (casts : List Broadcast) (place : ℕ) (d : Broadcast) → AllPairs SharesNone casts → place < length casts
       → waits_in task (get_or casts place d) ≡ true
-      → set casts place (without task (get_or casts place d)) ≡ map (without task) casts
+      → set casts place (without_waiter task (get_or casts place d)) ≡ map (without_waiter task) casts
   left_at [] place d apart within waits = absurd (omega arith)
   left_at (c ∷ cs) zero d apart within waits =
       let others = AllPairs-head SharesNone c cs apart in
-      ap (λ bs. without task c ∷ bs) (sym (none_left cs (λ k e lt. others k e lt task waits)))
+      ap (λ bs. without_waiter task c ∷ bs) (sym (none_left cs (λ k e lt. others k e lt task waits)))
   left_at (c ∷ cs) (suc i) d apart within waits =
       let inside : i < length cs = omega arith in
       let others = AllPairs-head SharesNone c cs apart in
       ap (λ bs. c ∷ bs) (left_at cs i d (AllPairs-tail SharesNone c cs apart) inside waits)
-      ∙ ap (λ b. b ∷ map (without task) cs) (sym (same_without c (not_there c (get_or cs i d) (others i d inside) waits)))
+      ∙ ap (λ b. b ∷ map (without_waiter task) cs) (sym (same_without c (not_there c (get_or cs i d) (others i d inside) waits)))
 
 -- what is found of a place is there
 some_within : {X : Type 0} (P : X → Type 0) (xs : List X) (place : ℕ) → IsSomeAnd (slice_get xs place) P → place < length xs
@@ -115,10 +115,10 @@ module _ (casts : List Broadcast) (task place : ℕ) (cast : Broadcast) (are : A
     pub left_beside : IfSome (slice_get casts place) (λ b. left + 1 ≡ length b.waiting)
     left_beside = subst (λ o. IfSome o (λ b. left + 1 ≡ length b.waiting)) (sym is_cast) many
 
-    module _ (now : Broadcast) (leaves : now ≡ without task cast) where
-      gone_there : set casts place now ≡ map (without task) casts
+    module _ (now : Broadcast) (leaves : now ≡ without_waiter task cast) where
+      gone_there : set casts place now ≡ map (without_waiter task) casts
       gone_there =
-          ap (set casts place) (leaves ∙ ap (without task) read)
+          ap (set casts place) (leaves ∙ ap (without_waiter task) read)
           ∙ left_at task casts place cast are.apart within (sym (ap (waits_in task) read) ∙ here)
 
       as_many : length now.waiting ≡ left

@@ -3,7 +3,7 @@ ghost use Rattle.std.specs.Prelude.{◌≡◌, ◌<◌, ℕ, ◌+◌, length, re
 ghost use Rattle.std.specs.Prelude.{IfOk, OnOk, OnErr};
 ghost use Rattle.std.specs.List.{AllPairs};
 ghost use Rattle.cred_ids.specs.Ordered.{in_order};
-ghost use Rattle.cred_model.specs.Casts.{is_open, waits_in, without};
+ghost use Rattle.cred_model.specs.Casts.{is_open, waits_in, without_waiter};
 
 use cred_ids::NoMemory;
 use cred_record::IdCall;
@@ -86,9 +86,9 @@ impl Cast {
 
     /// A task has made the call, and waits no more. Mostly it is the least.
     #[inline(always)]
-    pub fn acted(&mut self, task: u32)
+    pub fn step(&mut self, task: u32)
         requires { AllPairs (λ m n. m < n) self.old.waiting }
-        ensures { self.new ≡ without task self.old }
+        ensures { self.new ≡ without_waiter task self.old }
     {
         if self.least() == Some(task) {
             self.waiting.pop();
@@ -100,7 +100,7 @@ impl Cast {
     /// A task waits no more.
     #[inline(never)]
     pub fn leave(&mut self, task: u32)
-        ensures { self.new ≡ without task self.old }
+        ensures { self.new ≡ without_waiter task self.old }
     {
         self.waiting.retain(|other| *other != task);
     }

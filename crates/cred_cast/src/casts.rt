@@ -116,14 +116,14 @@ impl Casts {
     /// A task has made its step in the broadcast at a place: it waits no more. Returns how many
     /// still wait there; at 0 it is completed and closed.
     #[inline(always)]
-    pub fn acted_at(&mut self, place: usize, task: u32) -> u32
+    pub fn act_at(&mut self, place: usize, task: u32) -> u32
         requires { IsSomeAnd (slice_get self.old place) (λ b. waits_in task b ≡ true) }
         ensures left { IfSome (slice_get self.old place) (λ b. result + 1 ≡ length b.waiting) }
         ensures casts { self.new ≡ waits_no_more task self.old }
     {
         let cast = &mut self.casts[place];
         let left = cast.others();
-        cast.acted(task);
+        cast.step(task);
         if left == 0 {
             close(&mut self.casts, place);
         }
@@ -135,7 +135,7 @@ impl Casts {
     /// # Errors
     ///
     /// `NoMemory` if an allocation fails: nothing changes.
-    pub fn created(&mut self, parent: u32, child: u32) -> Result<(), NoMemory>
+    pub fn join(&mut self, parent: u32, child: u32) -> Result<(), NoMemory>
         requires { WaitsNowhere self.old child }
         ensures ok { OnOk result (self.new ≡ joined parent child self.old) }
         ensures err { OnErr result (self.new ≡ self.old) }

@@ -17,9 +17,9 @@ use Rattle.cred_order.specs.Order.{HasRun, IsAfter, RunsOn}
 use Rattle.cred_order.proofs.Ends.{goes_to_end, is_whole, nothing_run}
 use Rattle.cred_report.specs.Text.{entry_text, text}
 use Rattle.cred_report.proofs.Journals.{take_past}
-use Rattle.cred_said.specs.Ends.{finished}
+use Rattle.cred_said.specs.Ends.{status_after}
 use Rattle.cred_said.specs.declared.status.Status.TheVariants as status
-use Rattle.cred_commands.specs.Sequences.{AppendsSequence, BeginsSequence, HandsOver}
+use Rattle.cred_commands.specs.Sequences.{AppendsSequence, WritesSequenceStart, HandsOver}
 
 -- So many lines have run, and the text of their entries was written, but for those that are kept.
 pub record Kept (script : Script) (past : ℕ) (state : State) (kept : List Entry) (before now : Option (List ℕ)) : Type 0 where
@@ -31,7 +31,7 @@ pub kept_has_run : (script : Script) (past : ℕ) (state : State) (kept : List E
     → Kept script past state kept before now → HasRun script past state
 kept_has_run script past state kept before now is = (is.done ++ kept, is.after)
 
-pub kept_first : (script : Script) (state : State) (before : Option (List ℕ)) → state ≡ opening → Appends before before [] → Kept script 0 state [] before before
+pub kept_first : (script : Script) (state : State) (before : Option (List ℕ)) → state ≡ opening script → Appends before before [] → Kept script 0 state [] before before
 kept_first script state before is none = record {
   done = [];
   after = nothing_run script state is;
@@ -79,7 +79,7 @@ prefix_on before now later script done kept more first second =
 
 -- what was written begins the text of the sequence
 pub kept_begins : (script : Script) (past : ℕ) (state : State) (kept : List Entry) (before now later : Option (List ℕ))
-    → Kept script past state kept before now → AppendsPrefix now later (text script kept) → BeginsSequence script before later
+    → Kept script past state kept before now → AppendsPrefix now later (text script kept) → WritesSequenceStart script before later
 kept_begins script past state kept before now later is prefix =
     let rest = goes_to_end script (is.done ++ kept) past state is.after in
     ((is.done ++ kept) ++ rest.more, rest.sequence, prefix_on before now later script is.done kept rest.more is.written prefix)
@@ -100,23 +100,23 @@ no_more now bytes = record { count = 0; written = Appends-nil now }
 
 -- where nothing was written since
 pub kept_stops : (script : Script) (past : ℕ) (state : State) (kept : List Entry) (before now : Option (List ℕ))
-    → Kept script past state kept before now → BeginsSequence script before now
+    → Kept script past state kept before now → WritesSequenceStart script before now
 kept_stops script past state kept before now is = kept_begins script past state kept before now now is (no_more now (text script kept))
 
 -- where nothing has run
-pub none_begins : (script : Script) (before : Option (List ℕ)) → BeginsSequence script before before
+pub none_begins : (script : Script) (before : Option (List ℕ)) → WritesSequenceStart script before before
 none_begins script before =
     let rest = begins_sequence script [] 0 (nothing_past script) (λ k lt. absurd (omega (arith, lt))) in
     (rest.more, rest.sequence, no_more before (text script rest.more))
 
 pub begins_either : (script : Script) (before now : Option (List ℕ)) (r : Result (Unit {0}) SinkRefusal) → OnOk r (AppendsSequence script before now)
-    → OnErr r (BeginsSequence script before now) → BeginsSequence script before now
+    → OnErr r (WritesSequenceStart script before now) → WritesSequenceStart script before now
 begins_either script before now (Ok done) wrote begun = (wrote.0, wrote.1, whole before now (text script wrote.0) wrote.2)
 begins_either script before now (Err refusal) wrote begun = begun
 
 -- a sequence's text whose writing was answered by Done was written
 pub sequence_done : (script : Script) (before now : Option (List ℕ)) (r : Result (Unit {0}) SinkRefusal) → OnOk r (AppendsSequence script before now)
-    → finished r status.Done ≡ status.Done → AppendsSequence script before now
+    → status_after r status.Done ≡ status.Done → AppendsSequence script before now
 sequence_done script before now (Ok done) all is = all
 sequence_done script before now (Err refusal) all is = absurd (refused_apart refusal is)
 

@@ -17,17 +17,17 @@ pub record Told (script : Script) (past : ℕ) (state : State) (told : Summary) 
   pub done : List Entry
   pub after : IsAfter script done past state
   pub is : told ≡ told_on (nothing_told script) done
-  pub few : length done + most_left script past state ≤ most_left script 0 opening
+  pub few : length done + most_left script past state ≤ most_left script 0 (opening script)
 
 pub told_has_run : (script : Script) (past : ℕ) (state : State) (told : Summary) → Told script past state told → HasRun script past state
 told_has_run script past state told is = (is.done, is.after)
 
-pub told_first : (script : Script) (state : State) (told : Summary) → state ≡ opening → told ≡ nothing_told script → Told script 0 state told
+pub told_first : (script : Script) (state : State) (told : Summary) → state ≡ opening script → told ≡ nothing_told script → Told script 0 state told
 told_first script state told opens nothing = record {
   done = [];
   after = nothing_run script state opens;
   is = nothing;
-  few = subst (λ s. length {A = Entry} [] + most_left script 0 s ≤ most_left script 0 opening) (sym opens) (omega arith);
+  few = subst (λ s. length {A = Entry} [] + most_left script 0 s ≤ most_left script 0 (opening script)) (sym opens) (omega arith);
 }
 
 -- where the list was empty before the line

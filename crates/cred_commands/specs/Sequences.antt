@@ -14,8 +14,8 @@ AppendsSequence script before after =
     (journal : List Entry) × IsSequence script journal × Appends before after (text script journal)
 
 -- a prefix of the text of the script's sequence was written, and nothing else
-abbrev pub BeginsSequence : Script → Option (List ℕ) → Option (List ℕ) → Type 0
-BeginsSequence script before after =
+abbrev pub WritesSequenceStart : Script → Option (List ℕ) → Option (List ℕ) → Type 0
+WritesSequenceStart script before after =
     (journal : List Entry) × IsSequence script journal
     × AppendsPrefix before after (text script journal)
 

@@ -6,4 +6,4 @@ mod ordered;
 mod summing;
 
 pub use ordered::read_and_run;
-pub use summing::sum;
+pub use summing::run_gen;

@@ -10,7 +10,7 @@ ghost use Rattle.cred_io.specs.Ends.{AppendsPrefix};
 ghost use Rattle.cred_report.specs.Text.{text};
 ghost use Rattle.cred_said.specs.Ends.{IsForText};
 ghost use Rattle.cred_said.specs.Leaves.{IsReading, IsWriting, LeavesReport, RunsBytes};
-ghost use Rattle.cred_commands.specs.Sequences.{AppendsSequence, BeginsSequence, HandsOver};
+ghost use Rattle.cred_commands.specs.Sequences.{AppendsSequence, WritesSequenceStart, HandsOver};
 
 use cred_event::Entry;
 use cred_grammar::{line_count, read};
@@ -66,11 +66,11 @@ fn write_lines<K: Sink>(
 ) -> Result<(), SinkRefusal>
     requires own { state.old.words.id ≡ cells.now }
     requires out { state.old.words.out ≡ [] }
-    requires opening { state.old.state ≡ opening }
+    requires opening { state.old.state ≡ opening script.now }
     ensures ok { OnOk result
         (AppendsSequence script.now (K.written sink.old) (K.written sink.new)) }
     ensures err { OnErr result
-        (BeginsSequence script.now (K.written sink.old) (K.written sink.new)) }
+        (WritesSequenceStart script.now (K.written sink.old) (K.written sink.new)) }
     ensures handed_on { OnOk result (K.handed_on sink.new ≡ true) }
     ensures cause { CountsFaults (result ≡ Err SinkRefusal.Failed)
         (K.faults sink.old) (K.faults sink.new) }
@@ -97,12 +97,12 @@ fn write_in_order<K: Sink>(alloc: Global, sink: &mut K, script: &Script) -> Resu
     ensures ok { OnOk result
         (AppendsSequence script.now (K.written sink.old) (K.written sink.new)) }
     ensures err { OnErr result
-        (BeginsSequence script.now (K.written sink.old) (K.written sink.new)) }
+        (WritesSequenceStart script.now (K.written sink.old) (K.written sink.new)) }
     ensures handed_on { OnOk result (K.handed_on sink.new ≡ true) }
     ensures cause { CountsFaults (result ≡ Err SinkRefusal.Failed)
         (K.faults sink.old) (K.faults sink.new) }
 {
-    let Ok((cells, mut state)) = State::new(alloc) else {
+    let Ok((cells, mut state)) = State::new(alloc, script) else {
         return Err(SinkRefusal::Memory);
     };
     let written = write_lines(alloc, sink, script, &mut state, &cells);
@@ -114,7 +114,7 @@ fn write_in_order<K: Sink>(alloc: Global, sink: &mut K, script: &Script) -> Resu
 fn report_in_order<K: Sink>(alloc: Global, sink: &mut K, script: &Script) -> Status
     ensures done { result ≡ Status.Done
         → AppendsSequence script.now (K.written sink.old) (K.written sink.new) }
-    ensures prefix { BeginsSequence script.now (K.written sink.old) (K.written sink.new) }
+    ensures prefix { WritesSequenceStart script.now (K.written sink.old) (K.written sink.new) }
     ensures only { IsForText result }
     ensures writing { IsWriting result (K.handed_on sink.new)
         (K.faults sink.old) (K.faults sink.new) }

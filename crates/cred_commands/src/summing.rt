@@ -16,7 +16,7 @@ use cred_state::State;
 use std::alloc::Global;
 
 /// Runs the script that is made from a number, and writes the summary of its journal.
-pub fn sum<K: Sink>(alloc: Global, n: u32, sink: &mut K) -> Status
+pub fn run_gen<K: Sink>(alloc: Global, n: u32, sink: &mut K) -> Status
     requires { IsCount n }
     ensures summary { LeavesSummary n result (K.written sink.old) (K.written sink.new) }
     ensures writing { IsWriting result (K.handed_on sink.new)
@@ -31,7 +31,7 @@ fn say(alloc: Global, n: u32) -> Result<Said, NoMemory>
     ensures { IfOk result (λ said. SaysSummary n said.status said.text.items) }
 {
     let script = generate(alloc, n)?;
-    let told = told_in_order(alloc, &script);
+    let told = tell_in_order(alloc, &script);
     drop(script);
     Ok(Said::of(Status::Done, summary_text(alloc, told?)?))
 }
@@ -46,7 +46,7 @@ fn tell_lines(
 ) -> Result<Summary, NoMemory>
     requires own { state.old.words.id ≡ cells.now }
     requires out { state.old.words.out ≡ [] }
-    requires opening { state.old.state ≡ opening }
+    requires opening { state.old.state ≡ opening script.now }
     ensures { IfOk result (λ told. TellsSequence script.now told) }
 {
     let mut told = Summary::new(script);
@@ -62,10 +62,10 @@ fn tell_lines(
 }
 
 /// The same, on a state of its own: to own one is dear to prove, so nothing else is done here.
-fn told_in_order(alloc: Global, script: &Script) -> Result<Summary, NoMemory>
+fn tell_in_order(alloc: Global, script: &Script) -> Result<Summary, NoMemory>
     ensures { IfOk result (λ told. TellsSequence script.now told) }
 {
-    let (cells, mut state) = State::new(alloc)?;
+    let (cells, mut state) = State::new(alloc, script)?;
     let told = tell_lines(alloc, script, &mut state, &cells);
     drop(state);
     told

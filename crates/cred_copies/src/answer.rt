@@ -50,6 +50,17 @@ fn copy_told(told: &Told) -> Result<Told, NoMemory>
             nnp: *nnp,
         }),
         Told::Flag(flag) => Ok(Told::Flag(*flag)),
+        Told::File {
+            owner,
+            group,
+            mode,
+            attr,
+        } => Ok(Told::File {
+            owner: *owner,
+            group: *group,
+            mode: *mode,
+            attr: *attr,
+        }),
     }
 }
 

@@ -1,33 +1,59 @@
 //! Events.
-ghost use Rattle.std.specs.Prelude.{◌≡◌, IfOk, OnErr};
-ghost use Rattle.cred_copies.specs.Lists.{BeginsCall, BeginsSetGroups};
+ghost use Rattle.std.specs.Prelude.{◌≡◌, IfOk, OnErr, IsSome};
+ghost use Rattle.cred_copies.specs.Lists.{EventHoldsList, MayHoldList};
 
 use cred_event::Event;
 use cred_ids::NoMemory;
+use cred_record::Attr;
 
 /// An equal event.
 ///
 /// # Errors
 ///
-/// `NoMemory` where the list of a `setgroups` could not be copied; no other event takes memory.
+/// `NoMemory` where the list of a `setgroups`, or the bytes of an attribute, could not be copied;
+/// no other event takes memory.
 #[inline(always)]
 pub fn copy_event(e: &Event) -> Result<Event, NoMemory>
     ensures equal { IfOk result (λ copied. copied ≡ e.now) }
-    ensures refusal { OnErr result (BeginsSetGroups e.now) }
+    ensures refusal { OnErr result (EventHoldsList e.now) }
 {
     match e {
         Event::Begin { task, call } => Ok(Event::Begin {
             task: *task,
             call: call.copy()?,
         }),
+        Event::Raw { task, call } => Ok(Event::Raw {
+            task: *task,
+            call: call.copy()?,
+        }),
+        Event::SetAttr { hold, file, attr } => Ok(Event::SetAttr {
+            hold: *hold,
+            file: *file,
+            attr: copy_attr(attr)?,
+        }),
         _ => Ok(copy_plain(e)),
     }
 }
 
-/// An equal event, of one that is no id call.
+/// An equal attribute, or none.
+///
+/// # Errors
+///
+/// `NoMemory` where its bytes could not be copied.
+pub fn copy_attr(attr: &Option<Attr>) -> Result<Option<Attr>, NoMemory>
+    ensures equal { IfOk result (λ copied. copied ≡ attr.now) }
+    ensures refusal { OnErr result (IsSome attr.now) }
+{
+    match attr {
+        Some(bytes) => Ok(Some(bytes.copy()?)),
+        None => Ok(None),
+    }
+}
+
+/// An equal event, of one that holds no list.
 #[inline(always)]
 fn copy_plain(e: &Event) -> Event
-    requires { BeginsCall e.now → ⊥ }
+    requires { MayHoldList e.now → ⊥ }
     ensures { result ≡ e.now }
 {
     match *e {
@@ -65,7 +91,7 @@ fn copy_plain(e: &Event) -> Event
         Event::Abort { label } => Event::Abort { label },
         Event::Override { task, label } => Event::Override { task, label },
         Event::Revert { task } => Event::Revert { task },
-        Event::Begin { .. } => unreachable!(),
+        Event::Begin { .. } | Event::Raw { .. } | Event::SetAttr { .. } => unreachable!(),
         Event::Act { cast } => Event::Act { cast },
         Event::OpenFile {
             hold,
@@ -106,5 +132,18 @@ fn copy_plain(e: &Event) -> Event
             target,
             mode,
         },
+        Event::Chown {
+            hold,
+            file,
+            owner,
+            group,
+        } => Event::Chown {
+            hold,
+            file,
+            owner,
+            group,
+        },
+        Event::Chmod { hold, file, mode } => Event::Chmod { hold, file, mode },
+        Event::Stat { hold, file } => Event::Stat { hold, file },
     }
 }

@@ -1,7 +1,7 @@
 //! The course of one line.
 ghost use Rattle.std.specs.Prelude.{◌≡◌, ◌≤◌, ◌<◌, true, IfOk, OnErr, IfSome, is_none, is_some};
 ghost use Rattle.cred_ids.specs.Limits.{LINE_LIMIT};
-ghost use Rattle.cred_copies.specs.Lists.{BeginsSetGroups};
+ghost use Rattle.cred_copies.specs.Lists.{EventHoldsList};
 ghost use Rattle.cred_model.specs.Course as spec;
 ghost use Rattle.cred_model.specs.Course.{Leads, after, event_at, is_bounded, left};
 
@@ -73,13 +73,14 @@ impl Course {
     ///
     /// # Errors
     ///
-    /// `NoMemory` where the list of a `setgroups` could not be copied; no other event takes memory.
+    /// `NoMemory` where the list of a `setgroups`, or the bytes of an attribute, could not be
+    /// copied; no other event takes memory.
     #[inline(always)]
     pub fn event(&self, content: &Content) -> Result<Option<Event>, NoMemory>
         requires { Leads content.now self.now }
         ensures event { IfOk result (λ event. event ≡ event_at content.now self.now) }
         ensures ended { IfOk result (λ event. is_some event ≡ is_some self.now.stage) }
-        ensures refusal { OnErr result (IfSome (event_at content.now self.now) BeginsSetGroups) }
+        ensures refusal { OnErr result (IfSome (event_at content.now self.now) EventHoldsList) }
     {
         self.event_at(content)
     }
@@ -87,7 +88,7 @@ impl Course {
     #[inline(always)]
     fn event_at(&self, content: &Content) -> Result<Option<Event>, NoMemory>
         ensures event { IfOk result (λ event. event ≡ event_at content.now self.now) }
-        ensures refusal { OnErr result (IfSome (event_at content.now self.now) BeginsSetGroups) }
+        ensures refusal { OnErr result (IfSome (event_at content.now self.now) EventHoldsList) }
     {
         match self.stage {
             Some(stage) => event_in(self.line, content, stage),

@@ -1,14 +1,14 @@
 //! The event of each stage of a line.
 ghost use Rattle.std.specs.Prelude.{◌≡◌, ◌≤◌, ℕ, Some, IfOk, OnErr, IfSome};
 ghost use Rattle.cred_ids.specs.Limits.{LINE_LIMIT};
-ghost use Rattle.cred_copies.specs.Lists.{BeginsSetGroups};
+ghost use Rattle.cred_copies.specs.Lists.{EventHoldsList};
 ghost use Rattle.cred_event.specs.declared.content.Content.TheVariants as content;
 ghost use Rattle.cred_event.specs.declared.event.Event.TheVariants as event;
 ghost use Rattle.cred_event.specs.declared.event.Side.TheVariants.{Subjective, Objective};
 ghost use Rattle.cred_model.specs.Course as spec;
 
-use cred_copies::copy_event;
-use cred_event::{Change, Content, Event, Mode, Query, Side, Stage};
+use cred_copies::{copy_attr, copy_event};
+use cred_event::{Change, Content, Event, FileCall, Mode, Query, Side, Stage};
 use cred_ids::{NoMemory, limits};
 use cred_record::Want;
 
@@ -28,7 +28,7 @@ pub(crate) fn event_in(
 ) -> Result<Option<Event>, NoMemory>
     requires { line ≤ LINE_LIMIT }
     ensures event { IfOk result (λ event. event ≡ spec.event_in line content.now stage) }
-    ensures refusal { OnErr result (IfSome (spec.event_in line content.now stage) BeginsSetGroups) }
+    ensures refusal { OnErr result (IfSome (spec.event_in line content.now stage) EventHoldsList) }
 {
     Ok(match (content, stage) {
         (Content::One(event), Stage::First) => Some(copy_event(event)?),
@@ -54,6 +54,7 @@ pub(crate) fn event_in(
         (Content::Access { task, file, want }, _) => {
             access_event(line, *task, *file, *want, stage)
         }
+        (Content::OnFile { task, call }, _) => file_event(line, *task, call, stage)?,
         _ => None,
     })
 }
@@ -99,6 +100,32 @@ fn take(label: u32, task: u32) -> Option<Event>
         label,
         task,
         side: Side::Subjective,
+    })
+}
+
+/// The event of a call on a file, which the hold decides.
+fn calling(hold: u32, call: &FileCall) -> Result<Event, NoMemory>
+    ensures event { IfOk result (λ event. event ≡ spec.calling hold call.now) }
+    ensures refusal { OnErr result (EventHoldsList (spec.calling hold call.now)) }
+{
+    Ok(match call {
+        FileCall::Chown { file, owner, group } => Event::Chown {
+            hold,
+            file: *file,
+            owner: *owner,
+            group: *group,
+        },
+        FileCall::Chmod { file, mode } => Event::Chmod {
+            hold,
+            file: *file,
+            mode: *mode,
+        },
+        FileCall::SetAttr { file, attr } => Event::SetAttr {
+            hold,
+            file: *file,
+            attr: copy_attr(attr)?,
+        },
+        FileCall::Stat { file } => Event::Stat { hold, file: *file },
     })
 }
 
@@ -218,6 +245,27 @@ fn change_event(line: u32, task: u32, change: Change, stage: Stage) -> Option<Ev
         Stage::Aborting => Some(Event::Abort { label }),
         Stage::Releasing | Stage::Retrying => Some(Event::Release { label: hold }),
         _ => None,
+    }
+}
+
+fn file_event(
+    line: u32,
+    task: u32,
+    call: &FileCall,
+    stage: Stage,
+) -> Result<Option<Event>, NoMemory>
+    requires { line ≤ LINE_LIMIT }
+    ensures event { IfOk result
+        (λ event. event ≡ spec.event_in line (content.OnFile task call.now) stage) }
+    ensures refusal { OnErr result
+        (IfSome (spec.event_in line (content.OnFile task call.now) stage) EventHoldsList) }
+{
+    let hold = hold_label(line);
+    match stage {
+        Stage::First => Ok(take(hold, task)),
+        Stage::Calling => Ok(Some(calling(hold, call)?)),
+        Stage::Releasing => Ok(Some(Event::Release { label: hold })),
+        _ => Ok(None),
     }
 }
 

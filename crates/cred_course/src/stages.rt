@@ -45,6 +45,8 @@ pub(crate) fn next_stage(content: &Content, stage: Stage, answer: &Answer) -> Op
         (Content::Access { .. }, Stage::ReleasingAccess) => Some(Stage::Reverting),
         (Content::Access { .. }, Stage::Reverting) => Some(Stage::Releasing),
         (Content::Access { .. }, Stage::Aborting) => Some(Stage::Releasing),
+        (Content::OnFile { .. }, Stage::First) if ok => Some(Stage::Calling),
+        (Content::OnFile { .. }, Stage::Calling) => Some(Stage::Releasing),
         _ => None,
     }
 }

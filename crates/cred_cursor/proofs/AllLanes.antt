@@ -16,7 +16,7 @@ use Rattle.cred_script.specs.Lines.{line_at}
 use Rattle.cred_script.specs.Lanes.{lanes}
 use Rattle.cred_cursor.specs.Cursor.{IsLaneCursor, is_of}
 use Rattle.cred_cursor.proofs.Lanes.{lane_over, lane_due, lane_makes_due}
-use Rattle.cred_cursor.specs.Cursors.{cursor_of}
+use Rattle.cred_cursor.specs.LaneCursors.{cursor_of}
 
 -- ---- lists
 

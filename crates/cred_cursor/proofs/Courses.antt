@@ -16,8 +16,8 @@ use Rattle.cred_model.specs.Journal.{answers_of, next_event}
 use Rattle.cred_model.proofs.Courses.{after_line}
 use Rattle.cred_model.proofs.Lines.{answers_of-push_same, answers_of-push_other}
 use Rattle.cred_script.specs.Lines.{line_at}
-use Rattle.cred_cursor.specs.Cursor.{EndedInLane, NotBegun, IsOver, IsPast, StandsOn, IsLaneCursor}
-use Rattle.cred_cursor.specs.Cursor.{may_wait, may_wait_at, IsOfLine, MovesOnTo, MovesOnFrom, is_of}
+use Rattle.cred_cursor.specs.Cursor.{EndedInLane, NotBegunInLane, IsOver, IsPastInLane, StandsOn, IsLaneCursor}
+use Rattle.cred_cursor.specs.Cursor.{new_waiters, new_waiters_at, IsOfLine, MovesOnTo, MovesOnFrom, is_of}
 
 -- the line at a place has the next number
 pub line_at-place : (script : Script) (place : ℕ) → line_at script (place + 1) ≡ slice_get script.lines place
@@ -73,9 +73,9 @@ one_more P number before here k lt = elim (cases_lt k number) [
 ]
 
 past : (script : Script) (journal : List Entry) (lane : ℕ) (course : Course) → StandsOn script journal lane course
-    → course.stage ≡ None → IsPast script journal lane course.line
+    → course.stage ≡ None → IsPastInLane script journal lane course.line
 past script journal lane course at over =
-    subst (IsPast script journal lane) (sym at.number) (record {
+    subst (IsPastInLane script journal lane) (sym at.number) (record {
       ended = one_more (EndedInLane script journal lane) at.place at.ended (ended_here script journal lane course at over);
       later = λ k le. at.later k (omega arith);
     })
@@ -86,14 +86,14 @@ past script journal lane course at over =
 line_behind : (script : Script) (number : ℕ) (line : Line) → line_at script (number + 1) ≡ Some line → slice_get script.lines number ≡ Some line
 line_behind script number line following = sym (line_at-place script number) ∙ following
 
-no_answers : (script : Script) (journal : List Entry) (lane : ℕ) (number : ℕ) (line : Line) → IsPast script journal lane number
+no_answers : (script : Script) (journal : List Entry) (lane : ℕ) (number : ℕ) (line : Line) → IsPastInLane script journal lane number
     → line_at script (number + 1) ≡ Some line → is_of lane line ≡ true → answers_of journal (number + 1) ≡ []
 no_answers script journal lane number line at following own =
     subst (λ (o : Option Line). IfSome o (λ l. is_of lane l ≡ true → answers_of journal (number + 1) ≡ [])) (line_behind script number line following)
     (at.later number (omega arith)) own
 
 -- it begins there
-begins : (script : Script) (journal : List Entry) (lane : ℕ) (number : ℕ) (line : Line) → IsPast script journal lane number
+begins : (script : Script) (journal : List Entry) (lane : ℕ) (number : ℕ) (line : Line) → IsPastInLane script journal lane number
     → line_at script (number + 1) ≡ Some line → is_of lane line ≡ true → StandsOn script journal lane (start (number + 1) line.content)
 begins script journal lane number line at following own = record {
   place = number;
@@ -107,9 +107,9 @@ begins script journal lane number line at following own = record {
 }
 
 -- a line of another lane is passed over, and so is one without events
-passes_by : (script : Script) (journal : List Entry) (lane : ℕ) (number : ℕ) (line : Line) → IsPast script journal lane number
+passes_by : (script : Script) (journal : List Entry) (lane : ℕ) (number : ℕ) (line : Line) → IsPastInLane script journal lane number
     → line_at script (number + 1) ≡ Some line → (is_of lane line ≡ true → (start (number + 1) line.content).stage ≡ None)
-    → IsPast script journal lane (number + 1)
+    → IsPastInLane script journal lane (number + 1)
 passes_by script journal lane number line at following over =
     let here : EndedInLane script journal lane number
     = subst (λ (o : Option Line). IfSome o (λ l. is_of lane l ≡ true → next_event journal (number + 1) l.content ≡ None))
@@ -122,7 +122,7 @@ passes_by script journal lane number line at following over =
     }
 
 -- where no line follows all of the lane's have ended
-all_past : (script : Script) (journal : List Entry) (lane : ℕ) (number : ℕ) → IsPast script journal lane number
+all_past : (script : Script) (journal : List Entry) (lane : ℕ) (number : ℕ) → IsPastInLane script journal lane number
     → line_at script (number + 1) ≡ None → IsOver script journal lane
 all_past script journal lane number at none =
     let long = slice_get-none script.lines number (sym (line_at-place script number) ∙ none) in
@@ -151,7 +151,7 @@ first_of_lane script lane to from = from.stands [] (record {
 
 -- behind the one line, where those of the lane's lines that come before the other have ended at once
 pub record Reaches (script : Script) (lane : ℕ) (from number : ℕ) : Type 0 where
-  pub stands : (journal : List Entry) → IsPast script journal lane from → IsPast script journal lane number
+  pub stands : (journal : List Entry) → IsPastInLane script journal lane from → IsPastInLane script journal lane number
   pub on : from ≤ number
 
 none_of : {A : Type 0} (o : Option A) → is_none o ≡ true → o ≡ None
@@ -170,15 +170,15 @@ few_left content number = elim (model.makes_events content) as (λ b. model.left
 ]
 
 -- no more tasks than may live wait after its next event
-few_wait : (content : Content) (stage : Option Stage) → may_wait content stage ≤ 64
+few_wait : (content : Content) (stage : Option Stage) → new_waiters content stage ≤ 64
 few_wait (One event) (Some First) = omega arith
 few_wait (Id task call) (Some First) = omega arith
 few_wait content stage = omega arith
 
-pub few_wait_at : (script : Script) (course : Course) → may_wait_at script course ≤ 64
+pub few_wait_at : (script : Script) (course : Course) → new_waiters_at script course ≤ 64
 few_wait_at script course = by (line_at script course.line)
   where
-    by : (found : Option Line) → option_map_or (λ line. may_wait line.content course.stage) found 0 ≤ 64
+    by : (found : Option Line) → option_map_or (λ line. new_waiters line.content course.stage) found 0 ≤ 64
     by None = omega arith
     by (Some line) = few_wait line.content course.stage
 
@@ -281,7 +281,7 @@ ended_stays script journal lane entry k other ended =
     (answers_of-push_other journal entry (k + 1) (differ own)) ∙ over own)
 
 later_stays : (script : Script) (journal : List Entry) (lane : ℕ) (entry : Entry) (k : ℕ) → IsOther script lane entry
-    → NotBegun script journal lane k → NotBegun script (journal ++ entry ∷ []) lane k
+    → NotBegunInLane script journal lane k → NotBegunInLane script (journal ++ entry ∷ []) lane k
 later_stays script journal lane entry k other later =
     both (slice_get script.lines k) (other k) later
     (λ line differ none own. answers_of-push_other journal entry (k + 1) (differ own) ∙ none own)

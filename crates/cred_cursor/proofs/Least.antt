@@ -11,7 +11,7 @@ use Rattle.cred_model.specs.Course.{Course, event_at}
 use Rattle.cred_model.specs.Journal.{first_due, next_event}
 use Rattle.cred_script.specs.Lines.{line_at}
 use Rattle.cred_cursor.specs.Cursor.{IsLaneCursor, StandsOn, is_of}
-use Rattle.cred_cursor.specs.Cursors.{AreCursors, AreOver, IsEarlier, IsLeast, IsNoLater, cursor_of, due_of}
+use Rattle.cred_cursor.specs.LaneCursors.{AreCursors, AreOver, IsEarlier, IsLeast, IsNoLater, cursor_of, due_of}
 use Rattle.cred_cursor.proofs.Courses.{next_is}
 use Rattle.cred_cursor.proofs.Due.{IsEnded, first_due_at, first_due_none}
 use Rattle.cred_cursor.proofs.Lanes.{due_here, same_lane}

@@ -10,7 +10,7 @@ use Rattle.cred_model.specs.Course.{Course, event_at}
 use Rattle.cred_model.specs.Journal.{due_in, entry_of, lane_of, next}
 use Rattle.cred_script.specs.Lines.{line_at}
 use Rattle.cred_cursor.specs.Cursor.{IsLaneCursor, MovesOnTo}
-use Rattle.cred_cursor.specs.Cursors.{AreCursors, cursor_of, due_of, waits}
+use Rattle.cred_cursor.specs.LaneCursors.{AreCursors, cursor_of, due_of, waits}
 use Rattle.cred_cursor.proofs.Lanes.{lane_over, lane_due, lane_of_course, lane_goes_on, lane_stays}
 use Rattle.cred_cursor.proofs.AllLanes.{has_place, cursor_set, other_cursor, is_due}
 

@@ -26,8 +26,8 @@ EndedInLane script journal lane place =
     (λ line. is_of lane line ≡ true → next_event journal (place + 1) line.content ≡ None)
 
 -- the line at this place, where it is of the lane, has made no event
-abbrev pub NotBegun : Script → List Entry → ℕ → ℕ → Type 0
-NotBegun script journal lane place =
+abbrev pub NotBegunInLane : Script → List Entry → ℕ → ℕ → Type 0
+NotBegunInLane script journal lane place =
     IfSome (slice_get script.lines place)
     (λ line. is_of lane line ≡ true → answers_of journal (place + 1) ≡ [])
 
@@ -36,9 +36,9 @@ pub record IsOver (script : Script) (journal : List Entry) (lane : ℕ) : Type 0
   pub ended : (k : ℕ) → k < length script.lines → EndedInLane script journal lane k
 
 -- The lane's lines up to this number have ended, and no later one of them has begun.
-pub record IsPast (script : Script) (journal : List Entry) (lane number : ℕ) : Type 0 where
+pub record IsPastInLane (script : Script) (journal : List Entry) (lane number : ℕ) : Type 0 where
   pub ended : (k : ℕ) → k < number → EndedInLane script journal lane k
-  pub later : (k : ℕ) → number ≤ k → NotBegun script journal lane k
+  pub later : (k : ℕ) → number ≤ k → NotBegunInLane script journal lane k
 
 -- The course's line is one of the lane, and has come as far as the course. Those of the lane's
 -- lines that stand before it have ended, and no later one has begun.
@@ -50,7 +50,7 @@ pub record StandsOn (script : Script) (journal : List Entry) (lane : ℕ) (cours
   pub here : slice_get script.lines place ≡ Some line
   pub own : is_of lane line ≡ true
   pub ended : (k : ℕ) → k < place → EndedInLane script journal lane k
-  pub later : (k : ℕ) → place < k → NotBegun script journal lane k
+  pub later : (k : ℕ) → place < k → NotBegunInLane script journal lane k
   pub stands : course ≡ leads (place + 1) line.content (answers_of journal (place + 1))
 
 -- The lane's cursor is the journal's: the course of its first line that has not ended, or none.
@@ -65,15 +65,15 @@ LINE_EVENTS = TRY_EVENTS * TRIES + TASKS
 
 -- how many more tasks may wait after a line's next event, at most: an id call lets all other
 -- threads of its task's process wait, and a new thread waits where its creator does
-abbrev pub may_wait : Content → Option Stage → ℕ
-may_wait (One event) (Some First) = TASKS
-may_wait (Id task call) (Some First) = TASKS
-may_wait content stage = 0
+abbrev pub new_waiters : Content → Option Stage → ℕ
+new_waiters (One event) (Some First) = TASKS
+new_waiters (Id task call) (Some First) = TASKS
+new_waiters content stage = 0
 
 -- so it is with the line of a course
-abbrev pub may_wait_at : Script → Course → ℕ
-may_wait_at script course =
-    option_map_or (λ line. may_wait line.content course.stage) (line_at script course.line) 0
+abbrev pub new_waiters_at : Script → Course → ℕ
+new_waiters_at script course =
+    option_map_or (λ line. new_waiters line.content course.stage) (line_at script course.line) 0
 
 -- How many steps may be left where the cursor stands here, at most, beside those of the tasks that
 -- wait already. The step of a task that waits is not counted with its line.
@@ -83,7 +83,7 @@ left_at script cursor =
     (λ course.
     LINE_EVENTS * (length script.lines - course.line)
     + model.left course
-    + may_wait_at script course)
+    + new_waiters_at script course)
     cursor 0
 
 -- the course is one of its line
@@ -99,6 +99,6 @@ pub record MovesOnTo (script : Script) (lane : ℕ) (course : Course) (to : Opti
 
 -- Where the lane's lines up to this number are past, this is the lane's cursor.
 pub record MovesOnFrom (script : Script) (lane number : ℕ) (to : Option Course) : Type 0 where
-  pub stands : (journal : List Entry) → IsPast script journal lane number
+  pub stands : (journal : List Entry) → IsPastInLane script journal lane number
       → IsLaneCursor script journal lane to
   pub falls : left_at script to ≤ LINE_EVENTS * (length script.lines - number)

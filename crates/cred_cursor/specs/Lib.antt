@@ -1,2 +1,2 @@
 pub mod Cursor
-pub mod Cursors
+pub mod LaneCursors

@@ -2,7 +2,7 @@
 ghost use Rattle.std.specs.Prelude.{◌≡◌, ◌≤◌, true, [], length, IfOk, IfSome, OnErr, is_some};
 ghost use Rattle.std.specs.Option.{option_and_then};
 ghost use Rattle.cred_ids.specs.Limits.{LINE_LIMIT};
-ghost use Rattle.cred_copies.specs.Lists.{BeginsSetGroups};
+ghost use Rattle.cred_copies.specs.Lists.{EventHoldsList};
 ghost use Rattle.cred_model.specs.Course as model;
 ghost use Rattle.cred_model.specs.Named.{IsEventOf};
 ghost use Rattle.cred_script.specs.Lines.{line_at};
@@ -20,12 +20,13 @@ pub fn first_cursor(script: &Script, lane: u32) -> Option<Course>
     first_after(script, lane, 0)
 }
 
-/// The next event of the course's line. It names only declared files and namespaces, as its line
-/// does. `None` where the line has ended.
+/// The next event of the course's line. It names only declared files and namespaces, and gives only
+/// what is a mode, as its line does. `None` where the line has ended.
 ///
 /// # Errors
 ///
-/// `NoMemory` where the list of a `setgroups` could not be copied; no other event takes memory.
+/// `NoMemory` where the list of a `setgroups`, or the bytes of an attribute, could not be copied;
+/// no other event takes memory.
 // Called for each event of a lane, from one place of it.
 #[inline(always)]
 pub fn next_event(script: &Script, course: Course) -> Result<Option<Event>, NoMemory>
@@ -37,7 +38,7 @@ pub fn next_event(script: &Script, course: Course) -> Result<Option<Event>, NoMe
         IfSome event (IsEventOf (length script.now.files) script.now.namespaces)) }
     ensures refusal { OnErr result (IfSome (option_and_then
         (λ line. model.event_at line.content course)
-        (line_at script.now course.line)) BeginsSetGroups) }
+        (line_at script.now course.line)) EventHoldsList) }
 {
     match script.line(course.line()) {
         Some((_, content)) => course.event(content),

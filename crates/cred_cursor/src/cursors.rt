@@ -4,8 +4,8 @@ ghost use Rattle.std.specs.Prelude.{IfOk, MatchOption, is_none};
 ghost use Rattle.std.specs.List.{list_all};
 ghost use Rattle.cred_ids.specs.Limits.{LINE_LIMIT};
 ghost use Rattle.cred_ids.specs.Limits.{LAST_LANE};
-ghost use Rattle.cred_cursor.specs.Cursors.{AreCursors, AreOver, IsEarlier, IsLeast, cursor_of};
-ghost use Rattle.cred_cursor.specs.Cursors.{due_of};
+ghost use Rattle.cred_cursor.specs.LaneCursors.{AreCursors, AreOver, IsEarlier, IsLeast, cursor_of};
+ghost use Rattle.cred_cursor.specs.LaneCursors.{due_of};
 
 use crate::cursor::first_cursor;
 use cred_course::Course;

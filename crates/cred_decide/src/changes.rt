@@ -48,7 +48,11 @@ fn without_gains(answer: Answer, cred: Cred) -> Made
 }
 
 /// What the execve of a file makes of a credential, and what that gains.
-fn executed(cred: &Cred, file: &FileInfo, chain: &[Id]) -> Result<Result<Made, Answer>, NoMemory>
+fn made_by_execve(
+    cred: &Cred,
+    file: &FileInfo,
+    chain: &[Id],
+) -> Result<Result<Made, Answer>, NoMemory>
     ensures { IfOk result (λ made. made ≡ spec.made_by_exec (exec cred.now file.now chain.now)) }
 {
     match exec(cred, file, chain) {
@@ -98,7 +102,7 @@ pub fn change(
             Err(Refusal::Memory) => Err(NoMemory),
         },
         Change::Exec { .. } => match file {
-            Some(file) => executed(cred, file, chain),
+            Some(file) => made_by_execve(cred, file, chain),
             None => Ok(Err(Answer::Eacces)),
         },
         Change::Access => Ok(Ok(without_gains(Answer::Done, access_cred(cred)?))),

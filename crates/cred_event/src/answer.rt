@@ -23,6 +23,13 @@ pub enum Told {
         nnp: bool,
     },
     Flag(bool),
+    /// What stat(2) says of a file, and whether it has a capability attribute.
+    File {
+        owner: Id,
+        group: Id,
+        mode: u16,
+        attr: bool,
+    },
 }
 
 /// What a number that stands already is the number of.

@@ -1,6 +1,21 @@
 //! What a line of a script holds, and where a line stands between its events.
 use crate::event::{Change, Event, Mode, Query};
-use cred_record::{IdCall, Want};
+use cred_ids::Arg;
+use cred_record::{Attr, IdCall, Want};
+
+/// A call that changes a file of the script, or asks how it stands. The file is named by its place,
+/// counted from 0.
+#[derive(Drop)]
+pub enum FileCall {
+    /// chown(2).
+    Chown { file: u32, owner: Arg, group: Arg },
+    /// chmod(2), with a mode of at most octal 7777.
+    Chmod { file: u32, mode: u16 },
+    /// setxattr(2) of the capability attribute, or removexattr(2) of it.
+    SetAttr { file: u32, attr: Option<Attr> },
+    /// stat(2).
+    Stat { file: u32 },
+}
 
 /// What a line of a script holds.
 #[derive(Drop)]
@@ -54,6 +69,11 @@ pub enum Content {
         file: u32,
         want: Want,
     },
+    /// The task changes a file, or asks how it stands.
+    OnFile {
+        task: u32,
+        call: FileCall,
+    },
 }
 
 /// The stages of a line: which event it makes next. A line whose last event was made has none.
@@ -67,6 +87,8 @@ pub enum Stage {
     Asking,
     /// The opening of a file.
     Opening,
+    /// The call on a file, which changes it or asks how it stands.
+    Calling,
     /// The hold of the credential of the task that is signalled, or looked into.
     TakingTarget,
     /// The signal.

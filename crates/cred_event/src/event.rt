@@ -1,6 +1,6 @@
 //! The events: each is one step of the book.
 use cred_ids::{Arg, Id, Kind};
-use cred_record::{AdjCall, IdCall, Want};
+use cred_record::{AdjCall, Attr, IdCall, Want};
 
 /// Which of a task's two credentials is meant (Documentation/security/credentials.rst).
 #[derive(Clone, Copy, PartialEq, Eq, Debug)]
@@ -177,5 +177,36 @@ pub enum Event {
         to: u32,
         target: u32,
         mode: Mode,
+    },
+    /// The file has this owner and this group from now on (chown(2)): the credential that `hold`
+    /// holds decides. A file is named by its place among the script's files, counted from 0.
+    Chown {
+        hold: u32,
+        file: u32,
+        owner: Arg,
+        group: Arg,
+    },
+    /// It has this mode, at most octal 7777 (chmod(2)).
+    Chmod {
+        hold: u32,
+        file: u32,
+        mode: u16,
+    },
+    /// It has this capability attribute, or none (setxattr(2), removexattr(2)).
+    SetAttr {
+        hold: u32,
+        file: u32,
+        attr: Option<Attr>,
+    },
+    /// A question about the file as it stands (stat(2)).
+    Stat {
+        hold: u32,
+        file: u32,
+    },
+    /// The task makes an id call for itself alone, which no other thread of its process will
+    /// follow: the system call without its C library (nptl(7)).
+    Raw {
+        task: u32,
+        call: IdCall,
     },
 }

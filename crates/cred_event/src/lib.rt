@@ -10,6 +10,6 @@ mod entry;
 mod event;
 
 pub use answer::{AbortCause, Answer, Counted, Named, Told};
-pub use content::{Content, Stage};
+pub use content::{Content, FileCall, Stage};
 pub use entry::Entry;
 pub use event::{Change, Event, Mode, Query, Side};

@@ -4,6 +4,6 @@ use Rattle.cred_filecap.specs.declared.refusal.AttrRefusal.{AttrRefusal}
 use Rattle.cred_filecap.specs.declared.refusal.AttrRefusal.TheVariants.{BadLength, BadRevision}
 
 -- the refusal that reports a fault
-abbrev pub refusal_of : Fault → AttrRefusal
-refusal_of (WrongLength n) = BadLength n
-refusal_of (WrongRevision n) = BadRevision n
+abbrev pub attr_refusal_of : Fault → AttrRefusal
+attr_refusal_of (WrongLength n) = BadLength n
+attr_refusal_of (WrongRevision n) = BadRevision n

@@ -16,4 +16,6 @@ pub use caps::FileCaps;
 pub use chain::counts;
 pub use reading::decode;
 pub use refusal::AttrRefusal;
+pub use sets::{SetWords, set_of, words_of};
+pub use words::word_at;
 pub use writing::encode;

@@ -1,6 +1,6 @@
 //! An attribute read.
 ghost use Rattle.std.specs.Prelude.{◌≡◌, ◌≢◌, ◌+◌, ◌≤◌, Ok, IfOk, IfErr, length};
-ghost use Rattle.cred_filecap.specs.Refusals.{refusal_of};
+ghost use Rattle.cred_filecap.specs.Refusals.{attr_refusal_of};
 ghost use Rattle.cred_rules.specs.Attribute.{Attribute, Spells, SpellsSet, high_in, word_at, fault};
 
 use crate::caps::FileCaps;
@@ -41,7 +41,7 @@ pub fn decode(bytes: &[u8]) -> Result<FileCaps, AttrRefusal>
 
     // No bytes that spell an attribute are refused, or read as another.
     ensures each_value { (a : Attribute) → Spells bytes.now a → result ≡ Ok a }
-    ensures refusal { IfErr result (λ e. e ≡ refusal_of (fault bytes.now)) }
+    ensures refusal { IfErr result (λ e. e ≡ attr_refusal_of (fault bytes.now)) }
 {
     if bytes.len() < 4 {
         return Err(AttrRefusal::BadLength(bytes.len()));

@@ -15,19 +15,19 @@ pub record AreOpen (files : List OpenFile) : Type 0 where
   pub few : length files ≤ OPEN_FILES
 
 -- the file that is open at a descriptor
-abbrev pub file_at : List OpenFile → ℕ → Option OpenFile
-file_at files fd = find (λ f. f.fd == fd) files
+abbrev pub file_under : List OpenFile → ℕ → Option OpenFile
+file_under files fd = find (λ f. f.fd == fd) files
 
 -- where a descriptor stands among the open files
-abbrev pub place_of : List OpenFile → ℕ → Option ℕ
-place_of files fd = position (λ f. f.fd == fd) files
+abbrev pub descriptor_place : List OpenFile → ℕ → Option ℕ
+descriptor_place files fd = position (λ f. f.fd == fd) files
 
 -- The descriptor was closed, whose file was opened by the credential of this number, and the other
 -- files stay in their order.
 pub record Closes (before after : List OpenFile) (fd opener : ℕ) : Type 0 where
   pub place : ℕ
   pub file : ℕ
-  pub found : place_of before fd ≡ Some place
+  pub found : descriptor_place before fd ≡ Some place
   pub there : slice_get before place ≡ Some (record { fd = fd; opener = opener; file = file })
   pub left : after ≡ remove before place
 
@@ -36,5 +36,5 @@ pub record Closes (before after : List OpenFile) (fd opener : ℕ) : Type 0 wher
 abbrev pub file_as : ℕ → File → OpenFile
 file_as fd f = record { fd = fd; opener = f.opener; file = f.file }
 
-abbrev pub files_of : List (ℕ × File) → List OpenFile
-files_of entries = map (λ e. file_as e.0 e.1) entries
+abbrev pub open_files : List (ℕ × File) → List OpenFile
+open_files entries = map (λ e. file_as e.0 e.1) entries

@@ -3,7 +3,7 @@ ghost use Rattle.std.specs.Prelude.{◌≡◌, ◌<◌, not, nat_lt, is_some, []
 ghost use Rattle.std.specs.Prelude.{IfOk, MatchOption, OnOk, OnErr};
 ghost use Rattle.std.specs.Option.{option_map};
 ghost use Rattle.cred_ids.specs.Limits.{OPEN_FILES};
-ghost use Rattle.cred_files.specs.Open.{AreOpen, file_as, file_at, place_of, Closes};
+ghost use Rattle.cred_files.specs.Open.{AreOpen, file_as, file_under, descriptor_place, Closes};
 
 use crate::file::File;
 use cred_ids::{NoMemory, limits};
@@ -21,13 +21,13 @@ pub struct Files {
 impl Model for Files {
     ghost use Rattle.std.specs.Prelude.{List};
     ghost use Rattle.cred_model.specs.State.{OpenFile};
-    ghost use Rattle.cred_files.specs.Open.{files_of, AreOpen};
+    ghost use Rattle.cred_files.specs.Open.{open_files, AreOpen};
 
     ghost Value = { List OpenFile };
 
-    ghost view = { λ f. files_of f.files.entries };
+    ghost view = { λ f. open_files f.files.entries };
 
-    ghost invariant = { λ f. AreOpen (files_of f.files.entries) };
+    ghost invariant = { λ f. AreOpen (open_files f.files.entries) };
 }
 
 impl Files {
@@ -42,7 +42,7 @@ impl Files {
 
     /// Whether a file is open at a descriptor.
     pub fn has(&self, fd: u32) -> bool
-        ensures { result ≡ is_some (file_at self.now fd) }
+        ensures { result ≡ is_some (file_under self.now fd) }
     {
         self.file(fd).is_some()
     }
@@ -58,7 +58,7 @@ impl Files {
     /// The number of the credential that the file at a descriptor was opened by. `None` where none
     /// is open there.
     pub fn opener(&self, fd: u32) -> Option<u64>
-        ensures { result ≡ option_map (λ f. f.opener) (file_at self.now fd) }
+        ensures { result ≡ option_map (λ f. f.opener) (file_under self.now fd) }
     {
         Some(self.file(fd)?.opener)
     }
@@ -70,7 +70,7 @@ impl Files {
     ///
     /// `NoMemory` if an allocation fails: the open files are as they were.
     pub fn add(&mut self, fd: u32, opener: u64, file: u32) -> Result<(), NoMemory>
-        requires new { file_at self.old fd ≡ None }
+        requires new { file_under self.old fd ≡ None }
         requires room { length self.old < OPEN_FILES }
         ensures ok { OnOk result
             (self.new ≡ self.old ++ record { fd = fd; opener = opener; file = file } ∷ []) }
@@ -84,7 +84,7 @@ impl Files {
     /// was opened by. `None` where none is open there, and then nothing changes.
     pub fn remove(&mut self, fd: u32) -> Option<u64>
         ensures { MatchOption result
-            ((place_of self.old fd ≡ None) × (self.new ≡ self.old))
+            ((descriptor_place self.old fd ≡ None) × (self.new ≡ self.old))
             (λ opener. Closes self.old self.new fd opener) }
     {
         Some(self.files.shift_remove(&fd)?.opener)
@@ -92,7 +92,7 @@ impl Files {
 
     /// What is kept of the file at a descriptor. `None` where none is open there.
     fn file(&self, fd: u32) -> Option<&File>
-        ensures { option_map (λ f. file_as fd f.now) result ≡ file_at self.now fd }
+        ensures { option_map (λ f. file_as fd f.now) result ≡ file_under self.now fd }
     {
         self.files.get(&fd)
     }

@@ -10,7 +10,7 @@ use Rattle.cred_ids.specs.Id.{IsId}
 use Rattle.cred_caps.specs.declared.secure.Flag.TheVariants.{NoSetuidFixup, KeepCaps}
 use Rattle.cred_caps.specs.Caps.{Caps, IsCaps, empty, full, union, meet, with}
 use Rattle.cred_caps.specs.Numbers.{LAST, SETPCAP}
-use Rattle.cred_caps.specs.Secure.{is_set, is_locked, with_flag}
+use Rattle.cred_caps.specs.Secure.{is_set, is_locked, with_secure_flag}
 use Rattle.cred_caps.proofs.CapsLemmas.{IsCaps-union, IsCaps-one}
 use Rattle.cred_record.specs.Credential.{Credential, capable, first_credential, is_root}
 use Rattle.cred_record.specs.File.{File}
@@ -76,7 +76,7 @@ tested false denial r h = h
 is_cap : (n : ℕ) → is_no_cap n ≡ false → n ≤ LAST
 is_cap n h = grind (arith, nat_tests)
 
-flag_fits : (bits : ℕ) (on : Bool) → bits < 2 ^ 8 → with_flag bits KeepCaps on < 2 ^ 8
+flag_fits : (bits : ℕ) (on : Bool) → bits < 2 ^ 8 → with_secure_flag bits KeepCaps on < 2 ^ 8
 flag_fits bits true small = or_lt 8 bits (2 ^ 4) small (omega arith)
 flag_fits bits false small = omega (arith, and_le_l bits (2 ^ 8 - 1 - 2 ^ 4), small)
 
@@ -230,7 +230,7 @@ by_exec_fits (Err MayNotExecute) h = tt
 by_exec_fits (Err SpellsNothing) h = tt
 by_exec_fits (Err GivesTooLittle) h = tt
 
-executed_fits : (file : Option File) (chain : List ℕ) (c : Credential) → FitsCred c → IfSome file FitsFile → FitsMade (model.executed file chain c)
+executed_fits : (file : Option File) (chain : List ℕ) (c : Credential) → FitsCred c → IfSome file FitsFile → FitsMade (model.made_by_execve file chain c)
 executed_fits None chain c old of = tt
 executed_fits (Some file) chain c old of = by_exec_fits (exec c file chain) (exec_fits c file chain old of)
 

@@ -1,11 +1,12 @@
 -- Each entry of a script's journals fits it.
 use Rattle.std.proofs.Common.{◌≡◌, ℕ, zero, suc, ◌+◌, ◌<◌, ◌≤◌, List, length, take, slice_get, Some, Ok, sym, ap, ◌∙◌, subst, arith}
+use Rattle.std.specs.List.{All}
 use Rattle.std.specs.Option.{IfSome}
 use Rattle.std.proofs.lemmas.List.Elements.{All-nil}
 use Rattle.cred_ids.specs.Limits.{LINE_LIMIT}
 use Rattle.cred_event.specs.declared.entry.Entry.{Entry}
 use Rattle.cred_model.specs.Script.{Script}
-use Rattle.cred_model.specs.State.{opening}
+use Rattle.cred_model.specs.State.{State, opening}
 use Rattle.cred_model.specs.Step.{step}
 use Rattle.cred_model.specs.Journal.{SoFar}
 use Rattle.cred_model.proofs.Lists.{All-at, slice_get_at}
@@ -18,8 +19,10 @@ use Rattle.cred_sound.proofs.Sound.{sound_after}
 use Rattle.cred_reader.specs.Fits.{IsLong, Fits, FitsAnswer}
 use Rattle.cred_answers.specs.Rows.{CanAnswer}
 use Rattle.cred_reader.proofs.Lists.{one_list}
+use Rattle.cred_fits.specs.Content.{FitsFile}
 use Rattle.cred_fits.specs.Fitting.{EventFits, EntriesFit, OneFittingList}
 use Rattle.cred_fits.proofs.EventsFit.{each_at, events_fit}
+use Rattle.cred_fits.proofs.InfosFit.{step_infos, opening_infos}
 use Rattle.cred_fits.proofs.Ranges.{FitsSealed, FitsTask, FitsCast, FitsPrepared, IsInRange, Good, some_fits}
 use Rattle.cred_fits.proofs.RowLaws.{answers_are_of_their_rows}
 use Rattle.cred_fits.proofs.ScriptFits.{script_fits}
@@ -27,13 +30,17 @@ use Rattle.cred_fits.proofs.Spent.{few_sealed, short}
 use Rattle.cred_fits.proofs.StateFits.{IsKnown}
 use Rattle.cred_fits.proofs.TaskFits.{step_fits}
 
-opening_range : IsInRange opening
-opening_range = record {
+opening_range : (script : Script) → IsInRange (opening script)
+opening_range script = record {
   creds = All-nil FitsSealed;
   tasks = All-nil FitsTask;
   casts = All-nil FitsCast;
   prepared = All-nil FitsPrepared;
 }
+
+-- what stands in a state, and its files, are in range
+abbrev IsFit : State → Type 0
+IsFit s = IsInRange s × All FitsFile s.infos
 
 -- a script, and a journal so far of it
 record IsGiven (script : Script) (journal : List Entry) : Type 0 where
@@ -47,13 +54,14 @@ creds_few : (script : Script) (journal : List Entry) (k : ℕ) → IsGiven scrip
 creds_few script journal k given le =
     let few = given.few in omega (arith, few, le, few_sealed script journal k le, short script journal given.so_far)
 
-known_by : (script : Script) (journal : List Entry) (k : ℕ) → IsGiven script journal → k ≤ length journal → IsInRange (state_at script journal k)
+known_by : (script : Script) (journal : List Entry) (k : ℕ) → IsGiven script journal → k ≤ length journal → IsFit (state_at script journal k)
     → IsKnown (state_at script journal k)
-known_by script journal k given le range = record {
+known_by script journal k given le fit = record {
   sound = sound_after script (take k journal);
-  range = range;
+  range = fit.0;
   creds = creds_few script journal k given le;
   tasks = few_after script (take k journal);
+  infos = fit.1;
 }
 
 event_at : (script : Script) (journal : List Entry) (k : ℕ) (entry : Entry) → IsGiven script journal → k < length journal → slice_get journal k ≡ Some entry
@@ -62,23 +70,27 @@ event_at script journal k entry given lt is =
     All-at (EventFits script) journal k entry is (events_fit given.bytes script journal given.read given.few given.so_far)
 
 -- the step of an entry
-stepped : (script : Script) (journal : List Entry) (k : ℕ) (entry : Entry) → IsGiven script journal → IsInRange (state_at script journal k)
+stepped : (script : Script) (journal : List Entry) (k : ℕ) (entry : Entry) → IsGiven script journal → IsFit (state_at script journal k)
     → k < length journal → slice_get journal k ≡ Some entry → Good (step script (state_at script journal k) entry.line entry.event)
-stepped script journal k entry given range lt is =
+stepped script journal k entry given fit lt is =
     let fits = event_at script journal k entry given lt is in
-    step_fits script (state_at script journal k) entry.line entry.event (script_fits given.bytes script given.read).infos
-    (known_by script journal k given (omega (arith, lt)) range) fits.line fits.event
+    step_fits script (state_at script journal k) entry.line entry.event
+    (known_by script journal k given (omega (arith, lt)) fit) fits.line fits.event
 
-range_at : (script : Script) (journal : List Entry) (k : ℕ) → IsGiven script journal → k ≤ length journal → IsInRange (state_at script journal k)
-range_at script journal zero given le = opening_range
+range_at : (script : Script) (journal : List Entry) (k : ℕ) → IsGiven script journal → k ≤ length journal → IsFit (state_at script journal k)
+range_at script journal zero given le = (opening_range script, opening_infos script (script_fits given.bytes script given.read).infos)
 range_at script journal (suc k) given le =
     let lt : k < length journal = omega (arith, le) in
     let at = slice_get_at journal k lt in
-    let range = range_at script journal k given (omega (arith, le)) in
+    let fit = range_at script journal k given (omega (arith, le)) in
+    let entry = event_at script journal k at.0 given lt at.1 in
     let next : k + 1 ≡ suc k = omega arith in
     let after : state_at script journal (suc k) ≡ (step script (state_at script journal k) at.0.line at.0.event).1
     = ap (state_at script journal) (sym next) ∙ step_at script journal k at.0 at.1 in
-    subst IsInRange (sym after) (stepped script journal k at.0 given range lt at.1).1
+    subst IsFit (sym after) (
+      (stepped script journal k at.0 given fit lt at.1).1,
+      step_infos script (state_at script journal k) at.0.line at.0.event entry.event fit.1,
+    )
 
 entry_at : (script : Script) (journal : List Entry) (k : ℕ) (entry : Entry) → IsGiven script journal → k < length journal → slice_get journal k ≡ Some entry
     → Fits script entry

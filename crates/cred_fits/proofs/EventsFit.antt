@@ -6,7 +6,7 @@ use Rattle.std.proofs.lemmas.List.Elements.{All-head, All-tail, All-weaker}
 use Rattle.std.proofs.lemmas.Option.{IfSome_then, get_or_from_slice_get}
 use Rattle.cred_ids.specs.Limits.{LINE_LIMIT}
 use Rattle.cred_event.specs.declared.content.Content.{Content}
-use Rattle.cred_event.specs.declared.content.Content.TheVariants.{One, Id, Question, Open, Fcap, Signal, Ptrace, Change, Access}
+use Rattle.cred_event.specs.declared.content.Content.TheVariants.{One, Id, Question, Open, Fcap, Signal, Ptrace, Change, Access, OnFile}
 use Rattle.cred_event.specs.declared.content.Stage.{Stage}
 use Rattle.cred_event.specs.declared.content.Stage.TheVariants as stage
 use Rattle.cred_event.specs.declared.answer.Answer.{Answer}
@@ -21,6 +21,7 @@ use Rattle.cred_model.proofs.Lists.{slice_get_at}
 use Rattle.cred_model.proofs.Names.{event_named}
 use Rattle.cred_grammar.specs.Grammar.{script_of}
 use Rattle.cred_reader.specs.Fits.{IsFile, IsNumber, FitsEvent, IsOf}
+use Rattle.cred_reader.proofs.EventsFit.{calling_fits}
 use Rattle.cred_fits.specs.Content.{FitsContent}
 use Rattle.cred_fits.specs.Fitting.{EventFits, EventsFit}
 use Rattle.cred_fits.proofs.FilesFit.{is_file}
@@ -72,6 +73,9 @@ stage_fits line (Access task file want) stage.ReleasingAccess few fits = omega (
 stage_fits line (Access task file want) stage.Reverting few fits = fits.0
 stage_fits line (Access task file want) stage.Aborting few fits = omega (arith, few)
 stage_fits line (Access task file want) stage.Releasing few fits = omega (arith, few)
+stage_fits line (OnFile task call) stage.First few fits = (omega (arith, few), fits.0)
+stage_fits line (OnFile task call) stage.Calling few fits = calling_fits (100000 + 10 * line) call (omega (arith, few)) fits.1
+stage_fits line (OnFile task call) stage.Releasing few fits = omega (arith, few)
 stage_fits line content at few fits = tt
 
 course_fits : (content : Content) (course : Course) → course.line ≤ LINE_LIMIT → FitsContent content → IfSome (event_at content course) FitsEvent

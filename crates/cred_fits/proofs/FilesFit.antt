@@ -12,8 +12,8 @@ use Rattle.std.proofs.lemmas.Option.{slice_get_within}
 use Rattle.cred_model.proofs.Lists.{All-at, slice_get_at, slice_get-left, slice_get-last}
 use Rattle.cred_model.specs.Script.{NamedFile, Script}
 use Rattle.cred_spelling.specs.Spellings.{is_name}
-use Rattle.cred_script.specs.Files.{place_of}
-use Rattle.cred_report.specs.Questions.{file_text, name_of}
+use Rattle.cred_script.specs.Files.{file_place}
+use Rattle.cred_report.specs.Questions.{file_text, name_text}
 use Rattle.cred_reader.specs.Fits.{IsFile}
 
 -- ---- places in lists
@@ -58,7 +58,7 @@ same_bytes (b ∷ word) = let same : (b == b) ≡ true = grind (arith, nat_tests
 -- each file has a name, and is the first of it
 pub record AreNamed (files : List NamedFile) : Type 0 where
   pub names : All (λ file. IsTrue (is_name file.name)) files
-  pub own : (place : ℕ) (file : NamedFile) → slice_get files place ≡ Some file → place_of files file.name ≡ Some place
+  pub own : (place : ℕ) (file : NamedFile) → slice_get files place ≡ Some file → file_place files file.name ≡ Some place
 
 pub none_named : AreNamed []
 none_named = record {
@@ -67,7 +67,7 @@ none_named = record {
 }
 
 -- a file more, of a new name
-pub named_more : (files : List NamedFile) (file : NamedFile) → AreNamed files → place_of files file.name ≡ None → IsTrue (is_name file.name)
+pub named_more : (files : List NamedFile) (file : NamedFile) → AreNamed files → file_place files file.name ≡ None → IsTrue (is_name file.name)
     → AreNamed (files ++ file ∷ [])
 named_more files file old new name = record {
   names = All-push (λ (f : NamedFile). IsTrue (is_name f.name)) files file old.names name;
@@ -82,7 +82,7 @@ named_more files file old new name = record {
             let last : place ≡ length files = omega (arith, within, long, past) in
             let there : Some file ≡ Some f = sym (slice_get-last files file) ∙ ap (slice_get (files ++ file ∷ [])) (sym last) ∙ is in
             let same : file ≡ f = cc in
-            subst (λ (g : NamedFile). place_of (files ++ file ∷ []) g.name ≡ Some place) same
+            subst (λ (g : NamedFile). file_place (files ++ file ∷ []) g.name ≡ Some place) same
             (found_last (λ (g : NamedFile). bytes_eq file.name g.name) files file new (same_bytes file.name) ∙ ap (λ n. Some n) (sym last))
       ];
 }
@@ -91,8 +91,8 @@ named_more files file old new name = record {
 pub is_file : (script : Script) (place : ℕ) → AreNamed script.files → place < length script.files → IsFile script place
 is_file script place named lt =
     let at = slice_get_at script.files place lt in
-    let text : file_text script place ≡ at.0.name = ap name_of at.1 in
+    let text : file_text script place ≡ at.0.name = ap name_text at.1 in
     record {
-      own = ap (place_of script.files) text ∙ named.own place at.0 at.1;
+      own = ap (file_place script.files) text ∙ named.own place at.0 at.1;
       name = subst (λ name. IsTrue (is_name name)) (sym text) (All-at (λ (f : NamedFile). IsTrue (is_name f.name)) script.files place at.0 at.1 named.names);
     }

@@ -3,9 +3,11 @@ pub mod CredFits
 pub mod EntriesFit
 pub mod EventsFit
 pub mod FilesFit
+pub mod RecordFits
 pub mod FormFits
 pub mod ParsedSound
 pub mod Ranges
+pub mod InfosFit
 pub mod RowLaws
 pub mod RuleRows
 pub mod ScriptFits

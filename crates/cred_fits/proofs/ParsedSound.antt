@@ -5,7 +5,7 @@ use Rattle.cred_spelling.specs.declared.reason.Reason.{Reason}
 use Rattle.cred_spelling.specs.declared.reason.Reason.TheVariants.{Word, Byte}
 use Rattle.cred_spelling.specs.Lines.{is_printable}
 use Rattle.cred_spelling.specs.Names.{form_of}
-use Rattle.cred_spelling.specs.Words.{◌>>=◌, words_of, is_comment}
+use Rattle.cred_spelling.specs.Words.{◌>>=◌, line_words, is_comment}
 use Rattle.cred_forms.specs.declared.forms.Parsed.{Parsed}
 use Rattle.cred_forms.specs.declared.forms.Parsed.TheVariants.{Empty}
 use Rattle.cred_forms.specs.Forms.{parse_form}
@@ -44,8 +44,8 @@ sound_words reading (first ∷ words) = by (is_comment first)
 sound_line : (reading : Reading) (text : List ℕ) → spelled.Holds (IsParsed reading) (parse_line reading text)
 sound_line reading text = by (is_printable text)
   where
-    by : (b : Bool) → spelled.Holds (IsParsed reading) (let r : Result Parsed Reason = cond b (parse_words reading (words_of text)) (Err Byte) in r)
-    by true = sound_words reading (words_of text)
+    by : (b : Bool) → spelled.Holds (IsParsed reading) (let r : Result Parsed Reason = cond b (parse_words reading (line_words text)) (Err Byte) in r)
+    by true = sound_words reading (line_words text)
     by false = tt
 
 pub parsed_sound : (reading : Reading) (text : List ℕ) (line : Parsed) → parse_line reading text ≡ Ok line → IsParsed reading line

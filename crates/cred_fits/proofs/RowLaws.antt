@@ -1,12 +1,13 @@
 -- Each event is given one of the answers of its row.
-use Rattle.std.proofs.Common.{◌≡◌, ℕ, ◌-◌, ◌==◌, nat_lt, Bool, true, false, cond, List, [], ◌∷◌, length, slice_get, not, Option, Some, None, Result, Ok, Err, ok_or, refl, ap, arith}
+use Rattle.std.proofs.Common.{◌≡◌, ℕ, ◌-◌, ◌==◌, ◌||◌, nat_lt, Bool, true, false, cond, List, [], ◌∷◌, length, slice_get, slice_set, not, Option, Some, None, Result, Ok, Err, ok_or, refl, ap, arith}
 use Rattle.std.specs.List.{find, position, count_by}
 use Rattle.std.proofs.lemmas.Bool.Decides.{nat_tests}
 use Rattle.std.specs.Option.{option_map_or, option_and_then}
+use Rattle.cred_ids.specs.declared.arg.Arg.{Arg}
 use Rattle.cred_ids.specs.Limits.{TASKS, OPEN_FILES, HOLDS, PREPARED, DEPTH}
-use Rattle.cred_caps.specs.Numbers.{LAST}
+use Rattle.cred_caps.specs.Numbers.{LAST, CHOWN, SETFCAP}
 use Rattle.cred_caps.specs.Caps.{Caps, has}
-use Rattle.cred_record.specs.Credential.{Credential, first_credential}
+use Rattle.cred_record.specs.Credential.{Credential, capable, first_credential}
 use Rattle.cred_record.specs.File.{File}
 use Rattle.cred_record.specs.declared.gains.Gains.{Gains}
 use Rattle.cred_record.specs.declared.adj_call.AdjCall.{AdjCall}
@@ -18,6 +19,7 @@ use Rattle.cred_rules.specs.Access.{may}
 use Rattle.cred_rules.specs.Adjust.{adjust, read_in}
 use Rattle.cred_rules.specs.Exec.{Executed, NoExec, exec}
 use Rattle.cred_rules.specs.Exec.NoExec.{MayNotExecute, SpellsNothing, GivesTooLittle}
+use Rattle.cred_rules.specs.Files.{may_chown, may_as_owner, gives_one, chowned, chown, may_chmod, given_mode, chmod, is_attr, set_attr}
 use Rattle.cred_rules.specs.SetId.{set_id}
 use Rattle.cred_event.specs.declared.answer.Answer.{Answer}
 use Rattle.cred_event.specs.declared.answer.Answer.TheVariants as answer
@@ -32,17 +34,17 @@ use Rattle.cred_event.specs.declared.event.Query.{Query}
 use Rattle.cred_event.specs.declared.event.Query.TheVariants as query
 use Rattle.cred_event.specs.declared.event.Side.{Side}
 use Rattle.cred_model.specs.Answers.{is_ok, flag, checked, reply}
-use Rattle.cred_model.specs.Change.{Made, by_rule, made_by_rule, executed, made_by_exec, by_change}
+use Rattle.cred_model.specs.Change.{Made, by_rule, made_by_rule, made_by_execve, made_by_exec, by_change}
 use Rattle.cred_model.specs.Casts.{others_of, with_cast, waits_no_more}
 use Rattle.cred_model.specs.Dumpable.{differs, renewed, set_flag, flags_begun, flags_committed}
 use Rattle.cred_model.specs.Ends.{ended, is_thread_of}
 use Rattle.cred_model.specs.Moves.{◌>>=◌, in_slot, table_full, first_task, created, replaced}
 use Rattle.cred_model.specs.Moves.{preparing, altered, committed, given_up}
 use Rattle.cred_model.specs.Named.{query_files, change_files}
-use Rattle.cred_model.specs.Script.{Script, info_of, chain_of, root_of}
+use Rattle.cred_model.specs.Script.{Script, chain_of, root_of}
 use Rattle.cred_model.specs.Slots.{swept_if_full, free}
-use Rattle.cred_model.specs.State.{State, Task, Numbered, Prepared, Changed, Broadcast, numbered, task_of, cast_of, cast_in, begun_by, open_of, hold_of, prepared_of, credential_of, opener_of, held_by}
-use Rattle.cred_model.specs.Step.{outcome, by_init, take_hold, by_take, by_take_file, by_release, by_ask, by_signal, by_prepare, by_alter, for_task, try_commit, ends_with, casts_after, committed_by, commit_answer, by_commit, by_abort, for_access, override_held, override_prepared, by_override, by_revert, by_begin, aborted, follow, by_act, by_open, by_close, by_spawn, by_fork, by_exit, by_dumpable, by_dumped, by_ptrace}
+use Rattle.cred_model.specs.State.{State, Task, Numbered, Prepared, Changed, Broadcast, numbered, task_of, cast_of, cast_in, begun_by, open_of, hold_of, prepared_of, credential_of, opener_of, held_by, info_of}
+use Rattle.cred_model.specs.Step.{outcome, by_init, take_hold, by_take, by_take_file, by_release, by_ask, by_signal, by_prepare, by_alter, for_task, try_commit, ends_with, casts_after, committed_by, commit_answer, by_commit, by_abort, for_access, override_held, override_prepared, by_override, by_revert, by_begin, aborted, follow, by_act, by_open, by_close, by_spawn, by_fork, by_exit, by_dumpable, by_dumped, by_ptrace, by_file, by_stat, by_raw}
 use Rattle.cred_laws.proofs.Cases.{some_case, none_case, test_case, own_case, idle_case}
 use Rattle.cred_answers.specs.CallRows as call_rows
 use Rattle.cred_answers.specs.Rows as rows
@@ -140,10 +142,10 @@ none_held (query.Bset n) label = of_no_hold n label
 none_held (query.AmbIs n) label = of_no_hold n label
 none_held (query.Check place asked) label = refl
 
-of_ask : (script : Script) (s : State) (label : ℕ) (q : Query) → Tells (rows.may_tell q) s (by_ask script s label q)
-of_ask script s label q =
+of_ask : (s : State) (label : ℕ) (q : Query) → Tells (rows.may_tell q) s (by_ask s label q)
+of_ask s label q =
     some_case (Tells (rows.may_tell q) s) (held_by s label) _ _ (none_held q label) (λ held is.
-    of_reply (info_of script (query_files q)) held.cred q)
+    of_reply (info_of s.infos (query_files q)) held.cred q)
 
 signalled : (s : State) (b : Bool) → Tells rows.signal_row s (cond b (Ok (answer.Done, s)) (Err answer.Eperm))
 signalled s true = refl
@@ -189,7 +191,7 @@ by_exec (Err MayNotExecute) = refl
 by_exec (Err SpellsNothing) = refl
 by_exec (Err GivesTooLittle) = refl
 
-of_executed : (file : Option File) (chain : List ℕ) (c : Credential) → IsOfRow rows.exec_row (executed file chain c)
+of_executed : (file : Option File) (chain : List ℕ) (c : Credential) → IsOfRow rows.exec_row (made_by_execve file chain c)
 of_executed None chain c = refl
 of_executed (Some file) chain c = by_exec (exec c file chain)
 
@@ -215,7 +217,7 @@ of_alter script s label to =
     let Q = Tells (rows.may_change to) s in
     some_case Q (prepared_of s label) _ _ (none_prepared to label) (λ p is.
     some_case Q (numbered s.creds p.base) _ _ (none_prepared to label) (λ base is.
-    of_altered s label to _ (of_change (info_of script (change_files to)) (chain_of script base.cred.ns) base.cred to)))
+    of_altered s label to _ (of_change (info_of s.infos (change_files to)) (chain_of script base.cred.ns) base.cred to)))
 
 -- ---- a commit, an override
 
@@ -285,6 +287,28 @@ of_made s call (Ok c) f h each = each c h
 of_made s call (Err Perm) f h each = h
 of_made s call (Err Invalid) f h each = h
 
+-- the same of a call of one thread alone
+of_raw_made : (s : State) (call : IdCall) (r : Result Credential Denial) (f : Credential → Result (Answer × State) Answer)
+    → Answers (call_rows.may_be_denied call) (call_rows.is_invalid call) r
+    → ((c : Credential) → call_rows.is_invalid call ≡ false → Tells (call_rows.raw_row call) s (f c))
+    → Tells (call_rows.raw_row call) s (by_rule r >>= f)
+of_raw_made s call (Ok c) f h each = each c h
+of_raw_made s call (Err Perm) f h each = h
+of_raw_made s call (Err Invalid) f h each = h
+
+of_raw : (s : State) (task : ℕ) (call : IdCall) → Tells (call_rows.raw_row call) s (by_raw s task call)
+of_raw s task call =
+    let row = call_rows.raw_row call in
+    let Q = Tells row s in
+    some_case Q (task_of s task) _ _ refl (λ owner is.
+    some_case Q (numbered s.creds owner.current) _ _ refl (λ old is.
+    idle_case Q (cast_in s owner.process) _ (λ number. refl) (λ idle.
+    own_case Q owner _ (λ depth. refl)
+    (of_raw_made s call (set_id old.cred call) _ (of_call old.cred call) (λ made valid.
+    slot_tells row s table_full
+    (λ t slot. (answer.Sealed (length t.creds) slot, record (replaced t task old.number made slot) { dumpable = renewed t.dumpable owner.process (differs old.cred made) }))
+    (λ t. ap not valid) (λ t slot. ap not valid))))))
+
 of_begin : (s : State) (line task : ℕ) (call : IdCall) → Tells (call_rows.begin_row call) s (by_begin s line task call)
 of_begin s line task call =
     let row = call_rows.begin_row call in
@@ -329,12 +353,12 @@ may_open c (Some file) asked =
       | false ↦ refl
     ]
 
-of_open : (script : Script) (s : State) (hold place : ℕ) (asked : Want) (fd : ℕ) → Tells rows.open_row s (by_open script s hold place asked fd)
-of_open script s hold place asked fd =
+of_open : (s : State) (hold place : ℕ) (asked : Want) (fd : ℕ) → Tells rows.open_row s (by_open s hold place asked fd)
+of_open s hold place asked fd =
     let Q = Tells rows.open_row s in
     some_case Q (held_by s hold) _ _ refl (λ held is.
     none_case Q (open_of s fd) _ _ refl (λ new.
-    let file = info_of script (place ∷ []) in
+    let file = info_of s.infos (place ∷ []) in
     test_case Q (is_ok (checked held.cred file asked)) _ _ (may_open held.cred file asked)
     (test_case Q (nat_lt (length s.files) OPEN_FILES) _ _ refl refl)))
 
@@ -398,12 +422,64 @@ of_dumpable s task value =
     some_case (Tells (rows.dumpable_row value) s) (task_of s task) _ _ refl (λ owner is.
     of_value s owner.process value (value == 0) (value == 1) refl refl)
 
+-- ---- calls on files
+
+-- a call that is refused gives an owner or a group
+refused_gives : (able gives own : Bool) → (able || not gives || own) ≡ false → gives ≡ true
+refused_gives true gives own refused = cc
+refused_gives false true own refused = refl
+refused_gives false false own refused = cc
+
+of_chown : (s : State) (hold place : ℕ) (owner group : Arg) → Tells (rows.chown_row owner group) s (by_file s hold place (λ c file. chown c file owner group))
+of_chown s hold place owner group =
+    let Q = Tells (rows.chown_row owner group) s in
+    some_case Q (held_by s hold) _ _ refl (λ held is.
+    some_case Q (slice_get s.infos place) _ _ refl (λ old there.
+    let does : File → Result (Answer × State) Answer = λ new. Ok (answer.Done, record s { infos = slice_set s.infos place new }) in
+    elim (may_chown held.cred old owner group) as (λ b. may_chown held.cred old owner group ≡ b → Q (by_rule (cond b (Ok (chowned old owner group)) (Err Perm)) >>= does)) [
+      | true ↦ λ may. refl
+      | false ↦ λ no. refused_gives (capable held.cred CHOWN) (gives_one owner group) (may_as_owner held.cred old owner group) no
+    ] refl))
+
+of_chmod : (s : State) (hold place mode : ℕ) → Tells rows.chmod_row s (by_file s hold place (λ c file. chmod c file mode))
+unfolding chmod
+of_chmod s hold place mode =
+    let Q = Tells rows.chmod_row s in
+    some_case Q (held_by s hold) _ _ refl (λ held is.
+    some_case Q (slice_get s.infos place) _ _ refl (λ old there.
+    let does : File → Result (Answer × State) Answer = λ new. Ok (answer.Done, record s { infos = slice_set s.infos place new }) in
+    elim (may_chmod held.cred old) as (λ b. Q (by_rule (cond b (Ok (record old { mode = given_mode held.cred old mode })) (Err Perm)) >>= does)) [
+      | true ↦ refl
+      | false ↦ refl
+    ]))
+
+of_set_attr : (s : State) (hold place : ℕ) (attr : Option (List ℕ)) → Tells (rows.set_attr_row attr) s (by_file s hold place (λ c file. set_attr c file attr))
+unfolding set_attr
+of_set_attr s hold place attr =
+    let Q = Tells (rows.set_attr_row attr) s in
+    some_case Q (held_by s hold) _ _ refl (λ held is.
+    some_case Q (slice_get s.infos place) _ _ refl (λ old there.
+    let does : File → Result (Answer × State) Answer = λ new. Ok (answer.Done, record s { infos = slice_set s.infos place new }) in
+    elim (capable held.cred SETFCAP) as (λ a. Q (by_rule (cond (not a) (Err Perm) (cond (not (is_attr attr)) (Err Invalid) (Ok (record old { attr = attr })))) >>= does)) [
+      | true ↦ elim (is_attr attr) as (λ b. is_attr attr ≡ b → Q (by_rule (cond (not b) (Err Invalid) (Ok (record old { attr = attr }))) >>= does)) [
+        | true ↦ λ one. one
+        | false ↦ λ none. ap not none
+      ] refl
+      | false ↦ refl
+    ]))
+
+of_stat : (s : State) (hold place : ℕ) → Tells rows.stat_row s (by_stat s hold place)
+of_stat s hold place =
+    let Q = Tells rows.stat_row s in
+    some_case Q (held_by s hold) _ _ refl (λ held is.
+    some_case Q (slice_get s.infos place) _ _ refl (λ file there. refl))
+
 pub answers_are_of_their_rows : AnswersAreOfTheirRows
 answers_are_of_their_rows script s line (event.Init task process user group ns) = of_init s task process user group ns (root_of script ns)
 answers_are_of_their_rows script s line (event.Take label task side) = of_take s label task side
 answers_are_of_their_rows script s line (event.TakeFile label fd) = of_take_file s label fd
 answers_are_of_their_rows script s line (event.Release label) = of_release s label
-answers_are_of_their_rows script s line (event.Ask label query) = of_ask script s label query
+answers_are_of_their_rows script s line (event.Ask label query) = of_ask s label query
 answers_are_of_their_rows script s line (event.Signal from hold to target) = of_signal s from hold to target
 answers_are_of_their_rows script s line (event.Prepare label task hold) = of_prepare s label task hold
 answers_are_of_their_rows script s line (event.Alter label change) = of_alter script s label change
@@ -413,7 +489,7 @@ answers_are_of_their_rows script s line (event.Override task label) = of_overrid
 answers_are_of_their_rows script s line (event.Revert task) = of_revert s task
 answers_are_of_their_rows script s line (event.Begin task call) = of_begin s line task call
 answers_are_of_their_rows script s line (event.Act number) = of_act s number
-answers_are_of_their_rows script s line (event.OpenFile hold place asked fd) = of_open script s hold place asked fd
+answers_are_of_their_rows script s line (event.OpenFile hold place asked fd) = of_open s hold place asked fd
 answers_are_of_their_rows script s line (event.CloseFile fd) = of_close s fd
 answers_are_of_their_rows script s line (event.Spawn task child) = of_spawn s task child
 answers_are_of_their_rows script s line (event.Fork task child process) = of_fork s task child process
@@ -421,4 +497,9 @@ answers_are_of_their_rows script s line (event.Exit task) = of_exit s task
 answers_are_of_their_rows script s line (event.Dumpable task value) = of_dumpable s task value
 answers_are_of_their_rows script s line (event.Dumped task) = of_dumped s task
 answers_are_of_their_rows script s line (event.Ptrace from hold to target mode) = of_ptrace script s from hold to target mode
+answers_are_of_their_rows script s line (event.Chown hold place owner group) = of_chown s hold place owner group
+answers_are_of_their_rows script s line (event.Chmod hold place mode) = of_chmod s hold place mode
+answers_are_of_their_rows script s line (event.SetAttr hold place attr) = of_set_attr s hold place attr
+answers_are_of_their_rows script s line (event.Stat hold place) = of_stat s hold place
+answers_are_of_their_rows script s line (event.Raw task call) = of_raw s task call
 answers_are_of_their_rows script s line event.Sweep = refl

@@ -5,6 +5,7 @@ use Rattle.std.specs.List.{All}
 use Rattle.std.specs.Option.{option_map, option_or}
 use Rattle.std.proofs.lemmas.List.Elements.{All-nil, All-push, All-weaker}
 use Rattle.std.proofs.lemmas.List.Folds.{find-append}
+use Rattle.cred_record.specs.File.{IsMode}
 use Rattle.cred_event.specs.declared.content.Content.{Content}
 use Rattle.cred_event.specs.declared.content.Content.TheVariants.{Nothing}
 use Rattle.cred_model.specs.Script.{Script, Line, Namespace, NamedFile, INITIAL, chain_in}
@@ -15,11 +16,11 @@ use Rattle.cred_spelling.specs.declared.reason.Reason.TheVariants.{Word, Byte}
 use Rattle.cred_spelling.specs.Lines.{lines_of, is_printable}
 use Rattle.cred_spelling.specs.Names.{form_of}
 use Rattle.cred_spelling.specs.Spellings.{is_name}
-use Rattle.cred_spelling.specs.Words.{◌>>=◌, words_of, is_comment}
+use Rattle.cred_spelling.specs.Words.{◌>>=◌, line_words, is_comment}
 use Rattle.cred_forms.specs.declared.forms.Parsed.{Parsed}
 use Rattle.cred_forms.specs.declared.forms.Parsed.TheVariants.{Empty, File, Starts, Lane, Holds}
 use Rattle.cred_forms.specs.declared.forms.Parsed.TheVariants as parsed
-use Rattle.cred_script.specs.Files.{place_of}
+use Rattle.cred_script.specs.Files.{file_place}
 use Rattle.cred_forms.specs.Forms.{parse_form}
 use Rattle.cred_grammar.specs.Grammar.{parse_full, parse_words, parse_line, add_line, at_line, add_lines, script_of}
 use Rattle.cred_grammar.specs.Reading.{Reading, nothing, admits, keep}
@@ -61,8 +62,8 @@ words_fit reading (first ∷ words) = by (is_comment first)
 line_fits : (reading : Reading) (text : List ℕ) → spelled.Holds FitsParsed (parse_line reading text)
 line_fits reading text = by (is_printable text)
   where
-    by : (b : Bool) → spelled.Holds FitsParsed (let r : Result Parsed Reason = cond b (parse_words reading (words_of text)) (Err Byte) in r)
-    by true = words_fit reading (words_of text)
+    by : (b : Bool) → spelled.Holds FitsParsed (let r : Result Parsed Reason = cond b (parse_words reading (line_words text)) (Err Byte) in r)
+    by true = words_fit reading (line_words text)
     by false = tt
 
 -- ---- what was declared before stays declared
@@ -85,12 +86,14 @@ with_ns count declared ns line of = record {
   namespaces =
       All-weaker (λ number. IsSome (chain_in declared number)) (λ number. IsSome (chain_in (declared ++ ns ∷ []) number)) (still_there declared ns)
       (named.namespaces line.content) of.namespaces;
+  modes = of.modes;
 }
 
 with_file : (count : ℕ) (declared : List Namespace) (line : Line) → NamesDeclared count declared line → NamesDeclared (count + 1) declared line
 with_file count declared line of = record {
   files = All-weaker (λ file. file < count) (λ file. file < count + 1) (λ file among. omega arith) (named.files line.content) of.files;
   namespaces = of.namespaces;
+  modes = of.modes;
 }
 
 -- ---- what was read
@@ -109,7 +112,11 @@ abbrev IsRead : Reading → Type 0
 IsRead reading = AreRead reading.files reading.namespaces reading.lines
 
 nothing_held : (count : ℕ) (declared : List Namespace) → IsContentOf count declared Nothing
-nothing_held count declared = record { files = All-nil (λ file. file < count); namespaces = All-nil (λ n. IsSome (chain_in declared n)) }
+nothing_held count declared = record {
+  files = All-nil (λ file. file < count);
+  namespaces = All-nil (λ n. IsSome (chain_in declared n));
+  modes = All-nil (λ mode. IsMode mode);
+}
 
 -- a line more
 pushed : (files : List NamedFile) (namespaces : List Namespace) (lines : List Line) (lane : ℕ) (content : Content) → AreRead files namespaces lines
@@ -122,7 +129,7 @@ pushed files namespaces lines lane content old fits of = record {
 }
 
 file_more : (files : List NamedFile) (file : NamedFile) (namespaces : List Namespace) (lines : List Line) → AreRead files namespaces lines
-    → place_of files file.name ≡ None → IsTrue (is_name file.name) → FitsFile file.info → AreRead (files ++ file ∷ []) namespaces lines
+    → file_place files file.name ≡ None → IsTrue (is_name file.name) → FitsFile file.info → AreRead (files ++ file ∷ []) namespaces lines
 file_more files file namespaces lines old new name info =
     let count : length (files ++ file ∷ []) ≡ length files + 1 = length-append files (file ∷ []) in
     record {

@@ -27,7 +27,7 @@ use Rattle.cred_laws.specs.Journals.{state_at}
 use Rattle.cred_laws.proofs.States.{step_at}
 use Rattle.cred_sound.proofs.Parts.{CredsChange, SameCreds, Seals, sealed_cred}
 use Rattle.cred_sound.proofs.Events.{changes}
-use Rattle.cred_cursor.specs.Cursor.{left_at, may_wait, may_wait_at}
+use Rattle.cred_cursor.specs.Cursor.{left_at, new_waiters, new_waiters_at}
 use Rattle.cred_left.specs.Waiting.{waiting}
 use Rattle.cred_left.proofs.Measure.{step_falls}
 use Rattle.cred_fits.specs.Fitting.{JournalsAreShort}
@@ -90,7 +90,7 @@ entry_made script journal lane entry is = by (not (lane == 0) && is_some (due_in
 -- how many entries a line may still have, beside the steps of those that wait
 abbrev weight : Script → List Entry → ℕ → Line → ℕ
 weight script journal number line =
-    let course = leads number line.content (answers_of journal number) in model.left course + may_wait_at script course
+    let course = leads number line.content (answers_of journal number) in model.left course + new_waiters_at script course
 
 -- the same of the lines from this number on
 abbrev left_of : Script → List Entry → ℕ → List Line → ℕ
@@ -103,7 +103,7 @@ module _ (script : Script) (journal : List Entry) (entry : Entry) where
 
   other_weight : (number : ℕ) (line : Line) → entry.line ≢ number → weight script grown number line ≡ weight script journal number line
   other_weight number line differ =
-      ap (λ answers. let course = leads number line.content answers in model.left course + may_wait_at script course)
+      ap (λ answers. let course = leads number line.content answers in model.left course + new_waiters_at script course)
       (answers_of-push_other journal entry number differ)
 
   later_left : (number : ℕ) (lines : List Line) → entry.line < number → left_of script grown number lines ≡ left_of script journal number lines
@@ -167,8 +167,8 @@ weight_falls script journal due place line here number event =
     let fell_here = subst (λ (e : Entry). left_at script (Some (after line.content course e.answer)) + waiting (replay script (journal ++ e ∷ [])) < left_at script (Some course) + waiting (replay script journal)) same fell in
     let next = after line.content course entry.answer in
     let lines : length script.lines - next.line ≡ length script.lines - course.line = ap (λ n. length script.lines - n) (after_line line.content course entry.answer) in
-    let left_now : weight script (journal ++ entry ∷ []) due.line line ≡ model.left next + may_wait_at script next
-    = ap (λ (c : Course). model.left c + may_wait_at script c) now in
+    let left_now : weight script (journal ++ entry ∷ []) due.line line ≡ model.left next + new_waiters_at script next
+    = ap (λ (c : Course). model.left c + new_waiters_at script c) now in
     omega (arith, fell_here, lines, left_now)
   where
     line_here : (script : Script) (number place : ℕ) (line : Line) → number ≡ 1 + place → slice_get script.lines place ≡ Some line → line_at script number ≡ Some line
@@ -201,15 +201,15 @@ few_left line number = elim (makes_events line.content) as (λ b. model.left (re
   | false ↦ omega arith
 ]
 
-few_wait : (content : Content) (stage : Option Stage) → may_wait content stage ≤ 64
+few_wait : (content : Content) (stage : Option Stage) → new_waiters content stage ≤ 64
 few_wait (One event) (Some First) = omega arith
 few_wait (Id task call) (Some First) = omega arith
 few_wait content stage = omega arith
 
-few_wait_at : (script : Script) (course : Course) → may_wait_at script course ≤ 64
+few_wait_at : (script : Script) (course : Course) → new_waiters_at script course ≤ 64
 few_wait_at script course = by (line_at script course.line)
   where
-    by : (found : Option Line) → option_map_or (λ line. may_wait line.content course.stage) found 0 ≤ 64
+    by : (found : Option Line) → option_map_or (λ line. new_waiters line.content course.stage) found 0 ≤ 64
     by None = omega arith
     by (Some line) = few_wait line.content course.stage
 

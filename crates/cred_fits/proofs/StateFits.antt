@@ -1,5 +1,5 @@
 -- The numbers of answers are in range, in every state that a run comes to.
-use Rattle.std.proofs.Common.{◌≡◌, ℕ, ◌<◌, ◌≤◌, ◌==◌, not, nat_lt, Bool, true, false, cond, List, [], ◌∷◌, ◌++◌, length, slice_get, Option, Some, None, Result, Ok, Err, subst, arith}
+use Rattle.std.proofs.Common.{◌≡◌, ℕ, ◌<◌, ◌≤◌, ◌==◌, not, nat_lt, Bool, true, false, cond, List, [], ◌∷◌, ◌++◌, length, slice_get, slice_set, Option, Some, None, Result, Ok, Err, subst, arith}
 use Rattle.std.specs.List.{All, Contains, position, remove, count_by}
 use Rattle.std.specs.Option.{IfSome, option_map, option_and_then}
 use Rattle.std.proofs.lemmas.List.{length-map}
@@ -10,6 +10,8 @@ use Rattle.cred_ids.specs.Limits.{TASKS, OPEN_FILES, HOLDS, PREPARED, DEPTH, SLO
 use Rattle.cred_record.specs.Credential.{Credential, first_credential}
 use Rattle.cred_record.specs.File.{File}
 use Rattle.cred_record.specs.declared.gains.Gains.{Gains}
+use Rattle.cred_record.specs.declared.refusal.Denial.{Denial}
+use Rattle.cred_record.specs.declared.refusal.Denial.TheVariants.{Perm, Invalid}
 use Rattle.cred_record.specs.declared.want.Want.{Want}
 use Rattle.cred_rules.specs.Access.{may}
 use Rattle.cred_rules.specs.Adjust.{read_in}
@@ -23,18 +25,18 @@ use Rattle.cred_event.specs.declared.event.Query.{Query}
 use Rattle.cred_event.specs.declared.event.Query.TheVariants as query
 use Rattle.cred_event.specs.declared.event.Side.{Side}
 use Rattle.cred_model.specs.Answers.{flag, checked, reply}
-use Rattle.cred_model.specs.Casts.{waits_no_more, joined, with_child, without, dropped, is_open, waits_in}
-use Rattle.cred_model.specs.Change.{Made}
+use Rattle.cred_model.specs.Casts.{waits_no_more, joined, with_child, without_waiter, dropped, is_open, waits_in}
+use Rattle.cred_model.specs.Change.{Made, by_rule}
 use Rattle.cred_model.specs.Dumpable.{flags_begun, flags_committed, flag_of_value}
 use Rattle.cred_model.specs.Ends.{ended, survivors}
 use Rattle.cred_model.specs.Moves.{◌>>=◌, table_full, first_task, created, preparing, altered}
 use Rattle.cred_model.specs.Moves.{committed, given_up, with_current, updated, with_overrides}
-use Rattle.cred_model.specs.Moves.{overriding, with_change, changed}
+use Rattle.cred_model.specs.Moves.{overriding, with_change, relabelled}
 use Rattle.cred_model.specs.Named.{query_files, change_files}
-use Rattle.cred_model.specs.Script.{Script, NamedFile, info_of, chain_of}
+use Rattle.cred_model.specs.Script.{Script, chain_of}
 use Rattle.cred_model.specs.Slots.{refs}
-use Rattle.cred_model.specs.State.{State, SealedCred, Task, Numbered, Prepared, Changed, Broadcast, numbered, number_on, task_of, cast_in, begun_by, open_of, hold_of, prepared_of, credential_of, opener_of, held_by}
-use Rattle.cred_model.specs.Step.{by_init, take_hold, by_take, by_take_file, by_release, by_ask, by_signal, by_prepare, by_alter, is_access, for_task, try_commit, ends_with, casts_after, committed_by, commit_answer, by_commit, by_dumpable, by_dumped, by_ptrace}
+use Rattle.cred_model.specs.State.{State, SealedCred, Task, Numbered, Prepared, Changed, Broadcast, numbered, number_on, task_of, cast_in, begun_by, open_of, hold_of, prepared_of, credential_of, opener_of, held_by, info_of}
+use Rattle.cred_model.specs.Step.{by_init, take_hold, by_take, by_take_file, by_release, by_ask, by_signal, by_prepare, by_alter, is_access, for_task, try_commit, ends_with, casts_after, committed_by, commit_answer, by_commit, by_dumpable, by_dumped, by_ptrace, by_file, by_stat}
 use Rattle.cred_model.proofs.Lists.{All-at, All-kept, All-remove, find_each, get_each}
 use Rattle.cred_model.proofs.Numbers.{updated_as, overriding_as, changed_as}
 use Rattle.cred_model.proofs.Rising.{All-in_order, All-passed}
@@ -55,6 +57,7 @@ pub record IsKnown (s : State) : Type 0 where
   pub range : IsInRange s
   pub creds : IsLong (length s.creds)
   pub tasks : length s.tasks ≤ TASKS
+  pub infos : All FitsFile s.infos
 
 -- ---- parts
 
@@ -79,12 +82,12 @@ survivors_fit ends tasks all = All-passed (λ t. not (ends t)) FitsTask FitsTask
 pub dropped_fit : (process : ℕ) (casts : List Broadcast) → All FitsCast casts → All FitsCast (dropped process casts)
 dropped_fit process casts all = All-passed (λ (cast : Broadcast). not (cast.process == process)) FitsCast FitsCast casts (λ b test h. h) all
 
-without_fits : (task : ℕ) (cast : Broadcast) → FitsCast cast → FitsCast (without task cast)
+without_fits : (task : ℕ) (cast : Broadcast) → FitsCast cast → FitsCast (without_waiter task cast)
 without_fits task cast fits = (fits.0, fits.1, All-passed (λ n. not (n == task)) IsNumber IsNumber cast.waiting (λ n test h. h) fits.2)
 
 pub left_fit : (task : ℕ) (casts : List Broadcast) → All FitsCast casts → All FitsCast (waits_no_more task casts)
 left_fit task casts all =
-    All-passed is_open FitsCast FitsCast _ (λ b test h. h) (All-kept FitsCast (without task) casts (without_fits task) all)
+    All-passed is_open FitsCast FitsCast _ (λ b test h. h) (All-kept FitsCast (without_waiter task) casts (without_fits task) all)
 
 child_fits : (parent child : ℕ) (cast : Broadcast) → IsNumber child → FitsCast cast → FitsCast (with_child parent child cast)
 child_fits parent child cast small fits = by (waits_in parent cast)
@@ -173,11 +176,11 @@ of_reply file c (query.Bset n) h = of_flag (read_in c.bound n)
 of_reply file c (query.AmbIs n) h = of_flag (read_in c.amb n)
 of_reply file c (query.Check place asked) h = of_check c file asked
 
-pub of_ask : (script : Script) (s : State) (label : ℕ) (q : Query) → IsKnown s → IsNumber label → Gives s (by_ask script s label q)
-of_ask script s label q known l =
+pub of_ask : (s : State) (label : ℕ) (q : Query) → IsKnown s → IsNumber label → Gives s (by_ask s label q)
+of_ask s label q known l =
     some_case (Gives s) (held_by s label) _ _ (l, known.range) (λ held is.
     let found = found_by s (λ h. h.number) (hold_of s label) held known.range.creds is in
-    (of_reply (info_of script (query_files q)) held.cred q found.cred, known.range))
+    (of_reply (info_of s.infos (query_files q)) held.cred q found.cred, known.range))
 
 signalled : (s : State) (b : Bool) → IsKnown s → Gives s (cond b (Ok (answer.Done, s)) (Err answer.Eperm))
 signalled s true known = (tt, known.range)
@@ -230,7 +233,7 @@ of_prepare s label task hold known fits =
 
 changed_fits : (s : State) (label : ℕ) (to : Changed) → IsInRange s → FitsChanged to → All FitsPrepared (with_change s.prepared label to)
 changed_fits s label to range fits =
-    All-kept FitsPrepared (changed label to) s.prepared (λ p h. changed_as FitsPrepared label to p (λ test. (h.0, h.1, fits)) h) range.prepared
+    All-kept FitsPrepared (relabelled label to) s.prepared (λ p h. changed_as FitsPrepared label to p (λ test. (h.0, h.1, fits)) h) range.prepared
 
 of_altered : (s : State) (label : ℕ) (to : Change) (r : Result Made Answer) → IsKnown s → FitsMade r
     → Gives s (r >>= λ made. Ok (made.answer, altered s label (record { change = to; cred = made.cred; gains = made.gains })))
@@ -246,22 +249,40 @@ of_altered s label to (Ok made) known h = (
 of_altered s label to (Err refused) known h = (h, known.range)
 
 -- the file that an event names has ids
-named_file : (script : Script) (places : List ℕ) → All (λ file. FitsFile file.info) script.files → IfSome (info_of script places) FitsFile
-named_file script [] all = tt
-named_file script (place ∷ places) all = by (slice_get script.files place) (get_each (λ (f : NamedFile). FitsFile f.info) script.files place all)
-  where
-    by : (o : Option NamedFile) → IfSome o (λ f. FitsFile f.info) → IfSome (option_map (λ (f : NamedFile). f.info) o) FitsFile
-    by None h = tt
-    by (Some f) h = h
+named_file : (infos : List File) (places : List ℕ) → All FitsFile infos → IfSome (info_of infos places) FitsFile
+named_file infos [] all = tt
+named_file infos (place ∷ places) all = get_each FitsFile infos place all
 
-pub of_alter : (script : Script) (s : State) (label : ℕ) (to : Change) → All (λ file. FitsFile file.info) script.files → IsKnown s
-    → IsNumber label → FitsChange to → Gives s (by_alter script s label to)
-of_alter script s label to files known l fits =
+pub of_alter : (script : Script) (s : State) (label : ℕ) (to : Change) → IsKnown s → IsNumber label → FitsChange to
+    → Gives s (by_alter script s label to)
+of_alter script s label to known l fits =
     some_case (Gives s) (prepared_of s label) _ _ (l, known.range) (λ p is.
     some_case (Gives s) (numbered s.creds p.base) _ _ (l, known.range) (λ base is.
     let found = is_found s p.base base known.range.creds is in
     of_altered s label to _ known
-    (change_made_fits (info_of script (change_files to)) (chain_of script base.cred.ns) base.cred to found.cred (named_file script (change_files to) files) fits)))
+    (change_made_fits (info_of s.infos (change_files to)) (chain_of script base.cred.ns) base.cred to found.cred (named_file s.infos (change_files to) known.infos) fits)))
+
+-- ---- calls on files
+
+written : (s : State) (place : ℕ) (r : Result File Denial) → IsKnown s
+    → Gives s (by_rule r >>= λ new. Ok (answer.Done, record s { infos = slice_set s.infos place new }))
+written s place (Ok new) known = (tt, known.range)
+written s place (Err Perm) known = (tt, known.range)
+written s place (Err Invalid) known = (tt, known.range)
+
+pub of_file : (s : State) (hold place : ℕ) (rule : Credential → File → Result File Denial) → IsKnown s → IsNumber hold
+    → Gives s (by_file s hold place rule)
+of_file s hold place rule known h =
+    some_case (Gives s) (held_by s hold) _ _ (h, known.range) (λ held is.
+    some_case (Gives s) (slice_get s.infos place) _ _ (h, known.range) (λ old there.
+    written s place (rule held.cred old) known))
+
+pub of_stat : (s : State) (hold place : ℕ) → IsKnown s → IsNumber hold → Gives s (by_stat s hold place)
+of_stat s hold place known h =
+    some_case (Gives s) (held_by s hold) _ _ (h, known.range) (λ held is.
+    some_case (Gives s) (slice_get s.infos place) _ _ (h, known.range) (λ file there.
+    let fits = All-at FitsFile s.infos place file there known.infos in
+    ((fits.owner, fits.group, fits.mode), known.range)))
 
 -- ---- a commit
 
@@ -301,7 +322,7 @@ sealed_below s n known has =
 
 tried : (s : State) (task place : ℕ) (p : Prepared) (owner : Task) (last : Changed) → IsKnown s → slice_get s.prepared place ≡ Some p
     → task_of s task ≡ Some owner → FitsChanged last → Good (try_commit s place p owner last)
-tried s task place p owner last known at found changed =
+tried s task place p owner last known at found relabelled =
     let range = known.range in
     let fits = prepared_at s place p range at in
     let ends = ends_with last.change owner in
@@ -309,10 +330,10 @@ tried s task place p owner last known at found changed =
     (commit_answer last (length s.creds) p.slot (count_by ends s.tasks), record (casts_after last.change owner (committed (ended ends s) place p owner.current last.cred)) { dumpable = flags_committed s owner last })
     (answer.Stale p.base owner.current, given_up s place p))) [
       | true ↦ (
-        commit_fits last.change last.gains (length s.creds) p.slot (count_by ends s.tasks) changed.1 known.creds (slot_number p.slot fits.1)
+        commit_fits last.change last.gains (length s.creds) p.slot (count_by ends s.tasks) relabelled.1 known.creds (slot_number p.slot fits.1)
             (let few = known.tasks in omega (arith, few, count_by-le-length ends s.tasks)),
         casts_after_fit last.change owner (committed (ended ends s) place p owner.current last.cred) (record {
-          creds = with_cred s.creds last.cred p.slot range.creds changed.0 fits.1;
+          creds = with_cred s.creds last.cred p.slot range.creds relabelled.0 fits.1;
           tasks = current_fits (survivors ends s.tasks) p.task (length s.creds) (survivors_fit ends s.tasks range.tasks);
           casts = range.casts;
           prepared = All-remove FitsPrepared s.prepared place range.prepared;

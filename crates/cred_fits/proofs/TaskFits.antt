@@ -11,6 +11,7 @@ use Rattle.cred_record.specs.declared.id_call.IdCall.{IdCall}
 use Rattle.cred_record.specs.declared.refusal.Denial.{Denial}
 use Rattle.cred_record.specs.declared.refusal.Denial.TheVariants.{Perm, Invalid}
 use Rattle.cred_record.specs.declared.want.Want.{Want}
+use Rattle.cred_rules.specs.Files.{chown, chmod, set_attr}
 use Rattle.cred_rules.specs.SetId.{set_id}
 use Rattle.cred_event.specs.declared.answer.Answer.{Answer}
 use Rattle.cred_event.specs.declared.answer.Answer.TheVariants as answer
@@ -23,9 +24,9 @@ use Rattle.cred_model.specs.Change.{by_rule}
 use Rattle.cred_model.specs.Dumpable.{differs, renewed}
 use Rattle.cred_model.specs.Ends.{is_thread_of, is_beside, is_task}
 use Rattle.cred_model.specs.Moves.{◌>>=◌, table_full, first_task, replaced}
-use Rattle.cred_model.specs.Script.{Script, info_of, root_of}
-use Rattle.cred_model.specs.State.{State, Task, Numbered, Prepared, Changed, Broadcast, numbered, task_of, cast_of, cast_in, begun_by, open_of, hold_of, held_by}
-use Rattle.cred_model.specs.Step.{step, is_access, by_abort, for_access, override_held, override_prepared, by_override, by_revert, by_begin, aborted, follow, by_act, by_open, by_close, by_spawn, by_fork, by_exit}
+use Rattle.cred_model.specs.Script.{Script, root_of}
+use Rattle.cred_model.specs.State.{State, Task, Numbered, Prepared, Changed, Broadcast, numbered, task_of, cast_of, cast_in, begun_by, open_of, hold_of, held_by, info_of}
+use Rattle.cred_model.specs.Step.{step, is_access, by_abort, for_access, override_held, override_prepared, by_override, by_revert, by_begin, aborted, follow, by_act, by_open, by_close, by_spawn, by_fork, by_exit, by_raw}
 use Rattle.cred_model.proofs.Lists.{All-at, All-remove, find_each, slice_get_at}
 use Rattle.cred_model.proofs.Rising.{All-in_order, All-passed, length-in_order}
 use Rattle.cred_model.proofs.Waiting.{greatest_bounds}
@@ -35,10 +36,9 @@ use Rattle.cred_sound.proofs.Tests.{in_slots}
 use Rattle.cred_sound.proofs.Parts.{with_left}
 use Rattle.cred_reader.specs.Fits.{IsNumber, FitsCall, FitsEvent}
 use Rattle.cred_reader.proofs.Spelled.{Holds}
-use Rattle.cred_fits.specs.Content.{FitsFile}
 use Rattle.cred_fits.proofs.CredFits.{FitsCred, call_made_fits}
 use Rattle.cred_fits.proofs.Ranges.{FitsTask, FitsCast, FitsChanged, FitsPrepared, IsInRange, Good, Gives, some_fits, IsFound, is_found, found_by, idle, own, fewer}
-use Rattle.cred_fits.proofs.StateFits.{IsKnown, slot_number, with_cred, current_fits, overrides_fit, survivors_fit, dropped_fit, left_fit, joined_fit, prepared_at, owner_fits, found_answer, without_label, of_init, of_take, of_take_file, of_release, of_ask, of_signal, of_prepare, of_alter, of_commit, of_check, of_dumpable, of_dumped, of_ptrace}
+use Rattle.cred_fits.proofs.StateFits.{IsKnown, slot_number, with_cred, current_fits, overrides_fit, survivors_fit, dropped_fit, left_fit, joined_fit, prepared_at, owner_fits, found_answer, without_label, of_init, of_take, of_take_file, of_release, of_ask, of_signal, of_prepare, of_alter, of_commit, of_check, of_dumpable, of_dumped, of_ptrace, of_file, of_stat}
 
 -- ---- what is given up, and what overrides
 
@@ -211,15 +211,37 @@ of_act s number known n =
     followed s cast task owner old (set_id old.cred cast.call) known (All-at IsNumber cast.waiting 0 task at fits.2)
     (waiting_few cast.waiting way.rising fits.2) (call_made_fits old.cred cast.call cred.cred fits.1)))))
 
+of_raw : (s : State) (task : ℕ) (call : IdCall) → IsKnown s → IsNumber task → FitsCall call → Gives s (by_raw s task call)
+of_raw s task call known t fits =
+    let range = known.range in
+    some_case (Gives s) (task_of s task) _ _ (t, range) (λ owner is.
+    some_case (Gives s) (numbered s.creds owner.current) _ _ (t, range) (λ old at.
+    let found = is_found s owner.current old range.creds at in
+    idle s (cast_in s owner.process) _ (find_each FitsCast (λ b. b.process == owner.process) s.casts range.casts) range
+    (own s owner _ (owner_fits s task owner range is) range
+    (by_rule_gives s (set_id old.cred call) _ range (call_made_fits old.cred call found.cred fits) (λ made h.
+    in_slots Good s table_full
+    (λ t slot. (answer.Sealed (length t.creds) slot, record (replaced t task old.number made slot) { dumpable = renewed t.dumpable owner.process (differs old.cred made) }))
+    (λ left less. (tt, range))
+    (λ left slot less free. (
+      (known.creds, slot_number slot free.below),
+      record {
+        creds = with_cred s.creds made slot range.creds h free.below;
+        tasks = current_fits s.tasks task (length s.creds) range.tasks;
+        casts = range.casts;
+        prepared = range.prepared;
+      },
+    )))))))
+
 -- ---- files and tasks
 
-of_open : (script : Script) (s : State) (hold place : ℕ) (asked : Want) (fd : ℕ) → IsKnown s → IsNumber hold → IsNumber fd
-    → Gives s (by_open script s hold place asked fd)
-of_open script s hold place asked fd known h f =
+of_open : (s : State) (hold place : ℕ) (asked : Want) (fd : ℕ) → IsKnown s → IsNumber hold → IsNumber fd
+    → Gives s (by_open s hold place asked fd)
+of_open s hold place asked fd known h f =
     let range = known.range in
     some_case (Gives s) (held_by s hold) _ _ (h, range) (λ held is.
     none_case (Gives s) (open_of s fd) _ _ (f, range) (λ new.
-    let file = info_of script (place ∷ []) in
+    let file = info_of s.infos (place ∷ []) in
     test_case (Gives s) (is_ok (checked held.cred file asked)) _ _ (of_check held.cred file asked, range)
     (test_case (Gives s) (nat_lt (length s.files) OPEN_FILES) _ _ (tt, range) (tt, range))))
 
@@ -286,28 +308,33 @@ of_exit s task known t =
 
 -- ---- every event
 
-pub step_fits : (script : Script) (s : State) (line : ℕ) (event : Event) → All (λ file. FitsFile file.info) script.files → IsKnown s → IsNumber line
+pub step_fits : (script : Script) (s : State) (line : ℕ) (event : Event) → IsKnown s → IsNumber line
     → FitsEvent event → Good (step script s line event)
-step_fits script s line (event.Init task process user group ns) files known n fits = of_init s task process user group ns (root_of script ns) known fits
-step_fits script s line (event.Take label task side) files known n fits = of_take s label task side known fits.0 fits.1
-step_fits script s line (event.TakeFile label fd) files known n fits = of_take_file s label fd known fits.0
-step_fits script s line (event.Release label) files known n fits = of_release s label known fits
-step_fits script s line (event.Ask label query) files known n fits = of_ask script s label query known fits.0
-step_fits script s line (event.Signal from hold to target) files known n fits = of_signal s from hold to target known fits
-step_fits script s line (event.Prepare label task hold) files known n fits = of_prepare s label task hold known fits
-step_fits script s line (event.Alter label to) files known n fits = of_alter script s label to files known fits.0 fits.1
-step_fits script s line (event.Commit label) files known n fits = of_commit s label known fits
-step_fits script s line (event.Abort label) files known n fits = of_abort s label known fits
-step_fits script s line (event.Override task label) files known n fits = of_override s task label known fits.0 fits.1
-step_fits script s line (event.Revert task) files known n fits = of_revert s task known fits
-step_fits script s line (event.Begin task call) files known n fits = of_begin s line task call known n fits.0 fits.1
-step_fits script s line (event.Act number) files known n fits = of_act s number known fits
-step_fits script s line (event.OpenFile hold place asked fd) files known n fits = of_open script s hold place asked fd known fits.0 fits.2
-step_fits script s line (event.CloseFile fd) files known n fits = of_close s fd known
-step_fits script s line (event.Spawn task child) files known n fits = of_spawn s task child known fits.0 fits.1
-step_fits script s line (event.Fork task child process) files known n fits = of_fork s task child process known fits.0 fits.1 fits.2
-step_fits script s line (event.Exit task) files known n fits = of_exit s task known fits
-step_fits script s line (event.Dumpable task value) files known n fits = of_dumpable s task value known fits.0
-step_fits script s line (event.Dumped task) files known n fits = of_dumped s task known fits
-step_fits script s line (event.Ptrace from hold to target mode) files known n fits = of_ptrace script s from hold to target mode known fits
-step_fits script s line event.Sweep files known n fits = (tt, known.range)
+step_fits script s line (event.Init task process user group ns) known n fits = of_init s task process user group ns (root_of script ns) known fits
+step_fits script s line (event.Take label task side) known n fits = of_take s label task side known fits.0 fits.1
+step_fits script s line (event.TakeFile label fd) known n fits = of_take_file s label fd known fits.0
+step_fits script s line (event.Release label) known n fits = of_release s label known fits
+step_fits script s line (event.Ask label query) known n fits = of_ask s label query known fits.0
+step_fits script s line (event.Signal from hold to target) known n fits = of_signal s from hold to target known fits
+step_fits script s line (event.Prepare label task hold) known n fits = of_prepare s label task hold known fits
+step_fits script s line (event.Alter label to) known n fits = of_alter script s label to known fits.0 fits.1
+step_fits script s line (event.Commit label) known n fits = of_commit s label known fits
+step_fits script s line (event.Abort label) known n fits = of_abort s label known fits
+step_fits script s line (event.Override task label) known n fits = of_override s task label known fits.0 fits.1
+step_fits script s line (event.Revert task) known n fits = of_revert s task known fits
+step_fits script s line (event.Begin task call) known n fits = of_begin s line task call known n fits.0 fits.1
+step_fits script s line (event.Act number) known n fits = of_act s number known fits
+step_fits script s line (event.OpenFile hold place asked fd) known n fits = of_open s hold place asked fd known fits.0 fits.2
+step_fits script s line (event.CloseFile fd) known n fits = of_close s fd known
+step_fits script s line (event.Spawn task child) known n fits = of_spawn s task child known fits.0 fits.1
+step_fits script s line (event.Fork task child process) known n fits = of_fork s task child process known fits.0 fits.1 fits.2
+step_fits script s line (event.Exit task) known n fits = of_exit s task known fits
+step_fits script s line (event.Dumpable task value) known n fits = of_dumpable s task value known fits.0
+step_fits script s line (event.Dumped task) known n fits = of_dumped s task known fits
+step_fits script s line (event.Ptrace from hold to target mode) known n fits = of_ptrace script s from hold to target mode known fits
+step_fits script s line (event.Chown hold place owner group) known n fits = of_file s hold place (λ c file. chown c file owner group) known fits.0
+step_fits script s line (event.Chmod hold place mode) known n fits = of_file s hold place (λ c file. chmod c file mode) known fits.0
+step_fits script s line (event.SetAttr hold place attr) known n fits = of_file s hold place (λ c file. set_attr c file attr) known fits.0
+step_fits script s line (event.Stat hold place) known n fits = of_stat s hold place known fits
+step_fits script s line (event.Raw task call) known n fits = of_raw s task call known fits.0 fits.1
+step_fits script s line event.Sweep known n fits = (tt, known.range)

@@ -1,1 +1,2 @@
 pub mod IdLists
+pub mod ModeWords

@@ -11,7 +11,7 @@ use Rattle.cred_spelling.specs.declared.reason.Reason.{Reason}
 use Rattle.cred_spelling.specs.declared.reason.Reason.TheVariants.{Word, Count}
 use Rattle.cred_spelling.specs.Words.{◌>>=◌, name_of, word_of, three_of}
 use Rattle.cred_spelling.specs.Spellings.{id_of, bytes_of, kind_of, mode_of}
-use Rattle.cred_script.specs.Files.{place_of}
+use Rattle.cred_script.specs.Files.{file_place}
 
 -- how many words stand after the first one of such a line: the five of each, and the three that may
 -- follow
@@ -23,7 +23,7 @@ MOST_WORDS = 8
 
 -- the place of the file of this name, or, where none has it, the next one that a file may take
 abbrev pub place_or_next : List NamedFile → List ℕ → ℕ
-place_or_next files name = option_map_or (λ place. place) (place_of files name) (length files)
+place_or_next files name = option_map_or (λ place. place) (file_place files name) (length files)
 
 -- the file that a word names, by its place
 abbrev pub file_at : List NamedFile → List ℕ → Result ℕ Reason
@@ -66,8 +66,8 @@ options_of words = do
   Ok (has_nosuid words, attr)
 
 -- `KIND ID ID MODE`, and what may follow. The ids are those of the owner and of the group.
-unfoldable pub info_of : List (List ℕ) → Result File Reason
-info_of (kind ∷ owner ∷ group ∷ mode ∷ options) = do
+unfoldable pub read_info : List (List ℕ) → Result File Reason
+read_info (kind ∷ owner ∷ group ∷ mode ∷ options) = do
   word ← three_of kind_of id_of id_of (kind ∷ owner ∷ group ∷ [])
   bits ← word_of mode_of mode
   option ← options_of options
@@ -79,14 +79,14 @@ info_of (kind ∷ owner ∷ group ∷ mode ∷ options) = do
     nosuid = option.0;
     attr = option.1;
   })
-info_of words = Err Count
+read_info words = Err Count
 
 -- `NAME KIND ID ID MODE`, and what may follow
 unfoldable pub declared_of : List (List ℕ) → Result NamedFile Reason
 declared_of [] = Err Count
 declared_of (word ∷ words) = do
   name ← name_of word
-  info ← info_of words
+  info ← read_info words
   Ok (record { name = name; info = info })
 
 -- `file NAME KIND ID ID MODE`, then perhaps `nosuid`, then perhaps `caps HEX`

@@ -17,7 +17,8 @@ use Rattle.cred_spelling.specs.declared.names.EventName.TheVariants as name
 use Rattle.cred_spelling.specs.declared.reason.Reason.{Reason}
 use Rattle.cred_spelling.specs.declared.reason.Reason.TheVariants.{Word, Count}
 use Rattle.cred_spelling.specs.Names as names
-use Rattle.cred_spelling.specs.Spellings.{id_of, task_of, process_of, label_of, descriptor_of}
+use Rattle.cred_spelling.specs.Spellings.{id_of, spelled_task, spelled_process, spelled_label}
+use Rattle.cred_spelling.specs.Spellings.{descriptor_of}
 use Rattle.cred_spelling.specs.Spellings.{line_number_of, lane_number_of, namespace_of}
 use Rattle.cred_spelling.specs.Spellings.{new_namespace_of, parent_of}
 use Rattle.cred_spelling.specs.Words.{◌>>=◌, word_of, no_words, one_of, two_of, three_of, five_of}
@@ -34,20 +35,20 @@ use Rattle.cred_forms.specs.Calls.{content_of}
 -- `take H T` and `takereal H T`
 unfoldable pub take_of : Side → List (List ℕ) → Result Event Reason
 take_of side words = do
-  word ← two_of label_of task_of words
+  word ← two_of spelled_label spelled_task words
   Ok (Take word.0 word.1 side)
 
 -- `takefile H F`
 unfoldable pub take_file_of : List (List ℕ) → Result Event Reason
 take_file_of words = do
-  word ← two_of label_of descriptor_of words
+  word ← two_of spelled_label descriptor_of words
   Ok (TakeFile word.0 word.1)
 
 -- `ask H QUESTION`: the question is read before the label
 unfoldable pub ask_of : List NamedFile → List (List ℕ) → Result Event Reason
 ask_of files (hold ∷ asked ∷ words) = do
   question ← query_named files asked words
-  label ← word_of label_of hold
+  label ← word_of spelled_label hold
   Ok (Ask label question)
 ask_of files words = Err Count
 
@@ -56,14 +57,14 @@ unfoldable pub alter_of : List NamedFile → List (List ℕ) → Result Event Re
 alter_of files (prepared ∷ changed ∷ words) = do
   kind ← ok_or (names.altered_name changed) Word
   change ← change_of files kind words
-  label ← word_of label_of prepared
+  label ← word_of spelled_label prepared
   Ok (Alter label change)
 alter_of files words = Err Count
 
 -- `override T H`
 unfoldable pub override_of : List (List ℕ) → Result Event Reason
 override_of words = do
-  word ← two_of task_of label_of words
+  word ← two_of spelled_task spelled_label words
   Ok (Override word.0 word.1)
 
 -- `begin T CALL`: the call is read before the task
@@ -71,7 +72,7 @@ unfoldable pub begin_of : List (List ℕ) → Result Event Reason
 begin_of (caller ∷ called ∷ words) = do
   kind ← ok_or (names.id_name called) Word
   made ← id_call_of kind words
-  task ← word_of task_of caller
+  task ← word_of spelled_task caller
   Ok (Begin task made)
 begin_of words = Err Count
 
@@ -81,16 +82,16 @@ unfoldable pub event_of : List NamedFile → EventName → List (List ℕ) → R
 event_of files name.Take words = take_of Subjective words
 event_of files name.TakeReal words = take_of Objective words
 event_of files name.TakeFile words = take_file_of words
-event_of files name.Release words = one_of label_of words >>= λ label. Ok (Release label)
+event_of files name.Release words = one_of spelled_label words >>= λ label. Ok (Release label)
 event_of files name.Ask words = ask_of files words
 event_of files name.Prepare words = do
-  word ← three_of label_of task_of label_of words
+  word ← three_of spelled_label spelled_task spelled_label words
   Ok (Prepare word.0 word.1 word.2)
 event_of files name.Alter words = alter_of files words
-event_of files name.Commit words = one_of label_of words >>= λ label. Ok (Commit label)
-event_of files name.Abort words = one_of label_of words >>= λ label. Ok (Abort label)
+event_of files name.Commit words = one_of spelled_label words >>= λ label. Ok (Commit label)
+event_of files name.Abort words = one_of spelled_label words >>= λ label. Ok (Abort label)
 event_of files name.Override words = override_of words
-event_of files name.Revert words = one_of task_of words >>= λ task. Ok (Revert task)
+event_of files name.Revert words = one_of spelled_task words >>= λ task. Ok (Revert task)
 event_of files name.Begin words = begin_of words
 event_of files name.Act words = one_of line_number_of words >>= λ line. Ok (Act line)
 event_of files name.Sweep words = no_words words >>= λ end. Ok Sweep
@@ -102,7 +103,7 @@ event_of files name.Sweep words = no_words words >>= λ end. Ok Sweep
 -- none.
 unfoldable pub parse_form : List NamedFile → Form → List (List ℕ) → Result Parsed Reason
 parse_form files form.Init words = do
-  word ← five_of task_of process_of id_of id_of namespace_of words
+  word ← five_of spelled_task spelled_process id_of id_of namespace_of words
   Ok (Starts (One (Init word.0 word.1 word.2 word.3 word.4)))
 parse_form files form.File words = do
   file ← file_of files words

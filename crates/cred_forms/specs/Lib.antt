@@ -3,6 +3,8 @@ pub mod IdCalls
 pub mod Changes
 pub mod Questions
 pub mod Modes
+pub mod FileCalls
+pub mod Records
 pub mod Calls
 pub mod Forms
 pub mod Read

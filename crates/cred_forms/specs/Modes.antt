@@ -9,5 +9,5 @@ use Rattle.cred_spelling.specs.Table.{named}
 unfoldable pub modes : List (List ℕ × Mode)
 modes = (codes "fs", Fs) ∷ (codes "real", Real) ∷ []
 
-abbrev pub mode_of : List ℕ → Option Mode
-mode_of word = named modes word
+abbrev pub look_mode : List ℕ → Option Mode
+look_mode word = named modes word

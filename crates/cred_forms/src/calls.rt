@@ -5,15 +5,18 @@ ghost use Rattle.cred_forms.specs.Calls as spec;
 ghost use Rattle.cred_forms.specs.Read.{GivesLine};
 
 use crate::changes::change_of;
+use crate::file_calls::file_call_of;
 use crate::id_calls::id_call_of;
 use crate::modes::AccessMode;
 use crate::questions::{file_and_want, query_of};
+use crate::records::record_of;
 use crate::refusal::LineRefusal;
-use cred_event::{Content, Event};
+use cred_event::{Change, Content, Event};
+use cred_record::AdjCall;
 use cred_script::Files;
 use cred_spelling::{
-    CallName, Cap, Descriptor, Number, OtherName, Process, Reason, Task, call_name, no_words, one,
-    two, word,
+    CallName, Cap, Descriptor, Number, OtherName, Process, Reason, Task, call_name, id_name,
+    no_words, one, two, word,
 };
 use std::alloc::Global;
 
@@ -24,7 +27,7 @@ use std::alloc::Global;
 ///
 /// `LineRefusal::Bad` with `Reason::Word` where a word names no call or spells no argument, and
 /// with `Reason::Count` where the words are more or fewer than the call has; `LineRefusal::Memory`
-/// where there is no memory for a list of groups.
+/// where there is no memory for a list of groups or of bytes.
 #[tactic(auto, unfolding(crate::specs::Calls::content_of))]
 // So that the content is put into memory once, and not in parts.
 #[inline(never)]
@@ -73,20 +76,30 @@ fn call_of(
             task,
             query: query_of(files, name, words)?,
         }),
-        CallName::Other(name) => Ok(other_of(files, task, name, words)?),
+        CallName::Other(name) => other_of(alloc, files, task, name, words),
+        CallName::File(name) => Ok(Content::OnFile {
+            task,
+            call: file_call_of(alloc, files, name, words)?,
+        }),
     }
 }
 
-/// A call that is neither an id call, nor a change, nor a question, by its name. `signal` has the
-/// task that is signalled, `spawn` the new thread, `fork` the child and its process. `ptrace` has how
-/// the task asks, and then the task that it asks to look into.
+/// A call that is neither an id call, nor a change, nor a question, nor a call on a file, by its
+/// name. `signal` has the task that is signalled, `spawn` the new thread, `fork` the child and its
+/// process. `ptrace` has how the task asks, and then the task that it asks to look into.
 #[tactic(auto, unfolding(crate::specs::Calls::other_of))]
-fn other_of(files: &Files, task: u32, name: OtherName, words: &[&[u8]]) -> Result<Content, Reason>
-    ensures { Says (λ made. made) result
+fn other_of(
+    alloc: Global,
+    files: &Files,
+    task: u32,
+    name: OtherName,
+    words: &[&[u8]],
+) -> Result<Content, LineRefusal>
+    ensures { GivesLine (λ made. made) result
         (spec.other_of files.now task name (nows words.now)) }
 {
     match name {
-        OtherName::Open => open_of(files, task, words),
+        OtherName::Open => Ok(open_call(files, task, words)?),
         OtherName::Close => {
             let fd = one::<Descriptor>(words)?;
             Ok(Content::One(Event::CloseFile { fd }))
@@ -131,13 +144,53 @@ fn other_of(files: &Files, task: u32, name: OtherName, words: &[&[u8]]) -> Resul
             let (mode, to) = two::<AccessMode, Task>(words)?;
             Ok(Content::Ptrace { task, to, mode })
         }
+        OtherName::CapsetRaw => capset_raw_of(alloc, task, words),
+        OtherName::Raw => raw_of(alloc, task, words),
+    }
+}
+
+/// `capsetraw HEX`: the sets of the record.
+#[tactic(auto, unfolding(crate::specs::Calls::capset_raw_of))]
+fn capset_raw_of(alloc: Global, task: u32, words: &[&[u8]]) -> Result<Content, LineRefusal>
+    ensures { GivesLine (λ made. made) result (spec.capset_raw_of task (nows words.now)) }
+{
+    match words {
+        [word] => {
+            let sets = record_of(alloc, task, word)?;
+            Ok(Content::Change {
+                task,
+                change: Change::Adjust(AdjCall::Capset {
+                    perm: sets.perm,
+                    inh: sets.inh,
+                    eff: sets.eff,
+                }),
+            })
+        }
+        _ => Err(LineRefusal::Bad(Reason::Count)),
+    }
+}
+
+/// `raw CALL`: an id call of the one thread.
+#[tactic(auto, unfolding(crate::specs::Calls::raw_of))]
+fn raw_of(alloc: Global, task: u32, words: &[&[u8]]) -> Result<Content, LineRefusal>
+    ensures { GivesLine (λ made. made) result (spec.raw_of task (nows words.now)) }
+{
+    match words {
+        [name, words @ ..] => {
+            let Some(name) = id_name(name) else {
+                return Err(LineRefusal::Bad(Reason::Word));
+            };
+            let call = id_call_of(alloc, name, words)?;
+            Ok(Content::One(Event::Raw { task, call }))
+        }
+        _ => Err(LineRefusal::Bad(Reason::Count)),
     }
 }
 
 /// `open NAME WANT F`
-#[tactic(auto, unfolding(crate::specs::Calls::open_of))]
-fn open_of(files: &Files, task: u32, words: &[&[u8]]) -> Result<Content, Reason>
-    ensures { Says (λ made. made) result (spec.open_of files.now task (nows words.now)) }
+#[tactic(auto, unfolding(crate::specs::Calls::open_call))]
+fn open_call(files: &Files, task: u32, words: &[&[u8]]) -> Result<Content, Reason>
+    ensures { Says (λ made. made) result (spec.open_call files.now task (nows words.now)) }
 {
     match words {
         [name, want, fd] => {

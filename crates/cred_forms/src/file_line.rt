@@ -42,7 +42,7 @@ fn declared_of(alloc: Global, words: &[&[u8]]) -> Result<ScriptFile, LineRefusal
         [] => Err(LineRefusal::Bad(Reason::Count)),
         [name, words @ ..] => {
             let name = name_of(name)?;
-            let info = info_of(alloc, words)?;
+            let info = read_info(alloc, words)?;
             Ok(ScriptFile {
                 name: String::from_str(alloc, name)?,
                 info,
@@ -52,9 +52,9 @@ fn declared_of(alloc: Global, words: &[&[u8]]) -> Result<ScriptFile, LineRefusal
 }
 
 /// `KIND ID ID MODE`, and what may follow.
-#[tactic(auto, unfolding(crate::specs::Files::info_of))]
-fn info_of(alloc: Global, words: &[&[u8]]) -> Result<FileInfo, LineRefusal>
-    ensures { GivesLine (λ info. info) result (spec.info_of (nows words.now)) }
+#[tactic(auto, unfolding(crate::specs::Files::read_info))]
+fn read_info(alloc: Global, words: &[&[u8]]) -> Result<FileInfo, LineRefusal>
+    ensures { GivesLine (λ info. info) result (spec.read_info (nows words.now)) }
 {
     match words {
         [kind, owner, group, mode, options @ ..] => {

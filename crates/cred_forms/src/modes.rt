@@ -12,7 +12,7 @@ static MODES: [(&str, Mode); 2] = [("fs", Mode::Fs), ("real", Mode::Real)];
 impl Spelling for AccessMode {
     type Value = Mode;
 
-    ghost spelled = { spec.mode_of };
+    ghost spelled = { spec.look_mode };
 
     #[tactic(auto, unfolding(crate::specs::Modes::modes))]
     fn of(word: &[u8]) -> Option<Mode> {

@@ -17,6 +17,7 @@ use Rattle.cred_rules.specs.Access.{may}
 use Rattle.cred_rules.specs.Adjust.{adjust, read_in, bset_read, amb_is_set}
 use Rattle.cred_rules.specs.Exec.{Executed, NoExec, exec}
 use Rattle.cred_rules.specs.Exec.NoExec.{MayNotExecute, SpellsNothing, GivesTooLittle}
+use Rattle.cred_rules.specs.Files.{chown, chmod, set_attr}
 use Rattle.cred_rules.specs.SetId.{set_id}
 use Rattle.cred_event.specs.declared.answer.Answer.{Answer}
 use Rattle.cred_event.specs.declared.answer.Answer.TheVariants as answer
@@ -31,19 +32,19 @@ use Rattle.cred_event.specs.declared.event.Query.TheVariants as query
 use Rattle.cred_event.specs.declared.event.Side.{Side}
 use Rattle.cred_model.specs.Answers.{is_ok, refusal, flag, checked, reply}
 use Rattle.cred_model.specs.Casts.{others_of, with_cast, waits_no_more}
-use Rattle.cred_model.specs.Change.{Made, by_rule, made_by_rule, executed, made_by_exec, by_change}
+use Rattle.cred_model.specs.Change.{Made, by_rule, made_by_rule, made_by_execve, made_by_exec, by_change}
 use Rattle.cred_model.specs.Dumpable.{differs, renewed, flags_begun, flags_committed, flag_of_value}
 use Rattle.cred_model.specs.Ends.{ended, is_thread_of}
 use Rattle.cred_model.specs.Moves.{◌>>=◌, in_slot, table_full, first_task, created, replaced}
 use Rattle.cred_model.specs.Moves.{preparing, altered, committed, given_up}
 use Rattle.cred_model.specs.Named.{query_files, change_files}
-use Rattle.cred_model.specs.Script.{Script, info_of, chain_of, root_of}
+use Rattle.cred_model.specs.Script.{Script, chain_of, root_of}
 use Rattle.cred_model.specs.Slots.{swept_if_full, free, least_free, swept}
-use Rattle.cred_model.specs.State.{State, SealedCred, Task, Numbered, Prepared, Changed, Broadcast, ProcessFlag, numbered, number_on, task_of, cast_of, cast_in, begun_by, open_of, hold_of, prepared_of, credential_of, opener_of, held_by}
-use Rattle.cred_model.specs.Step.{done, outcome, by_init, take_hold, by_take, by_take_file, by_release, by_ask, by_signal, by_prepare, by_alter, for_task, try_commit, ends_with, casts_after, committed_by, commit_answer, by_commit, by_abort, for_access, override_held, override_prepared, by_override, by_revert, by_begin, aborted, follow, by_act, by_open, by_close, by_spawn, by_fork, by_exit, by_dumpable, by_dumped, by_ptrace}
+use Rattle.cred_model.specs.State.{State, SealedCred, Task, Numbered, Prepared, Changed, Broadcast, ProcessFlag, numbered, number_on, task_of, cast_of, cast_in, begun_by, open_of, hold_of, prepared_of, credential_of, opener_of, held_by, info_of}
+use Rattle.cred_model.specs.Step.{done, outcome, by_init, take_hold, by_take, by_take_file, by_release, by_ask, by_signal, by_prepare, by_alter, for_task, try_commit, ends_with, casts_after, committed_by, commit_answer, by_commit, by_abort, for_access, override_held, override_prepared, by_override, by_revert, by_begin, aborted, follow, by_act, by_open, by_close, by_spawn, by_fork, by_exit, by_dumpable, by_dumped, by_ptrace, by_file, by_stat, by_raw}
 use Rattle.cred_model.proofs.Numbers.{numbered_is, sealed_cred_of}
 use Rattle.cred_laws.proofs.Cases.{some_case, none_case, test_case, own_case, idle_case, rule_case}
-use Rattle.cred_generate.specs.Sealed.{named, count_with}
+use Rattle.cred_generate.specs.Sealed.{number_named, count_with}
 
 -- what an event makes of the number of sealed credentials
 abbrev Counts : State → Answer × State → Type 0
@@ -80,7 +81,7 @@ next_of : (s : State) (creds : List SealedCred) (new : SealedCred) → creds ≡
 next_of s creds new is = rw (is, same (length s.creds)) (length_push s.creds new)
 
 -- an answer that names none
-silent : (count : ℕ) (a : Answer) → named a ≡ None → count ≡ count_with count a
+silent : (count : ℕ) (a : Answer) → number_named a ≡ None → count ≡ count_with count a
 silent count a none = rw none refl
 
 silent_refusal : (s : State) (denial : Denial) → Tells s (Err (refusal denial))
@@ -142,19 +143,19 @@ of_release s label =
     some_case (Tells s) (position (λ h. h.label == label) s.holds) _ _ refl (λ place at.
     some_case (Tells s) (slice_get s.holds place) _ _ refl (λ hold is. refl))
 
-of_flag : (found : Option Bool) → named (flag found) ≡ None
+of_flag : (found : Option Bool) → number_named (flag found) ≡ None
 of_flag None = refl
 of_flag (Some is) = refl
 
-of_check : (c : Credential) (file : Option File) (asked : Want) → named (checked c file asked) ≡ None
+of_check : (c : Credential) (file : Option File) (asked : Want) → number_named (checked c file asked) ≡ None
 of_check c None asked = refl
 of_check c (Some file) asked =
-    elim (may c file asked) as (λ b. named (cond b answer.Done answer.Eacces) ≡ None) [
+    elim (may c file asked) as (λ b. number_named (cond b answer.Done answer.Eacces) ≡ None) [
       | true ↦ refl
       | false ↦ refl
     ]
 
-of_reply : (file : Option File) (c : Credential) (q : Query) → named (reply file c q) ≡ None
+of_reply : (file : Option File) (c : Credential) (q : Query) → number_named (reply file c q) ≡ None
 of_reply file c query.Ids = refl
 of_reply file c query.Caps = refl
 of_reply file c query.Groups = refl
@@ -164,10 +165,10 @@ of_reply file c (query.Bset n) = of_flag (bset_read c n)
 of_reply file c (query.AmbIs n) = of_flag (amb_is_set c n)
 of_reply file c (query.Check place asked) = of_check c file asked
 
-of_ask : (script : Script) (s : State) (label : ℕ) (q : Query) → Tells s (by_ask script s label q)
-of_ask script s label q =
+of_ask : (s : State) (label : ℕ) (q : Query) → Tells s (by_ask s label q)
+of_ask s label q =
     some_case (Tells s) (held_by s label) _ _ refl (λ held is.
-    silent (length s.creds) _ (of_reply (info_of script (query_files q)) held.cred q))
+    silent (length s.creds) _ (of_reply (info_of s.infos (query_files q)) held.cred q))
 
 signalled : (s : State) (b : Bool) → Tells s (cond b (Ok (answer.Done, s)) (Err answer.Eperm))
 signalled s true = refl
@@ -194,8 +195,8 @@ of_prepare s label task hold =
 
 -- a change is answered without a credential's number
 abbrev IsSilent : Result Made Answer → Type 0
-IsSilent (Ok made) = named made.answer ≡ None
-IsSilent (Err refused) = named refused ≡ None
+IsSilent (Ok made) = number_named made.answer ≡ None
+IsSilent (Err refused) = number_named refused ≡ None
 
 by_rule_silent : (r : Result Credential Denial) → IsSilent (made_by_rule r)
 by_rule_silent (Ok c) = refl
@@ -208,7 +209,7 @@ by_exec_silent (Err MayNotExecute) = refl
 by_exec_silent (Err SpellsNothing) = refl
 by_exec_silent (Err GivesTooLittle) = refl
 
-executed_silent : (file : Option File) (chain : List ℕ) (c : Credential) → IsSilent (executed file chain c)
+executed_silent : (file : Option File) (chain : List ℕ) (c : Credential) → IsSilent (made_by_execve file chain c)
 executed_silent None chain c = refl
 executed_silent (Some file) chain c = by_exec_silent (exec c file chain)
 
@@ -227,7 +228,7 @@ of_alter : (script : Script) (s : State) (label : ℕ) (to : Change) → Tells s
 of_alter script s label to =
     some_case (Tells s) (prepared_of s label) _ _ refl (λ p is.
     some_case (Tells s) (numbered s.creds p.base) _ _ refl (λ base is.
-    altered_counts s label to _ (change_silent (info_of script (change_files to)) (chain_of script base.cred.ns) base.cred to)))
+    altered_counts s label to _ (change_silent (info_of s.infos (change_files to)) (chain_of script base.cred.ns) base.cred to)))
 
 -- a commit's answer names the next number, whatever the change was
 committed_counts : (to : Change) (gains : Gains) (s t : State) (slot count : ℕ) (owner : Task) (flags : List ProcessFlag) (new : SealedCred)
@@ -312,11 +313,11 @@ of_act s number =
     some_case (Tells s) (numbered s.creds owner.current) _ _ refl (λ old is.
     followed s cast task owner old (by_rule (set_id old.cred cast.call))))))
 
-of_open : (script : Script) (s : State) (hold place : ℕ) (asked : Want) (fd : ℕ) → Tells s (by_open script s hold place asked fd)
-of_open script s hold place asked fd =
+of_open : (s : State) (hold place : ℕ) (asked : Want) (fd : ℕ) → Tells s (by_open s hold place asked fd)
+of_open s hold place asked fd =
     some_case (Tells s) (held_by s hold) _ _ refl (λ held is.
     none_case (Tells s) (open_of s fd) _ _ refl (λ new.
-    let file = info_of script (place ∷ []) in
+    let file = info_of s.infos (place ∷ []) in
     test_case (Tells s) (is_ok (checked held.cred file asked)) _ _ (silent (length s.creds) _ (of_check held.cred file asked))
     (test_case (Tells s) (nat_lt (length s.files) OPEN_FILES) _ _ refl refl)))
 
@@ -365,12 +366,40 @@ of_ptrace script s from hold to target mode =
     some_case (Tells s) (held_by s hold) _ _ refl (λ own is.
     some_case (Tells s) (held_by s target) _ _ refl (λ other is. signalled s _))))
 
+-- a rule that changes a file, or its refusal
+file_rule : (Q : Result (Answer × State) Answer → Type 0) (r : Result File Denial) (f : File → Result (Answer × State) Answer)
+    → ((denial : Denial) → Q (Err (refusal denial))) → ((file : File) → Q (f file)) → Q (by_rule r >>= f)
+file_rule Q (Ok file) f none each = each file
+file_rule Q (Err denial) f none each = none denial
+
+of_file : (s : State) (hold place : ℕ) (rule : Credential → File → Result File Denial) → Tells s (by_file s hold place rule)
+of_file s hold place rule =
+    some_case (Tells s) (held_by s hold) _ _ refl (λ held is.
+    some_case (Tells s) (slice_get s.infos place) _ _ refl (λ old there.
+    file_rule (Tells s) (rule held.cred old) _ (silent_refusal s) (λ new. refl)))
+
+of_stat : (s : State) (hold place : ℕ) → Tells s (by_stat s hold place)
+of_stat s hold place =
+    some_case (Tells s) (held_by s hold) _ _ refl (λ held is.
+    some_case (Tells s) (slice_get s.infos place) _ _ refl (λ file there. refl))
+
+of_raw : (s : State) (task : ℕ) (call : IdCall) → Tells s (by_raw s task call)
+of_raw s task call =
+    some_case (Tells s) (task_of s task) _ _ refl (λ owner is.
+    some_case (Tells s) (numbered s.creds owner.current) _ _ refl (λ old is.
+    idle_case (Tells s) (cast_in s owner.process) _ (λ number. refl) (λ idle.
+    own_case (Tells s) owner _ (λ depth. refl)
+    (rule_case (Tells s) (set_id old.cred call) _ (silent_refusal s) (λ made ruled.
+    slot_counts s table_full
+    (λ t slot. (answer.Sealed (length t.creds) slot, record (replaced t task old.number made slot) { dumpable = renewed t.dumpable owner.process (differs old.cred made) }))
+    (λ t is. long s t is) (λ t slot is. next_of s t.creds (record { cred = made; slot = slot }) is))))))
+
 pub tells : (script : Script) (s : State) (line : ℕ) (e : Event) → Tells s (done script s line e)
 tells script s line (event.Init task process user group ns) = of_init s task process user group ns (root_of script ns)
 tells script s line (event.Take label task side) = of_take s label task side
 tells script s line (event.TakeFile label fd) = of_take_file s label fd
 tells script s line (event.Release label) = of_release s label
-tells script s line (event.Ask label query) = of_ask script s label query
+tells script s line (event.Ask label query) = of_ask s label query
 tells script s line (event.Signal from hold to target) = of_signal s from hold to target
 tells script s line (event.Prepare label task hold) = of_prepare s label task hold
 tells script s line (event.Alter label change) = of_alter script s label change
@@ -380,7 +409,7 @@ tells script s line (event.Override task label) = of_override s task label
 tells script s line (event.Revert task) = of_revert s task
 tells script s line (event.Begin task call) = of_begin s line task call
 tells script s line (event.Act number) = of_act s number
-tells script s line (event.OpenFile hold place asked fd) = of_open script s hold place asked fd
+tells script s line (event.OpenFile hold place asked fd) = of_open s hold place asked fd
 tells script s line (event.CloseFile fd) = of_close s fd
 tells script s line (event.Spawn task child) = of_spawn s task child
 tells script s line (event.Fork task child process) = of_fork s task child process
@@ -388,4 +417,9 @@ tells script s line (event.Exit task) = of_exit s task
 tells script s line (event.Dumpable task value) = of_dumpable s task value
 tells script s line (event.Dumped task) = of_dumped s task
 tells script s line (event.Ptrace from hold to target mode) = of_ptrace script s from hold to target mode
+tells script s line (event.Chown hold place owner group) = of_file s hold place (λ c file. chown c file owner group)
+tells script s line (event.Chmod hold place mode) = of_file s hold place (λ c file. chmod c file mode)
+tells script s line (event.SetAttr hold place attr) = of_file s hold place (λ c file. set_attr c file attr)
+tells script s line (event.Stat hold place) = of_stat s hold place
+tells script s line (event.Raw task call) = of_raw s task call
 tells script s line event.Sweep = refl

@@ -9,16 +9,16 @@ use Rattle.cred_event.specs.declared.answer.Answer.TheVariants.{Sealed, Executed
 use Rattle.cred_event.specs.declared.entry.Entry.{Entry}
 
 -- the number of the one credential that an answer of success names
-abbrev pub named : Answer → Option ℕ
-named (Sealed number slot) = Some number
-named (Executed number slot ended gains) = Some number
-named (Began number slot left) = Some number
-named (Acted task number slot left) = Some number
-named answer = None
+abbrev pub number_named : Answer → Option ℕ
+number_named (Sealed number slot) = Some number
+number_named (Executed number slot ended gains) = Some number
+number_named (Began number slot left) = Some number
+number_named (Acted task number slot left) = Some number
+number_named answer = None
 
 -- the answer names the credential that is sealed next, where so many are
 abbrev pub is_next : ℕ → Answer → Bool
-is_next count answer = option_map_or (λ number. number == count) (named answer) false
+is_next count answer = option_map_or (λ number. number == count) (number_named answer) false
 
 -- how many are sealed after an event with this answer
 abbrev pub count_with : ℕ → Answer → ℕ

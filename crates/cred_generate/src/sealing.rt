@@ -12,7 +12,7 @@ pub(crate) fn sealed_after(before: u64, entries: &[Entry]) -> u64
 {
     let mut count = before;
     for entry in entries {
-        if named(&entry.answer) == Some(count) {
+        if number_named(&entry.answer) == Some(count) {
             count += 1;
         }
     }
@@ -20,8 +20,8 @@ pub(crate) fn sealed_after(before: u64, entries: &[Entry]) -> u64
 }
 
 /// The number of the one credential that an answer of success names.
-fn named(answer: &Answer) -> Option<u64>
-    ensures { result ≡ spec.named answer.now }
+fn number_named(answer: &Answer) -> Option<u64>
+    ensures { result ≡ spec.number_named answer.now }
 {
     match answer {
         Answer::Sealed { cred, .. }

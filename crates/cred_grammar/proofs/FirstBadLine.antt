@@ -8,7 +8,7 @@ use Rattle.cred_grammar.specs.declared.refusal.ScriptRefusal.{ScriptRefusal}
 use Rattle.cred_grammar.specs.declared.refusal.ScriptRefusal.TheVariants.{Bad, Memory}
 use Rattle.cred_grammar.specs.Grammar.{at_line, add_line, add_lines}
 use Rattle.cred_grammar.specs.Reading.{Reading, nothing, script}
-use Rattle.cred_grammar.specs.Read.{Gives}
+use Rattle.cred_grammar.specs.Read.{ReadsAs}
 use Rattle.cred_grammar.specs.FirstBad.{IsFirstBad, ReportsFirstBad}
 use Rattle.cred_grammar.proofs.Steps.{longer}
 
@@ -73,7 +73,7 @@ refused (Ok reading) e h = absurd (cc)
 refused (Err d) e h = let same : d ≡ e = cc in ap (λ (x : ℕ × Reason). let r : Read = Err x in r) same
 
 pub tells_first : (texts : List (List ℕ)) (result : Result Script ScriptRefusal)
-    → Gives (λ (given : Script). given) result (add_lines nothing texts >>= λ reading. Ok (script reading)) → ReportsFirstBad texts result
+    → ReadsAs (λ (given : Script). given) result (add_lines nothing texts >>= λ reading. Ok (script reading)) → ReportsFirstBad texts result
 tells_first texts (Ok given) h = tt
 tells_first texts (Err (Bad line reason)) h = is_first texts line reason (first_bad texts nothing line reason (refused (add_lines nothing texts) (line, reason) h))
 tells_first texts (Err Memory) h = tt

@@ -1,29 +1,31 @@
 -- What was read stays sound with a line more, and as lanes are opened and named.
-use Rattle.std.proofs.Common.{◌≡◌, ◌≢◌, ℕ, ◌==◌, ◌≤◌, ◌<◌, Bool, true, false, ◌&&◌, cond, List, [], ◌∷◌, ◌++◌, length, All, AllPairs, Option, Some, None, IfSome, refl, sym, subst, ◌∙◌, length-append, arith}
+use Rattle.std.proofs.Common.{◌≡◌, ◌≢◌, ℕ, ◌==◌, ◌≤◌, ◌<◌, Bool, true, false, not, ◌&&◌, ◌||◌, cond, List, [], ◌∷◌, ◌++◌, length, All, AllPairs, Option, Some, None, IfSome, refl, sym, ap, subst, ◌∙◌, length-append, arith}
 use Rattle.std.specs.List.{cons_option}
+use Rattle.std.proofs.lemmas.Bool.{eqb-true}
 use Rattle.std.proofs.lemmas.Bool.Decides.{nat_tests}
 use Rattle.std.proofs.lemmas.List.Elements.{All-nil, All-cons, All-push, All-head, All-tail, All-weaker, All-contains}
 use Rattle.std.proofs.lemmas.List.Quantifiers.{all_pairs_push}
 use Rattle.cred_event.specs.declared.content.Content.{Content}
 use Rattle.cred_model.specs.Script.{Line, Namespace, SetupBefore}
+use Rattle.cred_model.specs.Changing.{line_changes}
 use Rattle.cred_script.specs.Acting.{actor}
 use Rattle.cred_names.specs.Labels.{labels}
 use Rattle.cred_names.specs.Owners.{Lanes, Owners, KeepsLanes, KeepsOwners, HasAll, owner_of, are_free, may_name, naming}
 use Rattle.cred_script.specs.Lanes.{lanes}
 use Rattle.cred_grammar.specs.Reading.{Reading, next_line, used_by}
-use Rattle.cred_script.specs.Sound.{IsSound, AreApart, ShareNone}
-use Rattle.cred_grammar.specs.Sound.{IsNext, IsStart, IsHeld, IsOwned, IsReading}
+use Rattle.cred_script.specs.Sound.{IsSoundLine, AreApart, ShareNone}
+use Rattle.cred_grammar.specs.Sound.{IsNextLine, IsStart, IsTaskLine, IsOwned, AreLinesRead}
 use Rattle.cred_names.proofs.OwnedNumbers.{has_all}
 
 -- a sound line more
 pub pushed : (reading : Reading) (lines : List Line) (content : Content) → lines ≡ reading.lines ++ next_line reading content ∷ [] → length reading.lines < 20000
-    → IsReading (length reading.files) reading.namespaces reading.lanes reading.lines → IsNext reading content
-    → IsReading (length reading.files) reading.namespaces reading.lanes lines
+    → AreLinesRead (length reading.files) reading.namespaces reading.lanes reading.lines → IsNextLine reading content
+    → AreLinesRead (length reading.files) reading.namespaces reading.lanes lines
 pushed reading lines content lines_are room old next =
     let line = next_line reading content in
     rw lines_are (record {
       few = rw (length-append reading.lines (line ∷ [])) (omega arith);
-      each = All-push (IsSound (length reading.files) reading.namespaces) reading.lines line old.each (record { lane = old.lane; labels = next.labels; content = next.named });
+      each = All-push (IsSoundLine (length reading.files) reading.namespaces) reading.lines line old.each (record { lane = old.lane; labels = next.labels; content = next.named; fixed = next.fixed });
       lane = old.lane;
       setup = λ zero. All-push (λ l. l.lane ≡ 0) reading.lines line (old.setup zero) zero;
       first = all_pairs_push SetupBefore reading.lines line old.first (λ k d lt zero. old.setup zero k d lt);
@@ -32,7 +34,7 @@ pushed reading lines content lines_are room old next =
 
 -- a lane that is opened, which is not the setup
 pub opened : (count : ℕ) (declared : List Namespace) (lanes : Lanes) (lines : List Line) (number : ℕ) → 1 ≤ number → number ≤ 16
-    → IsReading count declared lanes lines → IsReading count declared (record lanes { current = number }) lines
+    → AreLinesRead count declared lanes lines → AreLinesRead count declared (record lanes { current = number }) lines
 opened count declared lanes lines number low high old = record {
   few = old.few;
   each = old.each;
@@ -47,8 +49,8 @@ all_kept : (old new : Owners) (lane : ℕ) (numbers : List ℕ) → KeepsOwners 
 all_kept old new lane numbers keeps has =
     All-weaker (λ n. owner_of old n ≡ Some lane) (λ n. owner_of new n ≡ Some lane) (λ n is. keeps n lane is) numbers has
 
-pub owned_still : (count : ℕ) (declared : List Namespace) (old new : Lanes) (lines : List Line) → KeepsLanes old new → IsReading count declared old lines
-    → IsReading count declared new lines
+pub owned_still : (count : ℕ) (declared : List Namespace) (old new : Lanes) (lines : List Line) → KeepsLanes old new → AreLinesRead count declared old lines
+    → AreLinesRead count declared new lines
 owned_still count declared old new lines keeps sound = record {
   few = sound.few;
   each = sound.each;
@@ -86,21 +88,33 @@ stays_on false lanes tasks labels = refl
 current_stays : (lanes : Lanes) (by : Option ℕ) (content : Content) → (naming lanes by content).current ≡ lanes.current
 current_stays lanes by content = stays_on (lanes.current == 0) lanes _ _
 
+-- where a line that changes a file may stand, the lane is the setup
+in_setup : (lanes : Lanes) (b : Bool) → (lanes.current == 0 || not b) ≡ true → b ≡ true → lanes.current ≡ 0
+in_setup lanes b may changes =
+    let no : (lanes.current == 0 || false) ≡ true = ap (λ b. lanes.current == 0 || not b) (sym changes) ∙ may in
+    eqb-true lanes.current 0 (first_of_or (lanes.current == 0) no)
+  where
+    first_of_or : (a : Bool) → (a || false) ≡ true → a ≡ true
+    first_of_or true is = refl
+    first_of_or false is = cc
+
 -- a line that may stand is sound as the next one
-pub held_next : (reading : Reading) (by : Option ℕ) (content : Content) → IsHeld reading by content → IsNext (used_by reading by content) content
+pub held_next : (reading : Reading) (by : Option ℕ) (content : Content) → IsTaskLine reading by content → IsNextLine (used_by reading by content) content
 held_next reading by content held = record {
   labels = held.labels;
   named = held.named;
+  fixed = λ changes. current_stays reading.lanes by content ∙ in_setup reading.lanes (line_changes content) held.fixed changes;
   owned = λ other.
       let same = current_stays reading.lanes by content in
       let has = named_by reading.lanes by content (reading.lanes.current == 0) (λ zero. other (same ∙ zero)) refl held.apart in
       rw same (acting (λ n. owner_of (naming reading.lanes by content).tasks n ≡ Some reading.lanes.current) (actor content) by held.actor has.0, has.1);
 }
 
-pub start_next : (reading : Reading) (content : Content) → IsStart reading content → IsNext reading content
+pub start_next : (reading : Reading) (content : Content) → IsStart reading content → IsNextLine reading content
 start_next reading content start = record {
   labels = rw start.labels (All-nil _);
   named = start.named;
+  fixed = λ changes. absurd (let both : true ≡ false = sym changes ∙ start.changes in cc);
   owned = λ other. (rw start.actor (All-nil _), rw start.labels (All-nil _));
 }
 

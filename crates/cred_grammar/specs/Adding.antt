@@ -32,7 +32,7 @@ called files task words = do
   Ok (Holds (Some task) content)
 
 -- a line that is an event
-abbrev pub made : List NamedFile → EventName → List (List ℕ) → Result Parsed Reason
-made files named words = do
+abbrev pub event_line : List NamedFile → EventName → List (List ℕ) → Result Parsed Reason
+event_line files named words = do
   event ← event_of files named words
   Ok (Holds (event_actor event) (One event))

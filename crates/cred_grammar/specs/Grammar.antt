@@ -6,7 +6,7 @@ use Rattle.cred_spelling.specs.declared.reason.Reason.{Reason}
 use Rattle.cred_spelling.specs.declared.reason.Reason.TheVariants.{Byte, Word}
 use Rattle.cred_spelling.specs.Lines.{lines_of, is_printable}
 use Rattle.cred_spelling.specs.Names.{form_of}
-use Rattle.cred_spelling.specs.Words.{◌>>=◌, words_of, is_comment}
+use Rattle.cred_spelling.specs.Words.{◌>>=◌, line_words, is_comment}
 use Rattle.cred_forms.specs.declared.forms.Parsed.{Parsed}
 use Rattle.cred_forms.specs.declared.forms.Parsed.TheVariants.{Empty}
 use Rattle.cred_forms.specs.Forms.{parse_form}
@@ -29,7 +29,7 @@ parse_words reading (first ∷ words) =
 -- what a line declares or holds, or why it is bad
 abbrev pub parse_line : Reading → List ℕ → Result Parsed Reason
 parse_line reading text =
-    if is_printable text then parse_words reading (words_of text) else Err Byte
+    if is_printable text then parse_words reading (line_words text) else Err Byte
 
 -- what is read with one more line
 unfoldable pub add_line : Reading → List ℕ → Result Reading Reason

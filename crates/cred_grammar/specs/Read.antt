@@ -5,8 +5,8 @@ use Rattle.cred_grammar.specs.declared.refusal.ScriptRefusal.{ScriptRefusal}
 use Rattle.cred_grammar.specs.declared.refusal.ScriptRefusal.TheVariants.{Bad, Memory}
 
 -- what was answered is what the definition gives, unless memory ran out
-abbrev pub Gives : {V A : Type 0} → (V → A) → Result V ScriptRefusal → Result A (ℕ × Reason)
+abbrev pub ReadsAs : {V A : Type 0} → (V → A) → Result V ScriptRefusal → Result A (ℕ × Reason)
     → Type 0
-Gives view (Ok v) given = given ≡ Ok (view v)
-Gives view (Err (Bad line reason)) given = given ≡ Err (line, reason)
-Gives view (Err Memory) given = ⊤
+ReadsAs view (Ok v) given = given ≡ Ok (view v)
+ReadsAs view (Err (Bad line reason)) given = given ≡ Err (line, reason)
+ReadsAs view (Err Memory) given = ⊤

@@ -1,12 +1,13 @@
 -- What was read of a script before a line, what that asks of the line, and what the line adds.
-use Rattle.std.specs.Prelude.{ℕ, Bool, true, false, not, ◌&&◌, nat_lt, List, [], ◌∷◌, ◌++◌}
-use Rattle.std.specs.Prelude.{length, is_some, Result, Ok, Err, if◌then◌else◌}
+use Rattle.std.specs.Prelude.{ℕ, Bool, true, false, not, ◌==◌, ◌&&◌, ◌||◌, nat_lt, List, [], ◌∷◌}
+use Rattle.std.specs.Prelude.{◌++◌, length, is_some, Result, Ok, Err, if◌then◌else◌}
 use Rattle.std.specs.declared.option.Option.{Option}
 use Rattle.std.specs.List.{list_all}
 use Rattle.cred_event.specs.declared.content.Content.{Content}
 use Rattle.cred_event.specs.declared.content.Content.TheVariants.{Nothing}
 use Rattle.cred_model.specs.Script.{Line, NamedFile, Namespace, Script, chain_in}
 use Rattle.cred_model.specs.Named as named
+use Rattle.cred_model.specs.Changing.{line_changes}
 use Rattle.cred_spelling.specs.declared.reason.Reason.{Reason}
 use Rattle.cred_spelling.specs.declared.reason.Reason.TheVariants.{Order, Name}
 use Rattle.cred_spelling.specs.declared.reason.Reason.TheVariants as reason
@@ -14,7 +15,7 @@ use Rattle.cred_spelling.specs.Words.{◌>>=◌}
 use Rattle.cred_forms.specs.declared.forms.Parsed.{Parsed}
 use Rattle.cred_forms.specs.declared.forms.Parsed.TheVariants.{Empty, File, Starts, Lane, Holds}
 use Rattle.cred_forms.specs.declared.forms.Parsed.TheVariants as parsed
-use Rattle.cred_script.specs.Files.{place_of}
+use Rattle.cred_script.specs.Files.{file_place}
 use Rattle.cred_names.specs.Owners.{Lanes, no_lanes, may_name, naming}
 use Rattle.cred_names.specs.Namespaces.{with_namespace}
 
@@ -53,8 +54,8 @@ is_declaration (Starts content) = true
 is_declaration other = false
 
 -- no declaration stands after a call, an event or a lane line
-abbrev pub in_order : Reading → Parsed → Result (Unit {0}) Reason
-in_order reading line = if is_declaration line && reading.is_used then Err Order else Ok tt
+abbrev pub in_its_place : Reading → Parsed → Result (Unit {0}) Reason
+in_its_place reading line = if is_declaration line && reading.is_used then Err Order else Ok tt
 
 -- Each namespace that the line names is the initial one, or one of those that are declared.
 abbrev pub has_namespaces : List Namespace → Content → Bool
@@ -74,7 +75,7 @@ uses_declared reading content =
 -- the names that the line uses are declared, and the one that it declares is not
 abbrev pub has_names : Reading → Parsed → Bool
 has_names reading Empty = true
-has_names reading (File file) = not (is_some (place_of reading.files file.name))
+has_names reading (File file) = not (is_some (file_place reading.files file.name))
 has_names reading (parsed.Namespace number root parent) =
     is_some (chain_in reading.namespaces parent)
     && not (is_some (chain_in reading.namespaces number))
@@ -85,9 +86,15 @@ has_names reading (Holds by content) = uses_declared reading content
 abbrev pub names_declared : Reading → Parsed → Result (Unit {0}) Reason
 names_declared reading line = if has_names reading line then Ok tt else Err Name
 
--- No line of another lane but the setup has named the task that acts by the line, or a label of it.
+-- A file is changed by a line of the setup alone, so that it stays as it is while lanes run.
+abbrev pub may_change : Lanes → Content → Bool
+may_change lanes content = lanes.current == 0 || not (line_changes content)
+
+-- The line changes no file outside the setup, and no line of another lane but the setup has named
+-- the task that acts by it, or a label of it.
 abbrev pub is_apart : Reading → Parsed → Bool
-is_apart reading (Holds by content) = may_name reading.lanes by content
+is_apart reading (Holds by content) =
+    may_change reading.lanes content && may_name reading.lanes by content
 is_apart reading other = true
 
 abbrev pub lanes_apart : Reading → Parsed → Result (Unit {0}) Reason
@@ -96,7 +103,7 @@ lanes_apart reading line = if is_apart reading line then Ok tt else Err reason.L
 -- what a line may be after what was read: first the order, then the names, then the lanes
 abbrev pub admits : Reading → Parsed → Result (Unit {0}) Reason
 admits reading line = do
-  order ← in_order reading line
+  order ← in_its_place reading line
   names ← names_declared reading line
   lanes_apart reading line
 

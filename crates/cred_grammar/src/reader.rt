@@ -5,7 +5,7 @@ ghost use Rattle.cred_model.specs.Script.{SetupFirst};
 ghost use Rattle.cred_spelling.specs.Lines.{lines_of};
 ghost use Rattle.cred_grammar.specs.FirstBad.{ReportsFirstBad};
 ghost use Rattle.cred_grammar.specs.Grammar.{script_of};
-ghost use Rattle.cred_grammar.specs.Read.{Gives};
+ghost use Rattle.cred_grammar.specs.Read.{ReadsAs};
 
 use crate::reading::Reading;
 use crate::refusal::ScriptRefusal;
@@ -21,7 +21,7 @@ use std::alloc::Global;
 /// if an allocation for its words or for what it keeps fails.
 pub fn read(alloc: Global, bytes: &[u8]) -> Result<Script, ScriptRefusal>
     requires few { length (lines_of bytes.now) ≤ LINE_LIMIT }
-    ensures given { Gives (λ script. script) result (script_of bytes.now) }
+    ensures given { ReadsAs (λ script. script) result (script_of bytes.now) }
     ensures first { ReportsFirstBad (lines_of bytes.now) result }
     ensures lines { IfOk result (λ script. length script.lines ≡ length (lines_of bytes.now)) }
     ensures setup { IfOk result (λ script. SetupFirst script) }
@@ -32,7 +32,7 @@ pub fn read(alloc: Global, bytes: &[u8]) -> Result<Script, ScriptRefusal>
 /// The script that these bytes are.
 fn read_lines(alloc: Global, bytes: &[u8]) -> Result<Script, ScriptRefusal>
     requires few { length (lines_of bytes.now) ≤ LINE_LIMIT }
-    ensures given { Gives (λ script. script) result (script_of bytes.now) }
+    ensures given { ReadsAs (λ script. script) result (script_of bytes.now) }
     ensures lines { IfOk result (λ script. length script.lines ≡ length (lines_of bytes.now)) }
     ensures setup { IfOk result (λ script. SetupFirst script) }
 {

@@ -4,20 +4,20 @@ ghost use Rattle.cred_ids.specs.Limits.{LAST_LANE, LINE_LIMIT};
 ghost use Rattle.cred_model.specs.Script.{SetupFirst};
 ghost use Rattle.cred_spelling.specs.Lines.{is_printable};
 ghost use Rattle.cred_spelling.specs.Read.{Says, nows};
-ghost use Rattle.cred_spelling.specs.Words.{words_of};
+ghost use Rattle.cred_spelling.specs.Words.{line_words};
 ghost use Rattle.cred_forms.specs.Read.{GivesLine};
 ghost use Rattle.cred_grammar.specs.Grammar as grammar;
-ghost use Rattle.cred_grammar.specs.Adding.{adding, called, fitting, made};
+ghost use Rattle.cred_grammar.specs.Adding.{adding, called, fitting, event_line};
 ghost use Rattle.cred_grammar.specs.Grammar.{at_line};
 ghost use Rattle.cred_forms.specs.Forms.{parse_form};
-ghost use Rattle.cred_grammar.specs.Read.{Gives};
+ghost use Rattle.cred_grammar.specs.Read.{ReadsAs};
 ghost use Rattle.cred_grammar.specs.Reading as spec;
-ghost use Rattle.cred_grammar.specs.Sound.{IsHeld, IsNext, IsOwn, IsParsed};
+ghost use Rattle.cred_grammar.specs.Sound.{IsTaskLine, IsNextLine, IsOwnLine, IsParsed};
 ghost use Rattle.cred_forms.specs.declared.forms.Parsed.TheVariants as parsed;
 ghost use Rattle.cred_event.specs.declared.content.Content.TheVariants.{Nothing};
 
 use crate::refusal::ScriptRefusal;
-use crate::uses::{has_files, has_namespaces};
+use crate::uses::{has_files, has_namespaces, may_change};
 use cred_event::Content;
 use cred_forms::{LineRefusal, Parsed, content_of, event_of, parse_form};
 use cred_names::{Lanes, Namespaces};
@@ -40,7 +40,7 @@ pub(crate) struct Reading {
 impl Model for Reading {
     ghost use Rattle.std.specs.Prelude.{length};
     ghost use Rattle.cred_grammar.specs.Reading as spec;
-    ghost use Rattle.cred_grammar.specs.Sound.{IsReading};
+    ghost use Rattle.cred_grammar.specs.Sound.{AreLinesRead};
 
     ghost Value = { spec.Reading };
 
@@ -52,7 +52,7 @@ impl Model for Reading {
       lanes = r.lanes;
     } };
 
-    ghost invariant = { λ r. IsReading (length r.files) r.namespaces r.lanes r.lines.items };
+    ghost invariant = { λ r. AreLinesRead (length r.files) r.namespaces r.lanes r.lines.items };
 }
 
 impl Reading {
@@ -94,8 +94,8 @@ impl Reading {
     ) -> Result<(), ScriptRefusal>
         requires few { length self.old.lines < LINE_LIMIT }
         requires test { printable ≡ is_printable text.now }
-        requires split { printable ≡ true → nows words.now ≡ words_of text.now }
-        ensures { Gives (λ _. self.new) result
+        requires split { printable ≡ true → nows words.now ≡ line_words text.now }
+        ensures { ReadsAs (λ _. self.new) result
             (at_line (length self.old.lines + 1) (grammar.add_line self.old text.now)) }
     {
         let number = self.lines.len() as u32 + 1;
@@ -120,7 +120,7 @@ impl Reading {
     ) -> Result<(), LineRefusal>
         requires few { length self.old.lines < LINE_LIMIT }
         requires test { printable ≡ is_printable text.now }
-        requires split { printable ≡ true → nows words.now ≡ words_of text.now }
+        requires split { printable ≡ true → nows words.now ≡ line_words text.now }
         ensures { GivesLine (λ _. self.new) result (grammar.add_line self.old text.now) }
     {
         if printable {
@@ -198,7 +198,7 @@ impl Reading {
     ) -> Result<(), LineRefusal>
         requires few { length self.old.lines < LINE_LIMIT }
         ensures { GivesLine (λ _. self.new) result
-            (adding self.old (fitting self.old (made self.old.files name (nows words.now)))) }
+            (adding self.old (fitting self.old (event_line self.old.files name (nows words.now)))) }
     {
         let event = event_of(alloc, &self.files, name, words)?;
         self.add_held(event_actor(&event), Content::One(event))
@@ -208,7 +208,7 @@ impl Reading {
     #[inline(never)]
     fn add_held(&mut self, by: Option<u32>, content: Content) -> Result<(), LineRefusal>
         requires few { length self.old.lines < LINE_LIMIT }
-        requires own { IsOwn by content }
+        requires own { IsOwnLine by content }
         ensures { GivesLine (λ _. self.new) result
             (adding self.old (fitting self.old (Ok (parsed.Holds by content)))) }
     {
@@ -261,7 +261,7 @@ impl Reading {
     #[inline(always)]
     fn hold(&mut self, by: Option<u32>, content: Content) -> Result<(), LineRefusal>
         requires few { length self.old.lines < LINE_LIMIT }
-        requires sound { IsHeld self.old by content }
+        requires sound { IsTaskLine self.old by content }
         ensures ok { OnOk result
             (self.new ≡ spec.push (spec.used_by self.old by content) content) }
         ensures err { IfErr result (λ e. e ≡ LineRefusal.Memory) }
@@ -275,7 +275,7 @@ impl Reading {
     #[inline(always)]
     fn push(&mut self, content: Content) -> Result<(), LineRefusal>
         requires few { length self.old.lines < LINE_LIMIT }
-        requires sound { IsNext self.old content }
+        requires sound { IsNextLine self.old content }
         ensures ok { OnOk result (self.new ≡ spec.push self.old content) }
         ensures err { IfErr result (λ e. e ≡ LineRefusal.Memory) }
     {
@@ -307,7 +307,7 @@ impl Reading {
     {
         if !has_namespaces(&self.namespaces, content) || !has_files(&self.files, content) {
             Err(Reason::Name)
-        } else if !self.lanes.may_name(by, content) {
+        } else if !may_change(&self.lanes, content) || !self.lanes.may_name(by, content) {
             Err(Reason::Lane)
         } else {
             Ok(())
@@ -330,13 +330,15 @@ impl Reading {
         }
     }
 
-    /// No line of another lane but the setup has named the task that acts by the line, or a label
-    /// of it.
+    /// The line changes no file outside the setup, and no line of another lane but the setup has
+    /// named the task that acts by it, or a label of it.
     fn is_apart(&self, line: &Parsed) -> bool
         ensures { result ≡ spec.is_apart self.now line.now }
     {
         match line {
-            Parsed::Holds { by, content } => self.lanes.may_name(*by, content),
+            Parsed::Holds { by, content } => {
+                may_change(&self.lanes, content) && self.lanes.may_name(*by, content)
+            }
             _ => true,
         }
     }

@@ -4,7 +4,7 @@ use Rattle.std.specs.Prelude.{IfSome}
 use Rattle.cred_ids.specs.Groups.{IsGroupList}
 use Rattle.cred_ids.specs.Limits.{GROUP_LIMIT}
 use Rattle.cred_record.specs.Credential.{Credential, AreValidSets}
-use Rattle.cred_record.specs.Words.{pair, flags_word, group_count, are_ids, are_words, credential_of, words_of, IsCredential}
+use Rattle.cred_record.specs.Words.{pair, flags_word, group_count, are_ids, are_words, credential_in, words_of, IsCredential}
 use Rattle.cred_record.specs.declared.layout.TheConstants.{WORDS, INHERITABLE, BOUNDING, FLAGS, NAMESPACE, ROOT, GROUPS}
 use Rattle.cred_record.proofs.WordLemmas.{credential-is, credential-test, ids-are, all-groups, AllGroups, at_group, words-are, from_bool-small}
 use Rattle.cred_setid.specs.declared.parts.Parts.{Parts}
@@ -42,22 +42,22 @@ flags-changed c own gs n flags is flags_is n_is =
 
 -- the words that are copied
 pub record Copied (ws : List ℕ) : Type 0 where
-  pub inh : slice_index ws INHERITABLE ≡ (credential_of ws).inh
-  pub bound : slice_index ws BOUNDING ≡ (credential_of ws).bound
-  pub flags : slice_index ws FLAGS ≡ flags_word (credential_of ws)
-  pub ns : slice_index ws NAMESPACE ≡ (credential_of ws).ns
-  pub root : slice_index ws ROOT ≡ (credential_of ws).root
+  pub inh : slice_index ws INHERITABLE ≡ (credential_in ws).inh
+  pub bound : slice_index ws BOUNDING ≡ (credential_in ws).bound
+  pub flags : slice_index ws FLAGS ≡ flags_word (credential_in ws)
+  pub ns : slice_index ws NAMESPACE ≡ (credential_in ws).ns
+  pub root : slice_index ws ROOT ≡ (credential_in ws).root
 
 flags-there : (c : Credential) → slice_index (words_of c) FLAGS ≡ flags_word c
 unfolding words_of
 flags-there c = refl
 
 pub copied : (ws : List ℕ) → are_words ws ≡ true → Copied ws
-unfolding credential_of
+unfolding credential_in
 copied ws is = record {
   inh = refl;
   bound = refl;
-  flags = ap (λ (xs : List ℕ). slice_index xs FLAGS) (words-are ws is).1 ∙ flags-there (credential_of ws);
+  flags = ap (λ (xs : List ℕ). slice_index xs FLAGS) (words-are ws is).1 ∙ flags-there (credential_in ws);
   ns = refl;
   root = refl;
 }
@@ -69,11 +69,11 @@ head-changed c own None = refl
 head-changed c own (Some gs) = refl
 
 -- the words of groups that are copied
-pub group-copied : (ws : List ℕ) (own : Parts) (i : ℕ) → are_words ws ≡ true → i < WORDS - GROUPS → slice_index ws (GROUPS + i) ≡ slice_index (words_of (changed (credential_of ws) own None)) (GROUPS + i)
+pub group-copied : (ws : List ℕ) (own : Parts) (i : ℕ) → are_words ws ≡ true → i < WORDS - GROUPS → slice_index ws (GROUPS + i) ≡ slice_index (words_of (changed (credential_in ws) own None)) (GROUPS + i)
 group-copied ws own i is within =
     ap (λ (xs : List ℕ). slice_index xs (GROUPS + i)) (words-are ws is).1 ∙
-    at_group (credential_of ws) i within ∙
-    sym (at_group (changed (credential_of ws) own None) i within)
+    at_group (credential_in ws) i within ∙
+    sym (at_group (changed (credential_in ws) own None) i within)
 
 -- the number of groups by the words before those of groups
 count-there : (d : Credential) → IsCredential d → group_count (flags_word d) ≡ length d.groups
@@ -89,5 +89,5 @@ count-changed d first is first_is = (
   (credential-is d is).groups.few,
 )
 
-pub valid-known : (ws : List ℕ) → are_words ws ≡ true → AreValidSets (credential_of ws).perm (credential_of ws).inh (credential_of ws).eff (credential_of ws).amb
-valid-known ws is = (credential-is (credential_of ws) (words-are ws is).0).sets.valid
+pub valid-known : (ws : List ℕ) → are_words ws ≡ true → AreValidSets (credential_in ws).perm (credential_in ws).inh (credential_in ws).eff (credential_in ws).amb
+valid-known ws is = (credential-is (credential_in ws) (words-are ws is).0).sets.valid

@@ -5,21 +5,21 @@ use Rattle.std.specs.List.{AllByRecursion}
 use Rattle.std.proofs.lemmas.List.{get_or-drop, get_or-take, map-append}
 use Rattle.std.proofs.lemmas.Option.{same_Some}
 use Rattle.cred_record.specs.Credential.{Credential}
-use Rattle.cred_record.specs.Words.{are_words, credential_of}
+use Rattle.cred_record.specs.Words.{are_words, credential_in}
 use Rattle.cred_words.specs.Size.{width}
 use Rattle.cred_words.specs.Lists.{IsTaken}
 use Rattle.cred_words.specs.declared.view.Slot.{Slot}
 use Rattle.cred_words.specs.declared.view.Token.{Token}
 use Rattle.cred_words.specs.declared.view.Ledger.{Ledger}
-use Rattle.cred_words.specs.Words.{slot_of, slots_back, words_at, entry_of, FitsAs, EntryFits}
+use Rattle.cred_words.specs.Words.{slot_of, slots_back, words_at, as_entry, FitsAs, EntryFits}
 use Rattle.cred_words.specs.Seen as words
 use Rattle.cred_words.proofs.Lists.{words_at-get, get_set}
 use Rattle.cred_words.proofs.Opens.{width_is}
 use Rattle.cred_words.proofs.Seats.{slot_there}
-use Rattle.cred_hold.specs.Tokens.{entry, seen_if, entry_seen, slot_seen, AreSlots, IsAlone}
+use Rattle.cred_hold.specs.Tokens.{loan, seen_if, loan_seen, slot_seen, AreSlots, IsAlone}
 use Rattle.cred_hold.proofs.Whole.{length-known}
 
-pub sealed_words : (d : Ledger) (slot : ℕ) → AreSlots d.slots → words.IsSealed d slot → (length (words_at d.slots slot) ≡ width) × (are_words (words_at d.slots slot) ≡ true)
+pub sealed_words : (d : Ledger) (slot : ℕ) → AreSlots d.slots → words.IsSealedSlot d slot → (length (words_at d.slots slot) ≡ width) × (are_words (words_at d.slots slot) ≡ true)
 sealed_words d slot all h =
     let are = ap are_words (words_at-get d.slots slot h.0 h.1) ∙ all slot h.0 h.1 in
     (length-known _ are ∙ sym width_is, are)
@@ -49,11 +49,11 @@ after_writer slots slot small all =
 -- ---- as they are seen
 
 -- a slot that is seen to be sealed, sealed with words of that credential
-pub sealed-seen : (slots : List Slot) (slot : ℕ) (c : Credential) → slice_get (map slot_seen slots) slot ≡ Some (Some c) → (x : Slot) × (slice_get slots slot ≡ Some x) × (x.sealed ≡ true) × (credential_of x.words ≡ c)
+pub sealed-seen : (slots : List Slot) (slot : ℕ) (c : Credential) → slice_get (map slot_seen slots) slot ≡ Some (Some c) → (x : Slot) × (slice_get slots slot ≡ Some x) × (x.sealed ≡ true) × (credential_in x.words ≡ c)
 sealed-seen [] slot c at = absurd (cc)
 sealed-seen (x ∷ slots) zero c at = let h = by x.sealed (same_Some _ _ at) in (x, refl, h.0, h.1)
   where
-    by : (b : Bool) → seen_if b x.words ≡ Some c → (b ≡ true) × (credential_of x.words ≡ c)
+    by : (b : Bool) → seen_if b x.words ≡ Some c → (b ≡ true) × (credential_in x.words ≡ c)
     by true is = (refl, same_Some _ _ is)
     by false is = absurd (cc)
 sealed-seen (x ∷ slots) (suc slot) c at = sealed-seen slots slot c at
@@ -75,20 +75,20 @@ map-taken f old x new h = (
   ap (map f) h.3 ∙ map-append f h.0 h.1,
 )
 
-pub alone-seen : (es : List Token) (slot : ℕ) → IsAlone (map entry_seen es) slot → AllByRecursion (λ e. e.slot ≢ slot) es
+pub alone-seen : (es : List Token) (slot : ℕ) → IsAlone (map loan_seen es) slot → AllByRecursion (λ e. e.slot ≢ slot) es
 alone-seen [] slot h = tt
 alone-seen (e ∷ es) slot h = (h.0, alone-seen es slot h.1)
 
-pub hold-seen : (t : Token) → t.writes ≡ false → entry_seen (entry_of t) ≡ entry t.label t.slot (Some (credential_of t.words))
-hold-seen t is = ap (λ (b : Bool). entry t.label t.slot (seen_if (not b) (if b then [] else t.words))) is
+pub hold-seen : (t : Token) → t.writes ≡ false → loan_seen (as_entry t) ≡ loan t.label t.slot (Some (credential_in t.words))
+hold-seen t is = ap (λ (b : Bool). loan t.label t.slot (seen_if (not b) (if b then [] else t.words))) is
 
-pub writer-seen : (t : Token) → t.writes ≡ true → entry_seen (entry_of t) ≡ entry t.label t.slot None
-writer-seen t is = ap (λ (b : Bool). entry t.label t.slot (seen_if (not b) (if b then [] else t.words))) is
+pub writer-seen : (t : Token) → t.writes ≡ true → loan_seen (as_entry t) ≡ loan t.label t.slot None
+writer-seen t is = ap (λ (b : Bool). loan t.label t.slot (seen_if (not b) (if b then [] else t.words))) is
 
 -- the slot of a hold's entry
-pub hold-slot : (slots : List Slot) (t : Token) → t.writes ≡ false → EntryFits slots (entry_of t) → slice_get slots t.slot ≡ Some (slot_of t.words true)
+pub hold-slot : (slots : List Slot) (t : Token) → t.writes ≡ false → EntryFits slots (as_entry t) → slice_get slots t.slot ≡ Some (slot_of t.words true)
 hold-slot slots t is h =
-    let f : FitsAs false slots (entry_of t) = subst (λ b. FitsAs b slots (entry_of t)) is h in
+    let f : FitsAs false slots (as_entry t) = subst (λ b. FitsAs b slots (as_entry t)) is h in
     f ∙ ap (λ (b : Bool). Some (slot_of (if b then [] else t.words) true)) is
 
 -- a writer's slot, which is sealed where a credential was put
@@ -96,9 +96,9 @@ pub put-seen : (put : Bool) (ws : List ℕ) → are_words ws ≡ true → seen_i
 put-seen true ws is = ap (λ b. seen_if b ws) is
 put-seen false ws is = refl
 
-pub slot-there : (slots : List Slot) (t : Token) → t.writes ≡ true → EntryFits slots (entry_of t) → (x : Slot) × (slice_get slots t.slot ≡ Some x)
+pub slot-there : (slots : List Slot) (t : Token) → t.writes ≡ true → EntryFits slots (as_entry t) → (x : Slot) × (slice_get slots t.slot ≡ Some x)
 slot-there slots t is h =
-    let f : FitsAs true slots (entry_of t) = subst (λ b. FitsAs b slots (entry_of t)) is h in
+    let f : FitsAs true slots (as_entry t) = subst (λ b. FitsAs b slots (as_entry t)) is h in
     (slot_of f.0 false, f.1)
 
 -- a word among those that were read

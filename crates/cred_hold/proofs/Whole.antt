@@ -5,7 +5,7 @@ use Rattle.std.proofs.lemmas.Grind.{div_ceil_times}
 use Rattle.std.proofs.lemmas.Option.{same_Some}
 use Rattle.std.proofs.lemmas.List.{get_or-set_same, get_or-set_other, take-set-le}
 use Rattle.cred_ids.specs.Ordered.{in_order}
-use Rattle.cred_record.specs.Words.{are_words, is_credential, words_of, credential_of, group_count}
+use Rattle.cred_record.specs.Words.{are_words, is_credential, words_of, credential_in, group_count}
 use Rattle.cred_record.specs.declared.layout.TheConstants.{WORDS, FLAGS, GROUPS}
 use Rattle.cred_record.proofs.WordLemmas.{words-are, length-words_of, count-is, filled}
 use Rattle.cred_record.proofs.Blank.{Blank, blank-words_of, past}
@@ -16,11 +16,11 @@ use Rattle.cred_words.specs.declared.view.Token.{Token}
 use Rattle.cred_hold.specs.Tokens.{AreSlots, AreZeros}
 
 pub length-known : (ws : List ℕ) → are_words ws ≡ true → length ws ≡ WORDS
-length-known ws is = ap length (words-are ws is).1 ∙ length-words_of (credential_of ws)
+length-known ws is = ap length (words-are ws is).1 ∙ length-words_of (credential_in ws)
 
 -- the words of a slot that nothing was ever put in: those of a credential whose numbers are all 0
 zeros-known : are_words (replicate width 0) ≡ true
-unfolding are_words is_credential words_of credential_of in_order width
+unfolding are_words is_credential words_of credential_in in_order width
 zeros-known = refl
 
 -- so are the slots of a new table
@@ -31,7 +31,7 @@ slots_none (suc n) (suc s) x at = slots_none n s x at
 
 blank-known : (ws : List ℕ) (i : ℕ) → are_words ws ≡ true → group_count (slice_index ws FLAGS) ≤ 2 * i → Blank (GROUPS + i) ws
 blank-known ws i is few =
-    subst (Blank (GROUPS + i)) (sym (words-are ws is).1) (blank-words_of (credential_of ws) i (omega (arith, count-is ws is)))
+    subst (Blank (GROUPS + i)) (sym (words-are ws is).1) (blank-words_of (credential_in ws) i (omega (arith, count-is ws is)))
 
 -- the words past those of so many groups are 0
 pub end-blank : (ws : List ℕ) (n end : ℕ) → are_words ws ≡ true → n ≡ group_count (slice_index ws FLAGS) → end ≡ n / 2 + min 1 (n % 2) → Blank (GROUPS + end) ws

@@ -5,26 +5,26 @@ use Rattle.std.specs.List.{AllByRecursion}
 use Rattle.cred_ids.specs.Limits.{SLOTS}
 use Rattle.atomic_table.specs.Seated.{TableId}
 use Rattle.cred_record.specs.Credential.{Credential}
-use Rattle.cred_record.specs.Words.{credential_of, are_words}
+use Rattle.cred_record.specs.Words.{credential_in, are_words}
 use Rattle.cred_words.specs.Size.{width}
 use Rattle.cred_words.specs.declared.view.Slot.{Slot}
 use Rattle.cred_words.specs.declared.view.Token.{Token}
 use Rattle.cred_words.specs.declared.view.Ledger.{Ledger}
 
 -- what is lent: a hold of a credential, or a writer, for which none stands here
-pub record Entry : Type 0 where
+pub record Loan : Type 0 where
   pub label : ℕ
   pub slot : ℕ
   pub held : Option Credential
 
-abbrev pub entry : ℕ → ℕ → Option Credential → Entry
-entry label slot held = record { label = label; slot = slot; held = held }
+abbrev pub loan : ℕ → ℕ → Option Credential → Loan
+loan label slot held = record { label = label; slot = slot; held = held }
 
 -- the master: the identity of its cells, what is lent, the newest first, and for each slot the
 -- credential if it is sealed
 pub record Mastered : Type 0 where
   pub id : TableId
-  pub entries : List Entry
+  pub entries : List Loan
   pub slots : List (Option Credential)
 
 -- a hold: its cells, its label and its slot, and the credential that is held
@@ -50,18 +50,18 @@ unfoldable pub none_sealed : List (Option Credential)
 none_sealed = replicate SLOTS None
 
 -- no token is out on the slot
-abbrev pub IsAlone : List Entry → ℕ → Type 0
+abbrev pub IsAlone : List Loan → ℕ → Type 0
 IsAlone entries slot = AllByRecursion (λ e. e.slot ≢ slot) entries
 
 -- ---- how they are seen in words
 
 -- the credential of words that are said to have one
 abbrev pub seen_if : Bool → List ℕ → Option Credential
-seen_if true ws = Some (credential_of ws)
+seen_if true ws = Some (credential_in ws)
 seen_if false ws = None
 
-abbrev pub entry_seen : Token → Entry
-entry_seen t = entry t.label t.slot (seen_if (not t.writes) t.words)
+abbrev pub loan_seen : Token → Loan
+loan_seen t = loan t.label t.slot (seen_if (not t.writes) t.words)
 
 abbrev pub slot_seen : Slot → Option Credential
 slot_seen x = seen_if x.sealed x.words

@@ -3,11 +3,11 @@ ghost use Rattle.std.specs.Prelude.{◌≡◌, ◌+◌, ◌-◌, ◌<◌, IfSome
 ghost use Rattle.std.specs.Prelude.{true};
 ghost use Rattle.cred_ids.specs.Groups.{IsGroupList};
 ghost use Rattle.cred_record.specs.Credential.{Credential, AreValidSets};
-ghost use Rattle.cred_record.specs.Words.{are_ids, are_words, credential_of, flags_word};
+ghost use Rattle.cred_record.specs.Words.{are_ids, are_words, credential_in, flags_word};
 ghost use Rattle.cred_record.specs.Words.{words_of, IsCredential};
 ghost use Rattle.cred_setid.specs.declared.parts.Parts.{Parts};
 ghost use Rattle.cred_setid.specs.Parts.{parts_of, changed};
-ghost use Rattle.cred_words.specs.Seen.{IsSealed};
+ghost use Rattle.cred_words.specs.Seen.{IsSealedSlot};
 ghost use Rattle.cred_words.specs.Words.{put_words, words_at};
 ghost use Rattle.cred_hold.specs.Tokens.{IsAgain};
 
@@ -22,7 +22,7 @@ use cred_record::layout::{
     AMBIENT, BOUNDING, EFFECTIVE, FLAGS, GROUPS, INHERITABLE, NAMESPACE, PERMITTED, ROOT, USER,
 };
 use cred_setid::Parts;
-use cred_words::cells::{Cells, Hold, Master, Writer, read_word, see_word, settle_word};
+use cred_words::cells::{Cells, Hold, Master, Writer, load_own_word, load_word, settle_word};
 
 /// What an id call looks at of the slot that is held, whose words are a credential's.
 #[inline(always)]
@@ -30,15 +30,15 @@ fn parts_in(cells: &Cells, hold: &mut Hold, slot: u32) -> Parts
     requires own { hold.old.id ≡ cells.now }
     requires slot { slot ≡ hold.old.token.slot }
     requires known { are_words hold.old.token.words ≡ true }
-    ensures parts { result ≡ parts_of (credential_of hold.old.token.words) }
+    ensures parts { result ≡ parts_of (credential_in hold.old.token.words) }
     ensures same { hold.new ≡ hold.old }
 {
     let (uid, gid) = known_ids(gather::<4>(cells, hold, slot, USER));
-    let perm = CapSet::known(read_word(cells, hold, slot, PERMITTED));
-    let eff = CapSet::known(read_word(cells, hold, slot, EFFECTIVE));
-    let amb = CapSet::known(read_word(cells, hold, slot, AMBIENT));
-    let bits = secure_bits(read_word(cells, hold, slot, FLAGS));
-    let root = Id::known(read_word(cells, hold, slot, ROOT) as u32);
+    let perm = CapSet::known(load_word(cells, hold, slot, PERMITTED));
+    let eff = CapSet::known(load_word(cells, hold, slot, EFFECTIVE));
+    let amb = CapSet::known(load_word(cells, hold, slot, AMBIENT));
+    let bits = secure_bits(load_word(cells, hold, slot, FLAGS));
+    let root = Id::known(load_word(cells, hold, slot, ROOT) as u32);
     Parts {
         uid,
         gid,
@@ -53,12 +53,12 @@ fn parts_in(cells: &Cells, hold: &mut Hold, slot: u32) -> Parts
 /// What an id call looks at of a sealed slot, by a hold that is lent and comes back. What else is
 /// lent stays.
 #[inline(always)]
-pub(crate) fn peek_parts(master: &mut Master, cells: &Cells, slot: u32) -> Parts
+pub(crate) fn read_sealed_parts(master: &mut Master, cells: &Cells, slot: u32) -> Parts
     requires own { master.old.id ≡ cells.now }
     requires empty { master.old.ledger.kept ≡ None }
-    requires sealed { IsSealed master.old.ledger slot }
+    requires sealed { IsSealedSlot master.old.ledger slot }
     requires known { are_words (words_at master.old.ledger.slots slot) ≡ true }
-    ensures parts { result ≡ parts_of (credential_of (words_at master.old.ledger.slots slot)) }
+    ensures parts { result ≡ parts_of (credential_in (words_at master.old.ledger.slots slot)) }
     ensures same { (master.new.id ≡ master.old.id)
         × IsAgain master.old.ledger master.new.ledger }
 {
@@ -129,16 +129,16 @@ fn head_like(
     requires slot { from ≡ hold.old.token.slot }
     requires known { are_words hold.old.token.words ≡ true }
     ensures words { result ≡ take GROUPS
-        (words_of (changed (credential_of hold.old.token.words) parts.now groups.now)) }
+        (words_of (changed (credential_in hold.old.token.words) parts.now groups.now)) }
     ensures same { hold.new ≡ hold.old }
 {
     let (user, saved_user) = id_words(&parts.uid);
     let (group, saved_group) = id_words(&parts.gid);
-    let inh = read_word(cells, hold, from, INHERITABLE);
-    let bound = read_word(cells, hold, from, BOUNDING);
-    let flags = read_word(cells, hold, from, FLAGS);
-    let ns = read_word(cells, hold, from, NAMESPACE);
-    let root = read_word(cells, hold, from, ROOT);
+    let inh = load_word(cells, hold, from, INHERITABLE);
+    let bound = load_word(cells, hold, from, BOUNDING);
+    let flags = load_word(cells, hold, from, FLAGS);
+    let ns = load_word(cells, hold, from, NAMESPACE);
+    let root = load_word(cells, hold, from, ROOT);
     [
         user,
         saved_user,
@@ -163,12 +163,12 @@ fn word_like(cells: &Cells, hold: &mut Hold, from: u32, groups: &Option<Groups>,
     requires known { are_words hold.old.token.words ≡ true }
     requires within { i < WORDS - GROUPS }
     ensures word { (own : Parts) → result ≡ slice_index
-        (words_of (changed (credential_of hold.old.token.words) own groups.now)) (GROUPS + i) }
+        (words_of (changed (credential_in hold.old.token.words) own groups.now)) (GROUPS + i) }
     ensures same { hold.new ≡ hold.old }
 {
     match groups {
         Some(groups) => group_word(groups, i),
-        None => read_word(cells, hold, from, GROUPS + i),
+        None => load_word(cells, hold, from, GROUPS + i),
     }
 }
 
@@ -189,12 +189,12 @@ fn scatter_like(
     requires held { are_words hold.old.token.words ≡ true }
     requires known { are_words writer.old.token.words ≡ true }
     requires made { IsCredential
-        (changed (credential_of hold.old.token.words) parts.now groups.now) }
+        (changed (credential_in hold.old.token.words) parts.now groups.now) }
     ensures words { (writer.new.id ≡ writer.old.id) × (writer.new.token ≡ put_words writer.old.token
-        (words_of (changed (credential_of hold.old.token.words) parts.now groups.now))) }
+        (words_of (changed (credential_in hold.old.token.words) parts.now groups.now))) }
     ensures same { hold.new ≡ hold.old }
 {
-    let flags = see_word(cells, writer, slot, FLAGS);
+    let flags = load_own_word(cells, writer, slot, FLAGS);
     let before = group_count(flags);
     let first = head_like(cells, hold, from, parts, groups);
     for place in 0..GROUPS {
@@ -227,14 +227,14 @@ fn scatter_from(
 )
     requires own { (master.old.id ≡ cells.now) × (writer.old.id ≡ cells.now) }
     requires empty { master.old.ledger.kept ≡ None }
-    requires sealed { IsSealed master.old.ledger from }
+    requires sealed { IsSealedSlot master.old.ledger from }
     requires held { are_words (words_at master.old.ledger.slots from) ≡ true }
     requires slot { slot ≡ writer.old.token.slot }
     requires known { are_words writer.old.token.words ≡ true }
     requires made { IsCredential
-        (changed (credential_of (words_at master.old.ledger.slots from)) parts.now groups.now) }
+        (changed (credential_in (words_at master.old.ledger.slots from)) parts.now groups.now) }
     ensures words { (writer.new.id ≡ writer.old.id) × (writer.new.token ≡ put_words writer.old.token
-        (words_of (changed (credential_of (words_at master.old.ledger.slots from)) parts.now
+        (words_of (changed (credential_in (words_at master.old.ledger.slots from)) parts.now
         groups.now))) }
     ensures same { (master.new.id ≡ master.old.id)
         × IsAgain master.old.ledger master.new.ledger }
@@ -258,12 +258,12 @@ pub(crate) fn put_like(
 )
     requires own { (master.old.id ≡ cells.now) × (writer.old.id ≡ cells.now) }
     requires empty { master.old.ledger.kept ≡ None }
-    requires sealed { IsSealed master.old.ledger from }
+    requires sealed { IsSealedSlot master.old.ledger from }
     requires held { are_words (words_at master.old.ledger.slots from) ≡ true }
     requires valid { AreValidSets parts.now.perm
-        (credential_of (words_at master.old.ledger.slots from)).inh parts.now.eff parts.now.amb }
+        (credential_in (words_at master.old.ledger.slots from)).inh parts.now.eff parts.now.amb }
     ensures put { writer.new ≡ record writer.old {
-      put = Some (changed (credential_of (words_at master.old.ledger.slots from)) parts.now
+      put = Some (changed (credential_in (words_at master.old.ledger.slots from)) parts.now
           groups.now);
     } }
     ensures same { (master.new.id ≡ master.old.id)

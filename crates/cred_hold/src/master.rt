@@ -5,12 +5,12 @@ ghost use Rattle.cred_ids.specs.Limits.{SLOTS};
 ghost use Rattle.cred_words.specs.Lists.{IsTaken};
 ghost use Rattle.cred_record.specs.Credential.{Credential, AreValidSets};
 ghost use Rattle.cred_setid.specs.Parts.{parts_of, changed};
-ghost use Rattle.cred_hold.specs.Tokens.{entry, none_sealed, IsSealed, IsAlone};
+ghost use Rattle.cred_hold.specs.Tokens.{loan, none_sealed, IsSealed, IsAlone};
 
-use crate::like::{peek_parts, put_like};
+use crate::like::{put_like, read_sealed_parts};
 use crate::parts::known_ns;
 use crate::tokens::{Hold, Writer, put};
-use crate::words::{peek, peek_whole};
+use crate::words::{load_sealed, read_sealed};
 use cred_ids::{Groups, NoMemory};
 use cred_record::Cred;
 use cred_record::layout::NAMESPACE;
@@ -28,7 +28,7 @@ pub struct Master {
 
 impl Model for Master {
     ghost use Rattle.std.specs.Prelude.{◌≡◌, None, length, map};
-    ghost use Rattle.cred_hold.specs.Tokens.{Mastered, AreSlots, entry_seen, slot_seen};
+    ghost use Rattle.cred_hold.specs.Tokens.{Mastered, AreSlots, loan_seen, slot_seen};
 
     ghost Value = { Mastered };
 
@@ -36,7 +36,7 @@ impl Model for Master {
 
     ghost view = { λ m. record {
       id = m.inner.id;
-      entries = map entry_seen m.inner.ledger.entries;
+      entries = map loan_seen m.inner.ledger.entries;
       slots = map slot_seen m.inner.ledger.slots;
     } };
 
@@ -66,7 +66,7 @@ impl Master {
         ensures hold { (result.id ≡ self.old.id) × (result.label ≡ label) × (result.slot ≡ slot) }
         ensures cred { slice_get self.old.slots slot ≡ Some (Some result.cred) }
         ensures entries { self.new.entries
-            ≡ entry label slot (Some result.cred) ∷ self.old.entries }
+            ≡ loan label slot (Some result.cred) ∷ self.old.entries }
         ensures rest { (self.new.id ≡ self.old.id) × (self.new.slots ≡ self.old.slots) }
     {
         Hold {
@@ -79,7 +79,7 @@ impl Master {
     /// Takes a hold back, and its entry from what is lent. It takes no memory.
     pub fn give_back(&mut self, cells: &Cells, hold: Hold)
         requires own { (self.old.id ≡ cells.now) × (hold.id ≡ cells.now) }
-        ensures entry { IsTaken self.old.entries (entry hold.label hold.slot (Some hold.cred))
+        ensures entry { IsTaken self.old.entries (loan hold.label hold.slot (Some hold.cred))
             self.new.entries }
         ensures cred { slice_get self.old.slots hold.slot ≡ Some (Some hold.cred) }
         ensures rest { (self.new.id ≡ self.old.id) × (self.new.slots ≡ self.old.slots) }
@@ -101,7 +101,7 @@ impl Master {
         requires alone { IsAlone self.old.entries slot }
         ensures writer { (result.id ≡ self.old.id) × (result.label ≡ label)
             × (result.slot ≡ slot) × (result.put ≡ None) }
-        ensures entries { self.new.entries ≡ entry label slot None ∷ self.old.entries }
+        ensures entries { self.new.entries ≡ loan label slot None ∷ self.old.entries }
         ensures slots { self.new.slots ≡ slice_set self.old.slots slot None }
         ensures long { length self.old.slots ≡ SLOTS }
         ensures same { self.new.id ≡ self.old.id }
@@ -117,7 +117,7 @@ impl Master {
     /// put last, or is not sealed where nothing was put. It takes no memory.
     pub fn take_back(&mut self, cells: &Cells, writer: Writer)
         requires own { (self.old.id ≡ cells.now) × (writer.id ≡ cells.now) }
-        ensures entry { IsTaken self.old.entries (entry writer.label writer.slot None)
+        ensures entry { IsTaken self.old.entries (loan writer.label writer.slot None)
             self.new.entries }
         ensures slot { slice_get self.new.slots writer.slot ≡ Some writer.put }
         ensures slots { self.new.slots ≡ slice_set self.old.slots writer.slot writer.put }
@@ -138,38 +138,38 @@ impl Master {
     /// # Errors
     ///
     /// `NoMemory` if the allocation of the groups fails. The master stays as it was, as on success.
-    pub fn look(&mut self, alloc: Global, cells: &Cells, slot: u32) -> Result<Cred, NoMemory>
+    pub fn read_slot(&mut self, alloc: Global, cells: &Cells, slot: u32) -> Result<Cred, NoMemory>
         requires own { self.old.id ≡ cells.now }
         requires sealed { IsSealed self.old.slots slot }
         ensures cred { IfOk result (λ c. slice_get self.old.slots slot ≡ Some (Some c)) }
         ensures same { self.new ≡ self.old }
     {
-        peek_whole(alloc, &mut self.inner, cells, slot)
+        read_sealed(alloc, &mut self.inner, cells, slot)
     }
 
     /// What an id call looks at of the credential of a sealed slot. It takes no memory. What is
     /// lent stays.
     #[inline(always)]
-    pub fn look_parts(&mut self, cells: &Cells, slot: u32) -> Parts
+    pub fn read_parts(&mut self, cells: &Cells, slot: u32) -> Parts
         requires own { self.old.id ≡ cells.now }
         requires sealed { IsSealed self.old.slots slot }
         ensures parts { (c : Credential) → slice_get self.old.slots slot ≡ Some (Some c) →
             (result ≡ parts_of c) × AreValidSets c.perm c.inh c.eff c.amb }
         ensures same { self.new ≡ self.old }
     {
-        peek_parts(&mut self.inner, cells, slot)
+        read_sealed_parts(&mut self.inner, cells, slot)
     }
 
     /// The user namespace of the credential of a sealed slot. It takes no memory. What is lent
     /// stays.
-    pub fn look_ns(&mut self, cells: &Cells, slot: u32) -> u32
+    pub fn read_ns(&mut self, cells: &Cells, slot: u32) -> u32
         requires own { self.old.id ≡ cells.now }
         requires sealed { IsSealed self.old.slots slot }
         ensures ns { (c : Credential) → slice_get self.old.slots slot ≡ Some (Some c) →
             result ≡ c.ns }
         ensures same { self.new ≡ self.old }
     {
-        known_ns(peek::<1>(&mut self.inner, cells, slot, NAMESPACE))
+        known_ns(load_sealed::<1>(&mut self.inner, cells, slot, NAMESPACE))
     }
 
     /// Puts a credential on a slot on which nothing is lent, for the owner of the master: a writer

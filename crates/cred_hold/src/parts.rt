@@ -1,6 +1,6 @@
 //! Parts of a credential, in words that are known to be one's.
 ghost use Rattle.std.specs.Prelude.{◌≡◌, ℕ, List, ◌∷◌, [], take, drop, true};
-ghost use Rattle.cred_record.specs.Words.{are_words, credential_of};
+ghost use Rattle.cred_record.specs.Words.{are_words, credential_in};
 ghost use Rattle.cred_record.specs.declared.layout.TheConstants.{USER, PERMITTED, NAMESPACE};
 
 use cred_caps::CapSet;
@@ -11,7 +11,7 @@ use cred_packed::known_ids_in;
 pub(crate) fn known_ids(words: [u64; 4]) -> (Ids4, Ids4)
     requires { (ws : List ℕ) × (are_words ws ≡ true) × (words ≡ take 4 (drop USER ws)) }
     ensures { (ws : List ℕ) → are_words ws ≡ true → words ≡ take 4 (drop USER ws) →
-        (result.0 ≡ (credential_of ws).uid) × (result.1 ≡ (credential_of ws).gid) }
+        (result.0 ≡ (credential_in ws).uid) × (result.1 ≡ (credential_in ws).gid) }
 {
     let [user, saved_user, group, saved_group] = words;
     let uid = known_ids_in(user, saved_user);
@@ -24,8 +24,8 @@ pub(crate) fn known_ids(words: [u64; 4]) -> (Ids4, Ids4)
 pub(crate) fn known_caps(words: [u64; 5]) -> [CapSet; 5]
     requires { (ws : List ℕ) × (are_words ws ≡ true) × (words ≡ take 5 (drop PERMITTED ws)) }
     ensures { (ws : List ℕ) → are_words ws ≡ true → words ≡ take 5 (drop PERMITTED ws) →
-        result ≡ (credential_of ws).perm ∷ (credential_of ws).inh ∷ (credential_of ws).eff
-        ∷ (credential_of ws).bound ∷ (credential_of ws).amb ∷ [] }
+        result ≡ (credential_in ws).perm ∷ (credential_in ws).inh ∷ (credential_in ws).eff
+        ∷ (credential_in ws).bound ∷ (credential_in ws).amb ∷ [] }
 {
     let [perm, inh, eff, bound, amb] = words;
     [
@@ -41,7 +41,7 @@ pub(crate) fn known_caps(words: [u64; 5]) -> [CapSet; 5]
 pub(crate) fn known_ns(words: [u64; 1]) -> u32
     requires { (ws : List ℕ) × (are_words ws ≡ true) × (words ≡ take 1 (drop NAMESPACE ws)) }
     ensures { (ws : List ℕ) → are_words ws ≡ true → words ≡ take 1 (drop NAMESPACE ws) →
-        result ≡ (credential_of ws).ns }
+        result ≡ (credential_in ws).ns }
 {
     let [ns] = words;
     ns as u32

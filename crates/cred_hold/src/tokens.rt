@@ -28,13 +28,13 @@ impl Model for Hold {
     ghost Value = { Held };
 
     ghost use Rattle.cred_words.specs.Size.{width};
-    ghost use Rattle.cred_record.specs.Words.{are_words, credential_of};
+    ghost use Rattle.cred_record.specs.Words.{are_words, credential_in};
 
     ghost view = { λ h. record {
       id = h.inner.id;
       label = h.inner.token.label;
       slot = h.inner.token.slot;
-      cred = credential_of h.inner.token.words;
+      cred = credential_in h.inner.token.words;
     } };
 
     ghost invariant = { λ h. (h.slot ≡ h.inner.token.slot)

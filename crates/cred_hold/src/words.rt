@@ -1,9 +1,9 @@
 //! The words of a slot, read or put one step after another.
 ghost use Rattle.std.specs.Prelude.{◌≡◌, ◌+◌, ◌≤◌, ℕ, None, true, IfOk, length};
 ghost use Rattle.std.specs.Prelude.{take, drop, slice_index};
-ghost use Rattle.cred_record.specs.Words.{are_words, credential_of, group_count, words_of};
+ghost use Rattle.cred_record.specs.Words.{are_words, credential_in, group_count, words_of};
 ghost use Rattle.cred_record.specs.declared.layout.TheConstants.{FLAGS};
-ghost use Rattle.cred_words.specs.Seen.{IsSealed};
+ghost use Rattle.cred_words.specs.Seen.{IsSealedSlot};
 ghost use Rattle.cred_words.specs.Size.{width};
 ghost use Rattle.cred_words.specs.Words.{put_words, words_at};
 ghost use Rattle.cred_hold.specs.Tokens.{IsAgain, AreZeros};
@@ -12,7 +12,7 @@ use cred_ids::{Groups, NoMemory};
 use cred_packed::{group_count, head, known_group, known_head, word_of_groups, words_of_groups};
 use cred_record::Cred;
 use cred_record::layout::{FLAGS, GROUPS};
-use cred_words::cells::{Cells, Hold, Master, Writer, read_word, see_word, settle_word};
+use cred_words::cells::{Cells, Hold, Master, Writer, load_own_word, load_word, settle_word};
 use std::alloc::Global;
 
 /// So many words of the slot that is held, from `first` on. Each is loaded at a moment of its own.
@@ -32,7 +32,7 @@ pub(crate) fn gather<const N: usize>(
 {
     let mut words = [0u64; N];
     for i in 0..N {
-        words[i] = read_word(cells, hold, slot, first + i);
+        words[i] = load_word(cells, hold, slot, first + i);
     }
     words
 }
@@ -50,12 +50,12 @@ pub(crate) fn groups_of(
     requires slot { slot ≡ hold.old.token.slot }
     requires known { are_words hold.old.token.words ≡ true }
     requires count { count ≡ group_count (slice_index hold.old.token.words FLAGS) }
-    ensures groups { IfOk result (λ g. g ≡ (credential_of hold.old.token.words).groups) }
+    ensures groups { IfOk result (λ g. g ≡ (credential_in hold.old.token.words).groups) }
     ensures same { hold.new ≡ hold.old }
 {
     let mut ids = Vec::with_capacity(alloc, count)?;
     for place in 0..count {
-        let word = read_word(cells, hold, slot, GROUPS + place / 2);
+        let word = load_word(cells, hold, slot, GROUPS + place / 2);
         ids.push(known_group(word, place))?;
     }
     Ok(Groups::from_sorted(ids))
@@ -72,7 +72,7 @@ pub(crate) fn read_whole(
     requires own { hold.old.id ≡ cells.now }
     requires slot { slot ≡ hold.old.token.slot }
     requires known { are_words hold.old.token.words ≡ true }
-    ensures cred { IfOk result (λ c. c ≡ credential_of hold.old.token.words) }
+    ensures cred { IfOk result (λ c. c ≡ credential_in hold.old.token.words) }
     ensures same { hold.new ≡ hold.old }
 {
     let first = gather::<GROUPS>(cells, hold, slot, 0);
@@ -83,7 +83,7 @@ pub(crate) fn read_whole(
 
 /// So many words of a sealed slot, from `first` on, by a hold that is lent and comes back. What
 /// else is lent stays.
-pub(crate) fn peek<const N: usize>(
+pub(crate) fn load_sealed<const N: usize>(
     master: &mut Master,
     cells: &Cells,
     slot: u32,
@@ -91,7 +91,7 @@ pub(crate) fn peek<const N: usize>(
 ) -> [u64; N]
     requires own { master.old.id ≡ cells.now }
     requires empty { master.old.ledger.kept ≡ None }
-    requires sealed { IsSealed master.old.ledger slot }
+    requires sealed { IsSealedSlot master.old.ledger slot }
     requires wide { length (words_at master.old.ledger.slots slot) ≡ width }
     requires within { first + N ≤ width }
     ensures words { result ≡ take N (drop first (words_at master.old.ledger.slots slot)) }
@@ -106,7 +106,7 @@ pub(crate) fn peek<const N: usize>(
 }
 
 /// The credential of a sealed slot whose words are a credential's, likewise.
-pub(crate) fn peek_whole(
+pub(crate) fn read_sealed(
     alloc: Global,
     master: &mut Master,
     cells: &Cells,
@@ -114,10 +114,10 @@ pub(crate) fn peek_whole(
 ) -> Result<Cred, NoMemory>
     requires own { master.old.id ≡ cells.now }
     requires empty { master.old.ledger.kept ≡ None }
-    requires sealed { IsSealed master.old.ledger slot }
+    requires sealed { IsSealedSlot master.old.ledger slot }
     requires known { are_words (words_at master.old.ledger.slots slot) ≡ true }
     ensures cred { IfOk result
-        (λ c. c ≡ credential_of (words_at master.old.ledger.slots slot)) }
+        (λ c. c ≡ credential_in (words_at master.old.ledger.slots slot)) }
     ensures same { (master.new.id ≡ master.old.id)
         × IsAgain master.old.ledger master.new.ledger }
 {
@@ -156,7 +156,7 @@ pub(crate) fn scatter(cells: &Cells, writer: &mut Writer, slot: u32, cred: &Cred
     ensures { (writer.new.id ≡ writer.old.id)
         × (writer.new.token ≡ put_words writer.old.token (words_of cred.now)) }
 {
-    let flags = see_word(cells, writer, slot, FLAGS);
+    let flags = load_own_word(cells, writer, slot, FLAGS);
     let count = group_count(flags);
     let first = head(cred);
     for place in 0..GROUPS {

@@ -1,3 +1,4 @@
 pub mod ReportLine
 pub mod Verdicts
-pub mod Decoded
+pub mod Operands
+pub mod Refused

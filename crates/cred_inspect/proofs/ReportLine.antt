@@ -6,12 +6,12 @@ use Rattle.std.proofs.lemmas.List.{append-nil, take_at, drop_at, drop-drop}
 use Rattle.std.proofs.lemmas.List.Folds.{list_any-append}
 use Rattle.std.proofs.lemmas.Slice.Eq.{bytes_eq-Decides}
 use Rattle.cred_spelling.specs.Lines.{lines_of}
-use Rattle.cred_inspect.specs.Parts.{REPORT, is_report, ended, before_report, parts_of}
+use Rattle.cred_inspect.specs.Parts.{REPORT, is_report, with_line_feed, before_report, input_parts}
 
 -- what the first line and its LF leave
 pub record IsFirst (bytes line : List ℕ) (more : List (List ℕ)) : Type 0 where
   pub more_is : more ≡ lines_of (drop (suc (length line)) bytes)
-  pub bytes_are : 0 < length (drop (suc (length line)) bytes) → bytes ≡ ended line ++ drop (suc (length line)) bytes
+  pub bytes_are : 0 < length (drop (suc (length line)) bytes) → bytes ≡ with_line_feed line ++ drop (suc (length line)) bytes
 
 some_line : (test : Bool) (b : ℕ) (lines : List (List ℕ)) → (let l : List (List ℕ) = cond test ([] ∷ lines) (onto_first b lines) in l) ≡ [] → ⊥
 some_line true b lines none = cc
@@ -51,7 +51,7 @@ pub record Passed (input rest : List ℕ) : Type 0 where
   pub lines : List (List ℕ)
   pub all : lines_of input ≡ lines ++ lines_of rest
   pub none : list_any is_report lines ≡ false
-  pub bytes : 0 < length rest → input ≡ concat (map ended lines) ++ rest
+  pub bytes : 0 < length rest → input ≡ concat (map with_line_feed lines) ++ rest
 
 -- before the first line
 pub passed_nothing : (input : List ℕ) → Passed input input
@@ -83,9 +83,9 @@ first_passing p (l ∷ ls) line more none found =
     first_at (p l) (position_or_len p (ls ++ line ∷ more)) l ls (ls ++ line ∷ more) (list_any p ls) none
     (λ below. first_passing p ls line more below found)
 
-bytes_more : (lines : List (List ℕ)) (line : List ℕ) → concat (map ended (lines ++ line ∷ [])) ≡ concat (map ended lines) ++ ended line
-bytes_more [] line = append-nil (ended line)
-bytes_more (l ∷ ls) line = rw (bytes_more ls line) (sym (append_assoc (ended l) (concat (map ended ls)) (ended line)))
+bytes_more : (lines : List (List ℕ)) (line : List ℕ) → concat (map with_line_feed (lines ++ line ∷ [])) ≡ concat (map with_line_feed lines) ++ with_line_feed line
+bytes_more [] line = append-nil (with_line_feed line)
+bytes_more (l ∷ ls) line = rw (bytes_more ls line) (sym (append_assoc (with_line_feed l) (concat (map with_line_feed ls)) (with_line_feed line)))
 
 -- one line more was passed
 pub passed_line : (input rest line : List ℕ) (more : List (List ℕ)) → Passed input rest → 0 < length rest → lines_of rest ≡ line ∷ more → is_report line ≡ false
@@ -95,8 +95,8 @@ passed_line input rest line more before some is other =
     let left : List ℕ = drop (suc (length line)) rest in
     let all : lines_of input ≡ (before.lines ++ line ∷ []) ++ lines_of left
     = before.all ∙ ap (λ z. before.lines ++ z) (is ∙ ap (λ z. line ∷ z) first.more_is) ∙ sym (append_assoc before.lines (line ∷ []) (lines_of left)) in
-    let bytes : 0 < length left → input ≡ concat (map ended (before.lines ++ line ∷ [])) ++ left
-    = λ more_left. rw (bytes_more before.lines line) (before.bytes some ∙ ap (λ z. concat (map ended before.lines) ++ z) (first.bytes_are more_left) ∙ sym (append_assoc (concat (map ended before.lines)) (ended line) left)) in
+    let bytes : 0 < length left → input ≡ concat (map with_line_feed (before.lines ++ line ∷ [])) ++ left
+    = λ more_left. rw (bytes_more before.lines line) (before.bytes some ∙ ap (λ z. concat (map with_line_feed before.lines) ++ z) (first.bytes_are more_left) ∙ sym (append_assoc (concat (map with_line_feed before.lines)) (with_line_feed line) left)) in
     rw add-one (record {
       lines = before.lines ++ line ∷ [];
       all = all;
@@ -105,27 +105,27 @@ passed_line input rest line more before some is other =
     })
 
 -- where no line is left, none is `report`
-pub passed_all : (input rest : List ℕ) → Passed input rest → length rest ≡ 0 → parts_of input ≡ None
+pub passed_all : (input rest : List ℕ) → Passed input rest → length rest ≡ 0 → input_parts input ≡ None
 passed_all input [] before over = rw (before.all ∙ append-nil before.lines, before.none) refl
 passed_all input (b ∷ bs) before over = absurd (omega arith)
 
 -- What follows a line of the same length, behind the bytes before it.
-after_at : (front rest line : List ℕ) → length line ≡ length REPORT → drop (length (front ++ ended REPORT)) (front ++ rest) ≡ drop (length line + 1) rest
+after_at : (front rest line : List ℕ) → length line ≡ length REPORT → drop (length (front ++ with_line_feed REPORT)) (front ++ rest) ≡ drop (length line + 1) rest
 after_at front rest line same =
-    let size : length (front ++ ended REPORT) ≡ length front + (length line + 1) = omega (arith, length-append front (ended REPORT), length-append REPORT (10 ∷ [])) in
+    let size : length (front ++ with_line_feed REPORT) ≡ length front + (length line + 1) = omega (arith, length-append front (with_line_feed REPORT), length-append REPORT (10 ∷ [])) in
     rw size (sym (drop-drop (length line + 1) (length front) (front ++ rest)) ∙ ap (drop (length line + 1)) (drop_at front rest (length front) refl))
 
 -- the line is `report`
 pub passed_found : (input rest line : List ℕ) (more : List (List ℕ)) → Passed input rest → 0 < length rest → lines_of rest ≡ line ∷ more → is_report line ≡ true
-    → parts_of input ≡ Some (take (length input - length rest) input, drop (length line + 1) rest)
+    → input_parts input ≡ Some (take (length input - length rest) input, drop (length line + 1) rest)
 passed_found input rest line more before some is found =
-    let front : List ℕ = concat (map ended before.lines) in
+    let front : List ℕ = concat (map with_line_feed before.lines) in
     let lines : lines_of input ≡ before.lines ++ line ∷ more = before.all ∙ ap (λ z. before.lines ++ z) is in
     let any : list_any is_report (lines_of input) ≡ true = rw lines (some_more is_report before.lines line more found) in
-    let front_is : before_report input ≡ front = ap (λ z. concat (map ended (before_first is_report z))) lines ∙ ap (λ z. concat (map ended z)) (first_passing is_report before.lines line more before.none found) in
+    let front_is : before_report input ≡ front = ap (λ z. concat (map with_line_feed (before_first is_report z))) lines ∙ ap (λ z. concat (map with_line_feed z)) (first_passing is_report before.lines line more before.none found) in
     let input_is : input ≡ front ++ rest = before.bytes some in
     let line_is : line ≡ REPORT = (bytes_eq-Decides line REPORT).0 found in
     let count : length front ≡ length input - length rest = omega (arith, ap length input_is, length-append front rest) in
     let first : take (length input - length rest) input ≡ front = rw (← count) (rw input_is (take_at front rest (length front) refl)) in
-    let after : drop (length (front ++ ended REPORT)) input ≡ drop (length line + 1) rest = rw input_is (after_at front rest line (ap length line_is)) in
+    let after : drop (length (front ++ with_line_feed REPORT)) input ≡ drop (length line + 1) rest = rw input_is (after_at front rest line (ap length line_is)) in
     rw (any, front_is, first) (ap (λ z. Some (front, z)) after)

@@ -3,9 +3,9 @@ use Rattle.std.proofs.Common.{◌≡◌, ℕ, List, Option, Some, None, sym, sub
 use Rattle.std.proofs.Common.{Result}
 use Rattle.std.specs.Prelude.{IfOk, MatchOption}
 use Rattle.std.proofs.lemmas.Result.{IfOk-weaker}
-use Rattle.cred_inspect.specs.Auditing.{AuditSuits, IsAuditWithin, Judges, Says, no_report_text}
+use Rattle.cred_inspect.specs.Auditing.{AuditSuits, IsAuditWithin, Judges, SaysVerdict, no_report_text}
 use Rattle.cred_said.specs.Ends.{IsWhole}
-use Rattle.cred_inspect.specs.Parts.{parts_of}
+use Rattle.cred_inspect.specs.Parts.{input_parts}
 use Rattle.cred_said.specs.declared.status.Status.{Status}
 use Rattle.cred_said.specs.declared.status.Status.TheVariants as status
 use Rattle.cred_said.specs.Telling.{TellsSaid}
@@ -28,11 +28,11 @@ says_by None input answer text says = subst IsWhole (sym says.0) tt
 says_by (Some p) input answer text says = judges_whole p.0 p.1 answer text says
 
 -- whatever is said is a whole text
-pub says_whole : (input : List ℕ) (answer : Status) (text : List ℕ) → Says input answer text → IsWhole answer
-says_whole input answer text says = says_by (parts_of input) input answer text says
+pub says_whole : (input : List ℕ) (answer : Status) (text : List ℕ) → SaysVerdict input answer text → IsWhole answer
+says_whole input answer text says = says_by (input_parts input) input answer text says
 
 -- and its status suits the input
-pub says_suits : (input : List ℕ) (answer : Status) (text : List ℕ) → IsAuditWithin input → Says input answer text → AuditSuits input answer
+pub says_suits : (input : List ℕ) (answer : Status) (text : List ℕ) → IsAuditWithin input → SaysVerdict input answer text → AuditSuits input answer
 says_suits input status.Done text within says = (within, (text, says))
 says_suits input status.Usage text within says = (within, (text, says))
 says_suits input status.Bad text within says = (within, (text, says))
@@ -43,11 +43,11 @@ says_suits input status.TooLarge text within says = absurd (says_whole input sta
 says_suits input status.NotLegal text within says = (within, (text, says))
 
 pub said_verdict : {E : Type 0} (input : List ℕ) (said : Result Said E) (answer : Status) (a b : Option (List ℕ)) (untouched : Type 0)
-    → IfOk said (λ s. Says input s.status s.text.items) → TellsSaid said answer a b untouched → SaidOne (Says input) answer a b untouched
+    → IfOk said (λ s. SaysVerdict input s.status s.text.items) → TellsSaid said answer a b untouched → SaidOne (SaysVerdict input) answer a b untouched
 said_verdict input said answer a b untouched says tells =
-    told_one (Says input) said answer a b untouched says (IfOk-weaker said _ _ (λ s is. says_whole input s.status s.text.items is) says) tells
+    told_one (SaysVerdict input) said answer a b untouched says (IfOk-weaker said _ _ (λ s is. says_whole input s.status s.text.items is) says) tells
 
 pub said_suits : (input : List ℕ) (answer : Status) (a b : Option (List ℕ)) (untouched : Type 0) → IsAuditWithin input
-    → SaidOne (Says input) answer a b untouched → AuditSuits input answer
+    → SaidOne (SaysVerdict input) answer a b untouched → AuditSuits input answer
 said_suits input answer a b untouched within said =
     by_ends (AuditSuits input) answer said.ends (λ one. says_suits input answer one.0 within one.1) within tt

@@ -13,16 +13,16 @@ use Rattle.cred_fits.specs.Fitting.{IsOneList}
 use Rattle.cred_audit.specs.Report.{IsReport, IsFault}
 use Rattle.cred_said.specs.declared.status.Status.{Status}
 use Rattle.cred_said.specs.declared.status.Status.TheVariants as status
-use Rattle.cred_said.specs.Ends.{IsTooLarge, IsWhole, IsWithin, Reads, ReadsTooMuch}
+use Rattle.cred_said.specs.Ends.{IsTooLarge, IsWhole, IsWithinLimits, Reads, ReadsTooMuch}
 use Rattle.cred_said.specs.Ends.{ReadsWithin}
-use Rattle.cred_inspect.specs.Parts.{parts_of, script_part}
+use Rattle.cred_inspect.specs.Parts.{input_parts, script_part}
 use Rattle.cred_said.specs.Texts.{bad_text}
 
 -- An input that has no more bytes than it may have, and of which what is to be a script has no more
 -- bytes and no more lines than a script may have.
 pub record IsAuditWithin (input : List ℕ) : Type 0 where
   pub bytes : length input ≤ AUDIT_LIMIT
-  pub script : IsWithin (script_part input)
+  pub script : IsWithinLimits (script_part input)
 
 -- of a report that is the script's
 abbrev pub legal_text : List ℕ
@@ -59,22 +59,22 @@ Judges bytes report other text = ⊥
 
 -- What is said of an input, with this status. Without a `report` line it is bad, whatever the
 -- script is.
-abbrev pub Says : List ℕ → Status → List ℕ → Type 0
-Says input answer text =
-    MatchOption (parts_of input)
+abbrev pub SaysVerdict : List ℕ → Status → List ℕ → Type 0
+SaysVerdict input answer text =
+    MatchOption (input_parts input)
     ((answer ≡ status.Bad) × (text ≡ no_report_text input))
     (λ parts. Judges parts.0 parts.1 answer text)
 
 -- what is said of the input with this status was written
 abbrev pub Writes : Status → Option (List ℕ) → Option (List ℕ) → List ℕ → Type 0
 Writes answer before after input =
-    (text : List ℕ) × Says input answer text × Appends before after text
+    (text : List ℕ) × SaysVerdict input answer text × Appends before after text
 
 -- a prefix of what is said of the input was written, and nothing else
 abbrev pub WritesPrefix : Option (List ℕ) → Option (List ℕ) → List ℕ → Type 0
 WritesPrefix before after input =
     (answer : Status) × (text : List ℕ)
-    × Says input answer text × AppendsPrefix before after text
+    × SaysVerdict input answer text × AppendsPrefix before after text
 
 -- The statuses that an input may have: which of Done, NotLegal, Bad and TooLarge it is, the input
 -- alone decides, and nothing but a fault or lack of memory takes their place. Only what is within
@@ -84,7 +84,7 @@ AuditSuits input status.TooLarge = (AUDIT_LIMIT < length input) ⊎ IsTooLarge (
 AuditSuits input status.ReadFault = ⊤
 AuditSuits input status.WriteFault = IsAuditWithin input
 AuditSuits input status.Memory = ⊤
-AuditSuits input answer = IsAuditWithin input × ((text : List ℕ) × Says input answer text)
+AuditSuits input answer = IsAuditWithin input × ((text : List ℕ) × SaysVerdict input answer text)
 
 -- What `audit` leaves. With a whole text what was left at the source was read and is within the
 -- limits, and the text is what is said of it.

@@ -1,3 +1,6 @@
 pub mod Parts
 pub mod Auditing
+pub mod Operands
 pub mod Decoding
+pub mod Encoding
+pub mod Records

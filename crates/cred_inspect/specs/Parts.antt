@@ -15,24 +15,24 @@ abbrev pub is_report : List ℕ → Bool
 is_report line = bytes_eq line REPORT
 
 -- a line with its LF
-abbrev pub ended : List ℕ → List ℕ
-ended line = line ++ 10 ∷ []
+abbrev pub with_line_feed : List ℕ → List ℕ
+with_line_feed line = line ++ 10 ∷ []
 
 -- the bytes before the first line that is exactly `report`
 abbrev pub before_report : List ℕ → List ℕ
-before_report input = concat (map ended (before_first is_report (lines_of input)))
+before_report input = concat (map with_line_feed (before_first is_report (lines_of input)))
 
 -- the bytes behind that line and its LF; none where it ends the input without one
 abbrev pub after_report : List ℕ → List ℕ
-after_report input = drop (length (before_report input ++ ended REPORT)) input
+after_report input = drop (length (before_report input ++ with_line_feed REPORT)) input
 
 -- what is to be a script, and what is to be its report; none where no line is `report`
-abbrev pub parts_of : List ℕ → Option (List ℕ × List ℕ)
-parts_of input =
+abbrev pub input_parts : List ℕ → Option (List ℕ × List ℕ)
+input_parts input =
     if list_any is_report (lines_of input)
     then Some (before_report input, after_report input)
     else None
 
 -- what is to be a script: where no line is `report`, the whole input
 abbrev pub script_part : List ℕ → List ℕ
-script_part input = option_map_or (λ parts. parts.0) (parts_of input) input
+script_part input = option_map_or (λ parts. parts.0) (input_parts input) input

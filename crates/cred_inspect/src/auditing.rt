@@ -5,13 +5,13 @@ ghost use Rattle.std.specs.Option.{option_map};
 ghost use Rattle.cred_ids.specs.Limits.{LINE_LIMIT, AUDIT_LIMIT};
 ghost use Rattle.cred_spelling.specs.Lines.{lines_of};
 ghost use Rattle.cred_inspect.specs.Auditing.{AuditSuits, IsAuditWithin, Judges, LeavesVerdict};
-ghost use Rattle.cred_inspect.specs.Auditing.{Says, Writes, WritesPrefix, no_report_text};
-ghost use Rattle.cred_said.specs.Ends.{IsTooLarge, IsWhole, IsWithin};
+ghost use Rattle.cred_inspect.specs.Auditing.{SaysVerdict, Writes, WritesPrefix, no_report_text};
+ghost use Rattle.cred_said.specs.Ends.{IsTooLarge, IsWhole, IsWithinLimits};
 ghost use Rattle.cred_said.specs.Leaves.{IsReading, IsWriting};
 ghost use Rattle.cred_inspect.specs.Parts as spec;
 ghost use Rattle.cred_inspect.specs.Parts.{script_part};
 
-use crate::parts::parts_of;
+use crate::parts::input_parts;
 use cred_audit::{Verdict, audit};
 use cred_grammar::{line_count, read};
 use cred_ids::{NoMemory, limits};
@@ -53,7 +53,7 @@ fn run_audit<K: Sink>(alloc: Global, input: &[u8], sink: &mut K) -> Status
     ensures prefix { (sink.new ≡ sink.old) ⊎ (IsAuditWithin input.now
         × WritesPrefix (K.written sink.old) (K.written sink.new) input.now) }
 {
-    let parts = parts_of(input);
+    let parts = input_parts(input);
     if is_too_large(script_part(input, parts)) {
         return Status::TooLarge;
     }
@@ -62,7 +62,7 @@ fn run_audit<K: Sink>(alloc: Global, input: &[u8], sink: &mut K) -> Status
 
 /// What is to be a script: where no line is `report`, the whole input.
 fn script_part<'b>(input: &'b [u8], parts: Option<(&'b [u8], &'b [u8])>) -> &'b [u8]
-    requires { option_map (λ parts. (parts.0.now, parts.1.now)) parts ≡ spec.parts_of input.now }
+    requires { option_map (λ parts. (parts.0.now, parts.1.now)) parts ≡ spec.input_parts input.now }
     ensures { result.now ≡ spec.script_part input.now }
 {
     match parts {
@@ -73,7 +73,7 @@ fn script_part<'b>(input: &'b [u8], parts: Option<(&'b [u8], &'b [u8])>) -> &'b 
 
 /// Whether this has more bytes, or more lines, than a script may have.
 fn is_too_large(script: &[u8]) -> bool
-    ensures { MatchBool result (IsTooLarge script.now) (IsWithin script.now) }
+    ensures { MatchBool result (IsTooLarge script.now) (IsWithinLimits script.now) }
 {
     script.len() > limits::BYTE_LIMIT as usize || line_count(script) > limits::LINE_LIMIT
 }
@@ -81,9 +81,9 @@ fn is_too_large(script: &[u8]) -> bool
 /// What is said of an input within the limits.
 fn say(alloc: Global, input: &[u8], parts: Option<(&[u8], &[u8])>) -> Result<Said, NoMemory>
     requires parts { option_map (λ parts. (parts.0.now, parts.1.now)) parts
-        ≡ spec.parts_of input.now }
-    requires within { IsWithin (spec.script_part input.now) }
-    ensures { IfOk result (λ said. Says input.now said.status said.text.items) }
+        ≡ spec.input_parts input.now }
+    requires within { IsWithinLimits (spec.script_part input.now) }
+    ensures { IfOk result (λ said. SaysVerdict input.now said.status said.text.items) }
 {
     match parts {
         Some((script, report)) => judge(alloc, script, report),

@@ -14,7 +14,7 @@ use cred_said::{Said, Status, tell_said};
 use std::alloc::Global;
 
 /// Writes what the bytes of an attribute say, or why they are none.
-pub fn show<K: Sink>(alloc: Global, bytes: &[u8], sink: &mut K) -> Status
+pub fn run_decode<K: Sink>(alloc: Global, bytes: &[u8], sink: &mut K) -> Status
     ensures attribute { LeavesAttribute bytes.now result (K.written sink.old) (K.written sink.new) }
     ensures writing { IsWriting result (K.handed_on sink.new)
         (K.faults sink.old) (K.faults sink.new) }

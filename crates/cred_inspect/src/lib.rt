@@ -1,10 +1,15 @@
-//! What `audit` and `decode` do, over their input and their output: they look at what they are
-//! given, and run nothing.
+//! What `audit`, `decode`, `encode` and `capdata` do, over their input and their output: they look
+//! at what they are given, and run nothing.
 #![tactic(auto)]
 
 mod auditing;
 mod decoding;
+mod digits;
+mod encoding;
 mod parts;
+mod records;
 
 pub use auditing::read_and_audit;
-pub use decoding::show;
+pub use decoding::run_decode;
+pub use encoding::run_encode;
+pub use records::run_capdata;

@@ -10,8 +10,8 @@ const REPORT: &str = "report";
 
 /// What stands before the first line that is exactly `report`, and what follows that line; `None`
 /// where no line is.
-pub fn parts_of(input: &[u8]) -> Option<(&[u8], &[u8])>
-    ensures { option_map (λ parts. (parts.0.now, parts.1.now)) result ≡ spec.parts_of input.now }
+pub fn input_parts(input: &[u8]) -> Option<(&[u8], &[u8])>
+    ensures { option_map (λ parts. (parts.0.now, parts.1.now)) result ≡ spec.input_parts input.now }
 {
     let mut rest = input;
     while !rest.is_empty() {

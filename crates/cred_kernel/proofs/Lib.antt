@@ -1,8 +1,8 @@
 pub mod Closing
 pub mod Deciding
 pub mod Ends
-pub mod Lending
-pub mod Relending
+pub mod FirstLoans
+pub mod LaterLoans
 pub mod Returned
 pub mod Setup
 pub mod Stepping

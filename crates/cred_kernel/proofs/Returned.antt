@@ -3,7 +3,7 @@ use Rattle.std.proofs.Common.{◌≡◌, ℕ, ◌+◌, ◌≤◌, ◌&&◌, List
 use Rattle.atomic_table.specs.Seated.{TableId}
 use Rattle.cred_event.specs.declared.entry.Entry.{Entry}
 use Rattle.cred_model.specs.Script.{Script}
-use Rattle.cred_tables.specs.Out.{waits_in}
+use Rattle.cred_tables.specs.Out.{needs_tokens}
 use Rattle.cred_turn.specs.declared.numbers.Numbers.{Numbers}
 use Rattle.cred_turn.specs.declared.view.Row.{Row}
 use Rattle.cred_turn.specs.Rows.{lent_row, HasRow, row_of}
@@ -34,7 +34,7 @@ tallied_within : (script : Script) (lane : ℕ) (journal : List Entry) (tally : 
 tallied_within script lane [] tally = omega arith
 tallied_within script lane (entry ∷ entries) tally =
     let rest = tallied_within script lane entries (tallied script lane tally entry) in
-    let one = at_most_one (is_of_lane script lane entry && waits_in tally.state entry.event) in
+    let one = at_most_one (is_of_lane script lane entry && needs_tokens tally.state entry.event) in
     omega (arith, rest, one)
 
 decided_within : (script : Script) (journal : List Entry) (lane : ℕ) → decided_of script journal lane ≤ length journal

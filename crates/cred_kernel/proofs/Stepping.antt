@@ -7,7 +7,7 @@ use Rattle.cred_model.specs.Script.{Script}
 use Rattle.cred_model.specs.Journal.{due_in}
 use Rattle.cred_turn.specs.declared.numbers.Numbers.{Numbers}
 use Rattle.cred_work.specs.Work.{Work}
-use Rattle.cred_work.specs.Works.{IsUndecided}
+use Rattle.cred_work.specs.DecidedWorks.{IsUndecided}
 use Rattle.cred_book.specs.Book.{Recorded}
 use Rattle.cred_book.specs.Counts as counts
 use Rattle.cred_book.specs.Counts.{Counts, IsOutNow, IsSetUp, decided_of, ended_of, entered_of}
@@ -16,7 +16,7 @@ use Rattle.cred_book.specs.Works.{IsLanes}
 use Rattle.cred_book.specs.declared.step.Step.{Step}
 use Rattle.cred_book.specs.declared.step.Step.TheVariants.{More, Ended}
 use Rattle.cred_book.specs.declared.step.Step.TheVariants as step
-use Rattle.cred_kernel.specs.Advances.{Advanced, HasEntered, finished, stepped}
+use Rattle.cred_kernel.specs.Advances.{Advanced, TurnHasEntered, after_finish, after_step}
 use Rattle.cred_kernel.specs.Locks.{numbers_in}
 use Rattle.cred_kernel.specs.Turns.{Seen}
 
@@ -84,7 +84,7 @@ work_of before after lane (Some entry) work made = (made.3, made.4)
 pub moved : {E : Type 0} (before after : Recorded) (lane : ℕ) (was : Numbers) (entry : Option Entry) (step : Result Step E)
     → was ≡ numbers_in before lane → was.out ≡ None → after.script ≡ before.script
     → IfOk step (Makes before after lane entry) → IfOk step (Counts before after lane) → OnErr step (after ≡ before)
-    → IsMoved before after lane (stepped was (ended_of after.script after.journal lane) step)
+    → IsMoved before after lane (after_step was (ended_of after.script after.journal lane) step)
 moved {E} before after lane was entry (Ok More) is home script made counts err =
     let zero : was.decided + 0 ≡ was.decided = omega arith in
     subst (λ d. IsMoved before after lane (numbers (was.entered + 1) d (ended_of after.script after.journal lane) None)) zero
@@ -100,7 +100,7 @@ seen lane numbers = record { lane = lane; numbers = numbers }
 
 -- What the numbers of the lane say of the turn, where it had the lane's numbers before.
 has_entered : (before after : Recorded) (lane works : ℕ) (was now : Numbers) → was ≡ numbers_in before lane → now ≡ numbers_in after lane
-    → counts.HasEntered before after lane works → HasEntered before.script works (seen lane was) (seen lane now)
+    → counts.HasEntered before after lane works → TurnHasEntered before.script works (seen lane was) (seen lane now)
 has_entered before after lane works was now is then has = record {
   lane = refl;
   entered = rw (is, then) has.own;
@@ -114,7 +114,7 @@ has_entered before after lane works was now is then has = record {
 pub advanced : {E : Type 0} (cells : TableId) (before after : Recorded) (lane : ℕ) (was : Numbers) (entry : Option Entry) (step : Result Step E)
     → was ≡ numbers_in before lane → was.out ≡ None → after.script ≡ before.script → after.words.id ≡ cells → IsSetUp before
     → IfOk step (Makes before after lane entry) → IfOk step (Counts before after lane) → OnErr step (after ≡ before)
-    → IfOk step (Advanced before.script cells (seen lane was) (seen lane (stepped was (ended_of after.script after.journal lane) step)))
+    → IfOk step (Advanced before.script cells (seen lane was) (seen lane (after_step was (ended_of after.script after.journal lane) step)))
 advanced {E} cells before after lane was entry (Ok More) is home script own up made counts err =
     let step : Result Step E = Ok More in
     has_entered before after lane 0 was _ is (moved before after lane was entry step is home script made counts err).own counts
@@ -140,13 +140,13 @@ advanced {E} cells before after lane was entry (Err e) is home script own up mad
 -- and of a work that came back
 pub moved_back : {E : Type 0} (before after : Recorded) (lane : ℕ) (was : Numbers) (step : Result Step E)
     → was ≡ numbers_in before lane → IfOk step (λ _. counts.HasEntered before after lane 1) → OnErr step (after ≡ before)
-    → IsMoved before after lane (finished was (ended_of after.script after.journal lane) step)
+    → IsMoved before after lane (after_finish was (ended_of after.script after.journal lane) step)
 moved_back {E} before after lane was (Ok step) is has err = enters before after lane 1 was is has
 moved_back {E} before after lane was (Err e) is has err = stays before after lane was is err
 
 pub came_back : {E : Type 0} (before after : Recorded) (lane : ℕ) (was : Numbers) (step : Result Step E)
     → was ≡ numbers_in before lane → IfOk step (λ _. counts.HasEntered before after lane 1) → OnErr step (after ≡ before)
-    → IfOk step (λ _. HasEntered before.script 1 (seen lane was) (seen lane (finished was (ended_of after.script after.journal lane) step)))
+    → IfOk step (λ _. TurnHasEntered before.script 1 (seen lane was) (seen lane (after_finish was (ended_of after.script after.journal lane) step)))
 came_back {E} before after lane was (Ok step) is has err =
     has_entered before after lane 1 was _ is (enters before after lane 1 was is has).own has
 came_back {E} before after lane was (Err e) is has err = tt
@@ -158,14 +158,14 @@ err_same {E} P before after (Err e) err = err.1
 
 -- after want of memory the turn is as it was
 pub same_stepped : {E : Type 0} (before after : Recorded) (lane : ℕ) (was : Numbers) (step : Result Step E) → was ≡ numbers_in before lane
-    → OnErr step (after ≡ before) → OnErr step (stepped was (ended_of after.script after.journal lane) step ≡ was)
+    → OnErr step (after ≡ before) → OnErr step (after_step was (ended_of after.script after.journal lane) step ≡ was)
 same_stepped {E} before after lane was (Ok step) is err = tt
 same_stepped {E} before after lane was (Err e) is err =
     ap (λ n. record was { ended = n })
     (ap (λ (b : Recorded). ended_of b.script b.journal lane) err ∙ sym (ap (λ (n : Numbers). n.ended) is))
 
 pub same_finished : {E : Type 0} (before after : Recorded) (lane : ℕ) (was : Numbers) (step : Result Step E) → was ≡ numbers_in before lane
-    → OnErr step (after ≡ before) → OnErr step (finished was (ended_of after.script after.journal lane) step ≡ was)
+    → OnErr step (after ≡ before) → OnErr step (after_finish was (ended_of after.script after.journal lane) step ≡ was)
 same_finished {E} before after lane was (Ok step) is err = tt
 same_finished {E} before after lane was (Err e) is err =
     ap (λ n. record was { ended = n })

@@ -7,7 +7,7 @@ use native.Mathlib.Decide.{ℕ_discrete}
 use Rattle.cred_model.specs.Script.{Script}
 use Rattle.cred_turn.specs.declared.view.Row.{Row}
 use Rattle.cred_turn.specs.Rows.{fresh, home_row, lent_row, row_of, with_row}
-use Rattle.cred_kernel.specs.Turns.{AreAll, Seen, turn_at}
+use Rattle.cred_kernel.specs.Turns.{AreAllTurns, Seen, turn_at}
 
 -- The passes of the turns so far came back, and the rows of the others are as at the start.
 pub record Took (start rows : List Row) (before : List Seen) : Type 0 where
@@ -15,7 +15,7 @@ pub record Took (start rows : List Row) (before : List Seen) : Type 0 where
   pub out : (k : ℕ) → length before ≤ k → row_of rows (k + 1) ≡ row_of start (k + 1)
 
 -- in a list of all turns, the next one's lane is one more than the number of those before it
-pub lane_is : (script : Script) (all before after : List Seen) (turn : Seen) → AreAll script all → before ++ turn ∷ after ≡ all → turn.lane ≡ length before + 1
+pub lane_is : (script : Script) (all before after : List Seen) (turn : Seen) → AreAllTurns script all → before ++ turn ∷ after ≡ all → turn.lane ≡ length before + 1
 lane_is script all before after turn are split =
     let here : length before < length all = omega (arith, sym (ap length split) ∙ length-append before (turn ∷ after)) in
     let at : turn_at all (length before) ≡ turn

@@ -4,7 +4,7 @@ use Rattle.atomic_table.specs.Seated.{TableId}
 use Rattle.cred_model.specs.Script.{Script}
 use Rattle.cred_turn.specs.declared.numbers.Numbers.{Numbers}
 use Rattle.cred_work.specs.Work.{Work}
-use Rattle.cred_work.specs.Works.{IsUndecided}
+use Rattle.cred_work.specs.DecidedWorks.{IsUndecided}
 use Rattle.cred_book.specs.Counts.{IsSameOrNext, lines_in}
 use Rattle.cred_book.specs.Works.{IsWorkOf}
 use Rattle.cred_book.specs.declared.step.Step.{Step}
@@ -14,7 +14,7 @@ use Rattle.cred_kernel.specs.Turns.{Seen, LaneHasEnded}
 
 -- The turn had a line left, and has entered one event more, of which so many had gone out as a work
 -- first: one or none. At most one of its lines has ended by that.
-pub record HasEntered (script : Script) (works : ℕ) (old new : Seen) : Type 0 where
+pub record TurnHasEntered (script : Script) (works : ℕ) (old new : Seen) : Type 0 where
   pub lane : new.lane ≡ old.lane
   pub entered : new.numbers.entered ≡ old.numbers.entered + 1
   pub decided : new.numbers.decided ≡ old.numbers.decided + works
@@ -37,24 +37,24 @@ pub record HasGiven (script : Script) (cells : TableId) (old new : Seen) (work :
 -- What a step made of the turn. It was Ended exactly if no line of the lane was left, and what was
 -- entered was no work's.
 abbrev pub Advanced : Script → TableId → Seen → Seen → Step → Type 0
-Advanced script cells old new More = HasEntered script 0 old new
+Advanced script cells old new More = TurnHasEntered script 0 old new
 Advanced script cells old new (step.Work work) = HasGiven script cells old new work
 Advanced script cells old new Ended = (new ≡ old) × LaneHasEnded script new
 
 -- the numbers of a lane after a step, by which so many of its lines have ended
-abbrev pub stepped : {E : Type 0} → Numbers → ℕ → Result Step E → Numbers
-stepped numbers ended (Ok More) =
+abbrev pub after_step : {E : Type 0} → Numbers → ℕ → Result Step E → Numbers
+after_step numbers ended (Ok More) =
     record numbers { entered = numbers.entered + 1; ended = ended; out = None }
-stepped numbers ended (Ok (step.Work work)) =
+after_step numbers ended (Ok (step.Work work)) =
     record numbers { ended = ended; out = Some work.line }
-stepped numbers ended step = record numbers { ended = ended }
+after_step numbers ended step = record numbers { ended = ended }
 
 -- the numbers of a lane after its work came back, by which so many of its lines have ended
-abbrev pub finished : {E : Type 0} → Numbers → ℕ → Result Step E → Numbers
-finished numbers ended (Ok step) = record {
+abbrev pub after_finish : {E : Type 0} → Numbers → ℕ → Result Step E → Numbers
+after_finish numbers ended (Ok step) = record {
   entered = numbers.entered + 1;
   decided = numbers.decided + 1;
   ended = ended;
   out = None;
 }
-finished numbers ended (Err left) = record numbers { ended = ended }
+after_finish numbers ended (Err left) = record numbers { ended = ended }

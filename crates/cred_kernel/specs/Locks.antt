@@ -10,7 +10,7 @@ use Rattle.cred_turn.specs.Rows.{fresh, home_row, lent_row, HasRow, row_of}
 use Rattle.cred_turn.specs.Seen.{Rolled}
 use Rattle.cred_book.specs.Book.{Recorded, out_of}
 use Rattle.cred_book.specs.Counts.{IsSetUp, decided_of, ended_of, entered_of}
-use Rattle.cred_book.specs.Cursor.{Stands}
+use Rattle.cred_book.specs.Cursor.{BookStands}
 use Rattle.cred_kernel.specs.Turns.{Seen, turn_at}
 
 -- the parts of a kernel: the book's script, and the identities of the roll and of the cells
@@ -35,14 +35,14 @@ pub record IsFirst (book : Recorded) : Type 0 where
   pub outs : (lane : ℕ) → 0 < lane → out_of book lane ≡ None
 
 -- the setup has ended, and nothing was done for any other lane
-pub record IsReady (book : Recorded) : Type 0 where
-  pub stands : Stands book
+pub record IsReadyBook (book : Recorded) : Type 0 where
+  pub stands : BookStands book
   pub set_up : IsSetUp book
   pub first : IsFirst book
 
 -- the book is ready, and the roll has a row for each of the script's lanes, none of them lent
-pub record IsMade (book : Recorded) (roll : Rolled) : Type 0 where
-  pub ready : IsReady book
+pub record IsNewKernel (book : Recorded) (roll : Rolled) : Type 0 where
+  pub ready : IsReadyBook book
   pub rows : roll.rows ≡ replicate (lanes book.script.lines) (home_row fresh)
 
 -- what lies under the lock: the journal and the rows
@@ -63,7 +63,7 @@ pub record IsLocked
   pub script_is : book.script ≡ script
   pub cells_are : book.words.id ≡ cells
   pub roll_is : roll.id ≡ roll_id
-  pub stands : Stands book
+  pub stands : BookStands book
   pub set_up : IsSetUp book
   pub lent : AreLent book roll.rows
 

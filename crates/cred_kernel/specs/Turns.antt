@@ -54,18 +54,18 @@ abbrev pub turn_at : List Seen → ℕ → Seen
 turn_at turns place = slice_index_or turns place (record { lane = 0; numbers = fresh })
 
 -- one turn for each lane, in order, the first of which is lane 1
-pub record AreAll (script : Script) (turns : List Seen) : Type 0 where
+pub record AreAllTurns (script : Script) (turns : List Seen) : Type 0 where
   pub count : length turns ≡ lanes script.lines
   pub in_order : (k : ℕ) → k < length turns → (turn_at turns k).lane ≡ k + 1
 
 -- the same, and nothing was entered yet
 abbrev pub AreFresh : Script → List Seen → Type 0
 AreFresh script turns =
-    AreAll script turns × ((k : ℕ) → k < length turns → IsFresh (turn_at turns k))
+    AreAllTurns script turns × ((k : ℕ) → k < length turns → IsFresh (turn_at turns k))
 
 -- no line is being decided
-abbrev pub AreHome : List Seen → Type 0
-AreHome turns = (k : ℕ) → k < length turns → (turn_at turns k).numbers.out ≡ None
+abbrev pub NoWorkIsOut : List Seen → Type 0
+NoWorkIsOut turns = (k : ℕ) → k < length turns → (turn_at turns k).numbers.out ≡ None
 
 abbrev pub HaveEnded : Script → List Seen → Type 0
 HaveEnded script turns = (k : ℕ) → k < length turns → LaneHasEnded script (turn_at turns k)

@@ -1,11 +1,11 @@
 //! What the lanes' threads share.
 ghost use Rattle.std.specs.Prelude.{◌≡◌, None, Some, IfOk, IfErr, OnOk, OnErr};
 ghost use Rattle.cred_model.specs.Journal.{IsLegal};
-ghost use Rattle.cred_work.specs.Works.{IsDecided};
+ghost use Rattle.cred_work.specs.DecidedWorks.{IsDecided};
 ghost use Rattle.cred_book.specs.Works.{IsWorkOf};
 ghost use Rattle.cred_book.specs.declared.step.Step.TheVariants.{More};
-ghost use Rattle.cred_kernel.specs.Advances.{Advanced, HasEntered};
-ghost use Rattle.cred_kernel.specs.Turns.{AreAll, AreCounted, AreFresh, HaveEnded};
+ghost use Rattle.cred_kernel.specs.Advances.{Advanced, TurnHasEntered};
+ghost use Rattle.cred_kernel.specs.Turns.{AreAllTurns, AreCounted, AreFresh, HaveEnded};
 
 use crate::locked::Locked;
 use crate::name::Name;
@@ -179,7 +179,7 @@ impl<K: Name> Kernel<K> {
         requires work { IsWorkOf K.script K.cells work }
         requires decided { IsDecided work }
         ensures more { IfOk result (λ step. step ≡ More) }
-        ensures entered { OnOk result (HasEntered K.script 1 turn.old turn.new) }
+        ensures entered { OnOk result (TurnHasEntered K.script 1 turn.old turn.new) }
         ensures err { IfErr result (λ left. (left.work ≡ work) × (turn.new ≡ turn.old)) }
     {
         self.lock(rt).finish(turn, work)
@@ -188,7 +188,7 @@ impl<K: Name> Kernel<K> {
     /// The journal, once each of its turns has ended. It is a legal one, and has as many entries of
     /// each lane as the lane's turn has entered. No memory is taken.
     pub fn close(self, turns: TurnList<K>) -> Journal
-        requires all { AreAll K.script turns }
+        requires all { AreAllTurns K.script turns }
         requires ended { HaveEnded K.script turns }
         ensures script { result.script ≡ K.script }
         ensures legal { IsLegal K.script result.entries.items }
@@ -241,7 +241,7 @@ impl<K: Name> KernelGuard<'_, K> {
         requires work { IsWorkOf K.script K.cells work }
         requires decided { IsDecided work }
         ensures more { IfOk result (λ step. step ≡ More) }
-        ensures entered { OnOk result (HasEntered K.script 1 turn.old turn.new) }
+        ensures entered { OnOk result (TurnHasEntered K.script 1 turn.old turn.new) }
         ensures err { IfErr result (λ left. (left.work ≡ work) × (turn.new ≡ turn.old)) }
     {
         let kernel = self.kernel;

@@ -1,9 +1,9 @@
 //! What stands under the lock, and the steps that are made there.
 ghost use Rattle.std.specs.Prelude.{◌≡◌, ◌<◌, ◌^◌, length, None, Some, IfOk, IfErr, OnOk, OnErr};
-ghost use Rattle.cred_work.specs.Works.{IsDecided};
+ghost use Rattle.cred_work.specs.DecidedWorks.{IsDecided};
 ghost use Rattle.cred_book.specs.Works.{IsWorkOf};
 ghost use Rattle.cred_book.specs.declared.step.Step.TheVariants.{More};
-ghost use Rattle.cred_kernel.specs.Advances.{Advanced, HasEntered, finished, stepped};
+ghost use Rattle.cred_kernel.specs.Advances.{Advanced, TurnHasEntered, after_finish, after_step};
 
 use crate::name::Name;
 use crate::token::Turn;
@@ -56,7 +56,7 @@ impl<K: Name> Locked<K> {
         // A lane has no more entries than the journal, for whose length there is room.
         let _entries = count(self.book.journal());
         let step = self.book.next(cells, turn.lane);
-        turn.numbers = stepped(turn.numbers, &step, self.book.ended(turn.lane));
+        turn.numbers = after_step(turn.numbers, &step, self.book.ended(turn.lane));
         turn.pass = Some(self.roll.lend(turn.lane, turn.numbers));
         step
     }
@@ -78,7 +78,7 @@ impl<K: Name> Locked<K> {
         requires work { IsWorkOf K.script K.cells work }
         requires decided { IsDecided work }
         ensures more { IfOk result (λ step. step ≡ More) }
-        ensures entered { OnOk result (HasEntered K.script 1 turn.old turn.new) }
+        ensures entered { OnOk result (TurnHasEntered K.script 1 turn.old turn.new) }
         ensures err { IfErr result (λ left. (left.work ≡ work) × (turn.new ≡ turn.old)) }
     {
         let Some(pass) = turn.pass.take() else {
@@ -87,16 +87,16 @@ impl<K: Name> Locked<K> {
         self.roll.take(pass);
         let _entries = count(self.book.journal());
         let step = self.book.finish(cells, turn.lane, work);
-        turn.numbers = finished(turn.numbers, &step, self.book.ended(turn.lane));
+        turn.numbers = after_finish(turn.numbers, &step, self.book.ended(turn.lane));
         turn.pass = Some(self.roll.lend(turn.lane, turn.numbers));
         step
     }
 }
 
 /// The lane's numbers after a step of it, by which so many of its lines have ended.
-fn stepped(before: Numbers, step: &Result<Step, NoMemory>, ended: u32) -> Numbers
+fn after_step(before: Numbers, step: &Result<Step, NoMemory>, ended: u32) -> Numbers
     requires room { before.entered < 2 ^ 63 }
-    ensures { result ≡ stepped before ended step.now }
+    ensures { result ≡ after_step before ended step.now }
 {
     match step {
         Ok(Step::More) => Numbers {
@@ -116,10 +116,10 @@ fn stepped(before: Numbers, step: &Result<Step, NoMemory>, ended: u32) -> Number
 
 /// The lane's numbers after its work came back, by which so many of its lines have ended. What was
 /// entered then is one event more that went out as a work first.
-fn finished(before: Numbers, step: &Result<Step, Unfinished>, ended: u32) -> Numbers
+fn after_finish(before: Numbers, step: &Result<Step, Unfinished>, ended: u32) -> Numbers
     requires entered { before.entered < 2 ^ 63 }
     requires decided { before.decided < 2 ^ 63 }
-    ensures { result ≡ finished before ended step.now }
+    ensures { result ≡ after_finish before ended step.now }
 {
     match step {
         Ok(_) => Numbers {

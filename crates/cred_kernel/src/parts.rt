@@ -2,9 +2,9 @@
 ghost use Rattle.std.specs.Prelude.{◌≡◌, ◌<◌, ℕ, [], None, IfOk, OnOk};
 ghost use Rattle.cred_book.specs.Book.{out_of};
 ghost use Rattle.cred_book.specs.Counts.{HasEntered};
-ghost use Rattle.cred_book.specs.Cursor.{Stands, left};
+ghost use Rattle.cred_book.specs.Cursor.{BookStands, steps_left};
 ghost use Rattle.cred_book.specs.Works.{IsLanes};
-ghost use Rattle.cred_kernel.specs.Locks.{IsFirst, IsReady};
+ghost use Rattle.cred_kernel.specs.Locks.{IsFirst, IsReadyBook};
 
 use cred_book::{Book, Step, Unfinished};
 use cred_hold::Cells;
@@ -26,13 +26,13 @@ pub struct Parts {
 
 impl Model for Parts {
     ghost use Rattle.std.specs.Prelude.{◌≡◌};
-    ghost use Rattle.cred_kernel.specs.Locks.{IsMade, KernelParts};
+    ghost use Rattle.cred_kernel.specs.Locks.{IsNewKernel, KernelParts};
 
     ghost Value = { KernelParts };
 
     ghost view = { λ p. record { script = p.book.script; roll = p.roll.id; cells = p.cells } };
 
-    ghost invariant = { λ p. IsMade p.book p.roll × (p.book.words.id ≡ p.cells) };
+    ghost invariant = { λ p. IsNewKernel p.book p.roll × (p.book.words.id ≡ p.cells) };
 }
 
 impl Parts {
@@ -56,7 +56,7 @@ impl Parts {
 /// The book of the script after the setup, lane 0, and its cells.
 fn set_up(alloc: Global, script: Script) -> Result<(Book, Cells), NoMemory>
     ensures script { IfOk result (λ made. made.0.script ≡ script) }
-    ensures ready { IfOk result (λ made. IsReady made.0) }
+    ensures ready { IfOk result (λ made. IsReadyBook made.0) }
     ensures own { IfOk result (λ made. made.0.words.id ≡ made.1) }
 {
     let (mut book, cells) = Book::new(alloc, script)?;
@@ -77,12 +77,12 @@ fn set_up(alloc: Global, script: Script) -> Result<(Book, Cells), NoMemory>
 /// `NoMemory` if an allocation of an event, of a work, of the state or of an entry fails.
 fn run_setup(alloc: Global, book: &mut Book, cells: &Cells) -> Result<(), NoMemory>
     requires own { book.old.words.id ≡ cells.now }
-    requires stands { Stands book.old }
+    requires stands { BookStands book.old }
     requires empty { book.old.journal ≡ [] }
     requires home { (lane : ℕ) → out_of book.old lane ≡ None }
     ensures script { book.new.script ≡ book.old.script }
     ensures cells { book.new.words.id ≡ book.old.words.id }
-    ensures ready { OnOk result (IsReady book.new) }
+    ensures ready { OnOk result (IsReadyBook book.new) }
 {
     'setup: loop {
         match book.next(cells, 0)? {
@@ -106,12 +106,12 @@ fn decide_and_enter(
     work: Work,
 ) -> Result<(), NoMemory>
     requires own { book.old.words.id ≡ cells.now }
-    requires stands { Stands book.old }
+    requires stands { BookStands book.old }
     requires lanes { IsLanes book.old lane work }
     ensures script { book.new.script ≡ book.old.script }
     ensures cells { book.new.words.id ≡ book.old.words.id }
-    ensures stands { Stands book.new }
-    ensures falls { OnOk result (left book.new < left book.old) }
+    ensures stands { BookStands book.new }
+    ensures falls { OnOk result (steps_left book.new < steps_left book.old) }
     ensures counts { OnOk result (HasEntered book.old book.new lane 1) }
 {
     let mut work = work;

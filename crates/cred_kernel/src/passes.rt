@@ -3,8 +3,8 @@ ghost use Rattle.std.specs.Prelude.{◌≡◌, ◌<◌, ◌≤◌, replicate, If
 ghost use Rattle.cred_script.specs.Lanes.{lanes};
 ghost use Rattle.cred_turn.specs.Rows.{fresh, home_row};
 ghost use Rattle.cred_turn.specs.Seen.{pass};
-ghost use Rattle.cred_kernel.specs.Locks.{AreLent, AreTheirs, IsReady};
-ghost use Rattle.cred_kernel.specs.Turns.{AreAll, AreFresh};
+ghost use Rattle.cred_kernel.specs.Locks.{AreLent, AreTheirs, IsReadyBook};
+ghost use Rattle.cred_kernel.specs.Turns.{AreAllTurns, AreFresh};
 
 use crate::name::Name;
 use crate::token::{Turn, TurnList};
@@ -25,7 +25,7 @@ pub(crate) fn lend_all<K: Name>(
     roll: &mut Roll,
 ) -> Result<TurnList<K>, NoMemory>
     requires script { book.now.script ≡ K.script }
-    requires ready { IsReady book.now }
+    requires ready { IsReadyBook book.now }
     requires roll { roll.old.id ≡ K.roll }
     requires rows { roll.old.rows ≡ replicate (lanes K.script.lines) (home_row fresh) }
     ensures turns { IfOk result (AreFresh K.script) }
@@ -64,7 +64,7 @@ fn new_turn<K: Name>(lane: u32, numbers: Numbers, lent: Pass) -> Turn<K>
 /// Takes the pass of every turn back: each turn has the numbers of its row.
 pub(crate) fn take_all<K: Name>(roll: &mut Roll, turns: TurnList<K>)
     requires roll { roll.old.id ≡ K.roll }
-    requires all { AreAll K.script turns }
+    requires all { AreAllTurns K.script turns }
     ensures { AreTheirs roll.old.rows turns }
 {
     let TurnList { turns } = turns;

@@ -32,11 +32,11 @@ pub fn lanes<G: Gate + Sync, R: Threads + Wait + Sync>(
     ensures legal { IfOk result (λ journal. IsLegal script journal.entries.items) }
 {
     let parts = Parts::new(alloc, script)?;
-    named::<Brand, G, R>(rt, alloc, parts, gate)
+    run_named::<Brand, G, R>(rt, alloc, parts, gate)
 }
 
 /// The same under a name that stands for this script, this roll and these cells.
-fn named<K: Name + Send + Sync, G: Gate + Sync, R: Threads + Wait + Sync>(
+fn run_named<K: Name + Send + Sync, G: Gate + Sync, R: Threads + Wait + Sync>(
     rt: &R,
     alloc: Global,
     parts: Parts,

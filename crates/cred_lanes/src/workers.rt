@@ -1,9 +1,9 @@
 //! The workers, one for each lane.
 ghost use Rattle.std.specs.Prelude.{◌≡◌, length, IfOk, OnOk, None, Some};
 ghost use Rattle.cred_script.specs.Lanes.{lanes};
-ghost use Rattle.cred_work.specs.Works.{IsDecided};
+ghost use Rattle.cred_work.specs.DecidedWorks.{IsDecided};
 ghost use Rattle.cred_book.specs.Works.{IsWorkOf};
-ghost use Rattle.cred_kernel.specs.Turns.{AreAll, AreHome, HaveEnded};
+ghost use Rattle.cred_kernel.specs.Turns.{AreAllTurns, NoWorkIsOut, HaveEnded};
 ghost use Rattle.cred_lanes.specs.Works.{AllFinished, Finished, HasGoneOn, IsDue, IsReturn};
 
 use crate::gate::{Gate, Place};
@@ -33,9 +33,9 @@ pub fn drive<K: Name + Send + Sync, G: Gate + Sync, R: Threads + Wait + Sync>(
     turns: TurnList<K>,
     gate: &G,
 ) -> Result<TurnList<K>, NoMemory>
-    requires all { AreAll K.script turns }
-    requires home { AreHome turns }
-    ensures all { IfOk result (AreAll K.script) }
+    requires all { AreAllTurns K.script turns }
+    requires home { NoWorkIsOut turns }
+    ensures all { IfOk result (AreAllTurns K.script) }
     ensures ended { IfOk result (HaveEnded K.script) }
 {
     let done = thread::map_vec(
@@ -193,7 +193,7 @@ fn all_ended<K: Name>(
 ) -> Result<TurnList<K>, NoMemory>
     requires count { length done.items ≡ lanes K.script.lines }
     requires each { AllFinished K.script done.items }
-    ensures all { IfOk result (AreAll K.script) }
+    ensures all { IfOk result (AreAllTurns K.script) }
     ensures ended { IfOk result (HaveEnded K.script) }
 {
     let mut turns = Vec::new(alloc);

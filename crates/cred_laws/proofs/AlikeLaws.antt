@@ -20,7 +20,7 @@ use Rattle.cred_sound.specs.Sound.{IsSound}
 use Rattle.cred_sound.proofs.Events.{changes}
 use Rattle.cred_sound.proofs.Parts.{begun}
 use Rattle.cred_sound.proofs.Sound.{sound_after}
-use Rattle.cred_laws.specs.Broadcast.{AllHave, Completes, kind_of, three_of, IsAlike, stepping}
+use Rattle.cred_laws.specs.Broadcast.{AllHave, Completes, call_kind, three_ids, IsAlike, stepping}
 use Rattle.cred_laws.specs.Journals.{state_at, RunsThrough, StepAlike, KeepsAlike}
 use Rattle.cred_laws.specs.Made.{AreMade}
 use Rattle.cred_laws.proofs.BegunLaws.{Begun, began, begun_followed, begun_shown}
@@ -37,7 +37,7 @@ shown_is : (x y : Broadcast) → shown x ≡ Some y → y ≡ x
 shown_is x y is =
     elim (is_open x) as (λ b. cond b (Some x) None ≡ Some y → y ≡ x) [ true ↦ λ same. (cc) | false ↦ λ none. (cc) ] is
 
-module _ (script : Script) (journal : List Entry) (answered : IsAnswered script journal) (from upto number process : ℕ) (call : IdCall) (ids : List ℕ) (able : Bool) (run : RunsThrough script journal from upto number process call) (steps : StepAlike script journal from upto number (kind_of call) ids able) where
+module _ (script : Script) (journal : List Entry) (answered : IsAnswered script journal) (from upto number process : ℕ) (call : IdCall) (ids : List ℕ) (able : Bool) (run : RunsThrough script journal from upto number process call) (steps : StepAlike script journal from upto number (call_kind call) ids able) where
   abbrev At : ℕ → State
   At i = state_at script journal i
 
@@ -56,9 +56,9 @@ module _ (script : Script) (journal : List Entry) (answered : IsAnswered script 
   -- what is known of the thread whose own step an entry is
   alike_at : (i : ℕ) (entry : Entry) (task : ℕ) (c : Numbered) → from ≤ i → i ≤ upto → slice_get journal i ≡ Some entry
       → stepping number entry.line entry.event entry.answer ≡ Some task → current_of (At i) task ≡ Some c
-      → IsAlike (kind_of call) ids able c.cred
+      → IsAlike (call_kind call) ids able c.cred
   alike_at i entry task c after before is step_is current =
-      let Known : Option Numbered → Type 0 = λ o. IfSome o (λ c. IsAlike (kind_of call) ids able c.cred) in
+      let Known : Option Numbered → Type 0 = λ o. IfSome o (λ c. IsAlike (call_kind call) ids able c.cred) in
       let Step : Option ℕ → Type 0 = λ o. IfSome o (λ task. Known (current_of (At i) task)) in
       let all = steps i after before in
       let here = subst (λ o. IfSome o (λ entry. Step (stepping number entry.line entry.event entry.answer))) is all in
@@ -92,21 +92,21 @@ module _ (script : Script) (journal : List Entry) (answered : IsAnswered script 
       ∙ ap (stepping number run.first.line (Begin run.task call)) run.began
       ∙ ap (λ b. cond b (Some run.task) None) test
 
-  caller_alike : IsAlike (kind_of call) ids able begins.old.cred
+  caller_alike : IsAlike (call_kind call) ids able begins.old.cred
   caller_alike = alike_at from run.first run.task begins.old (omega arith) run.order run.begins caller_step begins.has
 
   -- the caller's three ids after its step
   abbrev Equal : List ℕ
-  Equal = three_of (kind_of call) begins.new
+  Equal = three_ids (call_kind call) begins.new
 
   abbrev P : Credential → Type 0
-  P c = three_of (kind_of call) c ≡ Equal
+  P c = three_ids (call_kind call) c ≡ Equal
 
   kept : (c d : Credential) → AreSame c d → P c → P d
-  kept c d same has = three_same (kind_of call) Equal c d same has
+  kept c d same has = three_same (call_kind call) Equal c d same has
 
   -- what another one's step makes is alike
-  made_alike : (old new : Credential) → IsAlike (kind_of call) ids able old → set_id old call ≡ Ok new → P new
+  made_alike : (old new : Credential) → IsAlike (call_kind call) ids able old → set_id old call ≡ Ok new → P new
   made_alike old new one ruled =
       sym (alike begins.old.cred begins.new old new call (caller_alike.both ∙ sym one.both) (caller_alike.same ∙ sym one.same) begins.ruled ruled)
 
@@ -207,7 +207,7 @@ module _ (script : Script) (journal : List Entry) (answered : IsAnswered script 
       let news : Ok b.new ≡ Ok begins.new
       = sym b.ruled ∙ ap (set_id b.old.cred) is_call ∙ ap (λ (c : Numbered). set_id c.cred call) old ∙ begins.ruled in
       let new : b.new ≡ begins.new = cc in
-      ap (three_of (kind_of call)) new
+      ap (three_ids (call_kind call)) new
 
   last_step : AllHave P (step script (At upto) run.last.line run.last.event).1 process
   last_step =
@@ -239,7 +239,7 @@ module _ (script : Script) (journal : List Entry) (answered : IsAnswered script 
             completes
       ]
 
-  pub equal : (equal : List ℕ) × AllHave (λ c. three_of (kind_of call) c ≡ equal) (At (upto + 1)) process
+  pub equal : (equal : List ℕ) × AllHave (λ c. three_ids (call_kind call) c ≡ equal) (At (upto + 1)) process
   equal = (Equal, subst (λ t. AllHave P t process) (sym (step_at script journal upto run.last run.ends)) last_step)
 
 pub keeps_alike : (script : Script) (journal : List Entry) → IsAnswered script journal → KeepsAlike script journal

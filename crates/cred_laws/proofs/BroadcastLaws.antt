@@ -23,7 +23,7 @@ use Rattle.cred_model.specs.Step.{step}
 use Rattle.cred_model.proofs.Lists.{found}
 use Rattle.cred_model.proofs.Referred.{all_survive}
 use Rattle.cred_sound.specs.Sound.{IsSound}
-use Rattle.cred_sound.proofs.Parts.{begun, TasksChange, ByBegin, ByAct, ByCommit, BySpawn, ByFork, ByExit, ByAbort, SameTasks, SetsFlag, Creates, Shares, Renews, Overrides, Fewer, casts_left}
+use Rattle.cred_sound.proofs.Parts.{begun, TasksChange, ByBegin, ByAct, ByRaw, ByCommit, BySpawn, ByFork, ByExit, ByAbort, SameTasks, SetsFlag, Creates, Shares, Renews, Overrides, Fewer, casts_left}
 use Rattle.cred_sound.proofs.Events.{changes}
 use Rattle.cred_sound.proofs.Sound.{step_sound, opening_sound}
 use Rattle.cred_sound.proofs.Threads.{finds_itself}
@@ -90,6 +90,8 @@ none_by s event made process none (Renews task slot owner c ends tasks creds liv
     ] refl
 none_by s event made process none (Renews task slot owner c ends tasks creds lives (ByAct number at cast before is opened first has ruled none_end casts answered flags)) =
     inl (ap (found_in process) casts ∙ left_none task process s.casts none)
+none_by s event made process none (Renews task slot owner c ends tasks creds lives (ByRaw call before at is has ruled idle none_end casts answered flags)) =
+    inl (no_change process s.casts made.1.casts casts none)
 none_by s event made process none (Renews task slot owner c ends tasks creds lives (ByCommit label place at count p last is first there own changed same cred ending casts answered flags)) =
     inl (ap (found_in process) casts ∙ committed_none process last.change owner s.casts none)
 none_by s event made process none (Overrides task numbers tasks refer casts flags) = inl (no_change process s.casts made.1.casts casts none)
@@ -147,7 +149,7 @@ followed_from script (entry ∷ journal) s sound are followed =
 
 pub followed_after : (script : Script) (journal : List Entry) → AreFollowed (replay script journal)
 followed_after script journal =
-    followed_from script journal opening opening_sound (λ k d lt. absurd (omega arith)) (λ process. tt)
+    followed_from script journal (opening script) (opening_sound script) (λ k d lt. absurd (omega arith)) (λ process. tt)
 
 -- ---- a call that is completed
 

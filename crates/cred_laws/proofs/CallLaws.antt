@@ -13,7 +13,7 @@ use Rattle.cred_caps.specs.declared.secure.Flag.TheVariants.{NoRoot, NoSetuidFix
 use Rattle.cred_caps.specs.Caps.{Caps, empty, meet, less, IsWithin}
 use Rattle.cred_caps.specs.Numbers.{SETGID, SETPCAP}
 use Rattle.cred_caps.specs.Flags.{SetsFlag}
-use Rattle.cred_caps.specs.Secure.{is_set, is_locked, with_flag}
+use Rattle.cred_caps.specs.Secure.{is_set, is_locked, with_secure_flag}
 use Rattle.cred_caps.proofs.FlagLaws.{sets_flag}
 use Rattle.cred_caps.proofs.SetLaws.{within_itself, meet-left, less-within}
 use Rattle.cred_record.specs.declared.adj_call.AdjCall.{AdjCall}
@@ -35,7 +35,7 @@ use Rattle.cred_exec.proofs.ExecLaws.{gains_are_what_is_gained, inheritable_and_
 use Rattle.cred_event.specs.declared.answer.Answer.TheVariants as answer
 use Rattle.cred_event.specs.declared.event.Change.TheVariants.{SetFs, Adjust, Exec, Access}
 use Rattle.cred_model.specs.Change.{Made, made, made_by_rule, made_by_exec}
-use Rattle.cred_laws.specs.Calls.{Call, SetIds, Changes, after, added, clears, KeepsLocked, LocksStaySet, BoundingNeverGrows, PermittedGrowsByExecve, NoNewPrivsStays}
+use Rattle.cred_laws.specs.Calls.{Call, SetIds, Changes, after_call, added, clears, KeepsLocked, LocksStaySet, BoundingNeverGrows, PermittedGrowsByExecve, NoNewPrivsStays}
 
 -- ---- the calls that set ids leave all that the laws speak of but the permitted set
 
@@ -206,7 +206,7 @@ bits-follows c d n same =
     same
 
 -- KEEP_CAPS may change where it is not locked, and no other flag does
-keep_caps-flags : (bits : ℕ) (on : Bool) (f : Flag) → is_locked bits KeepCaps ≡ false → is_locked bits f ≡ true → is_set (with_flag bits KeepCaps on) f ≡ is_set bits f
+keep_caps-flags : (bits : ℕ) (on : Bool) (f : Flag) → is_locked bits KeepCaps ≡ false → is_locked bits f ≡ true → is_set (with_secure_flag bits KeepCaps on) f ≡ is_set bits f
 keep_caps-flags bits on NoRoot free set = ap (λ d. d == 1) ((sets_flag bits KeepCaps on).others 0 (omega arith) (λ same. omega (arith, same)))
 keep_caps-flags bits on NoSetuidFixup free set = ap (λ d. d == 1) ((sets_flag bits KeepCaps on).others 2 (omega arith) (λ same. omega (arith, same)))
 keep_caps-flags bits on KeepCaps free set = cc
@@ -302,7 +302,7 @@ by_exec c next found file chain place (Ok e) is made =
       nnp = λ set. (real_ids_and_groups_stay c file chain e is).no_new_privs ∙ set;
     })
 
-keeps : (c : Credential) (next : Made) (call : Call) → after c call ≡ Ok next → Keeps c call next
+keeps : (c : Credential) (next : Made) (call : Call) → after_call c call ≡ Ok next → Keeps c call next
 keeps c next (SetIds call) is =
     adds_nothing c (SetIds call) next refl (by_rule (Follows c) next (set_id c call) (λ d. set_id-follows c d call) is)
 keeps c next (Changes file chain (SetFs kind a)) is =

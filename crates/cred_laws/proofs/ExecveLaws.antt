@@ -2,6 +2,7 @@
 use Rattle.std.proofs.Common.{◌≡◌, ◌==◌, not, ℕ, ◌<◌, List, [], ◌∷◌, ◌++◌, length, position, slice_get, Option, Some, None, Result, Ok, Err, Bool, true, false, cond, refl, sym, ap, ◌∙◌, subst, arith}
 use Rattle.std.specs.List.{All, count_by, find}
 use Rattle.std.specs.Option.{IfSome, option_map, option_and_then}
+use Rattle.std.specs.Prelude.{⊤}
 use Rattle.std.proofs.lemmas.Bool.Decides.{nat_tests}
 use Rattle.std.proofs.lemmas.Bool.{eqb-true}
 use Rattle.std.proofs.lemmas.List.Elements.{All-map, All-weaker, filter_passes}
@@ -18,21 +19,20 @@ use Rattle.cred_event.specs.declared.event.Change.{Change}
 use Rattle.cred_event.specs.declared.event.Change.TheVariants.{Exec}
 use Rattle.cred_event.specs.declared.event.Event.{Event}
 use Rattle.cred_event.specs.declared.event.Event.TheVariants.{Commit}
-use Rattle.cred_model.specs.Script.{Script, info_of, chain_of}
+use Rattle.cred_model.specs.Script.{Script, chain_of}
 use Rattle.cred_model.specs.State.{State, SealedCred, Task, Broadcast, Prepared, Changed, ProcessFlag, Numbered, numbered, task_of, begun_by}
-use Rattle.cred_model.specs.Named.{change_files}
-use Rattle.cred_model.specs.Change.{Made, made_by_exec, executed, by_change}
+use Rattle.cred_model.specs.Change.{Made, made_by_exec, made_by_execve, by_change}
 use Rattle.cred_model.specs.Casts.{dropped}
 use Rattle.cred_model.specs.Ends.{is_beside, survivors, ended}
 use Rattle.cred_model.specs.Dumpable.{flags_committed}
 use Rattle.cred_model.specs.Moves.{updated, with_current, committed, given_up}
-use Rattle.cred_model.specs.Step.{committed_by, commit_answer, ends_with, casts_after, try_commit, for_task, outcome, by_commit, done}
+use Rattle.cred_model.specs.Step.{committed_by, commit_answer, ends_with, casts_after, try_commit, for_task, outcome, by_commit, done, step}
 use Rattle.cred_model.proofs.Lists.{All-at, at_place, slice_get_at}
 use Rattle.cred_model.proofs.Numbers.{numbered_last, updated_as, updated_task}
 use Rattle.cred_sound.specs.Sound.{IsSound}
 use Rattle.cred_sound.proofs.Events.{changed_for_task}
 use Rattle.cred_sound.proofs.Survivors.{find_goes_on}
-use Rattle.cred_laws.specs.Made.{IsMadeOf, IsMade, AreMade}
+use Rattle.cred_laws.specs.Made.{IsMadeFrom, AreMadeFrom}
 use Rattle.cred_laws.specs.Execve.{IsExecve, ExecvesAreByTheRule}
 use Rattle.cred_laws.proofs.Cases.{some_case, own_case, idle_case}
 use Rattle.cred_laws.proofs.MadeLaws.{bases_sealed}
@@ -73,7 +73,7 @@ record IsRuled (found : Option File) (chain : List ℕ) (old c : Credential) (ga
   rule : exec old file chain ≡ Ok (record { cred = c; gains = gains })
 
 ruled : (found : Option File) (chain : List ℕ) (old : Credential) (answer : Answer) (c : Credential) (gains : Gains)
-    → executed found chain old ≡ Ok (record { answer = answer; cred = c; gains = gains }) → IsRuled found chain old c gains
+    → made_by_execve found chain old ≡ Ok (record { answer = answer; cred = c; gains = gains }) → IsRuled found chain old c gains
 ruled None chain old answer c gains is = cc
 ruled (Some file) chain old answer c gains is =
     record { file = file; names = refl; rule = by_the_rule (exec old file chain) answer c gains is }
@@ -99,59 +99,64 @@ all_alone tasks task acting n =
 renewed_itself : (task : Task) (acting n : ℕ) → (task.number == acting) ≡ true → (updated acting n task).current ≡ n
 renewed_itself task acting n test = ap (λ b. (cond b (record task { current = n }) task).current) test
 
-module _ (script : Script) (s : State) (label number slot count : ℕ) (gains : Gains) (sound : IsSound s) (are : AreMade script s) where
+module _ (script : Script) (From : ℕ → Change → Option File → Type 0) (s : State) (label number slot count : ℕ) (gains : Gains) (sound : IsSound s)
+    (are : AreMadeFrom From script s) where
+  -- the execve, and the file that it is of
+  abbrev pub Found : State → Type 0
+  Found t = (x : IsExecve script s (Commit label) number slot gains t) × From x.prepared.label (Exec x.place) (Some x.file)
+
   -- what is to be shown of what the commit does
   abbrev Q : Result (Answer × State) Answer → Type 0
-  Q r = answer_of r ≡ Executed number slot count gains → IsExecve script s (Commit label) number slot gains (outcome s r).1
+  Q r = answer_of r ≡ Executed number slot count gains → Found (outcome s r).1
 
   fresh : (casts : List Broadcast) (flags : List ProcessFlag) (place file : ℕ) (p : Prepared) (owner : Task) (last : Changed) → position (λ p. p.label == label) s.prepared ≡ Some place
       → slice_get s.prepared place ≡ Some p → p.changed ≡ Some last → task_of s p.task ≡ Some owner → owner.current ≡ p.base
       → last.change ≡ Exec file → number ≡ length s.creds → slot ≡ p.slot → gains ≡ last.gains
-      → IsExecve script s (Commit label) number slot gains
-      (record (committed (ended (is_beside owner) s) place p owner.current last.cred) { casts = casts; dumpable = flags })
+      → Found (record (committed (ended (is_beside owner) s) place p owner.current last.cred) { casts = casts; dumpable = flags })
   fresh casts flags place file p owner last at is changed lives same executes at_number at_slot at_gains =
       let labelled : (p.label == label) ≡ true
       = at_place (λ (p : Prepared). p.label == label) s.prepared place p is (position-Some (λ (p : Prepared). p.label == label) s.prepared place p at).1 in
       let own : p.label ≡ label = eqb-true p.label label labelled in
       let base = numbered_at s.creds p.base (All-at (λ (p : Prepared). p.base < length s.creds) s.prepared place p is (bases_sealed s sound)) in
       let old = base.0 in
-      let made_of = subst (λ o. IfSome o (IsMadeOf script (numbered s.creds p.base))) changed (All-at (IsMade script s.creds) s.prepared place p is are) in
-      let by = subst (λ found. IsMadeOf script found last) base.1 made_of in
-      let how = subst (λ change. by_change (info_of script (change_files change)) (chain_of script old.cred.ns) old.cred change ≡ Ok (record { answer = by.0; cred = last.cred; gains = last.gains })) executes by.1 in
-      let rule = ruled (info_of script (file ∷ [])) (chain_of script old.cred.ns) old.cred by.0 last.cred last.gains how in
+      let Made_of : Prepared → Changed → Type 0 = λ p last. IsMadeFrom (From p.label last.change) script (numbered s.creds p.base) last in
+      let made_of = subst (λ o. IfSome o (Made_of p)) changed (All-at (λ (p : Prepared). IfSome p.changed (Made_of p)) s.prepared place p is are) in
+      let by = subst (λ found. IsMadeFrom (From p.label last.change) script found last) base.1 made_of in
+      let how = subst (λ change. by_change by.0 (chain_of script old.cred.ns) old.cred change ≡ Ok (record { answer = by.1; cred = last.cred; gains = last.gains })) executes by.2 in
+      let rule = ruled by.0 (chain_of script old.cred.ns) old.cred by.1 last.cred last.gains how in
       let rest = survivors (is_beside owner) s.tasks in
       let named : (owner.number == p.task) ≡ true = (find_goes_on (is_beside owner) s.tasks p.task owner lives (stays_itself owner)).1 in
       let on = (find_goes_on (is_beside owner) s.tasks p.task owner lives (stays_itself owner)).0 in
-      let creds = s.creds ++ record { cred = last.cred; slot = p.slot } ∷ [] in
-      record {
-        prepared = p;
-        last = last;
-        place = file;
-        file = rule.file;
-        task = owner;
-        old = old;
-        new = record { number = length s.creds; cred = last.cred; slot = p.slot };
-        commits = ap Commit (sym own);
-        stood = ap (λ n. find (λ (p : Prepared). p.label == n) s.prepared) own ∙ found_first s.prepared label place p at is;
-        changed = changed;
-        executes = executes;
-        names = rule.names;
-        lives = lives;
-        had = ap (option_and_then (λ (t : Task). numbered s.creds t.current)) lives ∙ ap (numbered s.creds) same ∙ base.1;
-        has = ap (option_and_then (λ (t : Task). numbered creds t.current)) (updated_task rest p.task (length s.creds) p.task ∙ ap (option_map (updated p.task (length s.creds))) on)
-            ∙ ap (numbered creds) (renewed_itself owner p.task (length s.creds) named)
-            ∙ numbered_last s.creds (record { cred = last.cred; slot = p.slot });
-        sealed = (sym at_number, sym at_slot);
-        rule = rule.rule ∙ ap (λ g. Ok (record { cred = last.cred; gains = g })) (sym at_gains);
-        alone = all_alone s.tasks owner p.task (length s.creds);
-      }
+      let creds = s.creds ++ record { cred = last.cred; slot = p.slot } ∷ [] in (
+        record {
+          prepared = p;
+          last = last;
+          place = file;
+          file = rule.file;
+          task = owner;
+          old = old;
+          new = record { number = length s.creds; cred = last.cred; slot = p.slot };
+          commits = ap Commit (sym own);
+          stood = ap (λ n. find (λ (p : Prepared). p.label == n) s.prepared) own ∙ found_first s.prepared label place p at is;
+          changed = changed;
+          executes = executes;
+          lives = lives;
+          had = ap (option_and_then (λ (t : Task). numbered s.creds t.current)) lives ∙ ap (numbered s.creds) same ∙ base.1;
+          has = ap (option_and_then (λ (t : Task). numbered creds t.current)) (updated_task rest p.task (length s.creds) p.task ∙ ap (option_map (updated p.task (length s.creds))) on)
+              ∙ ap (numbered creds) (renewed_itself owner p.task (length s.creds) named)
+              ∙ numbered_last s.creds (record { cred = last.cred; slot = p.slot });
+          sealed = (sym at_number, sym at_slot);
+          rule = rule.rule ∙ ap (λ g. Ok (record { cred = last.cred; gains = g })) (sym at_gains);
+          alone = all_alone s.tasks owner p.task (length s.creds);
+        },
+        subst (λ change. From p.label change (Some rule.file)) executes (subst (From p.label last.change) rule.names by.3),
+      )
 
   by_kind : (flags : List ProcessFlag) (place : ℕ) (p : Prepared) (owner : Task) (last : Changed) → position (λ p. p.label == label) s.prepared ≡ Some place
       → slice_get s.prepared place ≡ Some p → p.changed ≡ Some last → task_of s p.task ≡ Some owner → owner.current ≡ p.base
       → (change : Change) → last.change ≡ change
       → committed_by change last.gains (length s.creds) p.slot (count_by (ends_with change owner) s.tasks) ≡ Executed number slot count gains
-      → IsExecve script s (Commit label) number slot gains
-      (record (casts_after change owner (committed (ended (ends_with change owner) s) place p owner.current last.cred)) { dumpable = flags })
+      → Found (record (casts_after change owner (committed (ended (ends_with change owner) s) place p owner.current last.cred)) { dumpable = flags })
   by_kind flags place p owner last at is changed lives same (Exec file) executes answered =
       let at_number : number ≡ length s.creds = cc in
       let at_slot : slot ≡ p.slot = cc in
@@ -181,15 +186,22 @@ module _ (script : Script) (s : State) (label number slot count : ℕ) (gains : 
       (λ owner lives. idle_case Q (begun_by s p.task) _ (λ busy answered. cc)
       (λ idle. own_case Q owner _ (λ depth answered. cc) (settles place p owner last at is (changed_for_task p.changed last changed) lives))))))
 
-by_event : (script : Script) (s : State) (line : ℕ) (event : Event) (number slot count : ℕ) (gains : Gains) → IsSound s → AreMade script s
-    → answer_of (done script s line event) ≡ Executed number slot count gains
-    → IsExecve script s event number slot gains (outcome s (done script s line event)).1
-by_event script s line (Commit label) number slot count gains sound are answered =
-    commit_case script s label number slot count gains sound are answered
-by_event script s line event number slot count gains sound are answered =
+by_event : (script : Script) (From : ℕ → Change → Option File → Type 0) (s : State) (line : ℕ) (event : Event) (number slot count : ℕ) (gains : Gains)
+    → IsSound s → AreMadeFrom From script s → answer_of (done script s line event) ≡ Executed number slot count gains
+    → (x : IsExecve script s event number slot gains (outcome s (done script s line event)).1) × From x.prepared.label (Exec x.place) (Some x.file)
+by_event script From s line (Commit label) number slot count gains sound are answered =
+    commit_case script From s label number slot count gains sound are answered
+by_event script From s line event number slot count gains sound are answered =
     absurd (let other = (plain script s line event refl).is in let both = sym other ∙ ap is_executed answered in cc)
+
+-- the execve, and the file of which this holds
+pub execve_of : (script : Script) (From : ℕ → Change → Option File → Type 0) (s : State) (line : ℕ) (event : Event) (number slot count : ℕ) (gains : Gains)
+    → IsSound s → AreMadeFrom From script s → (step script s line event).0 ≡ Executed number slot count gains
+    → (x : IsExecve script s event number slot gains (step script s line event).1) × From x.prepared.label (Exec x.place) (Some x.file)
+execve_of script From s line event number slot count gains sound are answered =
+    by_event script From s line event number slot count gains sound are
+    (sym (answers_settled s (done script s line event)) ∙ answered)
 
 pub execves_are_by_the_rule : ExecvesAreByTheRule
 execves_are_by_the_rule script s line event number slot count gains sound are answered =
-    by_event script s line event number slot count gains sound are
-    (sym (answers_settled s (done script s line event)) ∙ answered)
+    (execve_of script (λ label change file. ⊤) s line event number slot count gains sound are answered).0

@@ -10,12 +10,12 @@ use Rattle.std.proofs.lemmas.Bool.{cond_both, eqb-false, eqb-true}
 use Rattle.cred_ids.specs.Ordered.{in_order}
 use Rattle.cred_record.specs.Credential.{Credential}
 use Rattle.cred_model.specs.State.{SealedCred, Task, Broadcast}
-use Rattle.cred_model.specs.Casts.{waits_in, is_open, with_cast, without, waits_no_more, with_child, joined, dropped}
+use Rattle.cred_model.specs.Casts.{waits_in, is_open, with_cast, without_waiter, waits_no_more, with_child, joined, dropped}
 use Rattle.cred_model.specs.Moves.{updated, with_current}
 use Rattle.cred_model.proofs.Lists.{Differ, find-map, found, found_none, none_found, or_left}
 use Rattle.cred_model.proofs.Numbers.{numbered_stays}
 use Rattle.cred_model.proofs.Rising.{AllPairs-head, AllPairs-tail, any-in_order, any_without, find-filter}
-use Rattle.cred_laws.specs.Broadcast.{Has}
+use Rattle.cred_laws.specs.Broadcast.{CurrentHas}
 
 -- the task of this number is one of these
 abbrev pub waits : ℕ → List ℕ → Bool
@@ -24,7 +24,7 @@ waits task waiting = list_any (λ n. n == task) waiting
 -- P holds of the current credential of the task, if that is a thread of the process and doesn't
 -- wait
 abbrev pub HasOr : (Credential → Type 0) → List SealedCred → ℕ → List ℕ → Task → Type 0
-HasOr P creds process waiting t = t.process ≡ process → waits t.number waiting ≡ false → Has P creds t
+HasOr P creds process waiting t = t.process ≡ process → waits t.number waiting ≡ false → CurrentHas P creds t
 
 -- so it is with all tasks
 abbrev pub Followed : (Credential → Type 0) → List SealedCred → List Task → ℕ → List ℕ → Type 0
@@ -33,7 +33,7 @@ Followed P creds tasks process waiting = All (HasOr P creds process waiting) tas
 -- ---- tasks and credentials
 
 -- what was sealed stays
-has_more : (P : Credential → Type 0) (creds more : List SealedCred) (t : Task) → Has P creds t → Has P (creds ++ more) t
+has_more : (P : Credential → Type 0) (creds more : List SealedCred) (t : Task) → CurrentHas P creds t → CurrentHas P (creds ++ more) t
 has_more P creds more t has = (has.0, numbered_stays creds more t.current has.0 has.1, has.2)
 
 pub followed_more : (P : Credential → Type 0) (creds more : List SealedCred) (tasks : List Task) (process : ℕ) (waiting : List ℕ)
@@ -143,8 +143,8 @@ find_left test g (x ∷ xs) process cast same differ is =
 
 pub left_open : (task process : ℕ) (casts : List Broadcast) (cast : Broadcast)
     → AllPairs (Differ (λ (c : Broadcast). c.process)) casts → found_in process casts ≡ Some cast
-    → found_in process (waits_no_more task casts) ≡ shown (without task cast)
-left_open task process casts cast differ is = find_left is_open (without task) casts process cast (λ c. refl) differ is
+    → found_in process (waits_no_more task casts) ≡ shown (without_waiter task cast)
+left_open task process casts cast differ is = find_left is_open (without_waiter task) casts process cast (λ c. refl) differ is
 
 with_child-process : (parent child : ℕ) (c : Broadcast) → (with_child parent child c).process ≡ c.process
 with_child-process parent child c =
@@ -194,7 +194,7 @@ none_left test g casts process same none =
 
 pub left_none : (task process : ℕ) (casts : List Broadcast) → found_in process casts ≡ None
     → found_in process (waits_no_more task casts) ≡ None
-left_none task process casts none = none_left is_open (without task) casts process (λ c. refl) none
+left_none task process casts none = none_left is_open (without_waiter task) casts process (λ c. refl) none
 
 pub joined_none : (parent child process : ℕ) (casts : List Broadcast) → found_in process casts ≡ None
     → found_in process (joined parent child casts) ≡ None

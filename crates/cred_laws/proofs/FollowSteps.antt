@@ -16,9 +16,8 @@ use Rattle.cred_event.specs.declared.event.Change.{Change}
 use Rattle.cred_event.specs.declared.event.Change.TheVariants.{Exec}
 use Rattle.cred_event.specs.declared.event.Event.{Event}
 use Rattle.cred_event.specs.declared.event.Event.TheVariants.{Commit, Act}
-use Rattle.cred_model.specs.Script.{Script, info_of, chain_of}
+use Rattle.cred_model.specs.Script.{Script, chain_of}
 use Rattle.cred_model.specs.State.{State, SealedCred, Task, Broadcast, Prepared, Changed, Numbered, numbered, task_of, cast_of, cast_in, current_of}
-use Rattle.cred_model.specs.Named.{change_files}
 use Rattle.cred_model.specs.Casts.{dropped, is_open, waits_in, with_child}
 use Rattle.cred_model.specs.Ends.{is_thread_of, survivors}
 use Rattle.cred_model.specs.Moves.{first_task, overriding, with_current}
@@ -28,10 +27,10 @@ use Rattle.cred_model.proofs.Numbers.{numbered_is, numbered_last, overriding_as,
 use Rattle.cred_model.proofs.Rising.{All-passed, length-in_order}
 use Rattle.cred_sound.specs.Casts.{IsThread, IsUnderWay}
 use Rattle.cred_sound.specs.Sound.{IsSound}
-use Rattle.cred_sound.proofs.Parts.{sealed_cred, begun, casts_left, TasksChange, Cause, Creation, Death, ByBegin, ByAct, ByCommit, BySpawn, ByFork, ByExit, ByAbort, SameTasks, SetsFlag, Creates, Shares, Renews, Overrides, Fewer}
+use Rattle.cred_sound.proofs.Parts.{sealed_cred, begun, casts_left, TasksChange, Cause, Creation, Death, ByBegin, ByAct, ByRaw, ByCommit, BySpawn, ByFork, ByExit, ByAbort, SameTasks, SetsFlag, Creates, Shares, Renews, Overrides, Fewer}
 use Rattle.cred_sound.proofs.Threads.{not_true, thread_is}
 use Rattle.cred_laws.specs.Broadcast.{Completes}
-use Rattle.cred_laws.specs.Made.{IsMadeOf, IsMade, AreMade}
+use Rattle.cred_laws.specs.Made.{IsChangedFrom, IsMade, AreMade}
 use Rattle.cred_laws.proofs.NamedLaws.{AreSame, change-same, is_exec}
 use Rattle.cred_laws.proofs.FollowLaws.{HasOr, Followed, waits, followed_more, followed_waiting, followed_renewed, still_without, still_with, parent_with, found_in, shown, left_open, joined_open, begun_beside, dropped_beside, dropped_none}
 
@@ -228,12 +227,12 @@ module _ (P : Credential → Type 0) (kept : Kept P) (script : Script) (s : Stat
       let has = (found (HasOr P s.creds process cast.waiting) (λ t. t.number == task) s.tasks owner lives before).0 here still in
       let old : Numbered = has.0 in
       let one = All-at (IsMade script s.creds) s.prepared place p there are_made in
-      let so = subst (λ o. IfSome o (IsMadeOf script (numbered s.creds p.base))) changed one in
+      let so = subst (λ o. IfSome o (IsChangedFrom script (numbered s.creds p.base))) changed one in
       let base : numbered s.creds p.base ≡ Some old = ap (numbered s.creds) (sym same) ∙ has.1 in
-      let by = subst (λ found. IsMadeOf script found last) base so in
+      let by = subst (λ found. IsChangedFrom script found last) base so in
       let stays : AreSame old.cred last.cred
-      = change-same (info_of script (change_files last.change)) (chain_of script old.cred.ns) old.cred last.change
-      (record { answer = by.0; cred = last.cred; gains = last.gains }) (ap is_exec is_last) by.1 in
+      = change-same by.0 (chain_of script old.cred.ns) old.cred last.change
+      (record { answer = by.1; cred = last.cred; gains = last.gains }) (ap is_exec is_last) by.2 in
       subst P (sym cred) (kept old.cred last.cred stays has.2)))
       (open_still casts)
 
@@ -259,6 +258,9 @@ module _ (P : Credential → Type 0) (kept : Kept P) (script : Script) (s : Stat
       let same : in_cast ≡ cast = only.0 where_it_is in
       own number task _ _ _ old c acts answered (opened ∙ ap Some same) has (ap (λ (b : Broadcast). set_id old.cred b.call) (sym same) ∙ ruled)))
       (ap (found_in process) casts ∙ left_open task process s.casts cast sound.processes is)
+  renews task slot owner c ends (ByRaw call old at_slot raws has ruled idle none casts answered flags) lives tasks creds =
+      Waits cast.waiting
+      (beside ends task slot owner c lives tasks creds (idle_differs s process owner.process cast is idle)) (open_still casts)
   renews task slot owner c ends (ByCommit label place at_slot count p last commits first there own changed same cred ending casts answered flags) lives tasks creds =
       committed_goes task slot owner c ends place p last last.change label commits refl there changed same cred ending casts lives tasks creds
 

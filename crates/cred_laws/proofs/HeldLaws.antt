@@ -30,7 +30,7 @@ goes_on-append script s (x ∷ xs) ys = goes_on-append script (step script s x.l
 
 pub replay-append : (script : Script) (journal more : List Entry)
     → replay script (journal ++ more) ≡ goes_on script (replay script journal) more
-replay-append script journal more = goes_on-append script opening journal more
+replay-append script journal more = goes_on-append script (opening script) journal more
 
 -- ---- sealed credentials
 

@@ -6,11 +6,15 @@ use Rattle.std.proofs.lemmas.Bool.{cases_lt}
 use Rattle.std.proofs.lemmas.List.{take_all, take-take, take-append-drop, get_or-drop, get_or-take, length-drop, length-take}
 use Rattle.std.proofs.lemmas.Option.{slice_get-get_or}
 use Rattle.cred_record.specs.Credential.{Credential}
+use Rattle.cred_ids.specs.declared.arg.Arg.{Arg}
+use Rattle.cred_record.specs.File.{File}
+use Rattle.cred_rules.specs.Files.{strips}
 use Rattle.cred_record.specs.declared.gains.Gains.{Gains}
 use Rattle.cred_record.specs.declared.id_call.IdCall.{IdCall}
 use Rattle.cred_event.specs.declared.answer.Answer.{Answer}
-use Rattle.cred_event.specs.declared.answer.Answer.TheVariants.{Done, Executed}
-use Rattle.cred_event.specs.declared.event.Event.TheVariants.{Release, CloseFile}
+use Rattle.cred_event.specs.declared.answer.Answer.TheVariants.{Done, Executed, Sealed}
+use Rattle.cred_event.specs.declared.event.Change.TheVariants.{Exec}
+use Rattle.cred_event.specs.declared.event.Event.TheVariants.{Release, CloseFile, Chown, Raw}
 use Rattle.cred_event.specs.declared.event.Mode.{Mode}
 use Rattle.cred_event.specs.declared.entry.Entry.{Entry}
 use Rattle.cred_model.specs.Script.{Script}
@@ -20,26 +24,33 @@ use Rattle.cred_model.specs.Step.{step}
 use Rattle.cred_model.specs.Journal.{replay, IsAnswered}
 use Rattle.cred_model.proofs.Lists.{slice_get_at}
 use Rattle.cred_model.proofs.Numbers.{numbered_stays}
-use Rattle.cred_laws.specs.Slots.{IsUnused}
+use Rattle.cred_laws.specs.Slots.{IsUnusedSlot}
 use Rattle.cred_sound.proofs.Sound.{sound_after}
-use Rattle.cred_laws.specs.Slots.{IsUnused}
-use Rattle.cred_laws.specs.Held.{prepared_as, ends}
+use Rattle.cred_laws.specs.Slots.{IsUnusedSlot}
+use Rattle.cred_laws.specs.Held.{preparation_of, ends_label}
 use Rattle.cred_laws.specs.Overrides.{IsOverriding}
 use Rattle.cred_laws.specs.Permitted.{IsCreatedWith}
 use Rattle.cred_laws.specs.Permitted as permitted
 use Rattle.cred_laws.specs.Execve.{IsExecve}
+use Rattle.cred_laws.specs.Files.{HasStripped, resets}
+use Rattle.cred_laws.specs.Made.{AreMadeFrom}
+use Rattle.cred_laws.specs.Raw.{IsRaw}
+use Rattle.cred_model.specs.Changing.{changed_file}
 use Rattle.cred_laws.specs.Trace.{IsOwn, AsksWithoutCap, HasThreads, IsAskedFor, IsExecuted}
-use Rattle.cred_laws.specs.Journals.{state_at, IsAlwaysSound, IsAlwaysMade, IsAlwaysValid, LooksIntoOwn, LeavesClear, StaysUndumpable, WritesUnusedSlots, KeepsSealed, KeepsHeld, KeepsOpeners, KeepsPrepared, OverridesLeave, ExecvesByTheRule, GainsAsAnswered, CreatesTasks, CompletesForAll, JournalsAreLawful}
+use Rattle.cred_laws.specs.Journals.{state_at, IsAlwaysSound, IsAlwaysMade, IsAlwaysValid, LooksIntoOwn, LeavesClear, StaysUndumpable, WritesUnusedSlots, KeepsSealed, KeepsHeld, KeepsOpeners, KeepsPrepared, OverridesLeave, ExecvesByTheRule, GainsAsAnswered, CreatesTasks, CompletesForAll, JournalsAreLawful, IsFileOf, FilesStay, ChownsStrip, RawsLeave, RawsByTheRule}
 use Rattle.cred_laws.specs.Broadcast.{HasNamed, AllHave, Completes}
 use Rattle.cred_laws.proofs.AlikeLaws.{keeps_alike}
 use Rattle.cred_laws.proofs.BroadcastLaws.{calls_are_every_threads, followed_after}
-use Rattle.cred_laws.proofs.States.{step_at, answered_at}
+use Rattle.cred_laws.proofs.States.{step_at, answered_at, past_end}
 use Rattle.cred_laws.proofs.Unused.{no_held_slot_is_rewritten}
-use Rattle.cred_laws.proofs.HeldLaws.{held_stays, on_extends, replay-append}
+use Rattle.cred_laws.proofs.HeldLaws.{held_stays, left_by_each, on_extends, replay-append}
 use Rattle.cred_laws.proofs.OverrideLaws.{opener_goes_on, overrides_leave_current}
 use Rattle.cred_laws.proofs.PreparedLaws.{prepared_goes_on}
 use Rattle.cred_laws.proofs.MadeLaws.{made_after}
-use Rattle.cred_laws.proofs.ExecveLaws.{execves_are_by_the_rule}
+use Rattle.cred_laws.proofs.ExecveLaws.{execve_of}
+use Rattle.cred_laws.proofs.AlteredLaws.{made_from_files}
+use Rattle.cred_laws.proofs.FileLaws.{files_change_by_calls, chown_strips, stays_stripped}
+use Rattle.cred_laws.proofs.RawLaws.{raws_leave_others, raws_are_by_the_rule}
 use Rattle.cred_laws.proofs.PermittedLaws.{permitted_gains, new_tasks_are_created}
 use Rattle.cred_laws.proofs.ValidLaws.{valid_journal}
 use Rattle.cred_laws.proofs.TraceLaws.{looks_into_own_alone, differs_itself, ids_clear_flag, flag_stays_clear}
@@ -82,7 +93,7 @@ always_valid script journal k = valid_journal script (take k journal)
 unused_by : (script : Script) (journal : List Entry) (k number : ℕ) (new : Numbered) (o : Option Entry)
     → slice_get journal k ≡ o → length (state_at script journal k).creds ≤ number
     → numbered (state_at script journal (k + 1)).creds number ≡ Some new
-    → IfSome o (λ entry. IsUnused (state_at script journal k) entry.event new.slot)
+    → IfSome o (λ entry. IsUnusedSlot (state_at script journal k) entry.event new.slot)
 unused_by script journal k number new (Some entry) is past now =
     no_held_slot_is_rewritten script (state_at script journal k) entry.line entry.event number new (always_sound script journal k) past
     (ap (λ (s : State). numbered s.creds number) (sym (step_at script journal k entry is)) ∙ now)
@@ -128,10 +139,10 @@ overrides_leave script journal k task = overrides_by script journal k task (slic
 pub keeps_prepared : (script : Script) (journal : List Entry) → KeepsPrepared script journal
 keeps_prepared script journal k l label p within is none =
     let more = between journal k l in
-    ap (λ (j : List Entry). prepared_as (replay script j) label) (take_between journal k l within)
-    ∙ ap (λ (s : State). prepared_as s label) (replay-append script (take k journal) more)
+    ap (λ (j : List Entry). preparation_of (replay script j) label) (take_between journal k l within)
+    ∙ ap (λ (s : State). preparation_of s label) (replay-append script (take k journal) more)
     ∙ prepared_goes_on script (state_at script journal k) more label p is
-    (each_between (λ entry. ends label entry.event ≡ false) journal k l none)
+    (each_between (λ entry. ends_label label entry.event ≡ false) journal k l none)
 
 gains_by : (script : Script) (journal : List Entry) (k task : ℕ) (before after : Numbered) (o : Option Entry)
     → slice_get journal k ≡ o
@@ -145,20 +156,25 @@ gains_by script journal k task before after (Some entry) is answered was now =
     (ap (λ (s : State). current_of s task) (sym (step_at script journal k entry is)) ∙ now))
 gains_by script journal k task before after None is answered was now = tt
 
-executed_by : (script : Script) (journal : List Entry) (k number slot ended : ℕ) (gains : Gains) (o : Option Entry)
-    → slice_get journal k ≡ o
+executed_by : (script : Script) (journal : List Entry) (k number slot ended : ℕ) (gains : Gains) (o : Option Entry) → slice_get journal k ≡ o
     → IfSome o (λ entry. entry.answer ≡ (step script (state_at script journal k) entry.line entry.event).0)
-    → IfSome o (λ entry. entry.answer ≡ Executed number slot ended gains → IsExecve script (state_at script journal k) entry.event number slot gains (state_at script journal (k + 1)))
-executed_by script journal k number slot ended gains (Some entry) is answered =
+    → AreMadeFrom (IsFileOf script journal k) script (state_at script journal k)
+    → IfSome o (λ entry. entry.answer ≡ Executed number slot ended gains
+    → (x : IsExecve script (state_at script journal k) entry.event number slot gains (state_at script journal (k + 1)))
+    × IsFileOf script journal k x.prepared.label (Exec x.place) (Some x.file))
+executed_by script journal k number slot ended gains (Some entry) is answered made =
     λ executed.
-    subst (IsExecve script (state_at script journal k) entry.event number slot gains) (sym (step_at script journal k entry is))
-    (execves_are_by_the_rule script (state_at script journal k) entry.line entry.event number slot ended gains (always_sound script journal k)
-    (always_made script journal k) (sym answered ∙ executed))
-executed_by script journal k number slot ended gains None is answered = tt
+    let From = IsFileOf script journal k in
+    subst (λ t. (x : IsExecve script (state_at script journal k) entry.event number slot gains t) × From x.prepared.label (Exec x.place) (Some x.file))
+    (sym (step_at script journal k entry is))
+    (execve_of script From (state_at script journal k) entry.line entry.event number slot ended gains (always_sound script journal k) made
+    (sym answered ∙ executed))
+executed_by script journal k number slot ended gains None is answered made = tt
 
 pub execves_by_the_rule : (script : Script) (journal : List Entry) → IsAnswered script journal → ExecvesByTheRule script journal
 execves_by_the_rule script journal answered k number slot ended gains =
     executed_by script journal k number slot ended gains (slice_get journal k) refl (answered_at script journal answered k)
+    (made_from_files script journal k answered)
 
 pub gains_as_answered : (script : Script) (journal : List Entry) → IsAnswered script journal → GainsAsAnswered script journal
 gains_as_answered script journal answered k task before after =
@@ -205,15 +221,6 @@ looks_by script journal k process mode own other None answered = tt
 pub looks_into_own : (script : Script) (journal : List Entry) → IsAnswered script journal → LooksIntoOwn script journal
 looks_into_own script journal answered k process mode own other =
     looks_by script journal k process mode own other (slice_get journal k) (answered_at script journal answered k)
-
--- past its end a journal leads no further
-past_end : (script : Script) (journal : List Entry) (k : ℕ) → slice_get journal k ≡ None
-    → state_at script journal (k + 1) ≡ state_at script journal k
-past_end script journal k none =
-    elim (cases_lt k (length journal)) [
-      | inl lt ↦ absurd (let there = slice_get_at journal k lt in let both : Some there.0 ≡ None = sym there.1 ∙ none in cc)
-      | inr past ↦ ap (replay script) (take_all (k + 1) journal (omega (arith, past)) ∙ sym (take_all k journal past))
-    ]
 
 cleared_by : (script : Script) (journal : List Entry) (k task : ℕ) (owner : Task) (before after : Numbered) (o : Option Entry) → slice_get journal k ≡ o
     → task_of (state_at script journal k) task ≡ Some owner → current_of (state_at script journal k) task ≡ Some before
@@ -272,6 +279,79 @@ stays_undumpable script journal answered k l task owner before after later found
     clear_until script journal k l owner.process answered later
     (cleared_by script journal k task owner before after (slice_get journal k) refl found was now differ) leaves
 
+-- ---- files
+
+files_by : (script : Script) (journal : List Entry) (k place : ℕ) (old new : File) (o : Option Entry) → slice_get journal k ≡ o
+    → IfSome o (λ entry. entry.answer ≡ (step script (state_at script journal k) entry.line entry.event).0)
+    → slice_get (state_at script journal k).infos place ≡ Some old → slice_get (state_at script journal (k + 1)).infos place ≡ Some new → old ≢ new
+    → IfSome o (λ entry. (changed_file entry.event ≡ Some place) × (entry.answer ≡ Done))
+files_by script journal k place old new (Some entry) is answered was now differ =
+    let s = state_at script journal k in
+    let both = files_change_by_calls script s entry.line entry.event place old new was
+    (ap (λ (t : State). slice_get t.infos place) (sym (step_at script journal k entry is)) ∙ now) differ in
+    (both.0, answered ∙ both.1)
+files_by script journal k place old new None is answered was now differ = tt
+
+pub files_stay : (script : Script) (journal : List Entry) → IsAnswered script journal → FilesStay script journal
+files_stay script journal answered k place old new was now differ =
+    files_by script journal k place old new (slice_get journal k) refl (answered_at script journal answered k) was now differ
+
+chowned_at : (script : Script) (journal : List Entry) (k place hold : ℕ) (owner group : Arg) (old : File) (entry : Entry) → slice_get journal k ≡ Some entry
+    → entry.answer ≡ (step script (state_at script journal k) entry.line entry.event).0
+    → entry.event ≡ Chown hold place owner group → entry.answer ≡ Done → slice_get (state_at script journal k).infos place ≡ Some old
+    → strips old owner group ≡ true → HasStripped (state_at script journal (k + 1)).infos place
+chowned_at script journal k place hold owner group old entry is answered event_is done was test =
+    let s = state_at script journal k in
+    let call = Chown hold place owner group in
+    let so : (step script s entry.line call).0 ≡ Done = ap (λ e. (step script s entry.line e).0) (sym event_is) ∙ sym answered ∙ done in
+    subst (λ (t : State). HasStripped t.infos place)
+    (ap (λ e. (step script s entry.line e).1) (sym event_is) ∙ sym (step_at script journal k entry is))
+    (chown_strips script s entry.line hold place owner group old was test so)
+
+pub chowns_strip : (script : Script) (journal : List Entry) → IsAnswered script journal → ChownsStrip script journal
+chowns_strip script journal answered k l place hold owner group old entry before is event_is done was test none =
+    let more = between journal (k + 1) l in
+    let here : entry.answer ≡ (step script (state_at script journal k) entry.line entry.event).0
+    = subst (λ (o : Option Entry). IfSome o (λ entry. entry.answer ≡ (step script (state_at script journal k) entry.line entry.event).0)) is
+    (answered_at script journal answered k) in
+    subst (λ (t : State). HasStripped t.infos place)
+    (sym (ap (replay script) (take_between journal (k + 1) l (omega arith)) ∙ replay-append script (take (k + 1) journal) more))
+    (left_by_each (λ t. HasStripped t.infos place) (λ event. resets event place ≡ false)
+    (λ script s line event. stays_stripped script s line event place) script (state_at script journal (k + 1)) more
+    (chowned_at script journal k place hold owner group old entry is here event_is done was test)
+    (each_between (λ later. resets later.event place ≡ false) journal (k + 1) l (λ i above below. none i (omega (arith, above)) below)))
+
+-- ---- id calls of one thread alone
+
+raws_by : (script : Script) (journal : List Entry) (k task other : ℕ) (call : IdCall) (o : Option Entry) → slice_get journal k ≡ o → other ≢ task
+    → IfSome o (λ entry. entry.event ≡ Raw task call
+    → option_map (λ t. t.current) (task_of (state_at script journal (k + 1)) other) ≡ option_map (λ t. t.current) (task_of (state_at script journal k) other))
+raws_by script journal k task other call (Some entry) is apart = λ event_is.
+    let s = state_at script journal k in
+    ap (λ (t : State). option_map (λ (t : Task). t.current) (task_of t other))
+    (step_at script journal k entry is ∙ ap (λ e. (step script s entry.line e).1) event_is)
+    ∙ raws_leave_others script s entry.line task call other apart
+raws_by script journal k task other call None is apart = tt
+
+pub raws_leave : (script : Script) (journal : List Entry) → RawsLeave script journal
+raws_leave script journal k task other call apart = raws_by script journal k task other call (slice_get journal k) refl apart
+
+raw_ruled : (script : Script) (journal : List Entry) (k task number slot : ℕ) (call : IdCall) (o : Option Entry) → slice_get journal k ≡ o
+    → IfSome o (λ entry. entry.answer ≡ (step script (state_at script journal k) entry.line entry.event).0)
+    → IfSome o (λ entry. entry.event ≡ Raw task call → entry.answer ≡ Sealed number slot
+    → IsRaw (state_at script journal k) task call number slot (state_at script journal (k + 1)))
+raw_ruled script journal k task number slot call (Some entry) is answered = λ event_is sealed.
+    let s = state_at script journal k in
+    subst (IsRaw s task call number slot)
+    (ap (λ e. (step script s entry.line e).1) (sym event_is) ∙ sym (step_at script journal k entry is))
+    (raws_are_by_the_rule script s entry.line task call number slot
+    (ap (λ e. (step script s entry.line e).0) (sym event_is) ∙ sym answered ∙ sealed))
+raw_ruled script journal k task number slot call None is answered = tt
+
+pub raws_by_the_rule : (script : Script) (journal : List Entry) → IsAnswered script journal → RawsByTheRule script journal
+raws_by_the_rule script journal answered k task number slot call =
+    raw_ruled script journal k task number slot call (slice_get journal k) refl (answered_at script journal answered k)
+
 pub lawful : JournalsAreLawful
 lawful script journal answered = record {
   sound = always_sound script journal;
@@ -290,4 +370,8 @@ lawful script journal answered = record {
   alike = keeps_alike script journal answered;
   looks = looks_into_own script journal answered;
   undumpable = stays_undumpable script journal answered;
+  files = files_stay script journal answered;
+  chowns = chowns_strip script journal answered;
+  raws = raws_leave script journal;
+  raw_rule = raws_by_the_rule script journal answered;
 }

@@ -21,5 +21,8 @@ pub mod AlikeLaws
 pub mod Lawful
 pub mod Unexecuted
 pub mod ExecveLaws
+pub mod AlteredLaws
+pub mod FileLaws
+pub mod RawLaws
 pub mod ValidLaws
 pub mod TraceLaws

@@ -9,8 +9,9 @@ use Rattle.std.proofs.lemmas.Bool.{eqb-true}
 use Rattle.cred_event.specs.declared.event.Event.{Event}
 use Rattle.cred_event.specs.declared.entry.Entry.{Entry}
 use Rattle.cred_model.specs.Script.{Script}
-use Rattle.cred_model.specs.State.{State, SealedCred, Prepared, numbered, prepared_of, opening}
-use Rattle.cred_model.specs.Moves.{changed}
+use Rattle.cred_model.specs.State.{State, SealedCred, Prepared, numbered, prepared_of, opening, info_of}
+use Rattle.cred_model.specs.Named.{change_files}
+use Rattle.cred_model.specs.Moves.{relabelled}
 use Rattle.cred_model.specs.Step.{step}
 use Rattle.cred_model.proofs.Lists.{All-remove, alone, found}
 use Rattle.cred_model.proofs.Numbers.{changed_as, numbered_is, numbered_before, sealed_cred_of}
@@ -19,10 +20,10 @@ use Rattle.cred_sound.specs.Sound.{IsSound}
 use Rattle.cred_sound.proofs.Parts.{CredsChange, PreparedChange, SameCreds, Seals, SamePrepared, Prepares, Alters, Ends}
 use Rattle.cred_sound.proofs.Events.{changes}
 use Rattle.cred_sound.proofs.Sound.{step_sound, opening_sound}
-use Rattle.cred_laws.specs.Made.{IsMadeOf, IsMade, AreMade, PreparedAreMade}
+use Rattle.cred_laws.specs.Made.{IsChangedFrom, IsMade, AreMade, PreparedAreMade}
 
 -- what was sealed stays under its number
-same_numbered : (s : State) (event : Event) (left : List ℕ) (t : State) → CredsChange s event left t → (n : ℕ)
+pub same_numbered : (s : State) (event : Event) (left : List ℕ) (t : State) → CredsChange s event left t → (n : ℕ)
     → n < length s.creds → numbered t.creds n ≡ numbered s.creds n
 same_numbered s event left t (SameCreds same) n lt = ap (λ creds. numbered creds n) same
 same_numbered s event left t (Seals c slot creds fits origin) n lt =
@@ -35,7 +36,7 @@ bases_sealed s sound k d lt =
     omega (arith, length-map s.creds (λ (x : SealedCred). x.slot))
 
 -- whoever has the label is the one that was found
-the_one : (s : State) (label : ℕ) (p : Prepared) → IsSound s → prepared_of s label ≡ Some p
+pub the_one : (s : State) (label : ℕ) (p : Prepared) → IsSound s → prepared_of s label ≡ Some p
     → All (λ q. (q.label == label) ≡ true → q ≡ p) s.prepared
 the_one s label p sound is =
     let at = found (λ (x : Prepared). All (λ (y : Prepared). y.label ≡ x.label → y ≡ x) s.prepared) (λ (q : Prepared). q.label == label) s.prepared p is (alone (λ (p : Prepared). p.label) s.prepared sound.prepared) in
@@ -48,17 +49,17 @@ all_made script s event left t sound creds (SamePrepared same) made = subst (All
 all_made script s event left t sound creds (Prepares p prepared fresh unheld new stands free) made =
     subst (All (IsMade script t.creds)) (sym prepared)
     (All-push (IsMade script t.creds) s.prepared p made
-    (subst (λ o. IfSome o (IsMadeOf script (numbered t.creds p.base))) (sym fresh) tt))
-all_made script s event left t sound creds (Alters label to p base answer prepared is at so) made =
+    (subst (λ o. IfSome o (IsChangedFrom script (numbered t.creds p.base))) (sym fresh) tt))
+all_made script s event left t sound creds (Alters label to p base answer prepared is at so acts) made =
     let one = the_one s label p sound is in
     let lt = slice_get_within s.creds p.base (sealed_cred_of base) (numbered_is s.creds p.base base at).1 in
     let now = same_numbered s event left t creds p.base lt ∙ at in
     subst (All (IsMade script t.creds)) (sym prepared)
-    (All-map (IsMade script t.creds) (changed label to) s.prepared (λ k d lt.
+    (All-map (IsMade script t.creds) (relabelled label to) s.prepared (λ k d lt.
     changed_as (IsMade script t.creds) label to _
     (λ test.
-    subst (λ found. IsMadeOf script found to)
-    (sym now ∙ ap (λ (q : Prepared). numbered t.creds q.base) (sym (one k d lt test))) (answer, so))
+    subst (λ found. IsChangedFrom script found to)
+    (sym now ∙ ap (λ (q : Prepared). numbered t.creds q.base) (sym (one k d lt test))) (info_of s.infos (change_files to.change), answer, so, tt))
     (made k d lt)))
 all_made script s event left t sound creds (Ends label place p ends prepared at is) made =
     subst (All (IsMade script t.creds)) (sym prepared) (All-remove (IsMade script t.creds) s.prepared place made)
@@ -70,7 +71,7 @@ step_made script s line event sound made =
     let t = (step script s line event).1 in
     let sealed = bases_sealed s sound in
     all_made script s event c.left t sound c.creds c.prepared (λ k d lt.
-    subst (λ found. IfSome (get_or s.prepared k d).changed (IsMadeOf script found)) (sym (same_numbered s event c.left t c.creds _ (sealed k d lt))) (made k d lt))
+    subst (λ found. IfSome (get_or s.prepared k d).changed (IsChangedFrom script found)) (sym (same_numbered s event c.left t c.creds _ (sealed k d lt))) (made k d lt))
 
 made_from : (script : Script) (journal : List Entry) (s : State) → IsSound s → AreMade script s
     → AreMade script (fold (λ (state : State) (entry : Entry). (step script state entry.line entry.event).1) s journal)
@@ -80,4 +81,4 @@ made_from script (entry ∷ journal) s sound made =
     (step_made script s entry.line entry.event sound made)
 
 pub made_after : PreparedAreMade
-made_after script journal = made_from script journal opening opening_sound (λ k d lt. absurd (omega arith))
+made_after script journal = made_from script journal (opening script) (opening_sound script) (λ k d lt. absurd (omega arith))

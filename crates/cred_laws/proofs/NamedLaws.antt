@@ -28,7 +28,7 @@ use Rattle.cred_event.specs.declared.answer.Answer.TheVariants as answer
 use Rattle.cred_event.specs.declared.event.Change.{Change}
 use Rattle.cred_event.specs.declared.event.Change.TheVariants.{SetFs, Adjust, Exec, Access}
 use Rattle.cred_model.specs.Change.{Made, made, by_change}
-use Rattle.cred_laws.specs.Broadcast.{Names, NamesIds, HasNamed, kind_of, three_of, is_able}
+use Rattle.cred_laws.specs.Broadcast.{Names, NamesIds, HasNamed, call_kind, three_ids, is_able}
 use Rattle.cred_laws.proofs.CallLaws.{one-test, two-tests, by_rule}
 
 -- ---- the ids that a call names
@@ -141,9 +141,9 @@ groups c d r = for_groups-gives (λ new. r ≡ Ok new) c d r (λ new is. is)
 
 -- Two credentials that have the same three ids of the call's kind, and both have or lack the
 -- capability, have the same three ids after the call.
-pub alike : (c d e f : Credential) (call : IdCall) → is_able (kind_of call) c ≡ is_able (kind_of call) e
-    → three_of (kind_of call) c ≡ three_of (kind_of call) e → set_id c call ≡ Ok d → set_id e call ≡ Ok f
-    → three_of (kind_of call) d ≡ three_of (kind_of call) f
+pub alike : (c d e f : Credential) (call : IdCall) → is_able (call_kind call) c ≡ is_able (call_kind call) e
+    → three_ids (call_kind call) c ≡ three_ids (call_kind call) e → set_id c call ≡ Ok d → set_id e call ≡ Ok f
+    → three_ids (call_kind call) d ≡ three_ids (call_kind call) f
 alike c d e f (SetUid a) able same one other =
     same_three (λ able ids. after_setuid able ids a) _ _ c.uid e.uid d.uid f.uid (λ able. setuid-ignores able a) able same
     (users c d _ one) (users e f _ other)
@@ -270,6 +270,6 @@ named_same (SetRegid a b) c d same has = ids_named a b Keep c.gid d.gid same.gro
 named_same (SetResgid a b s) c d same has = ids_named a b s c.gid d.gid same.groups has
 named_same (SetGroups list) c d same has = same.list ∙ has
 
-pub three_same : (kind : Kind) (ids : List ℕ) (c d : Credential) → AreSame c d → three_of kind c ≡ ids → three_of kind d ≡ ids
+pub three_same : (kind : Kind) (ids : List ℕ) (c d : Credential) → AreSame c d → three_ids kind c ≡ ids → three_ids kind d ≡ ids
 three_same User ids c d same has = same.users ∙ has
 three_same Group ids c d same has = same.groups ∙ has

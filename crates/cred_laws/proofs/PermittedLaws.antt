@@ -14,19 +14,18 @@ use Rattle.cred_setid.proofs.SetIdLaws as setid
 use Rattle.cred_event.specs.declared.event.Event.{Event}
 use Rattle.cred_event.specs.declared.event.Event.TheVariants.{Init}
 use Rattle.cred_event.specs.declared.answer.Answer.{Answer}
-use Rattle.cred_model.specs.Script.{Script, info_of, chain_of, root_of}
+use Rattle.cred_model.specs.Script.{Script, chain_of, root_of}
 use Rattle.cred_model.specs.State.{State, SealedCred, Task, Numbered, numbered, task_of, current_of}
-use Rattle.cred_model.specs.Named.{change_files}
-use Rattle.cred_model.specs.Change.{gained}
+use Rattle.cred_model.specs.Change.{gain_told}
 use Rattle.cred_model.specs.Ends.{survivors}
 use Rattle.cred_model.specs.Moves.{updated, overriding, with_overrides, first_task}
 use Rattle.cred_model.proofs.Lists.{All-at}
 use Rattle.cred_model.proofs.Numbers.{current_is, at_owner, owner_number, numbered_stays, numbered_last, updated_task, overriding_task, sealed_cred_of}
 use Rattle.cred_sound.specs.Sound.{IsSound}
 use Rattle.cred_sound.proofs.Survivors.{find_survivor, find_no_survivor}
-use Rattle.cred_sound.proofs.Parts.{sealed_cred, Cause, Creation, CredsChange, TasksChange, SameCreds, Seals, ByBegin, ByAct, ByCommit, BySpawn, ByFork, SameTasks, SetsFlag, Creates, Shares, Renews, Overrides, Fewer}
+use Rattle.cred_sound.proofs.Parts.{sealed_cred, Cause, Creation, CredsChange, TasksChange, SameCreds, Seals, ByBegin, ByAct, ByRaw, ByCommit, BySpawn, ByFork, SameTasks, SetsFlag, Creates, Shares, Renews, Overrides, Fewer}
 use Rattle.cred_sound.proofs.Events.{changes}
-use Rattle.cred_laws.specs.Made.{IsMadeOf, IsMade, AreMade}
+use Rattle.cred_laws.specs.Made.{IsChangedFrom, IsMade, AreMade}
 use Rattle.cred_laws.specs.Permitted.{GainsBy, PermittedGains, IsCreatedWith}
 use Rattle.cred_laws.specs.Permitted.{NewTasksAreCreated}
 use Rattle.cred_laws.proofs.ChangeLaws.{change_gains}
@@ -107,19 +106,21 @@ called_gains s task old before call c current is ruled =
 
 caused_gains : (script : Script) (s : State) (event : Event) (task : ℕ) (owner : Task) (ends : Task → Bool) (old : Numbered) (c : Credential)
     (made : Answer × State) → AreMade script s → current_of s task ≡ Some old → owner.current ≡ old.number
-    → Cause s event task owner ends c made → less c.perm old.cred.perm ≡ gained made.0
+    → Cause s event task owner ends c made → less c.perm old.cred.perm ≡ gain_told made.0
 caused_gains script s event task owner ends old c made are current number (ByBegin call before line slot by is ruled unused idle none casts answered flags) =
-    called_gains s task old before call c current is ruled ∙ ap gained (sym answered)
+    called_gains s task old before call c current is ruled ∙ ap gain_told (sym answered)
 caused_gains script s event task owner ends old c made are current number (ByAct line slot cast before by opened first is ruled none casts answered flags) =
-    called_gains s task old before cast.call c current is ruled ∙ ap gained (sym answered)
+    called_gains s task old before cast.call c current is ruled ∙ ap gain_told (sym answered)
+caused_gains script s event task owner ends old c made are current number (ByRaw call before slot by is ruled idle none casts answered flags) =
+    called_gains s task old before call c current is ruled ∙ ap gain_told (sym answered)
 caused_gains script s event task owner ends old c made are current number (ByCommit label place slot count p last by first is own changed same cred ending casts answered flags) =
     let one = All-at (IsMade script s.creds) s.prepared place p is are in
-    let so = subst (λ o. IfSome o (IsMadeOf script (numbered s.creds p.base))) changed one in
+    let so = subst (λ o. IfSome o (IsChangedFrom script (numbered s.creds p.base))) changed one in
     let base : numbered s.creds p.base ≡ Some old = ap (numbered s.creds) (sym same ∙ number) ∙ under_number s task old current in
-    let by = subst (λ found. IsMadeOf script found last) base so in
+    let by = subst (λ found. IsChangedFrom script found last) base so in
     ap (λ (c : Credential). less c.perm old.cred.perm) cred
-    ∙ change_gains (info_of script (change_files last.change)) (chain_of script old.cred.ns) old.cred last.change (record { answer = by.0; cred = last.cred; gains = last.gains }) (length s.creds) slot count by.1
-    ∙ ap gained (sym answered)
+    ∙ change_gains by.0 (chain_of script old.cred.ns) old.cred last.change (record { answer = by.1; cred = last.cred; gains = last.gains }) (length s.creds) slot count by.2
+    ∙ ap gain_told (sym answered)
 
 -- The event gives the task this credential in the place of the old one.
 pub record IsRenewed (s : State) (event : Event) (made : Answer × State) (task : ℕ) (before after : Numbered) : Type 0 where

@@ -8,8 +8,8 @@ use Rattle.cred_event.specs.declared.event.Event.TheVariants.{Commit, Abort, Ove
 use Rattle.cred_event.specs.declared.entry.Entry.{Entry}
 use Rattle.cred_model.specs.Script.{Script}
 use Rattle.cred_model.specs.State.{State, Prepared, Changed}
-use Rattle.cred_model.specs.Moves.{changed}
-use Rattle.cred_laws.specs.Held.{prepared_as, ends, PreparedStays}
+use Rattle.cred_model.specs.Moves.{relabelled}
+use Rattle.cred_laws.specs.Held.{preparation_of, ends_label, PreparedStays}
 use Rattle.std.proofs.lemmas.Bool.{eqb-false}
 use Rattle.cred_model.proofs.Lists.{find_changed, find-remove_other}
 use Rattle.cred_model.proofs.Numbers.{changed_as, changed_label}
@@ -29,36 +29,36 @@ first_stays (Some q) other p is = is
 
 -- a change leaves it
 change_leaves : (o : Option Prepared) (label : ℕ) (to : Changed)
-    → option_map fresh (option_map (changed label to) o) ≡ option_map fresh o
+    → option_map fresh (option_map (relabelled label to) o) ≡ option_map fresh o
 change_leaves None label to = refl
 change_leaves (Some q) label to = ap Some (changed_as (λ p. fresh p ≡ fresh q) label to q (λ test. refl) refl)
 
 -- the event that seals what a label prepared ends that
-seals_end : (label gone : ℕ) (event : Event) → SealsOf event gone → ends label event ≡ (gone == label)
+seals_end : (label gone : ℕ) (event : Event) → SealsOf event gone → ends_label label event ≡ (gone == label)
 seals_end label gone (Commit committed) seals = ap (λ n. n == label) seals
 seals_end label gone (Override task overriding) seals = ap (λ n. n == label) seals
 seals_end label gone event seals = absurd seals
 
 -- where it isn't ended, what an event ends is another label
-not_ended : (label gone : ℕ) (event : Event) → SealsOf event gone ⊎ (event ≡ Abort gone) → ends label event ≡ false
+not_ended : (label gone : ℕ) (event : Event) → SealsOf event gone ⊎ (event ≡ Abort gone) → ends_label label event ≡ false
     → gone ≢ label
 not_ended label gone event ended other same =
     let test : (gone == label) ≡ false
-    = elim ended [ inl seals ↦ sym (seals_end label gone event seals) ∙ other | inr is ↦ ap (ends label) (sym is) ∙ other ] in
+    = elim ended [ inl seals ↦ sym (seals_end label gone event seals) ∙ other | inr is ↦ ap (ends_label label) (sym is) ∙ other ] in
     eqb-false gone label test same
 
 still_prepared : (script : Script) (s : State) (event : Event) (left : List ℕ) (t : State) (label : ℕ) (p : Prepared)
-    → PreparedChange script s event left t → prepared_as s label ≡ Some p → ends label event ≡ false
-    → prepared_as t label ≡ Some p
+    → PreparedChange script s event left t → preparation_of s label ≡ Some p → ends_label label event ≡ false
+    → preparation_of t label ≡ Some p
 still_prepared script s event left t label p (SamePrepared same) is other =
     ap (λ ps. option_map fresh (find (λ (p : Prepared). p.label == label) ps)) same ∙ is
 still_prepared script s event left t label p (Prepares new prepared unchanged unheld unprepared stands free) is other =
     ap (λ ps. option_map fresh (find (λ (p : Prepared). p.label == label) ps)) prepared
     ∙ ap (option_map fresh) (find-append (λ (p : Prepared). p.label == label) s.prepared (new ∷ []))
     ∙ first_stays (find (λ (p : Prepared). p.label == label) s.prepared) _ p is
-still_prepared script s event left t label p (Alters altered to q base answer prepared found at so) is other =
+still_prepared script s event left t label p (Alters altered to q base answer prepared found at so acts) is other =
     ap (λ ps. option_map fresh (find (λ (p : Prepared). p.label == label) ps)) prepared
-    ∙ ap (option_map fresh) (find_changed (λ (p : Prepared). p.label) (changed altered to) s.prepared label (changed_label altered to))
+    ∙ ap (option_map fresh) (find_changed (λ (p : Prepared). p.label) (relabelled altered to) s.prepared label (changed_label altered to))
     ∙ change_leaves (find (λ (p : Prepared). p.label == label) s.prepared) altered to ∙ is
 still_prepared script s event left t label p (Ends gone place q ended prepared at found) is other =
     ap (λ ps. option_map fresh (find (λ (p : Prepared). p.label == label) ps)) prepared
@@ -71,8 +71,8 @@ prepared_stays script s line event label p =
     still_prepared script s event c.left _ label p c.prepared
 
 pub prepared_goes_on : (script : Script) (s : State) (entries : List Entry) (label : ℕ) (p : Prepared)
-    → prepared_as s label ≡ Some p → All (λ entry. ends label entry.event ≡ false) entries
-    → prepared_as (goes_on script s entries) label ≡ Some p
+    → preparation_of s label ≡ Some p → All (λ entry. ends_label label entry.event ≡ false) entries
+    → preparation_of (goes_on script s entries) label ≡ Some p
 prepared_goes_on script s entries label p =
-    left_by_each (λ t. prepared_as t label ≡ Some p) (λ event. ends label event ≡ false)
+    left_by_each (λ t. preparation_of t label ≡ Some p) (λ event. ends_label label event ≡ false)
     (λ script s line event. prepared_stays script s line event label p) script s entries

@@ -1,7 +1,8 @@
 -- The states that a journal leads through, and its answers.
-use Rattle.std.proofs.Common.{◌≡◌, inl, inr, ℕ, ◌+◌, List, [], ◌∷◌, ◌++◌, length, take, slice_get, Option, Some, sym, ap, ◌∙◌, subst}
+use Rattle.std.proofs.Common.{◌≡◌, inl, inr, ℕ, ◌+◌, List, [], ◌∷◌, ◌++◌, length, take, slice_get, Option, Some, None, sym, ap, ◌∙◌, subst, arith}
 use Rattle.std.specs.Option.{IfSome}
-use Rattle.std.proofs.lemmas.List.{take_more}
+use Rattle.std.proofs.lemmas.List.{take_all, take_more}
+use Rattle.cred_model.proofs.Lists.{slice_get_at}
 use Rattle.std.proofs.lemmas.Option.{get_or_from_slice_get, slice_get_past, slice_get_within}
 use Rattle.std.proofs.lemmas.Bool.{cases_lt}
 use Rattle.cred_event.specs.declared.entry.Entry.{Entry}
@@ -27,4 +28,13 @@ answered_at script journal answered k =
       | inl lt ↦ answered k lt
       | inr past ↦ subst (λ (o : Option Entry). IfSome o (λ entry. entry.answer ≡ (step script (state_at script journal k) entry.line entry.event).0))
           (sym (slice_get_past journal k past)) tt
+    ]
+
+-- past its end a journal leads no further
+pub past_end : (script : Script) (journal : List Entry) (k : ℕ) → slice_get journal k ≡ None
+    → state_at script journal (k + 1) ≡ state_at script journal k
+past_end script journal k none =
+    elim (cases_lt k (length journal)) [
+      | inl lt ↦ absurd (let there = slice_get_at journal k lt in let both : Some there.0 ≡ None = sym there.1 ∙ none in cc)
+      | inr past ↦ ap (replay script) (take_all (k + 1) journal (omega (arith, past)) ∙ sym (take_all k journal past))
     ]

@@ -22,12 +22,13 @@ use Rattle.cred_event.specs.declared.event.Mode.TheVariants.{Fs, Real}
 use Rattle.cred_model.specs.Script.{Script, reaches}
 use Rattle.cred_model.specs.State.{State, Task, Hold, Prepared, Changed, Numbered, ProcessFlag, numbered, task_of, current_of, hold_of, held_by, prepared_of}
 use Rattle.cred_model.specs.Ends.{is_thread_of, is_beside}
-use Rattle.cred_model.specs.Ptrace.{SYS_PTRACE, asking_caps, are_all, has_asking_ids, has_sys_ptrace, is_no_stronger, may_trace}
-use Rattle.cred_model.specs.Dumpable.{flag_in, is_dumpable, with_flag, flagged, set_flag, without_flag, differs, renewed, is_gain, flags_by, differs_by, flags_begun, flags_left, flag_of_value}
+use Rattle.cred_caps.specs.Numbers.{SYS_PTRACE}
+use Rattle.cred_model.specs.Ptrace.{asking_caps, are_all, has_asking_ids, has_sys_ptrace, is_no_stronger, may_trace}
+use Rattle.cred_model.specs.Dumpable.{flag_in, is_dumpable, with_process_flag, flagged, set_flag, without_flag, differs, renewed, is_gain, flags_by, differs_by, flags_begun, flags_left, flag_of_value}
 use Rattle.cred_model.specs.Step.{commit_answer, committed_by, by_ptrace, done, step}
 use Rattle.cred_model.proofs.Lists.{find_changed, none_found}
 use Rattle.cred_sound.specs.Sound.{IsSound}
-use Rattle.cred_sound.proofs.Parts.{TasksChange, Cause, Creation, ByBegin, ByAct, ByCommit, BySpawn, ByFork, ByExit, ByAbort, SameTasks, SetsFlag, Creates, Shares, Renews, Overrides, Fewer}
+use Rattle.cred_sound.proofs.Parts.{TasksChange, Cause, Creation, ByBegin, ByAct, ByRaw, ByCommit, BySpawn, ByFork, ByExit, ByAbort, SameTasks, SetsFlag, Creates, Shares, Renews, Overrides, Fewer}
 use Rattle.cred_sound.proofs.Events.{changes}
 use Rattle.cred_sound.proofs.Threads.{not_true}
 use Rattle.cred_laws.specs.Made.{AreMade}
@@ -225,7 +226,7 @@ renewed_stays flags other process false clear = clear
 
 -- a process more
 with_stays : (flags : List ProcessFlag) (other process : ℕ) (dumpable : Bool) → other ≢ process → is_dumpable flags process ≡ false
-    → is_dumpable (with_flag flags other dumpable) process ≡ false
+    → is_dumpable (with_process_flag flags other dumpable) process ≡ false
 with_stays flags other process dumpable apart clear =
     let new : ProcessFlag = record { process = other; dumpable = dumpable } in
     let test : (other == process) ≡ false = grind (arith, nat_tests) in
@@ -293,6 +294,11 @@ cause_clears s event task owner ends c made before found is differ (ByBegin call
     ∙ ap (λ b. is_dumpable (renewed s.dumpable owner.process b) owner.process) (ap (λ (n : Numbered). differs n.cred c) (sym one) ∙ differ)
     ∙ set_clear s.dumpable owner.process
 cause_clears s event task owner ends c made before found is differ (ByAct number slot cast old acts opened first has ruled none casts answered flags) =
+    let one = one_found (current_of s task) before old is has in
+    ap (λ fs. is_dumpable fs owner.process) flags
+    ∙ ap (λ b. is_dumpable (renewed s.dumpable owner.process b) owner.process) (ap (λ (n : Numbered). differs n.cred c) (sym one) ∙ differ)
+    ∙ set_clear s.dumpable owner.process
+cause_clears s event task owner ends c made before found is differ (ByRaw call old slot raws has ruled idle none casts answered flags) =
     let one = one_found (current_of s task) before old is has in
     ap (λ fs. is_dumpable fs owner.process) flags
     ∙ ap (λ b. is_dumpable (renewed s.dumpable owner.process b) owner.process) (ap (λ (n : Numbered). differs n.cred c) (sym one) ∙ differ)
@@ -371,6 +377,8 @@ module _ (script : Script) (s : State) (line : ℕ) (event : Event) (process : �
       ap (λ fs. is_dumpable fs process) flags ∙ renewed_stays s.dumpable owner.process process _ clear
   renews task owner ends c found (ByAct number slot cast old acts opened first has_old ruled none casts answered flags) =
       ap (λ fs. is_dumpable fs process) flags ∙ renewed_stays s.dumpable owner.process process _ clear
+  renews task owner ends c found (ByRaw call old slot raws has_old ruled idle none casts answered flags) =
+      ap (λ fs. is_dumpable fs process) flags ∙ renewed_stays s.dumpable owner.process process _ clear
   renews task owner ends c found (ByCommit label place slot count p last commits first at own changed same cred ending casts answered flags) =
       ap (λ fs. is_dumpable fs process) flags
       ∙ committed_stays last.change last.gains s.dumpable owner.process process (differs_by s owner last) clear
@@ -386,7 +394,7 @@ module _ (script : Script) (s : State) (line : ℕ) (event : Event) (process : �
   -- a first task
   begins : (other : ℕ) → is_dumpable (flags_begun s other) process ≡ false
   begins other =
-      elim (is_some (find (is_thread_of other) s.tasks)) as (λ b. is_some (find (is_thread_of other) s.tasks) ≡ b → is_dumpable (cond b s.dumpable (with_flag s.dumpable other true)) process ≡ false) [
+      elim (is_some (find (is_thread_of other) s.tasks)) as (λ b. is_some (find (is_thread_of other) s.tasks) ≡ b → is_dumpable (cond b s.dumpable (with_process_flag s.dumpable other true)) process ≡ false) [
         | true ↦ λ live. clear
         | false ↦ λ none. with_stays s.dumpable other process true (has_other s.tasks process other has none) clear
       ] refl

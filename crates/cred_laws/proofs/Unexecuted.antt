@@ -9,6 +9,7 @@ use Rattle.cred_record.specs.declared.refusal.Denial.{Denial}
 use Rattle.cred_record.specs.declared.refusal.Denial.TheVariants.{Perm, Invalid}
 use Rattle.cred_record.specs.declared.want.Want.{Want}
 use Rattle.cred_rules.specs.Adjust.{adjust}
+use Rattle.cred_rules.specs.Files.{chown, chmod, set_attr}
 use Rattle.cred_rules.specs.SetId.{set_id}
 use Rattle.cred_rules.specs.Access.{may, may_signal}
 use Rattle.cred_rules.specs.Exec.{Executed, NoExec, exec}
@@ -21,10 +22,10 @@ use Rattle.cred_event.specs.declared.event.Change.TheVariants.{SetFs, Adjust, Ex
 use Rattle.cred_event.specs.declared.event.Query.{Query}
 use Rattle.cred_event.specs.declared.event.Query.TheVariants.{Ids, Caps, Groups, Bits, Capable, Bset, AmbIs, Check}
 use Rattle.cred_event.specs.declared.event.Event.{Event}
-use Rattle.cred_event.specs.declared.event.Event.TheVariants.{Init, Take, TakeFile, Release, Ask, Signal, Prepare, Alter, Commit, Abort, Override, Revert, Begin, Act, OpenFile, CloseFile, Spawn, Fork, Exit, Sweep, Dumpable, Dumped, Ptrace}
-use Rattle.cred_model.specs.Script.{Script, info_of, chain_of, root_of, reaches}
+use Rattle.cred_event.specs.declared.event.Event.TheVariants.{Init, Take, TakeFile, Release, Ask, Signal, Prepare, Alter, Commit, Abort, Override, Revert, Begin, Act, OpenFile, CloseFile, Spawn, Fork, Exit, Sweep, Dumpable, Dumped, Ptrace, Chown, Chmod, SetAttr, Stat, Raw}
+use Rattle.cred_model.specs.Script.{Script, chain_of, root_of, reaches}
 use Rattle.cred_model.specs.Named.{change_files}
-use Rattle.cred_model.specs.State.{State, Broadcast, Task, Numbered, numbered, task_of, cast_of, cast_in, begun_by, open_of, hold_of, prepared_of, credential_of, opener_of, held_by}
+use Rattle.cred_model.specs.State.{State, Broadcast, Task, Numbered, numbered, task_of, cast_of, cast_in, begun_by, open_of, hold_of, prepared_of, credential_of, opener_of, held_by, info_of}
 use Rattle.cred_model.specs.Casts.{not_busy, others_of, with_cast, waits_no_more}
 use Rattle.cred_model.specs.Ends.{is_thread_of}
 use Rattle.cred_model.specs.Slots.{free, swept_if_full}
@@ -35,7 +36,7 @@ use Rattle.cred_model.specs.Change.{Made, made_by_rule, made_by_exec, by_rule, b
 use Rattle.cred_model.specs.Moves.{◌>>=◌, none_or, fewer_or, unless_refused, not_overridden}
 use Rattle.cred_model.specs.Moves.{in_slot}
 use Rattle.cred_model.specs.Moves.{table_full, first_task, created, preparing, replaced}
-use Rattle.cred_model.specs.Step.{take_hold, for_access, aborted, follow, done, outcome}
+use Rattle.cred_model.specs.Step.{take_hold, for_access, aborted, follow, by_file, done, outcome}
 
 abbrev pub is_executed : Answer → Bool
 is_executed (answer.Executed number slot ended gains) = true
@@ -197,6 +198,17 @@ follow_plain s cast task owner old (Ok new) =
     ))
     (λ t. refl) (λ t slot. refl)
 
+-- a file is changed, or the rule refuses
+file_rule_plain : (r : Result File Denial) (f : File → Result (Answer × State) Answer) → ((file : File) → Plain (f file)) → Plain (by_rule r >>= f)
+file_rule_plain (Ok file) f each = each file
+file_rule_plain (Err denial) f each = record { is = refusal_plain denial }
+
+file_plain_by : (s : State) (hold place : ℕ) (rule : Credential → File → Result File Denial) → Plain (by_file s hold place rule)
+file_plain_by s hold place rule =
+    some_plain (held_by s hold) _ _ refl
+    (λ held. some_plain (slice_get s.infos place) _ _ refl
+    (λ old. file_rule_plain (rule held.cred old) _ (λ new. at_once _ _ refl)))
+
 pub plain : (script : Script) (s : State) (line : ℕ) (event : Event) → commits event ≡ false → Plain (done script s line event)
 plain script s line (Init task process user group ns) other =
     idle_plain (cast_in s process) _ (none_plain (task_of s task) _ _ refl (fewer_plain (length s.tasks) TASKS _ _ refl
@@ -230,8 +242,8 @@ plain script s line (Prepare label task hold) other =
 plain script s line (Alter label change) other =
     some_plain (prepared_of s label) _ _ refl
     (λ p. some_plain (numbered s.creds p.base) _ _ refl
-    (λ base. alter_plain (by_change (info_of script (change_files change)) (chain_of script base.cred.ns) base.cred change) _
-    (change_plain (info_of script (change_files change)) (chain_of script base.cred.ns) base.cred change) (λ made. refl)))
+    (λ base. alter_plain (by_change (info_of s.infos (change_files change)) (chain_of script base.cred.ns) base.cred change) _
+    (change_plain (info_of s.infos (change_files change)) (chain_of script base.cred.ns) base.cred change) (λ made. refl)))
 plain script s line (Commit label) other = cc
 plain script s line (Abort label) other =
     some_plain (position (λ p. p.label == label) s.prepared) _ _ refl
@@ -271,7 +283,7 @@ plain script s line (Act number) other =
 plain script s line (OpenFile hold place asked fd) other =
     some_plain (held_by s hold) _ _ refl
     (λ held. none_plain (open_of s fd) _ _ refl
-    (passed_plain (checked held.cred (info_of script (place ∷ [])) asked) _ (file_plain held.cred (info_of script (place ∷ [])) asked)
+    (passed_plain (checked held.cred (info_of s.infos (place ∷ [])) asked) _ (file_plain held.cred (info_of s.infos (place ∷ [])) asked)
     (fewer_plain (length s.files) OPEN_FILES _ _ refl (at_once _ _ refl))))
 plain script s line (CloseFile fd) other =
     some_plain (position (λ f. f.fd == fd) s.files) _ _ refl
@@ -300,4 +312,22 @@ plain script s line (Ptrace from hold to target mode) other =
     (λ own. some_plain (held_by s target) _ _ refl
     (λ with.
     last_plain (may_trace own.cred with.cred (sender.process == receiver.process) (reaches script.namespaces own.cred.ns with.cred.ns) (is_dumpable s.dumpable receiver.process) mode) _ _ s refl refl))))
+plain script s line (Chown hold place owner group) other = file_plain_by s hold place (λ c file. chown c file owner group)
+plain script s line (Chmod hold place mode) other = file_plain_by s hold place (λ c file. chmod c file mode)
+plain script s line (SetAttr hold place attr) other = file_plain_by s hold place (λ c file. set_attr c file attr)
+plain script s line (Stat hold place) other =
+    some_plain (held_by s hold) _ _ refl (λ held. some_plain (slice_get s.infos place) _ _ refl (λ file. at_once _ _ refl))
+plain script s line (Raw task call) other =
+    some_plain (task_of s task) _ _ refl
+    (λ owner. some_plain (numbered s.creds owner.current) _ _ refl
+    (λ old. idle_plain (cast_in s owner.process) _
+    (own_plain owner _
+    (rule_plain (set_id old.cred call) _
+    (λ new.
+    slot_plain s table_full
+    (λ t slot. (
+      answer.Sealed (length t.creds) slot,
+      record (replaced t task old.number new slot) { dumpable = renewed t.dumpable owner.process (differs old.cred new) },
+    ))
+    (λ t. refl) (λ t slot. refl))))))
 plain script s line Sweep other = at_once _ _ refl

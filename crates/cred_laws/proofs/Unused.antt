@@ -10,13 +10,13 @@ use Rattle.cred_model.proofs.Numbers.{numbered_is, numbered_last, sealed_cred_of
 use Rattle.cred_sound.specs.Ledger.{ledger, IsOrderly}
 use Rattle.cred_sound.proofs.Parts.{CredsChange, SameCreds, Seals, sealed_cred}
 use Rattle.cred_sound.proofs.Events.{changes}
-use Rattle.cred_laws.specs.Slots.{IsUnused, NoHeldSlotIsRewritten}
+use Rattle.cred_laws.specs.Slots.{IsUnusedSlot, NoHeldSlotIsRewritten}
 
 -- Of the credentials after an event, those that the state had not stand in slots that were not in
 -- use.
 unused : (s : State) (event : Event) (left : List ℕ) (t : State) → CredsChange s event left t → IsOrderly (ledger s)
     → (number : ℕ) (new : Numbered) → length s.creds ≤ number → numbered t.creds number ≡ Some new
-    → IsUnused s event new.slot
+    → IsUnusedSlot s event new.slot
 unused s event left t (SameCreds same) order number new past is =
     let within = slice_get_within t.creds number (sealed_cred_of new) (numbered_is t.creds number new is).1 in
     let long = ap (λ (creds : List SealedCred). length creds) same in absurd (omega arith)
@@ -28,7 +28,7 @@ unused s event left t (Seals c slot creds fits origin) order number new past is 
     = sym (ap (λ creds. numbered creds number) creds ∙ ap (numbered (s.creds ++ sealed_cred c slot ∷ [])) last ∙ numbered_last s.creds (sealed_cred c slot)) ∙ is in
     let one : record { number = length s.creds; cred = c; slot = slot } ≡ new = cc in
     let fit = fits order in
-    subst (IsUnused s event) (ap (λ (n : Numbered). n.slot) one)
+    subst (IsUnusedSlot s event) (ap (λ (n : Numbered). n.slot) one)
     (record { clear = All-left (λ n. slice_get (ledger s).slots n ≢ Some slot) (in_use s) left fit.clear; kept = fit.own })
 
 pub no_held_slot_is_rewritten : NoHeldSlotIsRewritten

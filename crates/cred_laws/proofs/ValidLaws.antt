@@ -38,8 +38,7 @@ use Rattle.cred_event.specs.declared.event.Change.{Change}
 use Rattle.cred_event.specs.declared.event.Change.TheVariants as change
 use Rattle.cred_event.specs.declared.event.Event.{Event}
 use Rattle.cred_event.specs.declared.entry.Entry.{Entry}
-use Rattle.cred_model.specs.Script.{Script, info_of, chain_of}
-use Rattle.cred_model.specs.Named.{change_files}
+use Rattle.cred_model.specs.Script.{Script, chain_of}
 use Rattle.cred_model.specs.State.{State, SealedCred, Prepared, Numbered, numbered, opening}
 use Rattle.cred_model.specs.Change.{Made, made, made_by_exec, by_change}
 use Rattle.cred_model.specs.Step.{step}
@@ -49,7 +48,7 @@ use Rattle.cred_sound.specs.Sound.{IsSound}
 use Rattle.cred_sound.proofs.Parts.{CredsChange, Origin, SameCreds, Seals, OfFirst, OfCall, OfLabel}
 use Rattle.cred_sound.proofs.Events.{changes}
 use Rattle.cred_sound.proofs.Sound.{step_sound, opening_sound}
-use Rattle.cred_laws.specs.Made.{IsMadeOf, IsMade, AreMade}
+use Rattle.cred_laws.specs.Made.{IsChangedFrom, IsMade, AreMade}
 use Rattle.cred_laws.specs.Valid.{IsValid, AreValid, SealedAreValid}
 use Rattle.cred_laws.proofs.CallLaws.{one-test, two-tests, by_rule}
 use Rattle.cred_laws.proofs.ExecveLaws.{numbered_at}
@@ -293,11 +292,11 @@ origin_valid script s c sound are valid (OfCall task before call is ruled) =
     set_id_valid before.cred c call (numbered_valid s.creds at.owner.current before valid (at_owner s task before at is)) ruled
 origin_valid script s c sound are valid (OfLabel place p last is changed cred) =
     let base = numbered_at s.creds p.base (All-at (λ (p : Prepared). p.base < length s.creds) s.prepared place p is (bases_sealed s sound)) in
-    let made_of = subst (λ o. IfSome o (IsMadeOf script (numbered s.creds p.base))) changed (All-at (IsMade script s.creds) s.prepared place p is are) in
-    let by = subst (λ found. IsMadeOf script found last) base.1 made_of in
+    let made_of = subst (λ o. IfSome o (IsChangedFrom script (numbered s.creds p.base))) changed (All-at (IsMade script s.creds) s.prepared place p is are) in
+    let by = subst (λ found. IsChangedFrom script found last) base.1 made_of in
     subst IsValid (sym cred)
-    (change_valid (info_of script (change_files last.change)) (chain_of script base.0.cred.ns) base.0.cred last.change (record { answer = by.0; cred = last.cred; gains = last.gains })
-    (numbered_valid s.creds p.base base.0 valid base.1) by.1)
+    (change_valid by.0 (chain_of script base.0.cred.ns) base.0.cred last.change (record { answer = by.1; cred = last.cred; gains = last.gains })
+    (numbered_valid s.creds p.base base.0 valid base.1) by.2)
 
 creds_valid : (script : Script) (s : State) (event : Event) (left : List ℕ) (t : State) → IsSound s → AreMade script s → AreValid s
     → CredsChange s event left t → AreValid t
@@ -318,4 +317,4 @@ valid_from script (entry ∷ journal) s sound are valid =
     (step_made script s entry.line entry.event sound are) (step_valid script s entry.line entry.event sound are valid)
 
 pub valid_journal : SealedAreValid
-valid_journal script journal = valid_from script journal opening opening_sound (λ k d lt. absurd (omega arith)) (λ k d lt. absurd (omega arith))
+valid_journal script journal = valid_from script journal (opening script) (opening_sound script) (λ k d lt. absurd (omega arith)) (λ k d lt. absurd (omega arith))

@@ -58,12 +58,12 @@ HasNamed (SetGroups list) c = c.groups ≡ in_order list
 -- ---- the threads of a process
 
 -- the current credential of the task is there, and P holds of it
-abbrev pub Has : (Credential → Type 0) → List SealedCred → Task → Type 0
-Has P creds t = (c : Numbered) × (numbered creds t.current ≡ Some c) × P c.cred
+abbrev pub CurrentHas : (Credential → Type 0) → List SealedCred → Task → Type 0
+CurrentHas P creds t = (c : Numbered) × (numbered creds t.current ≡ Some c) × P c.cred
 
 -- so it is with each live thread of the process
 abbrev pub AllHave : (Credential → Type 0) → State → ℕ → Type 0
-AllHave P s process = All (λ t. t.process ≡ process → Has P s.creds t) s.tasks
+AllHave P s process = All (λ t. t.process ≡ process → CurrentHas P s.creds t) s.tasks
 
 -- ---- the end of a broadcast
 
@@ -90,7 +90,8 @@ AreFollowed s =
     (process : ℕ)
     → IfSome (cast_in s process) (λ cast.
     All (λ t.
-    t.process ≡ process → waits_in t.number cast ≡ false → Has (HasNamed cast.call) s.creds t)
+    t.process ≡ process → waits_in t.number cast ≡ false
+    → CurrentHas (HasNamed cast.call) s.creds t)
     s.tasks)
 
 -- So it stays over each event,
@@ -110,17 +111,17 @@ CallsAreEveryThreads =
 -- ---- threads that are alike
 
 -- the kind of ids that a call sets; CAP_SETGID is asked for by setgroups(2) too
-abbrev pub kind_of : IdCall → Kind
-kind_of (SetUid id) = User
-kind_of (SetEuid effective) = User
-kind_of (SetReuid real effective) = User
-kind_of (SetResuid real effective saved) = User
-kind_of call = Group
+abbrev pub call_kind : IdCall → Kind
+call_kind (SetUid id) = User
+call_kind (SetEuid effective) = User
+call_kind (SetReuid real effective) = User
+call_kind (SetResuid real effective saved) = User
+call_kind call = Group
 
 -- the real, the effective and the saved id of a kind
-abbrev pub three_of : Kind → Credential → List ℕ
-three_of User c = three c.uid
-three_of Group c = three c.gid
+abbrev pub three_ids : Kind → Credential → List ℕ
+three_ids User c = three c.uid
+three_ids Group c = three c.gid
 
 -- the credential has the capability of the kind
 abbrev pub is_able : Kind → Credential → Bool
@@ -129,7 +130,7 @@ is_able Group c = capable c SETGID
 
 -- The credential has these three ids of the kind, and has or lacks the capability.
 pub record IsAlike (kind : Kind) (ids : List ℕ) (able : Bool) (c : Credential) : Type 0 where
-  pub same : three_of kind c ≡ ids
+  pub same : three_ids kind c ≡ ids
   pub both : is_able kind c ≡ able
 
 -- the thread whose own step in the broadcast of this number an event of a line is: its caller's

@@ -23,14 +23,14 @@ pub data Call : Type 0 where
   Changes : Option File → List ℕ → Change → Call
 
 -- what the call makes of the credential, or its refusal
-abbrev pub after : Credential → Call → Result Made Answer
-after c (SetIds call) = made_by_rule (set_id c call)
-after c (Changes file chain change) = by_change file chain c change
+abbrev pub after_call : Credential → Call → Result Made Answer
+after_call c (SetIds call) = made_by_rule (set_id c call)
+after_call c (Changes file chain change) = by_change file chain c change
 
 -- one call makes this of c
 pub record IsNext (c : Credential) (next : Made) : Type 0 where
   pub call : Call
-  pub made : after c call ≡ Ok next
+  pub made : after_call c call ≡ Ok next
 
 -- an execve clears KEEP_CAPS, locked or not ("The securebits flags")
 abbrev pub clears : Call → Flag → Bool
@@ -48,7 +48,7 @@ pub record KeepsLocked (call : Call) (old new : ℕ) : Type 0 where
 abbrev pub LocksStaySet : Type 0
 LocksStaySet =
     (c : Credential) (next : Made) (call : Call)
-    → after c call ≡ Ok next → KeepsLocked call c.bits next.cred.bits
+    → after_call c call ≡ Ok next → KeepsLocked call c.bits next.cred.bits
 
 -- nothing is added to the bounding set
 abbrev pub BoundingNeverGrows : Type 0
@@ -66,7 +66,7 @@ added call next = empty
 abbrev pub PermittedGrowsByExecve : Type 0
 PermittedGrowsByExecve =
     (c : Credential) (next : Made) (call : Call)
-    → after c call ≡ Ok next → less next.cred.perm c.perm ≡ added call next
+    → after_call c call ≡ Ok next → less next.cred.perm c.perm ≡ added call next
 
 -- no_new_privs, once set, stays set
 abbrev pub NoNewPrivsStays : Type 0

@@ -1,5 +1,5 @@
 -- What an execve is, by the event that completes it (execve(2)).
-use Rattle.std.specs.Prelude.{◌≡◌, ℕ, [], ◌∷◌, All, Some, Ok}
+use Rattle.std.specs.Prelude.{◌≡◌, ℕ, All, Some, Ok}
 use Rattle.cred_record.specs.File.{File}
 use Rattle.cred_record.specs.declared.gains.Gains.{Gains}
 use Rattle.cred_rules.specs.Exec.{exec}
@@ -7,7 +7,7 @@ use Rattle.cred_event.specs.declared.answer.Answer.TheVariants.{Executed}
 use Rattle.cred_event.specs.declared.event.Change.TheVariants.{Exec}
 use Rattle.cred_event.specs.declared.event.Event.{Event}
 use Rattle.cred_event.specs.declared.event.Event.TheVariants.{Commit}
-use Rattle.cred_model.specs.Script.{Script, info_of, chain_of}
+use Rattle.cred_model.specs.Script.{Script, chain_of}
 use Rattle.cred_model.specs.State.{State, Task, Prepared, Changed, Numbered, task_of, prepared_of}
 use Rattle.cred_model.specs.State.{current_of}
 use Rattle.cred_model.specs.Step.{step}
@@ -15,8 +15,9 @@ use Rattle.cred_sound.specs.Sound.{IsSound}
 use Rattle.cred_laws.specs.Made.{AreMade}
 
 -- The event commits a label that was prepared for a task, and changed last by the execve of a file
--- of the script. The rule of execve makes the task's new credential of its old one, with these
--- gains, and no other thread of the task's process goes on.
+-- at this place. The rule of execve makes the task's new credential of its old one and of such a
+-- file, with these gains, and no other thread of the task's process goes on. How that file stood,
+-- and when, is said of journals.
 pub record IsExecve (script : Script) (before : State) (event : Event) (number slot : ℕ)
     (gains : Gains) (after : State) : Type 0 where
   pub prepared : Prepared
@@ -30,7 +31,6 @@ pub record IsExecve (script : Script) (before : State) (event : Event) (number s
   pub stood : prepared_of before prepared.label ≡ Some prepared
   pub changed : prepared.changed ≡ Some last
   pub executes : last.change ≡ Exec place
-  pub names : info_of script (place ∷ []) ≡ Some file
   pub lives : task_of before prepared.task ≡ Some task
   pub had : current_of before prepared.task ≡ Some old
   pub has : current_of after prepared.task ≡ Some new

@@ -37,21 +37,21 @@ HeldStays =
 
 -- What a label prepares, as it was before the first change of its credential: the task, the base
 -- and the slot.
-abbrev pub prepared_as : State → ℕ → Option Prepared
-prepared_as s label =
+abbrev pub preparation_of : State → ℕ → Option Prepared
+preparation_of s label =
     option_map (λ (p : Prepared). record p { changed = None }) (prepared_of s label)
 
 -- the event ends what the label prepares
-abbrev pub ends : ℕ → Event → Bool
-ends label (Commit committed) = committed == label
-ends label (Abort aborted) = aborted == label
-ends label (Override task overriding) = overriding == label
-ends label event = false
+abbrev pub ends_label : ℕ → Event → Bool
+ends_label label (Commit committed) = committed == label
+ends_label label (Abort aborted) = aborted == label
+ends_label label (Override task overriding) = overriding == label
+ends_label label event = false
 
 -- A prepared label stands, with its task, its base and its slot, after each event that doesn't end
 -- it.
 abbrev pub PreparedStays : Type 0
 PreparedStays =
     (script : Script) (s : State) (line : ℕ) (event : Event) (label : ℕ) (p : Prepared)
-    → prepared_as s label ≡ Some p → ends label event ≡ false
-    → prepared_as (step script s line event).1 label ≡ Some p
+    → preparation_of s label ≡ Some p → ends_label label event ≡ false
+    → preparation_of (step script s line event).1 label ≡ Some p

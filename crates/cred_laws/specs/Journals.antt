@@ -2,29 +2,40 @@
 use Rattle.std.specs.Prelude.{◌≡◌, ◌≢◌, ℕ, Bool, true, false, ◌+◌, ◌<◌, ◌≤◌, List, length, take}
 use Rattle.std.specs.Prelude.{slice_get, Some, None, IfSome}
 use Rattle.std.specs.Option.{option_map}
+use Rattle.std.specs.declared.option.Option.{Option}
+use Rattle.cred_ids.specs.declared.arg.Arg.{Arg}
 use Rattle.cred_ids.specs.declared.id.Kind.{Kind}
+use Rattle.cred_record.specs.File.{File}
+use Rattle.cred_rules.specs.Files.{strips}
 use Rattle.cred_record.specs.declared.gains.Gains as answer
 use Rattle.cred_record.specs.Credential.{Credential}
 use Rattle.cred_record.specs.declared.id_call.IdCall.{IdCall}
-use Rattle.cred_event.specs.declared.answer.Answer.TheVariants.{Done, Executed, Began}
-use Rattle.cred_event.specs.declared.event.Event.TheVariants.{Release, Begin, CloseFile}
+use Rattle.cred_event.specs.declared.answer.Answer.TheVariants.{Done, Executed, Began, Sealed}
+use Rattle.cred_event.specs.declared.event.Change.{Change}
+use Rattle.cred_event.specs.declared.event.Change.TheVariants.{Exec}
+use Rattle.cred_event.specs.declared.event.Event.TheVariants.{Release, Begin, CloseFile, Chown}
+use Rattle.cred_event.specs.declared.event.Event.TheVariants.{Raw}
 use Rattle.cred_event.specs.declared.event.Mode.{Mode}
 use Rattle.cred_event.specs.declared.entry.Entry.{Entry}
 use Rattle.cred_model.specs.Script.{Script}
 use Rattle.cred_model.specs.State.{State, Task, Prepared, Numbered, numbered, task_of, cast_in}
-use Rattle.cred_model.specs.State.{current_of, opener_of, held_by}
+use Rattle.cred_model.specs.State.{current_of, opener_of, held_by, info_of}
+use Rattle.cred_model.specs.Named.{change_files}
+use Rattle.cred_model.specs.Changing.{changed_file}
 use Rattle.cred_model.specs.Dumpable.{is_dumpable, differs}
 use Rattle.cred_model.specs.Journal.{replay, IsAnswered}
 use Rattle.cred_sound.specs.Sound.{IsSound}
-use Rattle.cred_laws.specs.Slots.{IsUnused}
-use Rattle.cred_laws.specs.Held.{prepared_as, ends}
+use Rattle.cred_laws.specs.Slots.{IsUnusedSlot}
+use Rattle.cred_laws.specs.Held.{preparation_of, ends_label}
 use Rattle.cred_laws.specs.Made.{AreMade}
 use Rattle.cred_laws.specs.Overrides.{IsOverriding}
 use Rattle.cred_laws.specs.Execve.{IsExecve}
+use Rattle.cred_laws.specs.Files.{IsLastChange, HasStripped, resets}
+use Rattle.cred_laws.specs.Raw.{IsRaw}
 use Rattle.cred_laws.specs.Permitted.{GainsBy, IsCreatedWith}
 use Rattle.cred_laws.specs.Valid.{AreValid}
 use Rattle.cred_laws.specs.Trace.{IsOwn, AsksWithoutCap, HasThreads, IsAskedFor, IsExecuted}
-use Rattle.cred_laws.specs.Broadcast.{HasNamed, AllHave, Completes, kind_of, three_of, IsAlike}
+use Rattle.cred_laws.specs.Broadcast.{HasNamed, AllHave, Completes, call_kind, three_ids, IsAlike}
 use Rattle.cred_laws.specs.Broadcast.{stepping}
 
 -- the state after the first k entries
@@ -51,7 +62,7 @@ WritesUnusedSlots script journal =
     (k number : ℕ) (new : Numbered) → length (state_at script journal k).creds ≤ number
     → numbered (state_at script journal (k + 1)).creds number ≡ Some new
     → IfSome (slice_get journal k) (λ entry.
-    IsUnused (state_at script journal k) entry.event new.slot)
+    IsUnusedSlot (state_at script journal k) entry.event new.slot)
 
 -- What is sealed keeps its number, its credential and its slot.
 abbrev pub KeepsSealed : Script → List Entry → Type 0
@@ -91,10 +102,10 @@ OverridesLeave script journal =
 abbrev pub KeepsPrepared : Script → List Entry → Type 0
 KeepsPrepared script journal =
     (k l label : ℕ) (p : Prepared) → k ≤ l
-    → prepared_as (state_at script journal k) label ≡ Some p
+    → preparation_of (state_at script journal k) label ≡ Some p
     → ((i : ℕ) → k ≤ i → i < l
-    → IfSome (slice_get journal i) (λ entry. ends label entry.event ≡ false))
-    → prepared_as (state_at script journal l) label ≡ Some p
+    → IfSome (slice_get journal i) (λ entry. ends_label label entry.event ≡ false))
+    → preparation_of (state_at script journal l) label ≡ Some p
 
 -- What an entry adds to what a living task is permitted is what its answer says was gained.
 abbrev pub GainsAsAnswered : Script → List Entry → Type 0
@@ -104,15 +115,63 @@ GainsAsAnswered script journal =
     → current_of (state_at script journal (k + 1)) task ≡ Some after
     → IfSome (slice_get journal k) (λ entry. GainsBy entry.answer before after)
 
+-- Before entry k the label was changed last by this change, and this is the file that the change
+-- names, as it stood then.
+abbrev pub IsFileOf : Script → List Entry → ℕ → ℕ → Change → Option File → Type 0
+IsFileOf script journal k label change file =
+    (at : ℕ) × IsLastChange journal k label change at
+    × (info_of (state_at script journal at).infos (change_files change) ≡ file)
+
 -- An entry which answers that an execve is completed commits what the rule of execve makes of the
--- task's credential and of the file, with the gains that it answers.
+-- task's credential and of the file, as that stood at the last change of the label, with the gains
+-- that it answers.
 abbrev pub ExecvesByTheRule : Script → List Entry → Type 0
 ExecvesByTheRule script journal =
     (k number slot ended : ℕ) (gains : answer.Gains)
     → IfSome (slice_get journal k) (λ entry.
     entry.answer ≡ Executed number slot ended gains
-    → IsExecve script (state_at script journal k) entry.event number slot gains
+    → (x : IsExecve script (state_at script journal k) entry.event number slot gains
     (state_at script journal (k + 1)))
+    × IsFileOf script journal k x.prepared.label (Exec x.place) (Some x.file))
+
+-- A file changes only by an entry that is done of chown(2), chmod(2), or setxattr(2) or
+-- removexattr(2) of its attribute, on that file.
+abbrev pub FilesStay : Script → List Entry → Type 0
+FilesStay script journal =
+    (k place : ℕ) (old new : File)
+    → slice_get (state_at script journal k).infos place ≡ Some old
+    → slice_get (state_at script journal (k + 1)).infos place ≡ Some new → old ≢ new
+    → IfSome (slice_get journal k) (λ entry.
+    (changed_file entry.event ≡ Some place) × (entry.answer ≡ Done))
+
+-- After an entry of chown(2) that is done, and gives an owner or a group to an executable regular
+-- file, the file has no attribute and no set-user-ID bit, up to the next entry that sets its mode
+-- or its attribute.
+abbrev pub ChownsStrip : Script → List Entry → Type 0
+ChownsStrip script journal =
+    (k l place hold : ℕ) (owner group : Arg) (old : File) (entry : Entry) → k < l
+    → slice_get journal k ≡ Some entry → entry.event ≡ Chown hold place owner group
+    → entry.answer ≡ Done → slice_get (state_at script journal k).infos place ≡ Some old
+    → strips old owner group ≡ true
+    → ((i : ℕ) → k < i → i < l
+    → IfSome (slice_get journal i) (λ later. resets later.event place ≡ false))
+    → HasStripped (state_at script journal l).infos place
+
+-- An id call of one thread alone leaves every other task the current credential that it had.
+abbrev pub RawsLeave : Script → List Entry → Type 0
+RawsLeave script journal =
+    (k task other : ℕ) (call : IdCall) → other ≢ task
+    → IfSome (slice_get journal k) (λ entry. entry.event ≡ Raw task call
+    → option_map (λ t. t.current) (task_of (state_at script journal (k + 1)) other)
+    ≡ option_map (λ t. t.current) (task_of (state_at script journal k) other))
+
+-- Where it isn't refused, the task has what the rule makes of the credential that it had.
+abbrev pub RawsByTheRule : Script → List Entry → Type 0
+RawsByTheRule script journal =
+    (k task number slot : ℕ) (call : IdCall)
+    → IfSome (slice_get journal k) (λ entry.
+    entry.event ≡ Raw task call → entry.answer ≡ Sealed number slot
+    → IsRaw (state_at script journal k) task call number slot (state_at script journal (k + 1)))
 
 -- A task lives from the entry on that creates it, with the credential that this one gives it.
 abbrev pub CreatesTasks : Script → List Entry → Type 0
@@ -158,7 +217,7 @@ pub record RunsThrough
 
 -- From one entry to another each thread had, before its own step in the broadcast, these three ids
 -- of the kind on its current credential, and had or lacked the capability.
-abbrev pub StepAlike : Script → List Entry → ℕ → ℕ → ℕ → Kind → List ℕ → Bool → Type 0
+abbrev pub StepAlike : Script → List Entry → (begun done number : ℕ) → Kind → List ℕ → Bool → Type 0
 StepAlike script journal begun done number kind ids able =
     (i : ℕ) → begun ≤ i → i ≤ done
     → IfSome (slice_get journal i) (λ entry.
@@ -171,9 +230,10 @@ abbrev pub KeepsAlike : Script → List Entry → Type 0
 KeepsAlike script journal =
     (begun done number process : ℕ) (call : IdCall) (ids : List ℕ) (able : Bool)
     → RunsThrough script journal begun done number process call
-    → StepAlike script journal begun done number (kind_of call) ids able
+    → StepAlike script journal begun done number (call_kind call) ids able
     → (equal : List ℕ)
-    × AllHave (λ c. three_of (kind_of call) c ≡ equal) (state_at script journal (done + 1)) process
+    × AllHave (λ c. three_ids (call_kind call) c
+    ≡ equal) (state_at script journal (done + 1)) process
 
 -- Where an entry says that a task may look into one of another process, and was asked by a
 -- credential without CAP_SYS_PTRACE, the target's ids are those that are asked by, it is permitted
@@ -227,6 +287,10 @@ pub record IsLawful (script : Script) (journal : List Entry) : Type 0 where
   pub alike : KeepsAlike script journal
   pub looks : LooksIntoOwn script journal
   pub undumpable : StaysUndumpable script journal
+  pub files : FilesStay script journal
+  pub chowns : ChownsStrip script journal
+  pub raws : RawsLeave script journal
+  pub raw_rule : RawsByTheRule script journal
 
 -- They hold of every journal whose entries have the answers that the rules give.
 abbrev pub JournalsAreLawful : Type 0

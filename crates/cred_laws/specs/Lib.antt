@@ -3,6 +3,8 @@ pub mod Slots
 pub mod Held
 pub mod Made
 pub mod Execve
+pub mod Files
+pub mod Raw
 pub mod Overrides
 pub mod Permitted
 pub mod Valid

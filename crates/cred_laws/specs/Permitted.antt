@@ -7,7 +7,7 @@ use Rattle.cred_event.specs.declared.event.Event.{Event}
 use Rattle.cred_event.specs.declared.event.Event.TheVariants.{Init, Spawn, Fork}
 use Rattle.cred_model.specs.Script.{Script, root_of}
 use Rattle.cred_model.specs.State.{State, Numbered, task_of, current_of}
-use Rattle.cred_model.specs.Change.{gained}
+use Rattle.cred_model.specs.Change.{gain_told}
 use Rattle.cred_model.specs.Step.{step}
 use Rattle.cred_sound.specs.Sound.{IsSound}
 use Rattle.cred_laws.specs.Made.{AreMade}
@@ -18,7 +18,7 @@ use Rattle.cred_laws.specs.Made.{AreMade}
 pub record GainsBy (answer : Answer) (before after : Numbered) : Type 0 where
   pub same : after.number ≡ before.number → after ≡ before
   pub other : after.number ≢ before.number
-      → less after.cred.perm before.cred.perm ≡ gained answer
+      → less after.cred.perm before.cred.perm ≡ gain_told answer
 
 -- So it is with each task that is alive before and after an event, in a sound state where each
 -- prepared credential is what its change makes of its base.

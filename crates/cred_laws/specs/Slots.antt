@@ -12,7 +12,7 @@ use Rattle.cred_sound.specs.Sound.{IsSound}
 -- whose credential the event seals. Of a journal two laws say together that what is referred to
 -- stays in its place: a sealed number keeps its slot for good (`KeepsSealed`), and nothing else is
 -- put into that slot while a reference in use is to it (`WritesUnusedSlots`, which is this).
-pub record IsUnused (s : State) (event : Event) (slot : ℕ) : Type 0 where
+pub record IsUnusedSlot (s : State) (event : Event) (slot : ℕ) : Type 0 where
   pub clear : IsClear (ledger s).slots slot (in_use s)
   pub kept : All (λ p. p.slot ≡ slot → SealsOf event p.label) s.prepared
 
@@ -21,4 +21,4 @@ abbrev pub NoHeldSlotIsRewritten : Type 0
 NoHeldSlotIsRewritten =
     (script : Script) (s : State) (line : ℕ) (event : Event) (number : ℕ) (new : Numbered)
     → IsSound s → length s.creds ≤ number
-    → numbered (step script s line event).1.creds number ≡ Some new → IsUnused s event new.slot
+    → numbered (step script s line event).1.creds number ≡ Some new → IsUnusedSlot s event new.slot

@@ -4,6 +4,7 @@ use Rattle.std.specs.Prelude.{◌≡◌, ◌≢◌, ℕ, true, false, Some, find
 use Rattle.std.specs.Option.{option_map}
 use Rattle.cred_ids.specs.declared.id.Ids4.{Ids4}
 use Rattle.cred_caps.specs.Caps.{IsWithin}
+use Rattle.cred_caps.specs.Numbers.{SYS_PTRACE}
 use Rattle.cred_record.specs.Credential.{Credential, capable}
 use Rattle.cred_record.specs.declared.gains.Gains.{Gains}
 use Rattle.cred_event.specs.declared.answer.Answer.{Answer}
@@ -14,7 +15,7 @@ use Rattle.cred_event.specs.declared.event.Mode.{Mode}
 use Rattle.cred_model.specs.Script.{Script}
 use Rattle.cred_model.specs.State.{State, Task, Numbered, task_of, current_of, held_by}
 use Rattle.cred_model.specs.Ends.{is_thread_of}
-use Rattle.cred_model.specs.Ptrace.{asking_user, asking_group, SYS_PTRACE}
+use Rattle.cred_model.specs.Ptrace.{asking_user, asking_group}
 use Rattle.cred_model.specs.Dumpable.{is_dumpable, differs}
 use Rattle.cred_model.specs.Step.{step}
 use Rattle.cred_sound.specs.Sound.{IsSound}

@@ -3,12 +3,12 @@ ghost use Rattle.cred_laws.specs.Trace.{LooksIntoOwnAlone, IdsClearFlag, FlagSta
 
 /// Where a task may look into one of another process, and asks by a credential without
 /// CAP_SYS_PTRACE, all user ids of the target are the one that is asked by, and its group ids
-/// likewise; nothing is permitted to it that isn't permitted to the one that asks; and its process is
-/// dumpable (ptrace(2), "Ptrace access mode checking").
+/// likewise; nothing is permitted to it that isn't permitted to the one that asks; and its process
+/// is dumpable (ptrace(2), "Ptrace access mode checking").
 ///
-/// It asks for a state whose credentials have valid sets, as every journal leads to. It says nothing
-/// of a task with the capability, of one process, and of the other security modules that may refuse
-/// what this check permits.
+/// It asks for a state whose credentials have valid sets, as every journal leads to. It says
+/// nothing of a task with the capability, of one process, and of the other security modules that
+/// may refuse what this check permits.
 pub fn looks_into_own_alone()
     ensures { LooksIntoOwnAlone }
 {}

@@ -3,9 +3,9 @@ use Rattle.std.proofs.Common.{◌≡◌, ℕ, ◌+◌, ◌*◌, ◌-◌, ◌<◌
 use Rattle.std.specs.Option.{IfSome, option_and_then, option_map_or}
 use Rattle.cred_ids.specs.Limits.{TRIES, TASKS}
 use Rattle.cred_event.specs.declared.content.Content.{Content}
-use Rattle.cred_event.specs.declared.content.Content.TheVariants.{One, Id, Question, Open, Fcap, Signal, Ptrace, Change, Access}
+use Rattle.cred_event.specs.declared.content.Content.TheVariants.{One, Id, Question, Open, Fcap, Signal, Ptrace, Change, Access, OnFile}
 use Rattle.cred_event.specs.declared.content.Stage.{Stage}
-use Rattle.cred_event.specs.declared.content.Stage.TheVariants.{First, Acting, Asking, Opening, TakingTarget, Signalling, Tracing, ReleasingTarget, Preparing, Altering, Committing, Aborting, Overriding, TakingAccess, ReleasingAccess, Reverting, Releasing, Retrying}
+use Rattle.cred_event.specs.declared.content.Stage.TheVariants.{First, Acting, Asking, Opening, Calling, TakingTarget, Signalling, Tracing, ReleasingTarget, Preparing, Altering, Committing, Aborting, Overriding, TakingAccess, ReleasingAccess, Reverting, Releasing, Retrying}
 use Rattle.cred_event.specs.declared.event.Event.{Event}
 use Rattle.cred_event.specs.declared.event.Event.TheVariants.{Begin, Act, Spawn}
 use Rattle.cred_event.specs.declared.answer.Answer.{Answer}
@@ -13,7 +13,9 @@ use Rattle.cred_event.specs.declared.entry.Entry.{Entry}
 use Rattle.cred_record.specs.declared.id_call.IdCall.{IdCall}
 use Rattle.cred_model.specs.Script.{Script, Line}
 use Rattle.cred_model.specs.Course as model
-use Rattle.cred_model.specs.Course.{Course, Leads, TRY_EVENTS, event_in, event_at, is_bounded}
+use Rattle.cred_event.specs.declared.content.FileCall.{FileCall}
+use Rattle.cred_event.specs.declared.content.FileCall.TheVariants.{Chown, Chmod, SetAttr, Stat}
+use Rattle.cred_model.specs.Course.{Course, Leads, TRY_EVENTS, hold_label, calling, event_in, event_at, is_bounded}
 use Rattle.cred_model.specs.Course.{is_stale, most, next_stage, next_try, some_wait}
 use Rattle.cred_model.specs.Journal.{entry_of, replay}
 use Rattle.cred_model.specs.Step.{step}
@@ -22,7 +24,7 @@ use Rattle.cred_model.proofs.Journals.{replay-push}
 use Rattle.cred_script.specs.Lines.{line_at}
 use Rattle.cred_sound.proofs.Few.{few_after}
 use Rattle.cred_sound.proofs.Sound.{sound_after}
-use Rattle.cred_cursor.specs.Cursor.{left_at, may_wait, may_wait_at}
+use Rattle.cred_cursor.specs.Cursor.{left_at, new_waiters, new_waiters_at}
 use Rattle.cred_left.specs.Waiting.{waiting}
 use Rattle.cred_left.proofs.WaitingSteps.{act_lowers, more_wait, step_waits}
 
@@ -33,7 +35,13 @@ few_more (Begin task call) = omega arith
 few_more (Spawn task child) = omega arith
 few_more event = omega arith
 
-more_may : (line : ℕ) (content : Content) (stage : Stage) → IfSome (event_in line content stage) (λ event. more_wait event ≤ may_wait content (Some stage))
+calling_more : (hold : ℕ) (call : FileCall) → more_wait (calling hold call) ≤ 0
+calling_more hold (Chown file owner group) = omega arith
+calling_more hold (Chmod file mode) = omega arith
+calling_more hold (SetAttr file attr) = omega arith
+calling_more hold (Stat file) = omega arith
+
+more_may : (line : ℕ) (content : Content) (stage : Stage) → IfSome (event_in line content stage) (λ event. more_wait event ≤ new_waiters content (Some stage))
 more_may line (One event) First = few_more event
 more_may line (Id task call) First = omega arith
 more_may line (Id task call) Acting = omega arith
@@ -73,13 +81,16 @@ more_may line (Access task file want) ReleasingAccess = omega arith
 more_may line (Access task file want) Reverting = omega arith
 more_may line (Access task file want) Aborting = omega arith
 more_may line (Access task file want) Releasing = omega arith
+more_may line (OnFile task call) First = omega arith
+more_may line (OnFile task call) Calling = calling_more (hold_label line) call
+more_may line (OnFile task call) Releasing = omega arith
 more_may line content stage = tt
 
 -- ---- a course and those that wait
 
 -- what a course leaves to do, without the steps of those that wait already
 abbrev ahead : Content → Course → ℕ
-ahead content course = model.left course + may_wait content course.stage
+ahead content course = model.left course + new_waiters content course.stage
 
 -- the course after an answer at this stage
 abbrev after_stage : Content → Course → Option Stage → Answer → Course
@@ -91,9 +102,9 @@ after_is : (content : Content) (course : Course) (stage : Stage) (answer : Answe
 after_is content course stage answer here = ap (λ o. after_stage content course o answer) here
 
 ahead_is : (content : Content) (course : Course) (stage : Stage) → course.stage ≡ Some stage
-    → ahead content course ≡ TRY_EVENTS * (TRIES - course.tries) + most stage + may_wait content (Some stage)
+    → ahead content course ≡ TRY_EVENTS * (TRIES - course.tries) + most stage + new_waiters content (Some stage)
 ahead_is content course stage here =
-    ap (λ o. option_map_or (λ stage. TRY_EVENTS * (TRIES - course.tries) + most stage) o 0 + may_wait content o) here
+    ap (λ o. option_map_or (λ stage. TRY_EVENTS * (TRIES - course.tries) + most stage) o 0 + new_waiters content o) here
 
 -- What an event does to the number of those that wait: it was so many, and is so many now.
 record Waits (event : Event) (answer : Answer) (before now : ℕ) : Type 0 where
@@ -103,14 +114,14 @@ record Waits (event : Event) (answer : Answer) (before now : ℕ) : Type 0 where
 -- a line whose events are bounded, after which nobody is to begin to wait
 bounded_falls : (content : Content) (course : Course) (stage : Stage) (event : Event) (answer : Answer) (before now : ℕ)
     → course.stage ≡ Some stage → event_in course.line content stage ≡ Some event → Leads content course
-    → is_bounded content ≡ true → may_wait content (model.after content course answer).stage ≡ 0 → Waits event answer before now
+    → is_bounded content ≡ true → new_waiters content (model.after content course answer).stage ≡ 0 → Waits event answer before now
     → ahead content (model.after content course answer) + now < ahead content course + before
 bounded_falls content course stage event answer before now here is at bounded quiet waits =
     let going : is_some course.stage ≡ true = ap is_some here in
     let fell = (leads_on content course answer (Some stage) here going at).falls bounded in
-    let few : more_wait event ≤ may_wait content (Some stage)
-    = subst (λ o. IfSome o (λ e. more_wait e ≤ may_wait content (Some stage))) is (more_may course.line content stage) in
-    let may : may_wait content course.stage ≡ may_wait content (Some stage) = ap (may_wait content) here in
+    let few : more_wait event ≤ new_waiters content (Some stage)
+    = subst (λ o. IfSome o (λ e. more_wait e ≤ new_waiters content (Some stage))) is (more_may course.line content stage) in
+    let may : new_waiters content course.stage ≡ new_waiters content (Some stage) = ap (new_waiters content) here in
     omega (arith, fell, quiet, few, may, waits.raised)
 
 one_falls : (only : Event) (course : Course) (stage : Stage) (event : Event) (answer : Answer) (before now : ℕ)
@@ -118,7 +129,7 @@ one_falls : (only : Event) (course : Course) (stage : Stage) (event : Event) (an
     → ahead (One only) (model.after (One only) course answer) + now < ahead (One only) course + before
 one_falls only course First event answer before now here is at waits =
     bounded_falls (One only) course First event answer before now here is at refl
-    (ap (λ (c : Course). may_wait (One only) c.stage) (after_is (One only) course First answer here)) waits
+    (ap (λ (c : Course). new_waiters (One only) c.stage) (after_is (One only) course First answer here)) waits
 one_falls only course stage event answer before now here is at waits = cc
 
 -- where threads wait the line goes on, else it ends
@@ -172,8 +183,8 @@ event_waits script journal line event =
     }
 
 may_wait_here : (script : Script) (course : Course) (line : Line) → line_at script course.line ≡ Some line
-    → may_wait_at script course ≡ may_wait line.content course.stage
-may_wait_here script course line is = ap (λ o. option_map_or (λ (l : Line). may_wait l.content course.stage) o 0) is
+    → new_waiters_at script course ≡ new_waiters line.content course.stage
+may_wait_here script course line is = ap (λ o. option_map_or (λ (l : Line). new_waiters l.content course.stage) o 0) is
 
 pub step_falls : (script : Script) (journal : List Entry) (course : Course) (stage : Stage) (line : Line) (event : Event)
     → let entry = entry_of script journal (record { line = course.line; event = event }) in

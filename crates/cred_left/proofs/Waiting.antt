@@ -5,7 +5,7 @@ use Rattle.std.proofs.lemmas.List.{length_push}
 use Rattle.std.proofs.lemmas.List.Sums.{count_by-le-length, length-filter, sum_by-append, sum_by-cons}
 use Rattle.cred_ids.specs.Ordered.{in_order}
 use Rattle.cred_model.specs.State.{Broadcast}
-use Rattle.cred_model.specs.Casts.{is_open, joined, waits_in, waits_no_more, with_cast, with_child, without}
+use Rattle.cred_model.specs.Casts.{is_open, joined, waits_in, waits_no_more, with_cast, with_child, without_waiter}
 use Rattle.cred_model.proofs.Rising.{AllPairs-head, AllPairs-tail, length-in_order}
 use Rattle.cred_cast.specs.Casts.{SharesNone}
 use Rattle.cred_cast.proofs.Joined.{joined_none}
@@ -32,21 +32,21 @@ waiting-filter stays (b ∷ bs) = by (stays b) (waiting-filter stays bs)
 
 -- ---- a task that waits no longer
 
-fewer-without : (task : ℕ) (b : Broadcast) → length (without task b).waiting ≤ length b.waiting
+fewer-without : (task : ℕ) (b : Broadcast) → length (without_waiter task b).waiting ≤ length b.waiting
 fewer-without task b =
     let test : ℕ → Bool = λ n. not (n == task) in
     omega (arith, length-filter test b.waiting, count_by-le-length test b.waiting)
 
-waiting-without : (task : ℕ) (casts : List Broadcast) → waiting_in (map (without task) casts) ≤ waiting_in casts
+waiting-without : (task : ℕ) (casts : List Broadcast) → waiting_in (map (without_waiter task) casts) ≤ waiting_in casts
 waiting-without task [] = omega arith
 waiting-without task (b ∷ bs) =
     let rest = waiting-without task bs in
-    let now = sum_by-cons waits (without task b) (map (without task) bs) in
+    let now = sum_by-cons waits (without_waiter task b) (map (without_waiter task) bs) in
     let before = sum_by-cons waits b bs in
     omega (arith, rest, now, before, fewer-without task b)
 
 pub waiting-left : (task : ℕ) (casts : List Broadcast) → waiting_in (waits_no_more task casts) ≤ waiting_in casts
-waiting-left task casts = omega (arith, waiting-filter is_open (map (without task) casts), waiting-without task casts)
+waiting-left task casts = omega (arith, waiting-filter is_open (map (without_waiter task) casts), waiting-without task casts)
 
 -- it was there
 one_less : (task : ℕ) (ns : List ℕ) → list_any (λ n. n == task) ns ≡ true → length (filter (λ n. not (n == task)) ns) < length ns
@@ -62,22 +62,22 @@ one_less task (n ∷ ns) there = by (n == task) there (one_less task ns)
     by false there rest = let less = rest there in omega (arith, less)
 
 less-without : (task number : ℕ) (casts : List Broadcast) (cast : Broadcast) → find (λ b. b.number == number) casts ≡ Some cast → waits_in task cast ≡ true
-    → waiting_in (map (without task) casts) < waiting_in casts
+    → waiting_in (map (without_waiter task) casts) < waiting_in casts
 less-without task number [] cast found there = cc
 less-without task number (b ∷ bs) cast found there = by (b.number == number) found (λ later. less-without task number bs cast later there)
   where
     by : (test : Bool) → cond test (Some b) (find (λ c. c.number == number) bs) ≡ Some cast
-        → (find (λ c. c.number == number) bs ≡ Some cast → waiting_in (map (without task) bs) < waiting_in bs)
-        → waiting_in (map (without task) (b ∷ bs)) < waiting_in (b ∷ bs)
+        → (find (λ c. c.number == number) bs ≡ Some cast → waiting_in (map (without_waiter task) bs) < waiting_in bs)
+        → waiting_in (map (without_waiter task) (b ∷ bs)) < waiting_in (b ∷ bs)
     by true found rest =
         let same : b ≡ cast = cc in
         let less = one_less task b.waiting (ap (waits_in task) same ∙ there) in
-        let now = sum_by-cons waits (without task b) (map (without task) bs) in
+        let now = sum_by-cons waits (without_waiter task b) (map (without_waiter task) bs) in
         let before = sum_by-cons waits b bs in
         omega (arith, less, now, before, waiting-without task bs)
     by false found rest =
         let less = rest found in
-        let now = sum_by-cons waits (without task b) (map (without task) bs) in
+        let now = sum_by-cons waits (without_waiter task b) (map (without_waiter task) bs) in
         let before = sum_by-cons waits b bs in
         omega (arith, less, now, before, fewer-without task b)
 
@@ -85,7 +85,7 @@ less-without task number (b ∷ bs) cast found there = by (b.number == number) f
 pub waiting-acted : (task number : ℕ) (casts : List Broadcast) (cast : Broadcast) → find (λ b. b.number == number) casts ≡ Some cast → waits_in task cast ≡ true
     → waiting_in (waits_no_more task casts) < waiting_in casts
 waiting-acted task number casts cast found there =
-    omega (arith, waiting-filter is_open (map (without task) casts), less-without task number casts cast found there)
+    omega (arith, waiting-filter is_open (map (without_waiter task) casts), less-without task number casts cast found there)
 
 -- ---- tasks that begin to wait
 

@@ -26,7 +26,7 @@ use Rattle.cred_model.specs.Step.{aborted, follow, outcome, step}
 use Rattle.cred_model.proofs.Rising.{length-in_order}
 use Rattle.cred_sound.specs.Sound.{IsSound}
 use Rattle.cred_sound.proofs.Tests.{in_slots}
-use Rattle.cred_sound.proofs.Parts.{TasksChange, Cause, Creation, Death, begun, casts_left, ByBegin, ByAct, ByCommit, BySpawn, ByFork, ByExit, ByAbort, SameTasks, SetsFlag, Creates, Shares, Renews, Overrides, Fewer}
+use Rattle.cred_sound.proofs.Parts.{TasksChange, Cause, Creation, Death, begun, casts_left, ByBegin, ByAct, ByRaw, ByCommit, BySpawn, ByFork, ByExit, ByAbort, SameTasks, SetsFlag, Creates, Shares, Renews, Overrides, Fewer}
 use Rattle.cred_sound.proofs.Events.{changes}
 use Rattle.cred_cast.proofs.Conditions.{casts_are, least_waits}
 use Rattle.cred_left.specs.Waiting.{waiting, waiting_in}
@@ -78,6 +78,7 @@ renewed_waits s event task owner ends c made few (ByBegin call before number slo
     omega (arith, now, most, few, others_few owner s.tasks)
 renewed_waits s event task owner ends c made few (ByAct number slot cast before is opened first has ruled none casts answer flags) =
     fewer_wait s event made (waits_no_more task s.casts) casts (waiting-left task s.casts)
+renewed_waits s event task owner ends c made few (ByRaw call before slot is has ruled idle none casts answer flags) = no_more s event made casts
 renewed_waits s event task owner ends c made few (ByCommit label place slot count p last is first at own changed same cred ending casts answer flags) =
     fewer_wait s event made (casts_left last.change owner s.casts) casts (left_fewer last.change owner s.casts)
 

@@ -2,7 +2,7 @@
 use Rattle.std.proofs.Common.{◌≡◌, ◌⊎◌, ℕ, ◌==◌, not, Bool, true, false, List, find, is_some, length, Option, Some, Result, Ok, Err, refl, sym, ap, ◌∙◌, inl, inr}
 use Rattle.std.specs.Option.{option_map}
 use Rattle.std.specs.Result.{IfOk}
-use Rattle.cred_setid.specs.Becomes.{IsMade}
+use Rattle.cred_setid.specs.Becomes.{IsAnew}
 use Rattle.cred_record.specs.Credential.{Credential}
 use Rattle.cred_record.specs.declared.id_call.IdCall.{IdCall}
 use Rattle.cred_record.specs.declared.refusal.Denial.{Denial}
@@ -30,7 +30,7 @@ use Rattle.cred_machine.proofs.Rooms.{in_free}
 -- ---- what the rule says, by the call's answer
 
 -- a call that is refused, whatever its refusal
-pub rule_denied : (given : Result Credential Denial) (why : Refusal) → IsMade given (Err why) → (why ≡ refusal.Perm) ⊎ (why ≡ refusal.Invalid)
+pub rule_denied : (given : Result Credential Denial) (why : Refusal) → IsAnew given (Err why) → (why ≡ refusal.Perm) ⊎ (why ≡ refusal.Invalid)
     → (d : Denial) × (given ≡ Err d)
 rule_denied given refusal.Perm is either = (denial.Perm, is)
 rule_denied given refusal.Invalid is either = (denial.Invalid, is)

@@ -11,11 +11,11 @@ use Rattle.cred_model.specs.Ends.{ended, left_by, survivors}
 use Rattle.cred_model.specs.Moves.{committed, given_up, with_current}
 use Rattle.cred_model.specs.Step.{casts_after, committed_by, ends_with, try_commit}
 use Rattle.cred_machine.specs.Labels.{casts_left}
-use Rattle.cred_plain.specs.Tasks.{ending_of, ends_by, is_other}
+use Rattle.cred_plain.specs.Tasks.{ending_of, ends_by, is_other_thread}
 
 -- which tasks end
 ends_are : (change : Change) (owner : Task) (task : ℕ) → owner.number ≡ task → ends_with change owner ≡ ends_by (ending_of change owner.process task)
-ends_are (Exec file) owner task same = ap (λ (n : ℕ). is_other owner.process n) same
+ends_are (Exec file) owner task same = ap (λ (n : ℕ). is_other_thread owner.process n) same
 ends_are (SetFs kind id) owner task same = refl
 ends_are (Adjust call) owner task same = refl
 ends_are Access owner task same = refl

@@ -6,7 +6,7 @@ use Rattle.cred_rules.specs.SetId.{set_id}
 use Rattle.cred_event.specs.declared.answer.Answer.TheVariants.{Done, Kept, Sealed}
 use Rattle.cred_model.specs.State.{State, Broadcast, Changed, Hold, Prepared, Task, Numbered, begun_by, cast_in, cast_of, hold_of, numbered, prepared_of, task_of}
 use Rattle.cred_model.specs.Casts.{joined, not_busy, waits_no_more, others_of}
-use Rattle.cred_model.specs.Dumpable.{differs, flags_begun, flags_left, is_dumpable, with_flag}
+use Rattle.cred_model.specs.Dumpable.{differs, flags_begun, flags_left, is_dumpable, with_process_flag}
 use Rattle.cred_model.specs.Ends.{is_task, is_thread_of, left_by, survivors}
 use Rattle.cred_model.specs.Moves.{created, first_task, in_slot, not_overridden, preparing}
 use Rattle.cred_model.specs.Moves.{table_full}
@@ -52,7 +52,7 @@ pub forked : (s : State) (task child process : ℕ) (owner : Task) (parent : Num
       Sealed parent.number parent.slot,
       record s {
         tasks = s.tasks ++ first_task child process parent.number ∷ [];
-        dumpable = with_flag s.dumpable process (is_dumpable s.dumpable owner.process);
+        dumpable = with_process_flag s.dumpable process (is_dumpable s.dumpable owner.process);
       },
     )
 forked s task child process owner parent can unused = rw (can.lives, can.has, can.idle, can.new, unused, can.own, can.few) refl

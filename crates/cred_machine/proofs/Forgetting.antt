@@ -8,6 +8,7 @@ use Rattle.std.proofs.lemmas.List.Elements.{All-contains_itself, All-head, All-t
 use Rattle.std.proofs.lemmas.List.Folds.{list_any-append, list_any_at}
 use Rattle.cred_event.specs.declared.answer.Answer.{Answer}
 use Rattle.cred_event.specs.declared.event.Event.{Event}
+use Rattle.cred_event.specs.declared.event.Event.TheVariants.{Raw}
 use Rattle.cred_model.specs.Script.{Script}
 use Rattle.cred_model.specs.State.{State, SealedCred, Task, OpenFile, Hold, Prepared}
 use Rattle.cred_model.specs.Slots.{refs}
@@ -18,11 +19,12 @@ use Rattle.cred_sound.specs.Sound.{IsSound}
 use Rattle.cred_sound.proofs.Parts.{with_left}
 use Rattle.cred_sound.proofs.Sound.{like_sound, step_sound}
 use Rattle.cred_plain.specs.Creds.{gone, slots_of}
-use Rattle.cred_machine.specs.Kept.{KeepsReferred, may_have_swept}
+use Rattle.cred_machine.specs.Kept.{KeepsReferred, as_begun, may_have_swept, may_let_go}
 use Rattle.cred_plain.specs.References.{is_among, refer_to}
 use Rattle.cred_plain.specs.declared.references.References.{References}
 use Rattle.cred_machine.proofs.Free.{any-map}
-use Rattle.cred_machine.proofs.Keeping.{CredsKept, Keeps, NoneMore, OneMore}
+use Rattle.cred_machine.proofs.KeptByEvents.{CredsKept, Keeps, NoneMore, OneMore}
+use Rattle.cred_machine.proofs.NothingIsLost.{counted}
 
 -- ---- what refers
 
@@ -104,6 +106,7 @@ module _ (s : State) (creds : List SealedCred) (r : References) (are : AreOf r s
     prepared = refl;
     deferred = refl;
     dumpable = refl;
+    infos = refl;
     slots = slots;
     creds = All-weaker (Contains (refs s)) (λ n. slice_get creds n ≡ slice_get s.creds n)
         (λ n has. kept n (refer_is r s n are ∙ among (refs s) n has)) (refs s) (All-contains_itself (refs s));
@@ -144,6 +147,12 @@ stays_kept s t answer keeps unswept before = by keeps.swept
         still_kept s t keeps.creds
         (subst (λ (left : List ℕ). All (Contains (refs t)) (refs (with_left s left))) same (refs_each (Contains (refs t)) (with_left s keeps.left) keeps.each)) before
     by (inr swept) = let never : true ≡ false = sym swept ∙ unswept in cc
+
+-- so it is where the event let go of nothing
+pub still_referred : (s t : State) (event : Event) (answer : Answer) → Keeps s (counted event (answer, t))
+    → may_let_go event (length s.deferred) answer (length t.deferred) ≡ false → KeepsReferred s → KeepsReferred t
+still_referred s t (Raw task call) answer keeps kept before = stays_kept s t (as_begun answer) keeps kept before
+still_referred s t event answer keeps kept before = stays_kept s t answer keeps kept before
 
 -- what an event gave, where something was forgotten after it
 pub gives_like : (gives : Answer × State) (answer : Answer) (mid after : State) → gives ≡ (answer, mid) → IsLike after mid → IsOutcomeLike gives answer after

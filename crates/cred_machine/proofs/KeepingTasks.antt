@@ -12,7 +12,7 @@ use Rattle.cred_event.specs.declared.event.Change.TheVariants.{Exec, SetFs, Adju
 use Rattle.cred_model.specs.Casts.{dropped}
 use Rattle.cred_model.specs.Dumpable.{flags_committed}
 use Rattle.cred_model.specs.Ends.{ended, left_by, survivors}
-use Rattle.cred_model.specs.Moves.{committed, created, first_task, given_up, lent, overridden, overriding, replaced, updated, with_current, with_overrides}
+use Rattle.cred_model.specs.Moves.{committed, created, first_task, given_up, with_override, overridden, overriding, replaced, updated, with_current, with_overrides}
 use Rattle.cred_model.specs.Slots.{refs}
 use Rattle.cred_model.specs.State.{State, Task, Broadcast, Prepared, Changed, Numbered, numbered, task_of}
 use Rattle.cred_model.specs.Step.{casts_after, commit_answer, ends_with, try_commit}
@@ -25,7 +25,7 @@ use Rattle.cred_sound.proofs.References.{overrides_stand, own_refs, owner_stands
 use Rattle.cred_sound.proofs.Survivors.{find_goes_on}
 use Rattle.cred_machine.specs.Kept.{may_have_swept}
 use Rattle.cred_machine.proofs.Lasting.{IsOwn, currents_before, currents_ended, currents_stay, last_of, overridden_before, overrides_ended, overrides_stay, owned, unremoved}
-use Rattle.cred_machine.proofs.Keeping.{IsLeft, Keeps, OneMore, NoneMore, all_stand, each_before, each_creds, gives_up_prepared, if_left, with_casts, with_flags}
+use Rattle.cred_machine.proofs.KeptByEvents.{IsLeft, Keeps, OneMore, NoneMore, all_stand, each_before, each_creds, gives_up_prepared, if_left, with_casts, with_flags}
 
 -- the tasks before there was one more
 tasks_before : {P : ℕ → Type 0} {s : State} → EachRef P s → (tasks : List Task) (new : Task) → All (λ t. P t.current) (tasks ++ new ∷ [])
@@ -175,9 +175,9 @@ tries_commit s place p owner last sound is found =
 
 -- ---- overrides
 
-pub lends : (s : State) (answer : Answer) (task n : ℕ) (owner : Task) → IsSound s → task_of s task ≡ Some owner → Keeps s (answer, lent s owner n)
+pub lends : (s : State) (answer : Answer) (task n : ℕ) (owner : Task) → IsSound s → task_of s task ≡ Some owner → Keeps s (answer, with_override s owner n)
 lends s answer task n owner sound found =
-    let t = lent s owner n in
+    let t = with_override s owner n in
     let H = Contains (refs t) in
     let own = own_refs t in
     let numbers = n ∷ owner.overrides in

@@ -8,13 +8,13 @@ use Rattle.cred_record.specs.Credential.{Credential, first_credential}
 use Rattle.cred_model.specs.State.{State, Broadcast, Hold, Prepared, SealedCred, Task, Numbered, ProcessFlag, begun_by, cast_in, hold_of, numbered, prepared_of, task_of}
 use Rattle.cred_model.specs.Slots.{free, least_free, swept}
 use Rattle.cred_model.specs.Casts.{dropped, joined, not_busy, waits_no_more}
-use Rattle.cred_model.specs.Dumpable.{flags_begun, is_dumpable, with_flag, without_flag}
+use Rattle.cred_model.specs.Dumpable.{flags_begun, is_dumpable, with_process_flag, without_flag}
 use Rattle.cred_model.specs.Ends.{is_task, is_thread_of, left_by, survivors}
 use Rattle.cred_model.specs.Moves.{created, preparing, first_task, not_overridden, table_full}
 use Rattle.cred_model.specs.Step.{aborted, by_exit, by_fork, by_init, by_prepare, by_spawn, outcome}
 use Rattle.cred_model.proofs.Numbers.{owner_number}
 use Rattle.cred_model.proofs.Places.{none_by_test}
-use Rattle.cred_plain.specs.Tasks.{is_other}
+use Rattle.cred_plain.specs.Tasks.{is_other_thread}
 use Rattle.cred_machine.specs.Room.{at_abort, swept_if}
 use Rattle.cred_machine.proofs.Events.{CanCreate, CanPrepare, exited, forked, init_tests, prepare_tests, spawned}
 use Rattle.cred_machine.proofs.Refusals.{neither, some_of}
@@ -36,7 +36,7 @@ flags_unless s process other = if other then s.dumpable else without_flag s.dump
 pub exit_leads : (s : State) (task : ℕ) (owner : Task) (tasks : List Task) (casts : List Broadcast) (late numbers : List ℕ) (flags : List ProcessFlag) (other : Bool)
     → task_of s task ≡ Some owner → not_busy (begun_by s task) ≡ Ok tt → not_overridden owner ≡ Ok tt
     → tasks ≡ survivors (is_task task) s.tasks → casts ≡ waits_no_more task s.casts → late ≡ s.deferred ++ numbers → numbers ≡ left_by (is_task task) s.tasks
-    → flags ≡ (if other then s.dumpable else without_flag s.dumpable owner.process) → other ≡ is_some (find (is_other owner.process task) s.tasks)
+    → flags ≡ (if other then s.dumpable else without_flag s.dumpable owner.process) → other ≡ is_some (find (is_other_thread owner.process task) s.tasks)
     → outcome s (by_exit s task) ≡ (Done, record s { tasks = tasks; casts = casts; deferred = late; dumpable = flags })
 unfolding with_parts flags_unless
 exit_leads s task owner tasks casts late numbers flags other lives idle own ts cs ns left fs is =
@@ -44,7 +44,7 @@ exit_leads s task owner tasks casts late numbers flags other lives idle own ts c
     ∙ ap (λ (r : State). (Done, r))
     (sym (same_parts s ts cs (ns ∙ ap (λ ms. s.deferred ++ ms) left)
     (fs ∙ ap (flags_unless s owner.process)
-    (is ∙ ap (λ (n : ℕ). is_some (find (is_other owner.process n) s.tasks)) (sym (owner_number s task owner lives))))))
+    (is ∙ ap (λ (n : ℕ). is_some (find (is_other_thread owner.process n) s.tasks)) (sym (owner_number s task owner lives))))))
 
 pub process_ended : (s : State) (process : ℕ) (tasks : List Task) (casts : List Broadcast) (late numbers : List ℕ) (flags : List ProcessFlag) (sweep : Bool)
     → tasks ≡ survivors (is_thread_of process) s.tasks → casts ≡ dropped process s.casts → flags ≡ without_flag s.dumpable process
@@ -74,12 +74,12 @@ spawn_leads s task child owner parent tasks casts can ts cs =
 pub fork_leads : (s : State) (task child process : ℕ) (owner : Task) (parent : Numbered) (tasks : List Task) (flags : List ProcessFlag) (dumpable : Bool)
     → CanCreate s task child owner parent → find (is_thread_of process) s.tasks ≡ None
     → tasks ≡ s.tasks ++ first_task child process parent.number ∷ []
-    → flags ≡ with_flag s.dumpable process dumpable → dumpable ≡ is_dumpable s.dumpable owner.process
+    → flags ≡ with_process_flag s.dumpable process dumpable → dumpable ≡ is_dumpable s.dumpable owner.process
     → outcome s (by_fork s task child process) ≡ (Sealed parent.number parent.slot, record s { tasks = tasks; dumpable = flags })
 unfolding with_parts
 fork_leads s task child process owner parent tasks flags dumpable can unused ts fs is =
     forked s task child process owner parent can unused
-    ∙ ap (λ (r : State). (Sealed parent.number parent.slot, r)) (sym (same_parts s ts refl refl (fs ∙ ap (with_flag s.dumpable process) is)))
+    ∙ ap (λ (r : State). (Sealed parent.number parent.slot, r)) (sym (same_parts s ts refl refl (fs ∙ ap (with_process_flag s.dumpable process) is)))
 
 -- there is room for a task more
 pub not_full : (few full : Bool) → full ≡ not few → full ≡ false → few ≡ true

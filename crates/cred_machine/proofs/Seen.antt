@@ -16,6 +16,7 @@ seen_state s = record {
   prepared = s.prepared.items;
   deferred = s.deferred.items;
   dumpable = s.dump;
+  infos = s.infos;
   creds = s.creds.list;
 }
 

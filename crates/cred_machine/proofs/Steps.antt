@@ -13,7 +13,7 @@ use Rattle.cred_model.specs.Moves.{replaced, with_current}
 use Rattle.cred_model.specs.Slots.{free, least_free}
 use Rattle.cred_model.specs.Step.{by_act, outcome}
 use Rattle.cred_sound.specs.Sound.{IsSound}
-use Rattle.cred_plain.specs.Casts.{AreCasts}
+use Rattle.cred_plain.specs.Casts.{AreWaitedFor}
 use Rattle.cred_plain.specs.Tasks.{IsTaskAt}
 use Rattle.cred_plain.proofs.Stands.{there}
 use Rattle.cred_machine.specs.Room.{IsCurrentOf, sealed_for, swept_if}
@@ -90,9 +90,9 @@ module _ (s : State) (old : ℕ) (made : Credential) (slot : ℕ) where
         subst (λ (ts : List Task). AllPairs (λ a b. a.number ≢ b.number) ts)
         (sym (tasks_stay sweep after is)) sound.tasks
 
-    pub casts_still : AreCasts after.casts
+    pub casts_still : AreWaitedFor after.casts
     casts_still =
-        subst (λ (cs : List Broadcast). AreCasts cs) (sym (casts_stay sweep after is))
+        subst (λ (cs : List Broadcast). AreWaitedFor cs) (sym (casts_stay sweep after is))
         (are_casts s sound)
 
 -- a thread's step, with the credential at its task's place

@@ -7,7 +7,7 @@ use Rattle.cred_model.proofs.Lists.{found}
 use Rattle.cred_sound.specs.Casts.{IsThread, IsUnderWay}
 use Rattle.cred_sound.specs.Sound.{IsSound}
 use Rattle.cred_sound.proofs.Threads.{one_process, waits_at}
-use Rattle.cred_plain.specs.Casts.{AreCasts, SharesNone}
+use Rattle.cred_plain.specs.Casts.{AreWaitedFor, SharesNone}
 
 -- who waits in a broadcast is a thread of its process
 thread_of : (tasks : List Task) (cast : Broadcast) (task : ℕ) → IsUnderWay tasks cast → waits_in task cast ≡ true
@@ -31,7 +31,7 @@ shares_none s sound = λ i j d lt within task waits.
     sound.processes i j d lt within
     (one_process s.tasks a.process b.process task (thread_of s.tasks a task (sound.under_way i d (omega arith)) waits) there))
 
-pub are_casts : (s : State) → IsSound s → AreCasts s.casts
+pub are_casts : (s : State) → IsSound s → AreWaitedFor s.casts
 are_casts s sound = record {
   apart = shares_none s sound;
   rising = λ k d lt. (sound.under_way k d lt).rising;

@@ -2,7 +2,9 @@
 use Rattle.std.specs.Prelude.{◌≡◌, ℕ, Bool, true, false, not, nat_lt, slice_get, IfSome}
 use Rattle.cred_event.specs.declared.answer.AbortCause.TheVariants.{Full}
 use Rattle.cred_event.specs.declared.answer.Answer.{Answer}
-use Rattle.cred_event.specs.declared.answer.Answer.TheVariants.{Aborted, Acted, Began}
+use Rattle.cred_event.specs.declared.answer.Answer.TheVariants.{Aborted, Acted, Began, Sealed}
+use Rattle.cred_event.specs.declared.event.Event.{Event}
+use Rattle.cred_event.specs.declared.event.Event.TheVariants.{Raw}
 use Rattle.cred_model.specs.State.{State}
 use Rattle.cred_model.specs.Slots.{refs}
 use Rattle.cred_plain.specs.Creds.{gone}
@@ -23,3 +25,14 @@ may_have_swept before (Began cred slot left) after = not (nat_lt before after)
 may_have_swept before (Acted task cred slot left) after = not (nat_lt before after)
 may_have_swept before (Aborted task Full) after = true
 may_have_swept before answer after = nat_lt after before
+
+-- A call of one thread alone that is made gives up one number, as one that begins a broadcast does,
+-- but answers as events do that give up none: this is the answer by which it counts.
+abbrev pub as_begun : Answer → Answer
+as_begun (Sealed cred slot) = Began cred slot 0
+as_begun answer = answer
+
+-- whether the event may have let go of something
+abbrev pub may_let_go : Event → ℕ → Answer → ℕ → Bool
+may_let_go (Raw task call) before answer after = may_have_swept before (as_begun answer) after
+may_let_go event before answer after = may_have_swept before answer after

@@ -5,7 +5,7 @@ use Rattle.cred_record.specs.Credential.{Credential}
 use Rattle.cred_event.specs.declared.answer.AbortCause.{AbortCause}
 use Rattle.cred_event.specs.declared.answer.AbortCause.TheVariants.{Perm, Full}
 use Rattle.cred_event.specs.declared.answer.Answer.{Answer}
-use Rattle.cred_event.specs.declared.answer.Answer.TheVariants.{Began}
+use Rattle.cred_event.specs.declared.answer.Answer.TheVariants.{Began, Sealed}
 use Rattle.cred_model.specs.State.{State, Broadcast, task_of}
 use Rattle.cred_model.specs.Slots.{swept}
 use Rattle.cred_model.specs.Casts.{with_cast}
@@ -39,4 +39,11 @@ begun s cast old made other slot = (
     casts = with_cast s.casts cast;
     dumpable = renewed s.dumpable cast.process other;
   },
+)
+
+-- The same of a call of one thread alone: no other thread waits.
+abbrev pub called_alone : State → (task process old : ℕ) → Credential → Bool → ℕ → Answer × State
+called_alone s task process old made other slot = (
+  Sealed (length s.creds) slot,
+  record (replaced s task old made slot) { dumpable = renewed s.dumpable process other },
 )

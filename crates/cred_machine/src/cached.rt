@@ -2,11 +2,11 @@
 ghost use Rattle.std.specs.Prelude.{◌≡◌, false, length, IfOk, IfSome, MatchBool, None};
 ghost use Rattle.std.specs.Prelude.{if◌then◌else◌, OnErr};
 ghost use Rattle.cred_model.specs.Like.{Gives, GivesLike};
-ghost use Rattle.cred_model.specs.Named.{IsEventOf};
+ghost use Rattle.cred_model.specs.Named.{AreModes, IsEventOf, event_modes};
 ghost use Rattle.cred_model.specs.State.{opening};
 ghost use Rattle.cred_model.specs.Step.{by_act, done};
 ghost use Rattle.cred_sound.specs.Sound.{IsSound};
-ghost use Rattle.cred_machine.specs.Kept.{KeepsReferred, may_have_swept};
+ghost use Rattle.cred_machine.specs.Kept.{KeepsReferred, as_begun, may_have_swept, may_let_go};
 ghost use Rattle.cred_machine.specs.Slots.{AreLive, TakesSlot, takes_slot};
 
 use crate::slots::{Marks, live_slots};
@@ -42,16 +42,16 @@ impl Model for CachedState {
 }
 
 impl CachedState {
-    /// The state before the first event.
+    /// The state before a script's first event: its files are as it declares them.
     ///
     /// # Errors
     ///
     /// `NoMemory` if an allocation fails.
-    pub fn new(alloc: Global) -> Result<CachedState, NoMemory>
-        ensures { IfOk result (λ state. state ≡ opening) }
+    pub fn new(alloc: Global, script: &Script) -> Result<CachedState, NoMemory>
+        ensures { IfOk result (λ state. state ≡ opening script.now) }
     {
         Ok(CachedState {
-            state: State::new(alloc)?,
+            state: State::new(alloc, script)?,
             live: None,
         })
     }
@@ -73,7 +73,7 @@ impl CachedState {
         let before = self.state.given_up();
         let answer = self.state.make(&mut self.live, script, line, event)?;
         keep_after_call(&mut self.live, event);
-        let swept = may_have_swept(before, &answer, self.state.given_up());
+        let swept = may_let_go(event, before, &answer, self.state.given_up());
         self.state.forget_if(swept);
         Ok(answer)
     }
@@ -91,6 +91,7 @@ impl State {
     ) -> Result<Answer, NoMemory>
         requires sound { IsSound self.old }
         requires known { IfSome live.old (λ marks. AreLive marks self.old) }
+        requires modes { AreModes (event_modes event.now) }
         ensures ok { IfOk result (λ answer.
             Gives self.old (done script.now self.old line event.now) answer self.new) }
         ensures live { MatchBool (takes_slot event.now)
@@ -108,7 +109,7 @@ impl State {
             Event::Take { label, task, side } => self.take(*label, *task, *side),
             Event::TakeFile { label, fd } => self.take_file(*label, *fd),
             Event::Release { label } => self.release(*label),
-            Event::Ask { label, query } => self.ask(script, *label, *query),
+            Event::Ask { label, query } => self.ask(*label, *query),
             Event::Signal {
                 from,
                 hold,
@@ -128,7 +129,7 @@ impl State {
                 file,
                 want,
                 fd,
-            } => self.open_file(script, *hold, *file, *want, *fd),
+            } => self.open_file(*hold, *file, *want, *fd),
             Event::CloseFile { fd } => self.close_file(*fd),
             Event::Spawn { task, child } => self.spawn(*task, *child),
             Event::Fork {
@@ -146,6 +147,11 @@ impl State {
                 target,
                 mode,
             } => Ok(self.trace(script, *from, *hold, *to, *target, *mode)),
+            Event::Chown { hold, file, .. }
+            | Event::Chmod { hold, file, .. }
+            | Event::SetAttr { hold, file, .. } => self.change_file(*hold, *file, event),
+            Event::Stat { hold, file } => Ok(self.stat(*hold, *file)),
+            Event::Raw { task, call } => self.raw(*task, call),
             Event::Sweep => {
                 self.sweep();
                 Ok(Answer::Done)
@@ -188,6 +194,28 @@ fn live_after(live: Marks, answer: &Answer, swept: bool) -> Option<Marks>
     match answer {
         Answer::Acted { slot, .. } => live.after_call(*slot, swept),
         _ => None,
+    }
+}
+
+/// Whether the event may have let go of something, where so many references had been given up
+/// before it, and so many are after it.
+fn may_let_go(event: &Event, before: usize, answer: &Answer, after: usize) -> bool
+    ensures { result ≡ may_let_go event.now before answer.now after }
+{
+    match event {
+        Event::Raw { .. } => raw_may_have_swept(before, answer, after),
+        _ => may_have_swept(before, answer, after),
+    }
+}
+
+/// The same of a call of one thread alone: where it is made it gives one reference up, as one that
+/// begins a broadcast does, but it answers as events do that give up none.
+fn raw_may_have_swept(before: usize, answer: &Answer, after: usize) -> bool
+    ensures { result ≡ may_have_swept before (as_begun answer.now) after }
+{
+    match answer {
+        Answer::Sealed { .. } => after <= before,
+        _ => may_have_swept(before, answer, after),
     }
 }
 

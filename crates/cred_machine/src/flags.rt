@@ -2,7 +2,7 @@
 ghost use Rattle.std.specs.Prelude.{◌≡◌, ◌<◌, ◌++◌, ◌∷◌, [], None, find, is_some, length};
 ghost use Rattle.std.specs.Prelude.{true, if◌then◌else◌, OnOk, OnErr};
 ghost use Rattle.cred_ids.specs.Limits.{TASKS};
-ghost use Rattle.cred_model.specs.Dumpable.{flag_in, with_flag};
+ghost use Rattle.cred_model.specs.Dumpable.{flag_in, with_process_flag};
 ghost use Rattle.cred_model.specs.Ends.{is_thread_of};
 
 use cred_ids::NoMemory;
@@ -23,7 +23,7 @@ pub fn begin_process(
     requires few { length tasks.old < TASKS }
     requires unused { flag_in dump.old task.process ≡ None }
     ensures tasks { OnOk result (tasks.new ≡ tasks.old ++ task ∷ []) }
-    ensures flags { OnOk result (dump.new ≡ with_flag dump.old task.process dumpable) }
+    ensures flags { OnOk result (dump.new ≡ with_process_flag dump.old task.process dumpable) }
     ensures same_tasks { OnErr result (tasks.new ≡ tasks.old) }
     ensures same_flags { OnErr result (dump.new ≡ dump.old) }
 {
@@ -48,7 +48,7 @@ pub fn enter(tasks: &mut Tasks, dump: &mut Dump, task: Task) -> Result<(), NoMem
     ensures tasks { OnOk result (tasks.new ≡ tasks.old ++ task ∷ []) }
     ensures flags { OnOk result (dump.new
         ≡ (if is_some (find (is_thread_of task.process) tasks.old) then dump.old
-        else with_flag dump.old task.process true)) }
+        else with_process_flag dump.old task.process true)) }
     ensures same_tasks { OnErr result (tasks.new ≡ tasks.old) }
     ensures same_flags { OnErr result (dump.new ≡ dump.old) }
 {

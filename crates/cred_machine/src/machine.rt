@@ -39,16 +39,16 @@ impl<'a> Machine<'a> {
     /// `NoMemory` if an allocation fails.
     pub fn new(alloc: Global, script: &'a Script) -> Result<Machine<'a>, NoMemory>
         ensures script { IfOk result (λ machine. machine.script ≡ script.now) }
-        ensures state { IfOk result (λ machine. machine.state ≡ opening) }
+        ensures state { IfOk result (λ machine. machine.state ≡ opening script.now) }
     {
         Ok(Machine {
             script,
-            state: CachedState::new(alloc)?,
+            state: CachedState::new(alloc, script)?,
         })
     }
 
     /// Makes one event of a line, and answers it. The event names only declared files and
-    /// namespaces.
+    /// namespaces, and gives a file only what is a mode.
     ///
     /// # Errors
     ///

@@ -3,7 +3,7 @@ ghost use Rattle.std.specs.Prelude.{◌≡◌, ◌≤◌, is_some, length, not, 
 ghost use Rattle.cred_ids.specs.Limits.{TASKS};
 ghost use Rattle.cred_event.specs.declared.answer.Answer.TheVariants.{Aborted};
 ghost use Rattle.cred_rules.specs.SetId.{set_id};
-ghost use Rattle.cred_setid.specs.Becomes.{IsMade};
+ghost use Rattle.cred_setid.specs.Becomes.{IsAnew};
 ghost use Rattle.cred_model.specs.State.{Broadcast};
 ghost use Rattle.cred_model.specs.Like.{Gives};
 ghost use Rattle.cred_model.specs.Slots.{free, least_free};
@@ -17,7 +17,7 @@ use crate::slots::{Marks, Room, defer_left, live_slots, make_room};
 use crate::state::{State, overridden};
 use cred_event::{AbortCause, Answer, Named};
 use cred_ids::NoMemory;
-use cred_plain::casts::{acted, cast_of, cast_place, drop_cast, open_cast, open_in};
+use cred_plain::casts::{act, cast_of, cast_place, drop_cast, open_cast, open_in};
 use cred_plain::{Cast, Ending};
 use cred_ptrace::differs;
 use cred_record::{Cred, IdCall, Refusal, copy};
@@ -29,8 +29,8 @@ use std::alloc::Global;
 /// # Errors
 ///
 /// What refuses the call. `Memory` also where the copy fails.
-fn called(alloc: Global, cred: &Cred, call: &IdCall) -> Result<Cred, Refusal>
-    ensures { IsMade (set_id cred.now call.now) result }
+pub fn call_on_copy(alloc: Global, cred: &Cred, call: &IdCall) -> Result<Cred, Refusal>
+    ensures { IsAnew (set_id cred.now call.now) result }
 {
     let mut new = copy(cred)?;
     apply_to(alloc, &mut new, call)?;
@@ -74,7 +74,7 @@ impl State {
         if let Some(depth) = overridden(owner) {
             return Ok(Answer::Overridden(depth));
         }
-        let cred = match called(self.alloc, old.cred, call) {
+        let cred = match call_on_copy(self.alloc, old.cred, call) {
             Ok(cred) => cred,
             Err(Refusal::Perm) => return Ok(Answer::Eperm),
             Err(Refusal::Invalid) => return Ok(Answer::Einval),
@@ -165,7 +165,7 @@ impl State {
         };
         let (process, left, number) = (cast.process, cast.others(), current.number);
         let own = owner.process;
-        let cred = match called(self.alloc, current.cred, &cast.call) {
+        let cred = match call_on_copy(self.alloc, current.cred, &cast.call) {
             Ok(cred) => cred,
             // Whether a call is valid is the call's alone, and its caller has made it: what the
             // thread lacks is the right.
@@ -180,7 +180,7 @@ impl State {
         };
         let cred = self.seal(number, cred, slot, room.swept)?;
         self.tasks.set_current_at(task_at, cred);
-        acted(&mut self.casts, cast_at, task);
+        act(&mut self.casts, cast_at, task);
         self.dump.renew(own, other);
         Ok(Answer::Acted {
             task,
@@ -192,7 +192,7 @@ impl State {
 
     /// A task's current credential is replaced by this one, which is sealed in the slot, after a
     /// sweep if that needs one. The old one's number is given up.
-    fn replace(
+    pub(crate) fn replace(
         &mut self,
         task: u32,
         old: u64,

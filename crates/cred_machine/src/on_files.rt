@@ -13,21 +13,19 @@ use cred_ids::{NoMemory, limits};
 use cred_plain::files::{open_of, open_place};
 use cred_plain::{Numbered, OpenFile};
 use cred_record::Want;
-use cred_script::Script;
 
 impl State {
-    /// The file is opened under the descriptor, by the credential that the hold has (open(2)). The
-    /// refusals leave the state.
+    /// The file is opened under the descriptor as it stands, by the credential that the hold has
+    /// (open(2)). The refusals leave the state.
     pub(crate) fn open_file(
         &mut self,
-        script: &Script,
         hold: u32,
         file: u32,
         want: Want,
         fd: u32,
     ) -> Result<Answer, NoMemory>
         ensures ok { IfOk result (λ answer.
-            Gives self.old (by_open script.now self.old hold file want fd) answer self.new) }
+            Gives self.old (by_open self.old hold file want fd) answer self.new) }
         ensures err { OnErr result (self.new ≡ self.old) }
     {
         let Some(
@@ -46,7 +44,7 @@ impl State {
                 number: fd,
             });
         }
-        if !may_open(script, cred, file, want) {
+        if !may_open(&self.infos, cred, file, want) {
             return Ok(Answer::Eacces);
         }
         if self.files.len() >= limits::OPEN_FILES {

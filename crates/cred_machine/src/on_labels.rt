@@ -73,12 +73,14 @@ impl State {
         Ok(Answer::Done)
     }
 
-    pub(crate) fn ask(&self, script: &Script, label: u32, query: Query) -> Result<Answer, NoMemory>
+    /// A question about the credential that the label holds, and about the file that it names as
+    /// that stands.
+    pub(crate) fn ask(&self, label: u32, query: Query) -> Result<Answer, NoMemory>
         ensures { IfOk result (λ answer.
-            Gives self.now (by_ask script.now self.now label query) answer self.now) }
+            Gives self.now (by_ask self.now label query) answer self.now) }
     {
         match self.held(label) {
-            Some(held) => reply(self.alloc, asked_file(script, query), held.cred, query),
+            Some(held) => reply(self.alloc, asked_file(&self.infos, query), held.cred, query),
             None => Ok(Answer::NoHold(label)),
         }
     }
@@ -149,8 +151,9 @@ impl State {
         Ok(Answer::Kept { slot })
     }
 
-    /// What the label prepares is its base, changed so. `NoPrepared` and the refusals of the change
-    /// leave the state, and with it what an earlier change made of the base.
+    /// What the label prepares is its base, changed so, by an execve of a file as that stands.
+    /// `NoPrepared` and the refusals of the change leave the state, and with it what an earlier
+    /// change made of the base.
     pub(crate) fn alter(
         &mut self,
         script: &Script,
@@ -168,7 +171,7 @@ impl State {
         let Some(Numbered { cred: base, .. }) = self.creds.get(label_of.base) else {
             return Ok(Answer::NoPrepared(label));
         };
-        let file = executed_file(script, change);
+        let file = executed_file(&self.infos, change);
         let chain = chain_of(script, base.ns);
         let Made {
             answer,

@@ -158,7 +158,7 @@ impl State {
     /// # Errors
     ///
     /// `NoMemory` if the allocation of a list fails.
-    pub(crate) fn look(&self) -> Result<Marks, NoMemory>
+    pub(crate) fn mark_live(&self) -> Result<Marks, NoMemory>
         ensures { IfOk result (λ marks. AreLive marks self.now) }
     {
         let in_use = self.in_use()?;
@@ -172,7 +172,7 @@ impl State {
     }
 
     /// Which slots are live after a sweep.
-    fn look_swept(&self) -> Result<Marks, NoMemory>
+    fn mark_live_swept(&self) -> Result<Marks, NoMemory>
         ensures { IfOk result (λ marks. AreLive marks (model.swept self.now)) }
     {
         let in_use = self.in_use()?;
@@ -189,7 +189,7 @@ impl State {
         ensures slot { IfOk result (λ room. room.slot ≡ free self.now) }
         ensures swept { IfOk result (λ room. room.swept ≡ not (is_some (least_free self.now))) }
     {
-        let mut live = self.look()?;
+        let mut live = self.mark_live()?;
         self.room_in(&mut live)
     }
 
@@ -208,7 +208,7 @@ impl State {
         if slot.is_some() {
             return Ok(Room { slot, swept: false });
         }
-        let mut live_swept = self.look_swept()?;
+        let mut live_swept = self.mark_live_swept()?;
         let slot = live_swept.first_clear();
         Ok(Room { slot, swept: true })
     }
@@ -239,7 +239,7 @@ pub fn live_slots(state: &State, known: Option<Marks>) -> Result<Marks, NoMemory
 {
     match known {
         Some(marks) => Ok(marks),
-        None => state.look(),
+        None => state.mark_live(),
     }
 }
 

@@ -11,18 +11,21 @@ ghost use Rattle.cred_model.specs.Moves.{not_overridden};
 ghost use Rattle.cred_plain.specs.Creds.{seen_numbered};
 ghost use Rattle.cred_machine.specs.Kept.{KeepsReferred};
 
+use cred_attr::FileTable;
+use cred_declared::declared_files;
 use cred_event::Side;
 use cred_ids::NoMemory;
 use cred_plain::labels::{hold_of, prepared_of};
 use cred_plain::{Cast, Creds, Hold, Numbered, OpenFile, Prepared, References, Task, Tasks};
 use cred_ptrace::{Dump, differs};
 use cred_record::Cred;
+use cred_script::Script;
 use std::alloc::Global;
 use std::marker::Model;
 
 /// The live tasks, the open broadcasts, the open files, the holds, the prepared labels, the numbers
-/// that were given up since the last sweep, which processes are dumpable, and the credentials by
-/// their numbers.
+/// that were given up since the last sweep, which processes are dumpable, the files that the script
+/// declares as they stand, and the credentials by their numbers.
 #[derive(Drop)]
 pub struct State {
     pub(crate) tasks: Tasks,
@@ -32,6 +35,7 @@ pub struct State {
     pub(crate) prepared: Vec<Prepared>,
     pub(crate) deferred: Vec<u64>,
     pub(crate) dump: Dump,
+    pub(crate) infos: FileTable,
     pub(crate) creds: Creds,
     pub(crate) alloc: Global,
 }
@@ -49,18 +53,19 @@ impl Model for State {
       prepared = s.prepared.items;
       deferred = s.deferred.items;
       dumpable = s.dump;
+      infos = s.infos;
       creds = s.creds.list;
     } };
 }
 
 impl State {
-    /// The state before the first event.
+    /// The state before a script's first event: its files are as it declares them.
     ///
     /// # Errors
     ///
     /// `NoMemory` if an allocation fails.
-    pub fn new(alloc: Global) -> Result<State, NoMemory>
-        ensures { IfOk result (λ state. state ≡ opening) }
+    pub fn new(alloc: Global, script: &Script) -> Result<State, NoMemory>
+        ensures { IfOk result (λ state. state ≡ opening script.now) }
     {
         Ok(State {
             tasks: Tasks::new(alloc),
@@ -70,6 +75,7 @@ impl State {
             prepared: Vec::new(alloc),
             deferred: Vec::new(alloc),
             dump: Dump::new(alloc)?,
+            infos: declared_files(alloc, script)?,
             creds: Creds::new(alloc)?,
             alloc,
         })

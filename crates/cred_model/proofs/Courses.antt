@@ -6,11 +6,11 @@ use Rattle.std.proofs.lemmas.List.Sums.{fold_push}
 use Rattle.std.proofs.lemmas.Bool.Decides.{nat_tests}
 use Rattle.cred_ids.specs.Limits.{TRIES}
 use Rattle.cred_event.specs.declared.content.Stage.{Stage}
-use Rattle.cred_event.specs.declared.content.Stage.TheVariants.{First, Acting, Asking, Opening, TakingTarget, Signalling, Tracing, ReleasingTarget, Preparing, Altering, Committing, Aborting, Overriding, TakingAccess, ReleasingAccess, Reverting, Releasing, Retrying}
+use Rattle.cred_event.specs.declared.content.Stage.TheVariants.{First, Acting, Asking, Opening, Calling, TakingTarget, Signalling, Tracing, ReleasingTarget, Preparing, Altering, Committing, Aborting, Overriding, TakingAccess, ReleasingAccess, Reverting, Releasing, Retrying}
 use Rattle.cred_event.specs.declared.answer.Answer.{Answer}
 use Rattle.cred_event.specs.declared.answer.Answer.TheVariants.{Stale}
 use Rattle.cred_event.specs.declared.content.Content.{Content}
-use Rattle.cred_event.specs.declared.content.Content.TheVariants.{Nothing, One, Id, Question, Open, Fcap, Signal, Ptrace, Change, Access}
+use Rattle.cred_event.specs.declared.content.Content.TheVariants.{Nothing, One, Id, Question, Open, Fcap, Signal, Ptrace, Change, Access, OnFile}
 use Rattle.cred_model.specs.Answers.{is_ok}
 use Rattle.cred_model.specs.Course.{Course, start, event_in, event_at, either, some_wait}
 use Rattle.cred_model.specs.Course.{next_stage, is_stale, next_try, after, most, left, is_bounded}
@@ -81,6 +81,8 @@ next_falls (Access task file want) Asking answer is = ((λ line. refl), omega ar
 next_falls (Access task file want) ReleasingAccess answer is = ((λ line. refl), omega arith)
 next_falls (Access task file want) Reverting answer is = ((λ line. refl), omega arith)
 next_falls (Access task file want) Aborting answer is = ((λ line. refl), omega arith)
+next_falls (OnFile task call) First answer is = or_ends (OnFile task call) First (is_ok answer) Calling ((λ line. refl), omega arith)
+next_falls (OnFile task call) Calling answer is = ((λ line. refl), omega arith)
 next_falls content Releasing answer is = tt
 next_falls content stage answer is = let no = is 0 in cc
 

@@ -22,7 +22,7 @@ each_push Q (y ∷ ys) x each here (suc k) lt =
 pub replay-push : (script : Script) (journal : List Entry) (entry : Entry)
     → replay script (journal ++ entry ∷ []) ≡ (step script (replay script journal) entry.line entry.event).1
 replay-push script journal entry =
-    fold_push (λ (s : State) (e : Entry). (step script s e.line e.event).1) opening journal entry
+    fold_push (λ (s : State) (e : Entry). (step script s e.line e.event).1) (opening script) journal entry
 
 pub IsAnswered-push : (script : Script) (journal : List Entry) (entry : Entry) → IsAnswered script journal
     → entry.answer ≡ (step script (replay script journal) entry.line entry.event).0 → IsAnswered script (journal ++ entry ∷ [])

@@ -1,13 +1,17 @@
 -- Each event does the same in two states that are alike.
-use Rattle.std.proofs.Common.{◌≡◌, ◌==◌, ◌-◌, ℕ, List, [], ◌∷◌, ◌++◌, length, drop, position, slice_get, Option, None, Result, Ok, Err, ok_or, true, false, cond, refl, sym, ap, ◌∙◌, subst}
+use Rattle.std.proofs.Common.{◌≡◌, ◌==◌, ◌-◌, ℕ, List, [], ◌∷◌, ◌++◌, length, drop, position, slice_get, slice_set, Option, None, Result, Ok, Err, ok_or, true, false, cond, refl, sym, ap, ◌∙◌, subst}
 use Rattle.std.specs.List.{All, count_by, find, remove}
 use Rattle.std.specs.Option.{option_and_then, option_map_or}
 use Rattle.std.proofs.lemmas.List.Elements.{All-append, All-cons, All-drop, All-push, All-nil}
 use Rattle.cred_ids.specs.Limits.{TASKS, OPEN_FILES, HOLDS, PREPARED, DEPTH}
+use Rattle.cred_ids.specs.declared.arg.Arg.{Arg}
 use Rattle.cred_record.specs.Credential.{Credential, first_credential}
+use Rattle.cred_record.specs.File.{File}
+use Rattle.cred_record.specs.declared.refusal.Denial.{Denial}
 use Rattle.cred_record.specs.declared.id_call.IdCall.{IdCall}
 use Rattle.cred_record.specs.declared.want.Want.{Want}
 use Rattle.cred_rules.specs.Access.{may_signal}
+use Rattle.cred_rules.specs.Files.{chown, chmod, set_attr}
 use Rattle.cred_rules.specs.SetId.{set_id}
 use Rattle.cred_event.specs.declared.answer.Answer.{Answer}
 use Rattle.cred_event.specs.declared.answer.Answer.TheVariants.{Done, Sealed, Kept, Began, Acted, Told, Ebadf, Eperm, Einval, NoTask, NoHold, NoPrepared, NoBroadcast, NotOverridden, Stale, Aborted}
@@ -20,25 +24,25 @@ use Rattle.cred_event.specs.declared.event.Event.{Event}
 use Rattle.cred_event.specs.declared.event.Mode.{Mode}
 use Rattle.cred_event.specs.declared.event.Side.{Side}
 use Rattle.cred_event.specs.declared.event.Query.{Query}
-use Rattle.cred_event.specs.declared.event.Event.TheVariants.{Init, Take, TakeFile, Release, Ask, Signal, Prepare, Alter, Commit, Abort, Override, Revert, Begin, Act, OpenFile, CloseFile, Spawn, Fork, Exit, Sweep, Dumpable, Dumped, Ptrace}
-use Rattle.cred_model.specs.Script.{Script, info_of, chain_of, root_of, reaches}
+use Rattle.cred_event.specs.declared.event.Event.TheVariants.{Init, Take, TakeFile, Release, Ask, Signal, Prepare, Alter, Commit, Abort, Override, Revert, Begin, Act, OpenFile, CloseFile, Spawn, Fork, Exit, Sweep, Dumpable, Dumped, Ptrace, Chown, Chmod, SetAttr, Stat, Raw}
+use Rattle.cred_model.specs.Script.{Script, chain_of, root_of, reaches}
 use Rattle.cred_model.specs.Named.{change_files}
-use Rattle.cred_model.specs.State.{State, SealedCred, Task, Broadcast, OpenFile as Open, Hold, Prepared, Changed, ProcessFlag, Numbered, numbered, task_of, cast_of, cast_in, begun_by, open_of, hold_of, prepared_of, held_by}
+use Rattle.cred_model.specs.State.{State, SealedCred, Task, Broadcast, OpenFile as Open, Hold, Prepared, Changed, ProcessFlag, Numbered, numbered, task_of, cast_of, cast_in, begun_by, open_of, hold_of, prepared_of, held_by, info_of}
 use Rattle.cred_model.specs.Slots.{swept}
 use Rattle.cred_model.specs.Ptrace.{may_trace}
-use Rattle.cred_model.specs.Dumpable.{is_dumpable, with_flag, set_flag, without_flag, differs, renewed, flags_by, flags_committed, flags_begun, flags_left, flag_of_value}
+use Rattle.cred_model.specs.Dumpable.{is_dumpable, with_process_flag, set_flag, without_flag, differs, renewed, flags_by, flags_committed, flags_begun, flags_left, flag_of_value}
 use Rattle.cred_model.specs.Answers.{checked}
 use Rattle.cred_model.specs.Change.{by_change, by_rule}
 use Rattle.cred_model.specs.Ends.{is_task, is_thread_of, ended}
 use Rattle.cred_model.specs.Casts.{not_busy, others_of, with_cast, waits_no_more, joined, dropped}
 use Rattle.cred_model.specs.Moves.{◌>>=◌, none_or, fewer_or, unless_refused, not_overridden}
 use Rattle.cred_model.specs.Moves.{table_full}
-use Rattle.cred_model.specs.Moves.{first_task, with_overrides, holding, lent, with_current}
+use Rattle.cred_model.specs.Moves.{first_task, with_overrides, holding, with_override, with_current}
 use Rattle.cred_model.specs.Moves.{given_up, committed, altered, preparing, created, replaced}
-use Rattle.cred_model.specs.Step.{try_commit, done, ends_with, casts_after, commit_answer, aborted, follow, take_hold, for_task, for_access, override_held, override_prepared}
+use Rattle.cred_model.specs.Step.{try_commit, done, ends_with, casts_after, commit_answer, aborted, follow, take_hold, for_task, for_access, override_held, override_prepared, by_file}
 use Rattle.cred_model.specs.Like.{IsLike, AreAlike}
 use Rattle.cred_model.proofs.Lists.{All-remove, find_each, get_each}
-use Rattle.cred_model.proofs.Referred.{EachRef, each_updated, each_overriding, each_changed, each_tasks, each_casts, each_flags, each_files, each_holds, each_prepared, each_deferred, each_ended}
+use Rattle.cred_model.proofs.Referred.{EachRef, each_updated, each_overriding, each_changed, each_tasks, each_casts, each_flags, each_infos, each_files, each_holds, each_prepared, each_deferred, each_ended}
 use Rattle.cred_model.proofs.LikeReads.{with, Same, slots_of, each_same, same_numbered, same_credential, same_opener, same_held, numbered_by, credential_by, opener_by, held_by_each}
 use Rattle.cred_model.proofs.LikeTests.{BothAre, tested, read, found, either, like_with, like_casts, like_flags, like_sealed, same_next, gave, full_like, in_slots}
 
@@ -159,7 +163,7 @@ module _ (script : Script) (s : State) (cs : List SealedCred) (line : ℕ) (like
   alter_like label change =
       found OfBase _ _ (NoPrepared label) _ _ refl (find_each OfBase (λ p. p.label == label) s.prepared refs.bases)
       (λ p here. read _ _ (NoPrepared label) _ _ (same_numbered s.creds cs p.base here)
-      (λ base. tested (by_change (info_of script (change_files change)) (chain_of script base.cred.ns) base.cred change) _ _
+      (λ base. tested (by_change (info_of s.infos (change_files change)) (chain_of script base.cred.ns) base.cred change) _ _
       (λ made.
       let to : Changed = record { change = change; cred = made.cred; gains = made.gains } in
       leaves made.answer (altered s label to) refl
@@ -242,7 +246,7 @@ module _ (script : Script) (s : State) (cs : List SealedCred) (line : ℕ) (like
       → BothAre (override_held s owner held) (override_held (with s cs) owner held)
   override_held_like owner old held here =
       tested (fewer_or (length owner.overrides) DEPTH _) _ _
-      (λ few. leaves _ (lent s owner held.number) refl
+      (λ few. leaves _ (with_override s owner held.number) refl
       (each_overriding refs owner.number _ (All-cons Here held.number owner.overrides here old)))
 
   override_prepared_like : (owner : Task) → All Here owner.overrides → (label : ℕ)
@@ -253,7 +257,7 @@ module _ (script : Script) (s : State) (cs : List SealedCred) (line : ℕ) (like
       (λ p here. tested (ok_or (for_access owner.number p) (NoHold label)) _ _
       (λ last. tested (fewer_or (length owner.overrides) DEPTH _) _ _
       (λ few. like_sealed (λ n. Sealed n p.slot)
-      (λ n. record (lent s owner n) { prepared = remove s.prepared place; deferred = s.deferred ++ p.base ∷ [] })
+      (λ n. record (with_override s owner n) { prepared = remove s.prepared place; deferred = s.deferred ++ p.base ∷ [] })
       s.creds cs (record { cred = last.cred; slot = p.slot }) like.slots
       (each_deferred
       (each_prepared (each_overriding refs owner.number _ (All-cons Here (length s.creds) owner.overrides next old)) _
@@ -281,7 +285,7 @@ module _ (script : Script) (s : State) (cs : List SealedCred) (line : ℕ) (like
   open_like hold place asked fd =
       found OfCred _ _ (NoHold hold) _ _ (same_held s cs hold like) (held_by_each s Here hold refs)
       (λ held here. tested (none_or (open_of s fd) _) _ _
-      (λ new. tested (unless_refused (checked held.cred (info_of script (place ∷ [])) asked)) _ _
+      (λ new. tested (unless_refused (checked held.cred (info_of s.infos (place ∷ [])) asked)) _ _
       (λ may. tested (fewer_or (length s.files) OPEN_FILES _) _ _
       (λ few. leaves Done (record s { files = s.files ++ record { fd = fd; opener = held.number; file = place } ∷ [] }) refl
       (each_files refs _ (All-push OfFile s.files _ refs.openers here))))))
@@ -398,7 +402,7 @@ module _ (script : Script) (s : State) (cs : List SealedCred) (line : ℕ) (like
       (λ new. tested (none_or (find (is_thread_of process) s.tasks) _) _ _
       (λ unused. tested (not_overridden owner) _ _
       (λ own. tested (fewer_or (length s.tasks) TASKS _) _ _
-      (λ few. child_like _ child process parent.number s.casts (with_flag s.dumpable process (is_dumpable s.dumpable owner.process)) here))))))
+      (λ few. child_like _ child process parent.number s.casts (with_process_flag s.dumpable process (is_dumpable s.dumpable owner.process)) here))))))
 
   pub exit_like : (task : ℕ) → DoneAlike (Exit task)
   exit_like task =
@@ -431,6 +435,57 @@ module _ (script : Script) (s : State) (cs : List SealedCred) (line : ℕ) (like
         | false ↦ refl
       ]))))
 
+  -- ---- files
+
+  file_like : (hold place : ℕ) (rule : Credential → File → Result File Denial)
+      → BothAre (by_file s hold place rule) (by_file (with s cs) hold place rule)
+  file_like hold place rule =
+      read _ _ (NoHold hold) _ _ (same_held s cs hold like)
+      (λ held. tested (ok_or (slice_get s.infos place) (NoHold hold)) _ _
+      (λ old. tested (by_rule (rule held.cred old)) _ _
+      (λ new. leaves Done (record s { infos = slice_set s.infos place new }) refl (each_infos refs _))))
+
+  pub chown_like : (hold place : ℕ) (owner group : Arg) → DoneAlike (Chown hold place owner group)
+  chown_like hold place owner group = file_like hold place (λ c file. chown c file owner group)
+
+  pub chmod_like : (hold place mode : ℕ) → DoneAlike (Chmod hold place mode)
+  chmod_like hold place mode = file_like hold place (λ c file. chmod c file mode)
+
+  pub set_attr_like : (hold place : ℕ) (attr : Option (List ℕ)) → DoneAlike (SetAttr hold place attr)
+  set_attr_like hold place attr = file_like hold place (λ c file. set_attr c file attr)
+
+  pub stat_like : (hold place : ℕ) → DoneAlike (Stat hold place)
+  stat_like hold place =
+      read _ _ (NoHold hold) _ _ (same_held s cs hold like)
+      (λ held. tested (ok_or (slice_get s.infos place) (NoHold hold)) _ _
+      (λ file. record { answers = refl; states = like }))
+
+  -- ---- a call of one thread alone
+
+  pub raw_like : (task : ℕ) (call : IdCall) → DoneAlike (Raw task call)
+  raw_like task call =
+      own_like task (NoTask task) _ _
+      (λ owner old here. tested (not_busy (cast_in s owner.process)) _ _
+      (λ idle. tested (not_overridden owner) _ _
+      (λ own. tested (by_rule (set_id old.cred call)) _ _
+      (λ new.
+      in_slots s cs table_full
+      (λ now slot. (
+        Sealed (length now.creds) slot,
+        record (replaced now task old.number new slot) { dumpable = renewed now.dumpable owner.process (differs old.cred new) },
+      ))
+      like (full_like s cs like.slots)
+      (λ gone each slot. like_sealed (λ n. Sealed n slot)
+      (λ n. record s {
+        tasks = with_current s.tasks task n;
+        deferred = gone ++ old.number ∷ [];
+        dumpable = renewed s.dumpable owner.process (differs old.cred new);
+      })
+      s.creds cs (record { cred = new; slot = slot }) like.slots
+      (each_flags
+      (each_deferred (each_updated each task (length s.creds) next) _ (All-push Here gone old.number each.deferred here))
+      _))))))
+
   pub done_like : (event : Event) → DoneAlike event
   done_like (Init task process user group ns) = init_like task process user group ns
   done_like (Take label task side) = take_like label task side
@@ -454,4 +509,9 @@ module _ (script : Script) (s : State) (cs : List SealedCred) (line : ℕ) (like
   done_like (Dumpable task value) = dumpable_like task value
   done_like (Dumped task) = dumped_like task
   done_like (Ptrace from hold to target mode) = ptrace_like from hold to target mode
+  done_like (Chown hold place owner group) = chown_like hold place owner group
+  done_like (Chmod hold place mode) = chmod_like hold place mode
+  done_like (SetAttr hold place attr) = set_attr_like hold place attr
+  done_like (Stat hold place) = stat_like hold place
+  done_like (Raw task call) = raw_like task call
   done_like Sweep = leaves Done (swept s) refl (each_deferred refs _ (All-nil Here))

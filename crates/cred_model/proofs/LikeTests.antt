@@ -73,6 +73,7 @@ like_with t cs slots each = record {
   prepared = refl;
   deferred = refl;
   dumpable = refl;
+  infos = refl;
   slots = slots;
   creds = refs_each (Same t.creds cs) t each;
 }
@@ -88,6 +89,7 @@ like_casts f like = record {
   prepared = like.prepared;
   deferred = like.deferred;
   dumpable = like.dumpable;
+  infos = like.infos;
   slots = like.slots;
   creds = like.creds;
 }
@@ -103,6 +105,7 @@ like_flags flags like = record {
   prepared = like.prepared;
   deferred = like.deferred;
   dumpable = refl;
+  infos = like.infos;
   slots = like.slots;
   creds = like.creds;
 }
@@ -130,6 +133,7 @@ like_sealed answer t bs cs x same each =
         prepared = refl;
         deferred = refl;
         dumpable = refl;
+        infos = refl;
         slots = slots_past bs cs x same;
         creds = All-weaker (Same bs cs) (Same (bs ++ x ∷ []) (cs ++ x ∷ [])) (λ n. same_past bs cs n x long)
             (refs (t (length bs))) (refs_each (Same bs cs) (t (length bs)) each);

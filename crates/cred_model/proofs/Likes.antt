@@ -23,6 +23,7 @@ like_self s =
       prepared = refl;
       deferred = refl;
       dumpable = refl;
+      infos = refl;
       slots = refl;
       creds = λ k d lt. refl;
     }
@@ -32,9 +33,10 @@ refs_same a b like =
     ap (λ ts. refs (record a { tasks = ts })) like.tasks
     ∙ ap (λ fs. refs (record a { tasks = b.tasks; files = fs })) like.files
     ∙ ap (λ hs. refs (record a { tasks = b.tasks; files = b.files; holds = hs })) like.holds
-    ∙ ap (λ ps. refs (record b { prepared = ps; deferred = a.deferred; dumpable = a.dumpable; creds = a.creds })) like.prepared
-    ∙ ap (λ ds. refs (record b { deferred = ds; dumpable = a.dumpable })) like.deferred
-    ∙ ap (λ fs. refs (record b { dumpable = fs })) like.dumpable
+    ∙ ap (λ ps. refs (record b { prepared = ps; deferred = a.deferred; dumpable = a.dumpable; infos = a.infos; creds = a.creds })) like.prepared
+    ∙ ap (λ ds. refs (record b { deferred = ds; dumpable = a.dumpable; infos = a.infos })) like.deferred
+    ∙ ap (λ fs. refs (record b { dumpable = fs; infos = a.infos })) like.dumpable
+    ∙ ap (λ is. refs (record b { infos = is })) like.infos
 
 pub like_sym : (a b : State) → IsLike a b → IsLike b a
 like_sym a b like = record {
@@ -45,6 +47,7 @@ like_sym a b like = record {
   prepared = sym like.prepared;
   deferred = sym like.deferred;
   dumpable = sym like.dumpable;
+  infos = sym like.infos;
   slots = sym like.slots;
   creds = subst (All (λ n. slice_get b.creds n ≡ slice_get a.creds n)) (refs_same a b like) (λ k d lt. sym (like.creds k d lt));
 }
@@ -61,6 +64,7 @@ like_trans a b c first second =
       prepared = first.prepared ∙ second.prepared;
       deferred = first.deferred ∙ second.deferred;
       dumpable = first.dumpable ∙ second.dumpable;
+      infos = first.infos ∙ second.infos;
       slots = first.slots ∙ second.slots;
       creds = λ k d lt. first.creds k d lt ∙ on k d lt;
     }
@@ -74,10 +78,11 @@ like_step script a b line event like =
     = ap (λ ts. record a { tasks = ts; creds = b.creds }) like.tasks
     ∙ ap (λ xs. record a { tasks = b.tasks; casts = xs; creds = b.creds }) like.casts
     ∙ ap (λ fs. record a { tasks = b.tasks; casts = b.casts; files = fs; creds = b.creds }) like.files
-    ∙ ap (λ hs. record b { holds = hs; prepared = a.prepared; deferred = a.deferred; dumpable = a.dumpable }) like.holds
-    ∙ ap (λ ps. record b { prepared = ps; deferred = a.deferred; dumpable = a.dumpable }) like.prepared
-    ∙ ap (λ ds. record b { deferred = ds; dumpable = a.dumpable }) like.deferred
-    ∙ ap (λ fs. record b { dumpable = fs }) like.dumpable in
+    ∙ ap (λ hs. record b { holds = hs; prepared = a.prepared; deferred = a.deferred; dumpable = a.dumpable; infos = a.infos }) like.holds
+    ∙ ap (λ ps. record b { prepared = ps; deferred = a.deferred; dumpable = a.dumpable; infos = a.infos }) like.prepared
+    ∙ ap (λ ds. record b { deferred = ds; dumpable = a.dumpable; infos = a.infos }) like.deferred
+    ∙ ap (λ fs. record b { dumpable = fs; infos = a.infos }) like.dumpable
+    ∙ ap (λ is. record b { infos = is }) like.infos in
     let with_creds : IsLike a (record a { creds = b.creds })
     = record {
       tasks = refl;
@@ -87,6 +92,7 @@ like_step script a b line event like =
       prepared = refl;
       deferred = refl;
       dumpable = refl;
+      infos = refl;
       slots = like.slots;
       creds = like.creds;
     } in

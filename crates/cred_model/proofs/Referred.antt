@@ -3,12 +3,13 @@ use Rattle.std.proofs.Common.{◌≡◌, refl, ap, ℕ, ◌==◌, not, Bool, Lis
 use Rattle.std.specs.List.{All, AllByRecursion, concat, filter}
 use Rattle.std.specs.Option.{unwrap_or}
 use Rattle.std.proofs.lemmas.List.Elements.{All-append, All-cons, All-filter, All-head, All-map, All-nil}
+use Rattle.cred_record.specs.File.{File}
 use Rattle.cred_event.specs.declared.event.Side.{Side}
 use Rattle.cred_event.specs.declared.event.Side.TheVariants.{Subjective, Objective}
 use Rattle.cred_model.specs.State.{State, number_on, Task, Broadcast, OpenFile, Hold, Prepared, Changed, ProcessFlag}
 use Rattle.cred_model.specs.Slots.{places, in_use, refs}
 use Rattle.cred_model.specs.Ends.{numbers_of, survivors, left_by, ended}
-use Rattle.cred_model.specs.Moves.{updated, with_current, overriding, with_overrides, changed, with_change}
+use Rattle.cred_model.specs.Moves.{updated, with_current, overriding, with_overrides, relabelled, with_change}
 use Rattle.cred_model.proofs.Lists.{All-kept, All-left, All-right, All-unmap, All-flat_map, All-unflat_map}
 use Rattle.cred_model.proofs.Numbers.{updated_as, overriding_as}
 
@@ -119,6 +120,18 @@ each_casts each casts =
       deferred = each.deferred;
     }
 
+-- nor do the files
+pub each_infos : {P : ℕ → Type 0} {s : State} → EachRef P s → (infos : List File) → EachRef P (record s { infos = infos })
+each_infos each infos =
+    record {
+      currents = each.currents;
+      overrides = each.overrides;
+      openers = each.openers;
+      holds = each.holds;
+      bases = each.bases;
+      deferred = each.deferred;
+    }
+
 -- nor does what is dumpable
 pub each_flags : {P : ℕ → Type 0} {s : State} → EachRef P s → (flags : List ProcessFlag) → EachRef P (record s { dumpable = flags })
 each_flags each flags =
@@ -160,7 +173,7 @@ pub each_changed : {P : ℕ → Type 0} {s : State} → EachRef P s → (label :
     → EachRef P (record s { prepared = with_change s.prepared label to })
 each_changed {P} {s} each label to =
     each_prepared each (with_change s.prepared label to)
-    (All-kept (λ (p : Prepared). P p.base) (changed label to) s.prepared
+    (All-kept (λ (p : Prepared). P p.base) (relabelled label to) s.prepared
     (λ p old. elim (p.label == label) as (λ b. P (cond b (record p { changed = Some to }) p).base) [ true ↦ old | false ↦ old ]) each.bases)
 
 pub each_deferred : {P : ℕ → Type 0} {s : State} → EachRef P s → (numbers : List ℕ) → All P numbers

@@ -25,7 +25,7 @@ abbrev pub flag : Option Bool → Answer
 flag None = answer.Einval
 flag (Some is) = answer.Told (told.Flag is)
 
--- the answer to a check of a file; there is always one, since a question names a declared file
+-- the answer to a check of a file; there always is one, since a question names a declared file
 abbrev pub checked : Credential → Option File → Want → Answer
 checked c None asked = answer.Eacces
 checked c (Some file) asked = if may c file asked then answer.Done else answer.Eacces

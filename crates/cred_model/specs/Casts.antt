@@ -31,12 +31,12 @@ abbrev pub with_cast : List Broadcast → Broadcast → List Broadcast
 with_cast casts cast = casts ++ filter is_open (cast ∷ [])
 
 -- a broadcast in which this task doesn't wait
-abbrev pub without : ℕ → Broadcast → Broadcast
-without task cast = record cast { waiting = filter (λ n. not (n == task)) cast.waiting }
+abbrev pub without_waiter : ℕ → Broadcast → Broadcast
+without_waiter task cast = record cast { waiting = filter (λ n. not (n == task)) cast.waiting }
 
 -- The task waits no longer, since it has made its step or has ended.
 abbrev pub waits_no_more : ℕ → List Broadcast → List Broadcast
-waits_no_more task casts = filter is_open (map (without task) casts)
+waits_no_more task casts = filter is_open (map (without_waiter task) casts)
 
 -- a broadcast in which a new thread waits, if the thread that created it does
 abbrev pub with_child : ℕ → ℕ → Broadcast → Broadcast

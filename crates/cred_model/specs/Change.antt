@@ -32,7 +32,7 @@ abbrev pub made : Answer → Credential → Made
 made answer c = record { answer = answer; cred = c; gains = no_gains }
 
 -- what a rule gives, or its refusal
-abbrev pub by_rule : Result Credential Denial → Result Credential Answer
+abbrev pub by_rule : {X : Type 0} → Result X Denial → Result X Answer
 by_rule (Ok c) = Ok c
 by_rule (Err denial) = Err (refusal denial)
 
@@ -51,9 +51,9 @@ made_by_exec (Ok e) = Ok (record { answer = answer.Done; cred = e.cred; gains = 
 made_by_exec (Err why) = Err (exec_refusal why)
 
 -- what the execve of a file makes; there always is one, since a change names a declared file
-abbrev pub executed : Option File → List ℕ → Credential → Result Made Answer
-executed None chain c = Err answer.Eacces
-executed (Some file) chain c = made_by_exec (exec c file chain)
+abbrev pub made_by_execve : Option File → List ℕ → Credential → Result Made Answer
+made_by_execve None chain c = Err answer.Eacces
+made_by_execve (Some file) chain c = made_by_exec (exec c file chain)
 
 -- What a change makes of a base credential, or its refusal. It sees the file that it names, if any,
 -- and the root ids of the base's namespace and of that one's ancestors. That of access(2) is never
@@ -61,10 +61,11 @@ executed (Some file) chain c = made_by_exec (exec c file chain)
 abbrev pub by_change : Option File → List ℕ → Credential → Change → Result Made Answer
 by_change file chain c (SetFs kind id) = Ok (made (answer.Was (old_fs c kind)) (set_fs c kind id))
 by_change file chain c (Adjust call) = made_by_rule (adjust c call)
-by_change file chain c (Exec place) = executed file chain c
+by_change file chain c (Exec place) = made_by_execve file chain c
 by_change file chain c Access = Ok (made answer.Done (access_credential c))
 
 -- what the permitted set gained, as the answer reports it
-abbrev pub gained : Answer → Caps
-gained (answer.Executed cred slot ended gains) = union gains.file (union gains.inherit gains.root)
-gained answer = empty
+abbrev pub gain_told : Answer → Caps
+gain_told (answer.Executed cred slot ended gains) =
+    union gains.file (union gains.inherit gains.root)
+gain_told answer = empty

@@ -6,6 +6,7 @@ use Rattle.std.specs.Option.{option_and_then, option_map_or}
 use Rattle.cred_ids.specs.Limits.{FIRST_LINE_LABEL, LABELS_A_LINE, TRIES}
 use Rattle.cred_event.specs.declared.content.Stage.{Stage}
 use Rattle.cred_event.specs.declared.content.Stage.TheVariants.{First, Acting, Asking, Opening}
+use Rattle.cred_event.specs.declared.content.Stage.TheVariants.{Calling}
 use Rattle.cred_event.specs.declared.content.Stage.TheVariants.{TakingTarget, Signalling, Tracing}
 use Rattle.cred_event.specs.declared.content.Stage.TheVariants.{ReleasingTarget, Preparing}
 use Rattle.cred_event.specs.declared.content.Stage.TheVariants.{Altering, Committing, Aborting}
@@ -25,7 +26,9 @@ use Rattle.cred_event.specs.declared.answer.Answer.TheVariants.{Began, Acted, St
 use Rattle.cred_event.specs.declared.content.Content.{Content}
 use Rattle.cred_event.specs.declared.content.Content.TheVariants.{Nothing, One, Id, Question, Open}
 use Rattle.cred_event.specs.declared.content.Content.TheVariants.{Fcap, Signal, Ptrace, Change}
-use Rattle.cred_event.specs.declared.content.Content.TheVariants.{Access}
+use Rattle.cred_event.specs.declared.content.Content.TheVariants.{Access, OnFile}
+use Rattle.cred_event.specs.declared.content.FileCall.{FileCall}
+use Rattle.cred_event.specs.declared.content.FileCall.TheVariants as call
 use Rattle.cred_model.specs.Answers.{is_ok}
 
 -- The labels that a line takes for itself: for what it holds first; for the new credential that it
@@ -62,6 +65,13 @@ start line content = record {
   stage = if makes_events content then Some First else None;
   tries = 1;
 }
+
+-- the event of a call on a file, which the hold decides
+abbrev pub calling : ℕ → FileCall → Event
+calling hold (call.Chown file owner group) = event.Chown hold file owner group
+calling hold (call.Chmod file mode) = event.Chmod hold file mode
+calling hold (call.SetAttr file attr) = event.SetAttr hold file attr
+calling hold (call.Stat file) = event.Stat hold file
 
 -- The event of a stage. A line takes hold of the credential that its task acts with, does what it
 -- is about, and lets go.
@@ -119,6 +129,10 @@ event_in line (Access task file want) ReleasingAccess = Some (Release (access_la
 event_in line (Access task file want) Reverting = Some (Revert task)
 event_in line (Access task file want) Aborting = Some (Abort (new_label line))
 event_in line (Access task file want) Releasing = Some (Release (hold_label line))
+-- a file is changed, or looked at, by the hold
+event_in line (OnFile task call) First = Some (Take (hold_label line) task Subjective)
+event_in line (OnFile task call) Calling = Some (calling (hold_label line) call)
+event_in line (OnFile task call) Releasing = Some (Release (hold_label line))
 event_in line content stage = None
 
 -- the next event of a line with this content, or none where it has ended
@@ -170,6 +184,8 @@ next_stage (Access task file want) Asking answer = Some ReleasingAccess
 next_stage (Access task file want) ReleasingAccess answer = Some Reverting
 next_stage (Access task file want) Reverting answer = Some Releasing
 next_stage (Access task file want) Aborting answer = Some Releasing
+next_stage (OnFile task call) First answer = if is_ok answer then Some Calling else None
+next_stage (OnFile task call) Calling answer = Some Releasing
 next_stage content stage answer = None
 
 -- The commit came too late: the task has another credential by now, and what was prepared is gone.
@@ -210,6 +226,7 @@ most Tracing = 3
 most ReleasingTarget = 2
 most Committing = 3
 most Opening = 2
+most Calling = 2
 most Aborting = 2
 most Acting = 1
 most Releasing = 1

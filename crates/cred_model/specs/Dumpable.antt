@@ -23,8 +23,8 @@ abbrev pub is_dumpable : List ProcessFlag → ℕ → Bool
 is_dumpable flags process = option_map_or (λ f. f.dumpable) (flag_in flags process) false
 
 -- A process begins, and this is its flag.
-abbrev pub with_flag : List ProcessFlag → ℕ → Bool → List ProcessFlag
-with_flag flags process dumpable =
+abbrev pub with_process_flag : List ProcessFlag → ℕ → Bool → List ProcessFlag
+with_process_flag flags process dumpable =
     flags ++ record { process = process; dumpable = dumpable } ∷ []
 
 -- this is the process's flag from now on
@@ -78,7 +78,7 @@ flags_committed s owner last =
 abbrev pub flags_begun : State → ℕ → List ProcessFlag
 flags_begun s process =
     if is_some (find (is_thread_of process) s.tasks) then s.dumpable
-    else with_flag s.dumpable process true
+    else with_process_flag s.dumpable process true
 
 -- The task has ended. If it was the last of its process, that one has ended too.
 abbrev pub flags_left : State → Task → List ProcessFlag

@@ -17,7 +17,7 @@ use Rattle.cred_model.specs.Course.{event_at, leads}
 -- the state after a journal
 abbrev pub replay : Script → List Entry → State
 replay script journal =
-    fold (λ state entry. (step script state entry.line entry.event).1) opening journal
+    fold (λ state entry. (step script state entry.line entry.event).1) (opening script) journal
 
 -- Each entry has the answer that its event gets in the state after the entries before it.
 abbrev pub IsAnswered : Script → List Entry → Type 0

@@ -5,10 +5,10 @@ use Rattle.cred_model.specs.State.{State}
 use Rattle.cred_model.specs.Slots.{refs}
 use Rattle.cred_model.specs.Step.{outcome}
 
--- The two have the same tasks, broadcasts, open files, holds, prepared labels, deferred numbers and
--- dumpable processes, sealed the same numbers in the same slots, and have the same credential under
--- each number that is referred to. Of the other numbers, to which nothing refers any more, nothing
--- is said: their credentials may be gone.
+-- The two have the same tasks, broadcasts, open files, holds, prepared labels, deferred numbers,
+-- dumpable processes and files, sealed the same numbers in the same slots, and have the same
+-- credential under each number that is referred to. Of the other numbers, to which nothing refers
+-- any more, nothing is said: their credentials may be gone.
 pub record IsLike (a b : State) : Type 0 where
   pub tasks : a.tasks ≡ b.tasks
   pub casts : a.casts ≡ b.casts
@@ -17,6 +17,7 @@ pub record IsLike (a b : State) : Type 0 where
   pub prepared : a.prepared ≡ b.prepared
   pub deferred : a.deferred ≡ b.deferred
   pub dumpable : a.dumpable ≡ b.dumpable
+  pub infos : a.infos ≡ b.infos
   pub slots : map (λ sealed. sealed.slot) a.creds ≡ map (λ sealed. sealed.slot) b.creds
   pub creds : All (λ n. slice_get a.creds n ≡ slice_get b.creds n) (refs a)
 

@@ -54,7 +54,7 @@ abbrev pub with_current : List Task → ℕ → ℕ → List Task
 with_current tasks task number = map (updated task number) tasks
 
 -- a task that overrides nothing
-abbrev pub first_task : ℕ → ℕ → ℕ → Task
+abbrev pub first_task : (task process number : ℕ) → Task
 first_task task process number =
     record { number = task; process = process; current = number; overrides = [] }
 
@@ -66,7 +66,7 @@ created s task c slot =
 
 -- The task's credential is replaced: the new one is sealed and becomes its current one, and the old
 -- one is given up.
-abbrev pub replaced : State → ℕ → ℕ → Credential → ℕ → State
+abbrev pub replaced : State → (task old : ℕ) → Credential → (slot : ℕ) → State
 replaced s task old c slot =
     let now = sealed s c slot in
     record now {
@@ -91,11 +91,11 @@ abbrev pub preparing : State → Prepared → State
 preparing s p = record s { prepared = s.prepared ++ p ∷ [] }
 
 -- the prepared labels, where this one was changed
-abbrev pub changed : ℕ → Changed → Prepared → Prepared
-changed label to p = if p.label == label then record p { changed = Some to } else p
+abbrev pub relabelled : ℕ → Changed → Prepared → Prepared
+relabelled label to p = if p.label == label then record p { changed = Some to } else p
 
 abbrev pub with_change : List Prepared → ℕ → Changed → List Prepared
-with_change prepared label to = map (changed label to) prepared
+with_change prepared label to = map (relabelled label to) prepared
 
 abbrev pub altered : State → ℕ → Changed → State
 altered s label to = record s { prepared = with_change s.prepared label to }
@@ -120,13 +120,13 @@ committed s place p old c =
     }
 
 -- The task acts with the credential of this number from now on.
-abbrev pub lent : State → Task → ℕ → State
-lent s owner number =
+abbrev pub with_override : State → Task → ℕ → State
+with_override s owner number =
     record s { tasks = with_overrides s.tasks owner.number (number ∷ owner.overrides) }
 
 -- The prepared label at this place overrides its task's credential: what it prepared is sealed in
 -- the slot that was kept for it, and the task acts with it. The base is given up.
 abbrev pub overridden : State → ℕ → Prepared → Task → Credential → State
 overridden s place p owner c =
-    let now = lent (sealed s c p.slot) owner (length s.creds) in
+    let now = with_override (sealed s c p.slot) owner (length s.creds) in
     record now { prepared = remove s.prepared place; deferred = s.deferred ++ p.base ∷ [] }

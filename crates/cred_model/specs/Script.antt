@@ -1,5 +1,5 @@
 -- What a script is.
-use Rattle.std.specs.Prelude.{◌≡◌, ℕ, ◌==◌, Bool, List, [], ◌∷◌, find, slice_get, Some, None}
+use Rattle.std.specs.Prelude.{◌≡◌, ℕ, ◌==◌, Bool, List, [], ◌∷◌, find, map, Some}
 use Rattle.std.specs.Prelude.{if◌then◌else◌, slice_index_or}
 use Rattle.std.specs.declared.option.Option.{Option}
 use Rattle.std.specs.List.{AllPairs, list_any}
@@ -31,10 +31,9 @@ pub record Script : Type 0 where
   pub namespaces : List Namespace
   pub lines : List Line
 
--- what the script says of the file that an event names, by its place; none where it names none
-abbrev pub info_of : Script → List ℕ → Option File
-info_of script [] = None
-info_of script (place ∷ places) = option_map (λ file. file.info) (slice_get script.files place)
+-- what checks and execve see of the declared files, each in its order
+abbrev pub infos_of : Script → List File
+infos_of script = map (λ file. file.info) script.files
 
 -- Namespace 0 is the initial one. Its root id is 0, and it has no parent.
 abbrev pub INITIAL_ROOT : ℕ

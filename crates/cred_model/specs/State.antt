@@ -1,13 +1,15 @@
 -- The state of a run (credentials(7); Documentation/security/credentials.rst).
-use Rattle.std.specs.Prelude.{ℕ, ◌==◌, Bool, List, [], find, slice_get}
+use Rattle.std.specs.Prelude.{ℕ, ◌==◌, Bool, List, [], ◌∷◌, find, slice_get, None}
 use Rattle.std.specs.declared.option.Option.{Option}
 use Rattle.std.specs.Option.{option_map, option_and_then, unwrap_or}
 use Rattle.cred_record.specs.Credential.{Credential}
+use Rattle.cred_record.specs.File.{File}
 use Rattle.cred_record.specs.declared.gains.Gains.{Gains}
 use Rattle.cred_record.specs.declared.id_call.IdCall.{IdCall}
 use Rattle.cred_event.specs.declared.event.Change.{Change}
 use Rattle.cred_event.specs.declared.event.Side.{Side}
 use Rattle.cred_event.specs.declared.event.Side.TheVariants.{Subjective, Objective}
+use Rattle.cred_model.specs.Script.{Script, infos_of}
 
 -- A task (a thread) belongs to a process, and has the number of its current credential and those of
 -- the credentials that it acts with in its place, the newest first.
@@ -67,8 +69,9 @@ pub record SealedCred : Type 0 where
   pub slot : ℕ
 
 -- The live tasks, the open broadcasts, the open files, the holds, the prepared labels, the numbers
--- that were given up since the last sweep, which processes are dumpable, and all credentials that
--- were ever sealed. The place of a credential in that list is its number.
+-- that were given up since the last sweep, which processes are dumpable, the files that the script
+-- declares as they stand, by their places, and all credentials that were ever sealed. The place of
+-- a credential in that list is its number.
 pub record State : Type 0 where
   pub tasks : List Task
   pub casts : List Broadcast
@@ -77,11 +80,12 @@ pub record State : Type 0 where
   pub prepared : List Prepared
   pub deferred : List ℕ
   pub dumpable : List ProcessFlag
+  pub infos : List File
   pub creds : List SealedCred
 
--- the state before the first event
-abbrev pub opening : State
-opening = record {
+-- the state before a script's first event: its files are as it declares them
+abbrev pub opening : Script → State
+opening script = record {
   tasks = [];
   casts = [];
   files = [];
@@ -89,8 +93,14 @@ opening = record {
   prepared = [];
   deferred = [];
   dumpable = [];
+  infos = infos_of script;
   creds = [];
 }
+
+-- the file that an event names, by its place, as it stands in this list; none where it names none
+abbrev pub info_of : List File → List ℕ → Option File
+info_of infos [] = None
+info_of infos (place ∷ places) = slice_get infos place
 
 abbrev pub task_of : State → ℕ → Option Task
 task_of s number = find (λ t. t.number == number) s.tasks

@@ -1,15 +1,18 @@
 -- What each event answers, and the state after it.
 use Rattle.std.specs.Prelude.{ℕ, ◌-◌, ◌==◌, ◌&&◌, Bool, true, false, [], ◌∷◌, ◌++◌, length, drop}
-use Rattle.std.specs.Prelude.{find, position, remove, slice_get, Result, Ok, Err, ok_or, Some, None}
-use Rattle.std.specs.Prelude.{if◌then◌else◌, count_by}
+use Rattle.std.specs.Prelude.{find, position, remove, slice_get, slice_set, Result, Ok, Err, ok_or}
+use Rattle.std.specs.Prelude.{Some, None, is_some, if◌then◌else◌, count_by}
 use Rattle.std.specs.declared.option.Option.{Option}
 use Rattle.std.specs.Option.{option_and_then, option_map_or}
 use Rattle.cred_ids.specs.Limits.{TASKS, OPEN_FILES, HOLDS, PREPARED, DEPTH}
 use Rattle.cred_record.specs.Credential.{Credential, first_credential}
+use Rattle.cred_record.specs.File.{File}
 use Rattle.cred_record.specs.declared.gains.Gains.{Gains}
 use Rattle.cred_record.specs.declared.id_call.IdCall.{IdCall}
+use Rattle.cred_record.specs.declared.refusal.Denial.{Denial}
 use Rattle.cred_record.specs.declared.want.Want.{Want}
 use Rattle.cred_rules.specs.Access.{may_signal}
+use Rattle.cred_rules.specs.Files.{chown, chmod, set_attr}
 use Rattle.cred_rules.specs.SetId.{set_id}
 use Rattle.cred_event.specs.declared.event.Change.{Change}
 use Rattle.cred_event.specs.declared.event.Change.TheVariants.{Exec, Access}
@@ -22,7 +25,8 @@ use Rattle.cred_event.specs.declared.event.Event.TheVariants.{Signal, Prepare, A
 use Rattle.cred_event.specs.declared.event.Event.TheVariants.{Override, Revert, Begin, Act}
 use Rattle.cred_event.specs.declared.event.Event.TheVariants.{OpenFile, CloseFile, Spawn, Fork}
 use Rattle.cred_event.specs.declared.event.Event.TheVariants.{Exit, Sweep, Dumpable, Dumped}
-use Rattle.cred_event.specs.declared.event.Event.TheVariants.{Ptrace}
+use Rattle.cred_event.specs.declared.event.Event.TheVariants.{Ptrace, Chown, Chmod, SetAttr, Stat}
+use Rattle.cred_event.specs.declared.event.Event.TheVariants.{Raw}
 use Rattle.cred_event.specs.declared.answer.Answer.{Answer}
 use Rattle.cred_event.specs.declared.answer.Answer.TheVariants.{Done, Sealed, Kept, Executed, Began}
 use Rattle.cred_event.specs.declared.answer.Answer.TheVariants.{Acted, Told, Eperm, Einval, Ebadf}
@@ -34,16 +38,17 @@ use Rattle.cred_event.specs.declared.answer.Named.TheVariants as named
 use Rattle.cred_event.specs.declared.answer.Counted.TheVariants as counted
 use Rattle.cred_event.specs.declared.answer.AbortCause.TheVariants as cause
 use Rattle.cred_event.specs.declared.answer.Told.TheVariants as told
-use Rattle.cred_model.specs.Script.{Script, info_of, chain_of, root_of, reaches}
+use Rattle.cred_model.specs.Script.{Script, chain_of, root_of, reaches}
 use Rattle.cred_model.specs.Named.{query_files, change_files}
 use Rattle.cred_model.specs.State.{State, Task, Prepared, Changed, Broadcast, Numbered, task_of}
 use Rattle.cred_model.specs.State.{cast_of, cast_in, begun_by, open_of, hold_of, prepared_of}
-use Rattle.cred_model.specs.State.{numbered, credential_of, opener_of, held_by}
+use Rattle.cred_model.specs.State.{numbered, credential_of, opener_of, held_by, info_of}
 use Rattle.cred_model.specs.Slots.{swept}
 use Rattle.cred_model.specs.Ends.{is_task, is_thread_of, is_beside, ended}
 use Rattle.cred_model.specs.Casts.{not_busy, others_of, with_cast, waits_no_more, joined, dropped}
 use Rattle.cred_model.specs.Ptrace.{may_trace}
-use Rattle.cred_model.specs.Dumpable.{is_dumpable, with_flag, set_flag, without_flag, differs}
+use Rattle.cred_model.specs.Dumpable.{is_dumpable, with_process_flag, set_flag, without_flag}
+use Rattle.cred_model.specs.Dumpable.{differs}
 use Rattle.cred_model.specs.Dumpable.{renewed, flags_committed, flags_begun, flags_left}
 use Rattle.cred_model.specs.Dumpable.{flag_of_value}
 use Rattle.cred_model.specs.Answers.{checked, reply}
@@ -52,7 +57,7 @@ use Rattle.cred_model.specs.Moves.{◌>>=◌, none_or, fewer_or}
 use Rattle.cred_model.specs.Moves.{unless_refused, not_overridden, in_slot, table_full, first_task}
 use Rattle.cred_model.specs.Moves.{created}
 use Rattle.cred_model.specs.Moves.{replaced, with_overrides, holding, preparing, altered, given_up}
-use Rattle.cred_model.specs.Moves.{committed, lent, overridden}
+use Rattle.cred_model.specs.Moves.{committed, with_override, overridden}
 
 -- The tasks that end with the commit of this change by its task: an execve ends all other threads
 -- of the process (execve(2)), and no other change ends any.
@@ -71,7 +76,7 @@ committed_by (Exec file) gains number slot count = Executed number slot count ga
 committed_by change gains number slot count = Sealed number slot
 
 -- what a commit answers, where so many tasks end with it
-abbrev pub commit_answer : Changed → ℕ → ℕ → ℕ → Answer
+abbrev pub commit_answer : Changed → (number slot count : ℕ) → Answer
 commit_answer last number slot count = committed_by last.change last.gains number slot count
 
 -- Only a credential whose base is still the task's current one is committed. Another one is stale,
@@ -127,10 +132,10 @@ by_release s label = do
   Ok (Done, record s { holds = remove s.holds place; deferred = s.deferred ++ hold.number ∷ [] })
 
 -- a question about what a label holds
-abbrev pub by_ask : Script → State → ℕ → Query → Result (Answer × State) Answer
-by_ask script s label query = do
+abbrev pub by_ask : State → ℕ → Query → Result (Answer × State) Answer
+by_ask s label query = do
   held ← ok_or (held_by s label) (NoHold label)
-  Ok (reply (info_of script (query_files query)) held.cred query, s)
+  Ok (reply (info_of s.infos (query_files query)) held.cred query, s)
 
 -- A task signals another: the sender's credential and the target's decide, and whether both are of
 -- one process (kill(2)).
@@ -168,7 +173,7 @@ abbrev pub by_alter : Script → State → ℕ → Change → Result (Answer × 
 by_alter script s label change = do
   p ← ok_or (prepared_of s label) (NoPrepared label)
   base ← ok_or (numbered s.creds p.base) (NoPrepared label)
-  made ← by_change (info_of script (change_files change)) (chain_of script base.cred.ns) base.cred
+  made ← by_change (info_of s.infos (change_files change)) (chain_of script base.cred.ns) base.cred
       change
   Ok (
     made.answer,
@@ -212,7 +217,7 @@ for_access task p =
 abbrev pub override_held : State → Task → Numbered → Result (Answer × State) Answer
 override_held s owner held = do
   few ← fewer_or (length owner.overrides) DEPTH TooDeep
-  Ok (Sealed held.number held.slot, lent s owner held.number)
+  Ok (Sealed held.number held.slot, with_override s owner held.number)
 
 -- The task acts with what it prepared for access(2): that is sealed, and its base is given up.
 abbrev pub override_prepared : State → Task → ℕ → Result (Answer × State) Answer
@@ -302,11 +307,11 @@ by_act s number = do
 
 -- A file is opened under a descriptor: the credential that a label holds decides, and stays with it
 -- (open(2)).
-abbrev pub by_open : Script → State → ℕ → ℕ → Want → ℕ → Result (Answer × State) Answer
-by_open script s hold place asked fd = do
+abbrev pub by_open : State → ℕ → ℕ → Want → ℕ → Result (Answer × State) Answer
+by_open s hold place asked fd = do
   held ← ok_or (held_by s hold) (NoHold hold)
   new ← none_or (open_of s fd) (Exists named.File fd)
-  may ← unless_refused (checked held.cred (info_of script (place ∷ [])) asked)
+  may ← unless_refused (checked held.cred (info_of s.infos (place ∷ [])) asked)
   few ← fewer_or (length s.files) OPEN_FILES (TooMany counted.Files)
   Ok (
     Done,
@@ -353,7 +358,7 @@ by_fork s task child process = do
     Sealed parent.number parent.slot,
     record s {
       tasks = s.tasks ++ first_task child process parent.number ∷ [];
-      dumpable = with_flag s.dumpable process (is_dumpable s.dumpable owner.process);
+      dumpable = with_process_flag s.dumpable process (is_dumpable s.dumpable owner.process);
     },
   )
 
@@ -397,6 +402,40 @@ by_ptrace script s from hold to target mode = do
       let dumpable = is_dumpable s.dumpable receiver.process in
       if may_trace own.cred other.cred same reach dumpable mode then Ok (Done, s) else Err Eperm
 
+-- A file is changed: the credential that a label holds decides by this rule, and the file is from
+-- then on what the rule makes of it (chown(2), chmod(2), setxattr(2)). There always is one at the
+-- place, since an event names a declared file.
+abbrev pub by_file : State → ℕ → ℕ → (Credential → File → Result File Denial)
+    → Result (Answer × State) Answer
+by_file s hold place rule = do
+  held ← ok_or (held_by s hold) (NoHold hold)
+  old ← ok_or (slice_get s.infos place) (NoHold hold)
+  new ← by_rule (rule held.cred old)
+  Ok (Done, record s { infos = slice_set s.infos place new })
+
+-- A task that holds a credential asks how a file stands (stat(2)).
+abbrev pub by_stat : State → ℕ → ℕ → Result (Answer × State) Answer
+by_stat s hold place = do
+  held ← ok_or (held_by s hold) (NoHold hold)
+  file ← ok_or (slice_get s.infos place) (NoHold hold)
+  Ok (Told (told.File file.owner file.group file.mode (is_some file.attr)), s)
+
+-- A task makes an id call for itself alone: no other thread of its process waits for a step
+-- (nptl(7), "NPTL and process credential changes").
+abbrev pub by_raw : State → ℕ → IdCall → Result (Answer × State) Answer
+by_raw s task call = do
+  owner ← ok_or (task_of s task) (NoTask task)
+  old ← ok_or (numbered s.creds owner.current) (NoTask task)
+  idle ← not_busy (cast_in s owner.process)
+  own ← not_overridden owner
+  made ← by_rule (set_id old.cred call)
+  Ok (in_slot s table_full (λ s slot. (
+    Sealed (length s.creds) slot,
+    record (replaced s task old.number made slot) {
+      dumpable = renewed s.dumpable owner.process (differs old.cred made);
+    },
+  )))
+
 -- what an event of a line does if nothing refuses it, with its answer
 abbrev pub done : Script → State → ℕ → Event → Result (Answer × State) Answer
 done script s line (Init task process user group ns) =
@@ -404,7 +443,7 @@ done script s line (Init task process user group ns) =
 done script s line (Take label task side) = by_take s label task side
 done script s line (TakeFile label fd) = by_take_file s label fd
 done script s line (Release label) = by_release s label
-done script s line (Ask label query) = by_ask script s label query
+done script s line (Ask label query) = by_ask s label query
 done script s line (Signal from hold to target) = by_signal s from hold to target
 done script s line (Prepare label task hold) = by_prepare s label task hold
 done script s line (Alter label change) = by_alter script s label change
@@ -414,7 +453,7 @@ done script s line (Override task label) = by_override s task label
 done script s line (Revert task) = by_revert s task
 done script s line (Begin task call) = by_begin s line task call
 done script s line (Act number) = by_act s number
-done script s line (OpenFile hold place asked fd) = by_open script s hold place asked fd
+done script s line (OpenFile hold place asked fd) = by_open s hold place asked fd
 done script s line (CloseFile fd) = by_close s fd
 done script s line (Spawn task child) = by_spawn s task child
 done script s line (Fork task child process) = by_fork s task child process
@@ -423,6 +462,12 @@ done script s line Sweep = Ok (Done, swept s)
 done script s line (Dumpable task value) = by_dumpable s task value
 done script s line (Dumped task) = by_dumped s task
 done script s line (Ptrace from hold to target mode) = by_ptrace script s from hold to target mode
+done script s line (Chown hold place owner group) =
+    by_file s hold place (λ c file. chown c file owner group)
+done script s line (Chmod hold place mode) = by_file s hold place (λ c file. chmod c file mode)
+done script s line (SetAttr hold place attr) = by_file s hold place (λ c file. set_attr c file attr)
+done script s line (Stat hold place) = by_stat s hold place
+done script s line (Raw task call) = by_raw s task call
 
 -- A refusal leaves the state.
 abbrev pub outcome : State → Result (Answer × State) Answer → Answer × State

@@ -13,7 +13,7 @@ abbrev pub lineage_below : List Namespace → ℕ → ℕ → List ℕ
 lineage_below declared number parent = number ∷ lineage_in declared parent
 
 -- one namespace more, with its number, its root id and its parent's number
-abbrev pub with_namespace : List Namespace → ℕ → ℕ → ℕ → List Namespace
+abbrev pub with_namespace : List Namespace → (number root parent : ℕ) → List Namespace
 with_namespace declared number root parent =
     declared
     ++ record {

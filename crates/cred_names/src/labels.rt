@@ -32,7 +32,11 @@ fn event_labels(event: &Event) -> (Option<u32>, Option<u32>)
         | Event::Commit { label }
         | Event::Abort { label }
         | Event::Override { label, .. }
-        | Event::OpenFile { hold: label, .. } => (Some(*label), None),
+        | Event::OpenFile { hold: label, .. }
+        | Event::Chown { hold: label, .. }
+        | Event::Chmod { hold: label, .. }
+        | Event::SetAttr { hold: label, .. }
+        | Event::Stat { hold: label, .. } => (Some(*label), None),
         _ => (None, None),
     }
 }

@@ -9,11 +9,11 @@ use Rattle.cred_model.proofs.Likes.{like_self}
 use Rattle.cred_order.specs.Order.{BeginsSequence, IsAfter}
 use Rattle.cred_order.proofs.Order.{all_past, begins_sequence, nothing_past}
 
-pub nothing_run : (script : Script) (state : State) → state ≡ opening → IsAfter script [] 0 state
+pub nothing_run : (script : Script) (state : State) → state ≡ opening script → IsAfter script [] 0 state
 nothing_run script state is = record {
   order = λ k lt. absurd (omega (arith, lt));
   is = nothing_past script;
-  like = subst (λ (s : State). IsLike s opening) (sym is) (like_self opening);
+  like = subst (λ (s : State). IsLike s (opening script)) (sym is) (like_self (opening script));
 }
 
 -- it begins the sequence

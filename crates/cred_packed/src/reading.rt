@@ -5,7 +5,7 @@ ghost use Rattle.std.specs.Option.{SomeIff};
 ghost use Rattle.cred_ids.specs.Id.{IsId};
 ghost use Rattle.cred_record.specs.Credential.{Credential, AreValidSets};
 ghost use Rattle.cred_record.specs.Words.{are_ids, ids_of, unpaired, IsCredential, words_of};
-ghost use Rattle.cred_record.specs.Words.{credential_of, are_words, group_count, half, AreSetsOf};
+ghost use Rattle.cred_record.specs.Words.{credential_in, are_words, group_count, half, AreSetsOf};
 
 use crate::writing::to_words;
 use cred_caps::{CapSet, SecureBits};
@@ -114,7 +114,7 @@ fn group_ids(alloc: Global, words: &[u64; WORDS], count: usize) -> Result<Option
 /// The groups, in order. `None` only where the words are no credential's.
 fn groups_in(alloc: Global, words: &[u64; WORDS]) -> Result<Option<Groups>, NoMemory>
     ensures some { IfOk result (λ o. IfSome o
-        (λ g. are_words words.now ≡ true → g ≡ (credential_of words.now).groups)) }
+        (λ g. are_words words.now ≡ true → g ≡ (credential_in words.now).groups)) }
     ensures none { IfOk result (λ o. IfNone o (¬ (are_words words.now ≡ true))) }
 {
     let count = group_count(words[FLAGS]);
@@ -151,7 +151,7 @@ fn are_valid(sets: &Sets) -> bool
 /// The sets. `None` only where the words before those of groups are no credential's.
 fn sets_in(head: &[u64; GROUPS]) -> Option<Sets>
     ensures some { IfSome result (λ s. AreSetsOf head.now s.perm s.inh s.eff s.bound s.amb) }
-    ensures none { IfNone result (¬ (IsCredential (credential_of head.now))) }
+    ensures none { IfNone result (¬ (IsCredential (credential_in head.now))) }
 {
     let sets = Sets {
         perm: CapSet::of_bits(head[PERMITTED])?,
@@ -198,8 +198,8 @@ fn root_in(word: u64) -> Option<Id>
 /// these are no credential's. What the layout leaves out is not looked at.
 fn cred_in(head: &[u64; GROUPS], groups: Groups) -> Option<Cred>
     ensures some { IfSome result
-        (λ c. c ≡ record (credential_of head.now) { groups = groups }) }
-    ensures none { IfNone result (¬ (IsCredential (credential_of head.now))) }
+        (λ c. c ≡ record (credential_in head.now) { groups = groups }) }
+    ensures none { IfNone result (¬ (IsCredential (credential_in head.now))) }
 {
     let sets = sets_in(head)?;
     Some(Cred {
@@ -261,8 +261,8 @@ pub fn of_words(alloc: Global, words: &[u64; WORDS]) -> Result<Option<Cred>, NoM
 /// The credential of these groups whose words before those of groups are given, and are known to be
 /// a credential's.
 pub fn known_head(head: &[u64; GROUPS], groups: Groups) -> Cred
-    requires { IsCredential (credential_of head.now) }
-    ensures { result ≡ record (credential_of head.now) { groups = groups } }
+    requires { IsCredential (credential_in head.now) }
+    ensures { result ≡ record (credential_in head.now) { groups = groups } }
 {
     Cred {
         uid: known_ids_in(head[USER], head[SAVED_USER]),

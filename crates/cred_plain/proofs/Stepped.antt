@@ -6,9 +6,9 @@ use Rattle.std.proofs.lemmas.Bool.Decides.{nat_tests}
 use Rattle.std.proofs.lemmas.List.Elements.{All-head, All-tail}
 use Rattle.std.proofs.lemmas.Option.{slice_get-get_or}
 use Rattle.cred_model.specs.State.{Broadcast}
-use Rattle.cred_model.specs.Casts.{waits_in, is_open, without, waits_no_more}
+use Rattle.cred_model.specs.Casts.{waits_in, is_open, without_waiter, waits_no_more}
 use Rattle.cred_model.proofs.Rising.{AllPairs-head, AllPairs-tail, Below}
-use Rattle.cred_plain.specs.Casts.{AreCasts, SharesNone, WaitsNowhere}
+use Rattle.cred_plain.specs.Casts.{AreWaitedFor, SharesNone, WaitsNowhere}
 
 abbrev IsOpen : Broadcast → Type 0
 IsOpen b = is_open b ≡ true
@@ -88,13 +88,13 @@ module _ (task : ℕ) where
 
   -- ---- among all broadcasts
 
-  same_without : (c : Broadcast) → waits_in task c ≡ false → without task c ≡ c
+  same_without : (c : Broadcast) → waits_in task c ≡ false → without_waiter task c ≡ c
   same_without c none = ap (λ (ws : List ℕ). record c { waiting = ws }) (none_there c.waiting none)
 
-  none_left : (casts : List Broadcast) → WaitsNowhere casts task → map (without task) casts ≡ casts
+  none_left : (casts : List Broadcast) → WaitsNowhere casts task → map (without_waiter task) casts ≡ casts
   none_left [] nowhere = refl
   none_left (c ∷ cs) nowhere =
-      ap (λ b. b ∷ map (without task) cs) (same_without c (All-head (λ b. waits_in task b ≡ false) c cs nowhere))
+      ap (λ b. b ∷ map (without_waiter task) cs) (same_without c (All-head (λ b. waits_in task b ≡ false) c cs nowhere))
       ∙ ap (λ bs. c ∷ bs) (none_left cs (All-tail (λ b. waits_in task b ≡ false) c cs nowhere))
 
   not_there : (a b : Broadcast) → SharesNone a b → waits_in task b ≡ true → waits_in task a ≡ false
@@ -107,16 +107,16 @@ module _ (task : ℕ) where
   -- at the place of the broadcast that it waits in
   left_at : (casts : List Broadcast) (place : ℕ) (d : Broadcast) → AllPairs SharesNone casts → place < length casts
       → waits_in task (get_or casts place d) ≡ true
-      → set casts place (without task (get_or casts place d)) ≡ map (without task) casts
+      → set casts place (without_waiter task (get_or casts place d)) ≡ map (without_waiter task) casts
   left_at [] place d apart within waits = absurd (omega arith)
   left_at (c ∷ cs) zero d apart within waits =
       let others = AllPairs-head SharesNone c cs apart in
-      ap (λ bs. without task c ∷ bs) (sym (none_left cs (λ k e lt. others k e lt task waits)))
+      ap (λ bs. without_waiter task c ∷ bs) (sym (none_left cs (λ k e lt. others k e lt task waits)))
   left_at (c ∷ cs) (suc i) d apart within waits =
       let inside : i < length cs = omega arith in
       let others = AllPairs-head SharesNone c cs apart in
       ap (λ bs. c ∷ bs) (left_at cs i d (AllPairs-tail SharesNone c cs apart) inside waits)
-      ∙ ap (λ b. b ∷ map (without task) cs) (sym (same_without c (not_there c (get_or cs i d) (others i d inside) waits)))
+      ∙ ap (λ b. b ∷ map (without_waiter task) cs) (sym (same_without c (not_there c (get_or cs i d) (others i d inside) waits)))
 
 -- what is found of a place is there
 pub some_within : {X : Type 0} (P : X → Type 0) (xs : List X) (place : ℕ) → IsSomeAnd (slice_get xs place) P → place < length xs
@@ -129,7 +129,7 @@ some_first [] task first = cc
 some_first (n ∷ ns) task first = omega arith
 
 -- the broadcast at this place, in which the task is the least that waits
-module _ (casts : List Broadcast) (task place : ℕ) (cast : Broadcast) (are : AreCasts casts)
+module _ (casts : List Broadcast) (task place : ℕ) (cast : Broadcast) (are : AreWaitedFor casts)
     (least : IsSomeAnd (slice_get casts place) (λ b. slice_get b.waiting 0 ≡ Some task)) (read : cast ≡ get_or casts place cast) where
   within : place < length casts
   within = some_within (λ (b : Broadcast). slice_get b.waiting 0 ≡ Some task) casts place least
@@ -146,10 +146,10 @@ module _ (casts : List Broadcast) (task place : ℕ) (cast : Broadcast) (are : A
   somebody = some_first cast.waiting task first
 
   module _ (now : Broadcast) (steps : now ≡ record cast { waiting = drop 1 cast.waiting }) where
-    gone_there : set casts place now ≡ map (without task) casts
+    gone_there : set casts place now ≡ map (without_waiter task) casts
     gone_there =
         ap (set casts place)
-        (steps ∙ ap (λ (ws : List ℕ). record cast { waiting = ws }) (first_leaves task cast.waiting up first) ∙ ap (without task) read)
+        (steps ∙ ap (λ (ws : List ℕ). record cast { waiting = ws }) (first_leaves task cast.waiting up first) ∙ ap (without_waiter task) read)
         ∙ left_at task casts place cast are.apart within (sym (ap (waits_in task) read) ∙ first_waits task cast.waiting first)
 
     -- where others still wait there

@@ -10,7 +10,7 @@ abbrev pub SharesNone : Broadcast → Broadcast → Type 0
 SharesNone a b = (task : ℕ) → waits_in task a ≡ true → waits_in task b ≡ false
 
 -- No task waits in two. In each somebody waits: those tasks in rising order, none of them twice.
-pub record AreCasts (casts : List Broadcast) : Type 0 where
+pub record AreWaitedFor (casts : List Broadcast) : Type 0 where
   pub apart : AllPairs SharesNone casts
   pub rising : All (λ b. AllPairs (λ m n. m < n) b.waiting) casts
   pub some : All (λ b. is_open b ≡ true) casts

@@ -13,15 +13,15 @@ use Rattle.cred_plain.specs.declared.task.Ending.TheVariants.{Nobody, Process, O
 use Rattle.cred_plain.specs.declared.task.Ending.TheVariants as ending
 
 -- another thread of the process than this one
-abbrev pub is_other : ℕ → ℕ → Task → Bool
-is_other process task t = is_thread_of process t && not (is_task task t)
+abbrev pub is_other_thread : ℕ → ℕ → Task → Bool
+is_other_thread process task t = is_thread_of process t && not (is_task task t)
 
 -- the tasks that end
 abbrev pub ends_by : Ending → Task → Bool
 ends_by Nobody t = false
 ends_by (ending.Task number) t = is_task number t
 ends_by (Process process) t = is_thread_of process t
-ends_by (Others process task) t = is_other process task t
+ends_by (Others process task) t = is_other_thread process task t
 
 -- The tasks that end where a task of this process commits a change: all other threads of the
 -- process with an execve (execve(2)), and none with another change.
@@ -31,7 +31,8 @@ ending_of change process task = Nobody
 
 -- the other threads of a process, in rising order
 abbrev pub others_in : ℕ → ℕ → List Task → List ℕ
-others_in process task tasks = in_order (map (λ t. t.number) (filter (is_other process task) tasks))
+others_in process task tasks =
+    in_order (map (λ t. t.number) (filter (is_other_thread process task) tasks))
 
 -- At the place stands a task of this number.
 abbrev pub IsTaskAt : List Task → ℕ → ℕ → Type 0

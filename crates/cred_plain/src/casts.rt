@@ -6,8 +6,8 @@ ghost use Rattle.std.specs.Option.{IsSomeAnd, option_map};
 ghost use Rattle.cred_event.specs.declared.answer.Answer.TheVariants.{Busy};
 ghost use Rattle.cred_ids.specs.Ordered.{in_order};
 ghost use Rattle.cred_model.specs.Casts.{is_open, not_busy, waits_in, waits_no_more, with_cast};
-ghost use Rattle.cred_model.specs.Casts.{dropped, joined, without};
-ghost use Rattle.cred_plain.specs.Casts.{AreCasts, SharesNone};
+ghost use Rattle.cred_model.specs.Casts.{dropped, joined, without_waiter};
+ghost use Rattle.cred_plain.specs.Casts.{AreWaitedFor, SharesNone};
 
 use cred_ids::NoMemory;
 use cred_record::IdCall;
@@ -93,7 +93,7 @@ impl Cast {
 
     /// A task waits no more.
     fn leave(&mut self, task: u32)
-        ensures { self.new ≡ without task self.old }
+        ensures { self.new ≡ without_waiter task self.old }
     {
         self.waiting.retain(|other| *other != task);
     }
@@ -179,8 +179,8 @@ pub fn join(casts: &mut Vec<Cast>, parent: u32, child: u32) -> Result<(), NoMemo
 
 /// The least task that waits in the broadcast at a place has made its step there: it waits no more,
 /// and a broadcast that nobody waits in any more is closed.
-pub fn acted(casts: &mut Vec<Cast>, place: usize, task: u32)
-    requires casts { AreCasts casts.old.items }
+pub fn act(casts: &mut Vec<Cast>, place: usize, task: u32)
+    requires casts { AreWaitedFor casts.old.items }
     requires least { IsSomeAnd (slice_get casts.old.items place)
         (λ b. slice_get b.waiting 0 ≡ Some task) }
     ensures { casts.new.items ≡ waits_no_more task casts.old.items }

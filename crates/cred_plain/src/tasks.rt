@@ -7,7 +7,7 @@ ghost use Rattle.std.specs.Option.{option_map};
 ghost use Rattle.cred_ids.specs.Limits.{DEPTH, TASKS};
 ghost use Rattle.cred_model.specs.Ends.{is_thread_of, left_by, survivors};
 ghost use Rattle.cred_model.specs.Moves.{with_current, with_overrides};
-ghost use Rattle.cred_plain.specs.Tasks.{ends_by, is_other, others_in, IsTaskAt, OfOneTask};
+ghost use Rattle.cred_plain.specs.Tasks.{ends_by, is_other_thread, others_in, IsTaskAt, OfOneTask};
 
 use crate::task::{Ending, Task};
 use cred_ids::{NoMemory, limits};
@@ -131,14 +131,14 @@ impl Tasks {
 
     /// Whether a process has another thread than this one.
     pub fn has_other(&self, process: u32, task: u32) -> bool
-        ensures { result ≡ is_some (find (is_other process task) self.now) }
+        ensures { result ≡ is_some (find (is_other_thread process task) self.now) }
     {
         self.other_of(process, task).is_some()
     }
 
     /// The oldest thread of a process but for one.
     fn other_of(&self, process: u32, task: u32) -> Option<&Task>
-        ensures { option_map (λ t. t.now) result ≡ find (is_other process task) self.now }
+        ensures { option_map (λ t. t.now) result ≡ find (is_other_thread process task) self.now }
     {
         self.list
             .iter()

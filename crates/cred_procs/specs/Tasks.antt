@@ -49,7 +49,7 @@ has_process tasks process = is_some (find (is_thread_of process) tasks)
 
 -- The tasks that pass the test ended, at most 64, and gave up the numbers that they referred to.
 -- The others stay in their order.
-pub record Ends (ends : Task → Bool) (before after : List Task) (tasks numbers : List ℕ)
+pub record EndsTasks (ends : Task → Bool) (before after : List Task) (tasks numbers : List ℕ)
     : Type 0 where
   pub ended : tasks ≡ those ends before
   pub few : length tasks ≤ TASKS
@@ -65,7 +65,7 @@ spawned tasks task child =
     tasks
 
 -- the first thread of another process, which shares its creator's current credential
-abbrev pub forked : List Task → ℕ → ℕ → ℕ → List Task
+abbrev pub forked : List Task → (task child process : ℕ) → List Task
 forked tasks task child process =
     option_map_or (λ t. tasks ++ first_task child process t.current ∷ []) (task_in tasks task)
     tasks

@@ -8,7 +8,7 @@ ghost use Rattle.cred_model.specs.Ends.{is_task, is_thread_of, is_beside, surviv
 ghost use Rattle.cred_model.specs.State.{Task};
 ghost use Rattle.cred_model.specs.Moves.{first_task};
 ghost use Rattle.cred_procs.specs.Kept.{task_as};
-ghost use Rattle.cred_procs.specs.Tasks.{AreTasks, Ends, task_in, acting, those, threads_of};
+ghost use Rattle.cred_procs.specs.Tasks.{AreTasks, EndsTasks, task_in, acting, those, threads_of};
 ghost use Rattle.cred_procs.specs.Tasks.{has_process, spawned, forked, overrides_of};
 ghost use Rattle.cred_procs.specs.Tasks.{with_overrides};
 
@@ -252,7 +252,7 @@ impl Procs {
     pub fn dethread(&mut self, task: u32) -> Result<Ended, NoMemory>
         requires { IsSome (task_in self.old task) }
         ensures ended { IfOk result (λ ended. IfSome (task_in self.old task) (λ owner.
-            Ends (is_beside owner) self.old self.new ended.tasks ended.numbers)) }
+            EndsTasks (is_beside owner) self.old self.new ended.tasks ended.numbers)) }
         ensures err { OnErr result (self.new ≡ self.old) }
     {
         // It is there: the task is alive.
@@ -268,7 +268,7 @@ impl Procs {
     /// `NoMemory` if an allocation fails: nothing changes.
     pub fn end_process(&mut self, process: u32) -> Result<Ended, NoMemory>
         ensures ended { IfOk result (λ ended.
-            Ends (is_thread_of process) self.old self.new ended.tasks ended.numbers) }
+            EndsTasks (is_thread_of process) self.old self.new ended.tasks ended.numbers) }
         ensures err { OnErr result (self.new ≡ self.old) }
     {
         let threads = TaskList::of(self.alloc, self.processes.threads(process))?;
@@ -319,7 +319,7 @@ impl Procs {
     /// These tasks end, which come in the order in which they were created.
     fn end(&mut self, tasks: TaskList) -> Result<Ended, NoMemory>
         ensures ended { IfOk result (λ ended. (ends : Task → Bool) → tasks ≡ those ends self.old
-            → Ends ends self.old self.new ended.tasks ended.numbers) }
+            → EndsTasks ends self.old self.new ended.tasks ended.numbers) }
         ensures err { OnErr result (self.new ≡ self.old) }
     {
         let numbers = self.numbers_in(tasks.items())?;

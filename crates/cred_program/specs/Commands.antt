@@ -22,7 +22,7 @@ HasCount other = ⊤
 
 -- to words that are no command
 abbrev pub usage_text : List ℕ
-usage_text = codes "usage: credtrace run|lanes|audit|gen N|decode HEX\n"
+usage_text = codes "usage: credtrace run|lanes|audit|gen N|decode HEX|encode TEXT|capdata HEX\n"
 
 -- The statuses of words that are no command.
 abbrev pub IsForNoCommand : Status → Type 0

@@ -4,6 +4,8 @@ use Rattle.std.specs.declared.option.Option.{Option}
 use Rattle.cred_model.specs.Journal.{IsLegal, IsSequence}
 use Rattle.cred_inspect.specs.Auditing.{LeavesVerdict}
 use Rattle.cred_inspect.specs.Decoding.{LeavesAttribute}
+use Rattle.cred_inspect.specs.Encoding.{LeavesText}
+use Rattle.cred_inspect.specs.Records.{LeavesRecord}
 use Rattle.cred_said.specs.Leaves.{IsReading, IsWriting, LeavesReport}
 use Rattle.cred_said.specs.Statuses.{code_of}
 use Rattle.cred_commands.specs.Summing.{LeavesSummary}
@@ -36,6 +38,10 @@ pub record RunsOnce
       → unread × LeavesSummary n answer sink.before sink.after
   pub decode : (bytes : List ℕ) → command_of words ≡ Some (command.Decode bytes)
       → unread × LeavesAttribute bytes answer sink.before sink.after
+  pub encode : (text : List ℕ) → command_of words ≡ Some (command.Encode text)
+      → unread × LeavesText text answer sink.before sink.after
+  pub capdata : (bytes : List ℕ) → command_of words ≡ Some (command.Capdata bytes)
+      → unread × LeavesRecord bytes answer sink.before sink.after
   pub usage : command_of words ≡ None → unread × LeavesUsage answer sink.before sink.after
   pub reading : IsReading (limit_of (command_of words)) answer
       source.before source.after source.faults source.now

@@ -1,16 +1,16 @@
 -- The words of the command line.
-use Rattle.std.specs.Prelude.{ℕ, String, List, map, codes, string_bytes, Some, None}
-use Rattle.std.specs.Prelude.{if◌then◌else◌}
+use Rattle.std.specs.Prelude.{ℕ, String, List, length, map, codes, string_bytes, Some, None}
+use Rattle.std.specs.Prelude.{if◌then◌else◌, nat_lt}
 use Rattle.std.specs.declared.option.Option.{Option}
 use Rattle.std.specs.Option.{option_map, option_and_then}
 use Rattle.std.specs.Str.{bytes_eq}
 use Rattle.std.specs.declared.alloc.Global.{Global}
-use Rattle.cred_args.specs.Positionals.{Words, positionals}
+use Rattle.cred_args.specs.Positionals.{WordsGiven, positionals}
 use Rattle.cred_generate.specs.Generated.{CALLS}
 use Rattle.cred_spelling.specs.Spellings.{bytes_of, number_within}
 use Rattle.cred_program.specs.declared.words.Command.{Command}
 use Rattle.cred_program.specs.declared.words.Command.TheVariants.{Run, Lanes, Audit, Gen}
-use Rattle.cred_program.specs.declared.words.Command.TheVariants.{Decode}
+use Rattle.cred_program.specs.declared.words.Command.TheVariants.{Decode, Encode, Capdata}
 
 -- what the words spell
 abbrev pub texts : List (String Global) → List (List ℕ)
@@ -24,16 +24,26 @@ alone word =
     else if bytes_eq word (codes "audit") then Some Audit
     else None
 
+-- the greatest length of a text of file capabilities
+abbrev pub TEXT_LIMIT : ℕ
+TEXT_LIMIT = 4096
+
+-- a text of file capabilities, none that is too long
+abbrev pub text_within : List ℕ → Option (List ℕ)
+text_within operand = if nat_lt TEXT_LIMIT (length operand) then None else Some operand
+
 -- the command that a word is with its operand: a number from 1 to the greatest, without a leading
--- zero, or bytes in hexadecimal
+-- zero, or bytes in hexadecimal, or a text
 abbrev pub with_operand : List ℕ → List ℕ → Option Command
 with_operand word operand =
     if bytes_eq word (codes "gen") then option_map Gen (number_within 1 CALLS operand)
     else if bytes_eq word (codes "decode") then option_map Decode (bytes_of operand)
+    else if bytes_eq word (codes "encode") then option_map Encode (text_within operand)
+    else if bytes_eq word (codes "capdata") then option_map Capdata (bytes_of operand)
     else None
 
 -- the command that a word is, with its operand if it has one
-abbrev pub command_by : Words → Option Command
+abbrev pub command_by : WordsGiven → Option Command
 command_by (word, None) = alone word
 command_by (word, Some operand) = with_operand word operand
 

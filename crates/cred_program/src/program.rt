@@ -3,15 +3,17 @@ ghost use Rattle.std.specs.Prelude.{◌≡◌, ◌⊎◌, ℕ, List, Some, None}
 ghost use Rattle.cred_model.specs.Journal.{IsLegal, IsSequence};
 ghost use Rattle.cred_inspect.specs.Auditing.{LeavesVerdict};
 ghost use Rattle.cred_inspect.specs.Decoding.{LeavesAttribute};
+ghost use Rattle.cred_inspect.specs.Encoding.{LeavesText};
+ghost use Rattle.cred_inspect.specs.Records.{LeavesRecord};
 ghost use Rattle.cred_said.specs.Leaves.{IsReading, IsWriting, LeavesReport};
 ghost use Rattle.cred_commands.specs.Summing.{LeavesSummary};
 ghost use Rattle.cred_program.specs.Commands.{LeavesUsage, limit_of};
 ghost use Rattle.cred_program.specs.Words.{command_of, texts};
 
 use crate::words::{Command, command_of};
-use cred_commands::{read_and_run, sum};
+use cred_commands::{read_and_run, run_gen};
 use cred_ids::NoMemory;
-use cred_inspect::{read_and_audit, show};
+use cred_inspect::{read_and_audit, run_capdata, run_decode, run_encode};
 use cred_io::{Sink, Source};
 use cred_runs::{Gate, read_and_lanes};
 use cred_said::{Status, tell};
@@ -20,15 +22,16 @@ use std::sync::Wait;
 use std::thread::Threads;
 
 /// What is written to words that are no command.
-const USAGE: &str = "usage: credtrace run|lanes|audit|gen N|decode HEX\n";
+const USAGE: &str = "usage: credtrace run|lanes|audit|gen N|decode HEX|encode TEXT|capdata HEX\n";
 
 /// The program, over its words (those after its name), its input and its output: `run` reads a
 /// script and writes its report, `lanes` does so too, but runs the script's lanes as threads,
 /// `audit` reads a script, a line `report` and a report and writes whether that is the script's,
 /// `gen N` runs a script of N calls and writes the summary of its journal, `decode HEX` writes what
-/// an attribute says, and all other words get the usage line. It returns how that ended. For
-/// `lanes` alone it starts threads, and waits for them; each calls the gate before and after each
-/// decision that it makes.
+/// an attribute says, `encode TEXT` the attribute that a text says, `capdata HEX` what a record of
+/// capset(2) says, and all other words get the usage line. It returns how that ended. For `lanes`
+/// alone it starts threads, and waits for them; each calls the gate before and after each decision
+/// that it makes.
 ///
 /// `Done`, `NotLegal`, `Bad` and `Usage` come with the whole text, handed on, and with no fault.
 /// The source's count of faults rises for `ReadFault` alone, and the sink's for `WriteFault` alone.
@@ -58,7 +61,7 @@ pub fn credtrace<R: Threads + Wait + Sync, S: Source, K: Sink, G: Gate + Sync>(
         → LeavesVerdict result (S.left source.old) (S.left source.new)
         (K.written sink.old) (K.written sink.new) }
 
-    // `gen` and `decode` leave the source, and so do words that are no command.
+    // The four others leave the source, and so do words that are no command.
     ensures generate { (n : ℕ) → command_of (texts words.now) ≡ Some (Command.Gen n)
         → (source.new ≡ source.old)
         × LeavesSummary n result (K.written sink.old) (K.written sink.new) }
@@ -66,6 +69,14 @@ pub fn credtrace<R: Threads + Wait + Sync, S: Source, K: Sink, G: Gate + Sync>(
         → command_of (texts words.now) ≡ Some (Command.Decode bytes)
         → (source.new ≡ source.old)
         × LeavesAttribute bytes result (K.written sink.old) (K.written sink.new) }
+    ensures encode { (text : List ℕ)
+        → command_of (texts words.now) ≡ Some (Command.Encode text)
+        → (source.new ≡ source.old)
+        × LeavesText text result (K.written sink.old) (K.written sink.new) }
+    ensures capdata { (bytes : List ℕ)
+        → command_of (texts words.now) ≡ Some (Command.Capdata bytes)
+        → (source.new ≡ source.old)
+        × LeavesRecord bytes result (K.written sink.old) (K.written sink.new) }
     ensures usage { command_of (texts words.now) ≡ None
         → (source.new ≡ source.old)
         × LeavesUsage result (K.written sink.old) (K.written sink.new) }
@@ -84,8 +95,10 @@ pub fn credtrace<R: Threads + Wait + Sync, S: Source, K: Sink, G: Gate + Sync>(
         Ok(Some(Command::Run)) => read_and_run(alloc, source, sink),
         Ok(Some(Command::Lanes)) => read_and_lanes(rt, alloc, source, sink, gate),
         Ok(Some(Command::Audit)) => read_and_audit(alloc, source, sink),
-        Ok(Some(Command::Gen(n))) => sum(alloc, n, sink),
-        Ok(Some(Command::Decode(bytes))) => show(alloc, bytes.items(), sink),
+        Ok(Some(Command::Gen(n))) => run_gen(alloc, n, sink),
+        Ok(Some(Command::Decode(bytes))) => run_decode(alloc, bytes.items(), sink),
+        Ok(Some(Command::Encode(text))) => run_encode(alloc, text.items(), sink),
+        Ok(Some(Command::Capdata(bytes))) => run_capdata(alloc, bytes.items(), sink),
         Ok(None) => tell_usage(sink),
         Err(NoMemory) => Status::Memory,
     }

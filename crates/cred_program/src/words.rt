@@ -1,13 +1,13 @@
 //! The words of the command line.
 ghost use Rattle.std.specs.Prelude.{◌≡◌, IfOk, IfSome};
 ghost use Rattle.std.specs.Option.{option_map};
-ghost use Rattle.cred_args.specs.Positionals.{seen};
+ghost use Rattle.cred_args.specs.Positionals.{words_seen};
 ghost use Rattle.cred_generate.specs.Generated.{CALLS};
 ghost use Rattle.cred_spelling.specs.Spellings.{bytes_of, number_within};
 ghost use Rattle.cred_commands.specs.Summing.{IsCount};
 ghost use Rattle.cred_program.specs.Commands.{HasCount};
 ghost use Rattle.cred_program.specs.Words as spec;
-ghost use Rattle.cred_program.specs.Words.{command_of, texts};
+ghost use Rattle.cred_program.specs.Words.{command_of, text_within, texts};
 
 use cred_args::{Positionals, parse};
 use cred_generate::CALLS;
@@ -29,14 +29,21 @@ pub enum Command {
     Gen(u32),
     /// Say what the bytes of a file's capability attribute say.
     Decode(Bytes),
+    /// Say which bytes a text of file capabilities is, as an attribute.
+    Encode(Bytes),
+    /// Say what the bytes of a record of capset(2) say.
+    Capdata(Bytes),
 }
+
+/// The greatest length of a text of file capabilities.
+const TEXT_LIMIT: usize = 4096;
 
 /// The command that the words are; none for any other words. clap reads them as a command and its
 /// operand.
 ///
 /// # Errors
 ///
-/// `NoMemory` if an allocation of the parse fails, or that of the bytes that `decode` is given.
+/// `NoMemory` if an allocation of the parse fails, or that of the operand.
 pub fn command_of(alloc: Global, words: &[String]) -> Result<Option<Command>, NoMemory>
     ensures command { IfOk result (λ command. command ≡ command_of (texts words.now)) }
     ensures count { IfOk result (λ command. IfSome command HasCount) }
@@ -49,7 +56,7 @@ pub fn command_of(alloc: Global, words: &[String]) -> Result<Option<Command>, No
 
 /// The command that a word is, with its operand if it has one.
 fn command_by(alloc: Global, given: Positionals<'_>) -> Result<Option<Command>, NoMemory>
-    ensures command { IfOk result (λ command. command ≡ spec.command_by (seen given.entry)) }
+    ensures command { IfOk result (λ command. command ≡ spec.command_by (words_seen given.entry)) }
     ensures count { IfOk result (λ command. IfSome command HasCount) }
 {
     match given.operand {
@@ -84,6 +91,10 @@ fn with_operand(alloc: Global, word: &str, operand: &[u8]) -> Result<Option<Comm
         Ok(generated(operand))
     } else if word == "decode" {
         decoded(alloc, operand)
+    } else if word == "encode" {
+        encoded(alloc, operand)
+    } else if word == "capdata" {
+        recorded(alloc, operand)
     } else {
         Ok(None)
     }
@@ -105,6 +116,30 @@ fn decoded(alloc: Global, operand: &[u8]) -> Result<Option<Command>, NoMemory>
 {
     match bytes_of(alloc, operand)? {
         Some(bytes) => Ok(Some(Command::Decode(Bytes::from_vec(bytes)))),
+        None => Ok(None),
+    }
+}
+
+/// The command `encode`; none where the operand is longer than a text may be.
+fn encoded(alloc: Global, operand: &[u8]) -> Result<Option<Command>, NoMemory>
+    ensures command { IfOk result (λ command.
+        command ≡ option_map Command.Encode (text_within operand.now)) }
+    ensures count { IfOk result (λ command. IfSome command HasCount) }
+{
+    if operand.len() > TEXT_LIMIT {
+        return Ok(None);
+    }
+    Ok(Some(Command::Encode(Bytes::of(alloc, operand)?)))
+}
+
+/// The command `capdata`; none where the operand is no bytes in hexadecimal.
+fn recorded(alloc: Global, operand: &[u8]) -> Result<Option<Command>, NoMemory>
+    ensures command { IfOk result (λ command.
+        command ≡ option_map Command.Capdata (bytes_of operand.now)) }
+    ensures count { IfOk result (λ command. IfSome command HasCount) }
+{
+    match bytes_of(alloc, operand)? {
+        Some(bytes) => Ok(Some(Command::Capdata(Bytes::from_vec(bytes)))),
         None => Ok(None),
     }
 }

@@ -3,7 +3,8 @@ ghost use Rattle.std.specs.Prelude.{◌≡◌};
 ghost use Rattle.cred_record.specs.Credential.{Credential, capable};
 ghost use Rattle.cred_model.specs.Ptrace.{asking_user, asking_group, asking_caps, are_all};
 ghost use Rattle.cred_model.specs.Ptrace.{has_asking_ids, has_sys_ptrace, is_no_stronger};
-ghost use Rattle.cred_model.specs.Ptrace.{may_trace, SYS_PTRACE};
+ghost use Rattle.cred_caps.specs.Numbers.{SYS_PTRACE};
+ghost use Rattle.cred_model.specs.Ptrace.{may_trace};
 ghost use Rattle.cred_model.specs.Dumpable.{differs, is_gain};
 ghost use Rattle.cred_ptrace.specs.Seen.{IsSeen, seen_of};
 
@@ -11,9 +12,6 @@ use cred_caps::{Cap, CapSet};
 use cred_event::Mode;
 use cred_ids::{Id, Ids4};
 use cred_record::{Cred, Gains};
-
-/// The number of CAP_SYS_PTRACE (capabilities(7)).
-const SYS_PTRACE: u32 = 19;
 
 /// What the check looks at of a credential.
 #[derive(Clone, Copy)]
@@ -73,7 +71,7 @@ impl Seen {
     fn has_sys_ptrace(&self) -> bool
         ensures { (c : Credential) → IsSeen self.now c → result ≡ capable c SYS_PTRACE }
     {
-        let sys_ptrace = Cap::new(SYS_PTRACE).unwrap();
+        let sys_ptrace = Cap::SYS_PTRACE;
         self.eff.has(sys_ptrace)
     }
 }

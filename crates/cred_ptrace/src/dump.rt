@@ -1,7 +1,8 @@
 //! Which processes are dumpable.
 ghost use Rattle.std.specs.Prelude.{◌≡◌, [], None, IfOk, OnOk, OnErr, if◌then◌else◌};
 ghost use Rattle.std.specs.Option.{option_map};
-ghost use Rattle.cred_model.specs.Dumpable.{flag_in, flagged, is_dumpable, set_flag, with_flag};
+ghost use Rattle.cred_model.specs.Dumpable.{flag_in, flagged, is_dumpable, set_flag};
+ghost use Rattle.cred_model.specs.Dumpable.{with_process_flag};
 ghost use Rattle.cred_model.specs.Dumpable.{flag_of_value, flags_by, renewed, without_flag};
 
 use crate::check::is_gain;
@@ -77,7 +78,7 @@ impl Dump {
     /// `NoMemory` if an allocation fails: the flags are as they were.
     pub fn start(&mut self, process: u32, dumpable: bool) -> Result<(), NoMemory>
         requires { flag_in self.old process ≡ None }
-        ensures ok { OnOk result (self.new ≡ with_flag self.old process dumpable) }
+        ensures ok { OnOk result (self.new ≡ with_process_flag self.old process dumpable) }
         ensures err { OnErr result (self.new ≡ self.old) }
     {
         self.flags.push(Flag { process, dumpable })?;

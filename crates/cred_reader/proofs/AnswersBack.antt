@@ -12,7 +12,7 @@ use Rattle.cred_event.specs.declared.answer.Answer.TheVariants as answer
 use Rattle.cred_spelling.specs.Words as words
 use Rattle.cred_pen.specs.Numbers.{hexadecimal}
 use Rattle.cred_reader.specs.declared.answers.Tells.{Tells}
-use Rattle.cred_reader.specs.declared.answers.Tells.TheVariants.{Nothing, Ids, Caps, Groups, Bits, Flag}
+use Rattle.cred_reader.specs.declared.answers.Tells.TheVariants.{Nothing, Ids, Caps, Groups, Bits, Flag, File}
 use Rattle.cred_reader.specs.Answers as spec
 use Rattle.cred_reader.specs.Kinds as kinds
 use Rattle.cred_reader.specs.Fits.{IsLong, FitsAnswer}
@@ -20,7 +20,9 @@ use Rattle.cred_reader.proofs.Agrees.{same, agrees}
 use Rattle.cred_reader.proofs.Numbers.{long_number, number_back, long_back, id_number, id_back, decimal_inner, decimal_plain}
 use Rattle.cred_reader.proofs.Sets.{set_back, set_plain}
 use Rattle.cred_reader.proofs.Ids.{ids_spaced, ids_plain, ids_back}
+use Rattle.cred_reader.proofs.Words.{spaced}
 use Rattle.cred_reader.proofs.WordsBack.{bits_back}
+use Rattle.cred_reader.proofs.FileWordsBack.{mode_word, mode_spaced, mode_back, mode_plain}
 use Rattle.cred_reader.proofs.Back.{bare, with_word, with_two}
 use Rattle.cred_reader.proofs.RefusalsBack.{AnswerBack, eperm_back, einval_back, eacces_back, ebadf_back, no_task_back, no_hold_back, no_prepared_back, no_broadcast_back, busy_back, exists_task_back, exists_process_back, exists_label_back, exists_file_back, exists_broadcast_back, overridden_back, not_overridden_back, too_deep_back, stale_back, too_many_tasks_back, too_many_files_back, too_many_holds_back, too_many_prepared_back, table_full_back, aborted_perm_back, aborted_full_back}
 
@@ -44,29 +46,29 @@ caps_parts : (o b p q r s t : List ℕ) → o ++ ((b ++ p) ++ (b ++ q) ++ (b ++ 
 caps_parts o b p q r s t = simp append_assoc
 
 done_back : FitsAnswer (answer.Done) → AnswerBack Nothing (answer.Done)
-unfolding spec.answer_of spec.ok_words spec.plain spec.longer spec.longest spec.acted
+unfolding spec.read_answer spec.ok_words spec.plain spec.longer spec.longest spec.acted
 done_back fits = bare (codes "ok") refl refl
 
 sealed_back : (cred : ℕ) (slot : ℕ) → FitsAnswer (answer.Sealed cred slot) → AnswerBack Nothing (answer.Sealed cred slot)
-unfolding spec.answer_of spec.ok_words spec.plain spec.longer spec.longest spec.acted words.two_of
+unfolding spec.read_answer spec.ok_words spec.plain spec.longer spec.longest spec.acted words.two_of
 sealed_back cred slot fits =
     with_two (codes "ok") (codes "c" ++ decimal cred) (codes "s" ++ decimal slot) (simp (append_assoc, append-nil))
     refl (rw (decimal_inner cred fits.0) refl) (rw (decimal_inner slot (long_number slot fits.1)) refl)
     (rw (long_back cred fits.0, number_back slot fits.1) refl)
 
 kept_back : (slot : ℕ) → FitsAnswer (answer.Kept slot) → AnswerBack Nothing (answer.Kept slot)
-unfolding spec.answer_of spec.ok_words spec.plain spec.longer spec.longest spec.acted
+unfolding spec.read_answer spec.ok_words spec.plain spec.longer spec.longest spec.acted
 kept_back slot fits =
     with_word (codes "ok") (codes "s" ++ decimal slot) refl (rw (decimal_inner slot (long_number slot fits)) refl) (rw (number_back slot fits) refl)
 
 was_back : (previous : ℕ) → FitsAnswer (answer.Was previous) → AnswerBack Nothing (answer.Was previous)
-unfolding spec.answer_of spec.ok_words spec.plain spec.longer spec.longest spec.acted
+unfolding spec.read_answer spec.ok_words spec.plain spec.longer spec.longest spec.acted
 was_back previous fits =
     with_two (codes "ok") (codes "was") (decimal previous) (simp append-nil)
     refl refl (decimal_plain previous (long_number previous (id_number previous fits))) (rw (id_back previous fits) refl)
 
 executed_back : (cred : ℕ) (slot : ℕ) (ended : ℕ) (gains : Gains) → FitsAnswer (answer.Executed cred slot ended gains) → AnswerBack Nothing (answer.Executed cred slot ended gains)
-unfolding spec.answer_of spec.ok_words spec.plain spec.longer spec.longest spec.acted words.three_of
+unfolding spec.read_answer spec.ok_words spec.plain spec.longer spec.longest spec.acted words.three_of
 executed_back cred slot ended gains fits = record {
   first = codes "ok";
   rest = (codes "c" ++ decimal cred) ∷ (codes "s" ++ decimal slot) ∷ codes "ended" ∷ decimal ended ∷ codes "gain" ∷ (hexadecimal gains.file) ∷ (hexadecimal gains.inherit) ∷ (hexadecimal gains.root) ∷ [];
@@ -76,7 +78,7 @@ executed_back cred slot ended gains fits = record {
 }
 
 began_back : (cred : ℕ) (slot : ℕ) (left : ℕ) → FitsAnswer (answer.Began cred slot left) → AnswerBack Nothing (answer.Began cred slot left)
-unfolding spec.answer_of spec.ok_words spec.plain spec.longer spec.longest spec.acted words.three_of
+unfolding spec.read_answer spec.ok_words spec.plain spec.longer spec.longest spec.acted words.three_of
 began_back cred slot left fits = record {
   first = codes "ok";
   rest = (codes "c" ++ decimal cred) ∷ (codes "s" ++ decimal slot) ∷ codes "left" ∷ decimal left ∷ [];
@@ -86,7 +88,7 @@ began_back cred slot left fits = record {
 }
 
 acted_back : (task : ℕ) (cred : ℕ) (slot : ℕ) (left : ℕ) → FitsAnswer (answer.Acted task cred slot left) → AnswerBack Nothing (answer.Acted task cred slot left)
-unfolding spec.answer_of spec.ok_words spec.plain spec.longer spec.longest spec.acted words.two_of
+unfolding spec.read_answer spec.ok_words spec.plain spec.longer spec.longest spec.acted words.two_of
 acted_back task cred slot left fits = record {
   first = codes "ok";
   rest = (codes "t" ++ decimal task) ∷ (codes "c" ++ decimal cred) ∷ (codes "s" ++ decimal slot) ∷ codes "left" ∷ decimal left ∷ [];
@@ -96,7 +98,7 @@ acted_back task cred slot left fits = record {
 }
 
 ids_told : (uid : Ids4) (gid : Ids4) → FitsAnswer (answer.Told (told.Ids uid gid)) → AnswerBack Ids (answer.Told (told.Ids uid gid))
-unfolding spec.answer_of spec.ok_words spec.ids_told words.two_of words.three_of words.five_of
+unfolding spec.read_answer spec.ok_words spec.ids_told words.two_of words.three_of words.five_of
 ids_told uid gid fits = record {
   first = codes "ok";
   rest = decimal uid.real ∷ decimal uid.effective ∷ decimal uid.saved ∷ decimal uid.fs ∷ decimal gid.real ∷ decimal gid.effective ∷ decimal gid.saved ∷ decimal gid.fs ∷ [];
@@ -106,7 +108,7 @@ ids_told uid gid fits = record {
 }
 
 caps_told : (perm : ℕ) (inh : ℕ) (eff : ℕ) (bound : ℕ) (amb : ℕ) → FitsAnswer (answer.Told (told.Caps perm inh eff bound amb)) → AnswerBack Caps (answer.Told (told.Caps perm inh eff bound amb))
-unfolding spec.answer_of spec.ok_words words.two_of words.three_of words.five_of
+unfolding spec.read_answer spec.ok_words words.two_of words.three_of words.five_of
 caps_told perm inh eff bound amb fits = record {
   first = codes "ok";
   rest = (hexadecimal perm) ∷ (hexadecimal inh) ∷ (hexadecimal eff) ∷ (hexadecimal bound) ∷ (hexadecimal amb) ∷ [];
@@ -116,7 +118,7 @@ caps_told perm inh eff bound amb fits = record {
 }
 
 groups_told : (groups : List ℕ) → FitsAnswer (answer.Told (told.Groups groups)) → AnswerBack Groups (answer.Told (told.Groups groups))
-unfolding spec.answer_of spec.ok_words
+unfolding spec.read_answer spec.ok_words
 groups_told groups fits = record {
   first = codes "ok";
   rest = map decimal groups;
@@ -126,7 +128,7 @@ groups_told groups fits = record {
 }
 
 bits_told : (bits : ℕ) (nnp : Bool) → FitsAnswer (answer.Told (told.Bits bits nnp)) → AnswerBack Bits (answer.Told (told.Bits bits nnp))
-unfolding spec.answer_of spec.ok_words words.two_of kinds.flags
+unfolding spec.read_answer spec.ok_words words.two_of kinds.flags
 bits_told bits false fits =
     with_two (codes "ok") (decimal bits) (codes "0") (simp (append_assoc, append-nil))
     refl (decimal_plain bits (bits_long bits fits)) refl (rw (bits_back bits fits) refl)
@@ -135,9 +137,29 @@ bits_told bits true fits =
     refl (decimal_plain bits (bits_long bits fits)) refl (rw (bits_back bits fits) refl)
 
 flag_told : (flag : Bool) → FitsAnswer (answer.Told (told.Flag flag)) → AnswerBack Flag (answer.Told (told.Flag flag))
-unfolding spec.answer_of spec.ok_words kinds.flags
+unfolding spec.read_answer spec.ok_words kinds.flags
 flag_told false fits = with_word (codes "ok") (codes "0") refl refl refl
 flag_told true fits = with_word (codes "ok") (codes "1") refl refl refl
+
+file_words : (owner group mode flag : List ℕ) → 32 ∷ (codes "ok" ++ (codes " " ++ owner ++ codes " " ++ group ++ (32 ∷ mode) ++ (32 ∷ flag))) ≡ spaced (codes "ok" ∷ owner ∷ group ∷ mode ∷ flag ∷ [])
+file_words owner group mode flag = simp (append_assoc, append-nil)
+
+file_told : (owner group mode : ℕ) (attr : Bool) → FitsAnswer (answer.Told (told.File owner group mode attr)) → AnswerBack File (answer.Told (told.File owner group mode attr))
+unfolding spec.read_answer spec.ok_words spec.file_told words.two_of kinds.flags
+file_told owner group mode false fits = record {
+  first = codes "ok";
+  rest = decimal owner ∷ decimal group ∷ mode_word mode ∷ codes "0" ∷ [];
+  spaced = rw (mode_spaced mode) (file_words (decimal owner) (decimal group) (mode_word mode) (codes "0"));
+  plain = rw (decimal_plain owner (long_number owner (id_number owner fits.0)), decimal_plain group (long_number group (id_number group fits.1)), mode_plain mode) refl;
+  read = rw (id_back owner fits.0, id_back group fits.1, mode_back mode fits.2) refl;
+}
+file_told owner group mode true fits = record {
+  first = codes "ok";
+  rest = decimal owner ∷ decimal group ∷ mode_word mode ∷ codes "1" ∷ [];
+  spaced = rw (mode_spaced mode) (file_words (decimal owner) (decimal group) (mode_word mode) (codes "1"));
+  plain = rw (decimal_plain owner (long_number owner (id_number owner fits.0)), decimal_plain group (long_number group (id_number group fits.1)), mode_plain mode) refl;
+  read = rw (id_back owner fits.0, id_back group fits.1, mode_back mode fits.2) refl;
+}
 
 is_same : (k other : Tells) → same k other ≡ true → k ≡ other
 is_same Nothing Nothing h = refl
@@ -146,6 +168,7 @@ is_same Caps Caps h = refl
 is_same Groups Groups h = refl
 is_same Bits Bits h = refl
 is_same Flag Flag h = refl
+is_same File File h = refl
 is_same k other h = absurd (cc)
 
 -- a value is read where it is told
@@ -165,6 +188,7 @@ answer_back k (answer.Told (told.Caps perm inh eff bound amb)) fits h = where_to
 answer_back k (answer.Told (told.Groups groups)) fits h = where_told k Groups _ h (groups_told groups fits)
 answer_back k (answer.Told (told.Bits bits nnp)) fits h = where_told k Bits _ h (bits_told bits nnp fits)
 answer_back k (answer.Told (told.Flag flag)) fits h = where_told k Flag _ h (flag_told flag fits)
+answer_back k (answer.Told (told.File owner group mode attr)) fits h = where_told k File _ h (file_told owner group mode attr fits)
 answer_back k answer.Eperm fits h = eperm_back k fits
 answer_back k answer.Einval fits h = einval_back k fits
 answer_back k answer.Eacces fits h = eacces_back k fits

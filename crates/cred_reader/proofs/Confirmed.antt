@@ -2,20 +2,20 @@
 use Rattle.std.proofs.Common.{◌≡◌, ℕ, Option, Some, None, IfSome, IfOk, List, Result, Ok, Err, sym, ap, subst, ◌∙◌}
 use Rattle.cred_event.specs.declared.entry.Entry.{Entry}
 use Rattle.cred_model.specs.Script.{Script}
-use Rattle.cred_spelling.specs.Words.{words_of}
+use Rattle.cred_spelling.specs.Words.{line_words}
 use Rattle.cred_spelling.specs.declared.reason.Reason.{Reason}
 use Rattle.cred_forms.specs.declared.refusal.LineRefusal.{LineRefusal}
 use Rattle.cred_forms.specs.declared.refusal.LineRefusal.TheVariants as line
 use Rattle.cred_forms.specs.Read.{GivesLine}
 use Rattle.cred_report.specs.Text.{entry_text}
-use Rattle.cred_reader.specs.Entry.{entry_of, body_of}
-use Rattle.cred_reader.specs.Fits.{Fits, IsSound}
+use Rattle.cred_reader.specs.Entry.{read_entry, body_of}
+use Rattle.cred_reader.specs.Fits.{Fits, IsSoundEntry}
 use Rattle.cred_reader.proofs.EntryBack.{entry_back}
 use Rattle.cred_reader.proofs.EntryFit.{AreSpelled}
 
 -- what is spelled and sound fits
 pub spelled_fits : {E : Type 0} (script : Script) (line : List ℕ) (entry : Entry) (r : Result (Option Entry) E) → AreSpelled entry
-    → IfOk r (λ found. IfSome found (λ e. (e ≡ entry) × (entry_text script entry ≡ line) × IsSound script entry))
+    → IfOk r (λ found. IfSome found (λ e. (e ≡ entry) × (entry_text script entry ≡ line) × IsSoundEntry script entry))
     → IfOk r (λ found. IfSome found (λ e. (entry_text script e ≡ line) × Fits script e))
 spelled_fits script line entry (Ok (Some e)) spelled h =
     let fits : Fits script entry = record { line = spelled.line; event = spelled.event; answer = spelled.answer; sound = h.2 } in
@@ -24,17 +24,17 @@ spelled_fits script line entry (Ok None) spelled h = h
 spelled_fits script line entry (Err error) spelled h = h
 
 -- the words of a line that is a fitting entry's text are read as that one
-pub read_is : (script : Script) (line : List ℕ) (words : List (List ℕ)) (entry : Entry) → words ≡ words_of (body_of line)
-    → Fits script entry → entry_text script entry ≡ line → entry_of script.files words ≡ Ok entry
+pub read_is : (script : Script) (line : List ℕ) (words : List (List ℕ)) (entry : Entry) → words ≡ line_words (body_of line)
+    → Fits script entry → entry_text script entry ≡ line → read_entry script.files words ≡ Ok entry
 read_is script line words entry split fits text =
-    ap (entry_of script.files) split ∙ ap (λ (l : List ℕ). entry_of script.files (words_of (body_of l))) (sym text) ∙ entry_back script entry fits
+    ap (read_entry script.files) split ∙ ap (λ (l : List ℕ). read_entry script.files (line_words (body_of l))) (sym text) ∙ entry_back script entry fits
 
 pub confirmed_is : {E : Type 0} (script : Script) (line : List ℕ) (found entry : Entry) (r : Result (Option Entry) E)
-    → (IsSound script found → entry_text script found ≡ line → IfOk r (λ o. o ≡ Some found)) → found ≡ entry
+    → (IsSoundEntry script found → entry_text script found ≡ line → IfOk r (λ o. o ≡ Some found)) → found ≡ entry
     → Fits script entry → entry_text script entry ≡ line → IfOk r (λ o. o ≡ Some entry)
 confirmed_is script line found entry r h same fits text =
     subst (λ (e : Entry). IfOk r (λ o. o ≡ Some e)) same
-    (h (subst (IsSound script) (sym same) fits.sound) (ap (entry_text script) same ∙ text))
+    (h (subst (IsSoundEntry script) (sym same) fits.sound) (ap (entry_text script) same ∙ text))
 
 -- a line that is refused is read as nothing
 pub refused : (r : Result Entry LineRefusal) (why : LineRefusal) (reason : Reason) (given : Result Entry Reason)

@@ -8,11 +8,11 @@ use Rattle.cred_event.specs.declared.event.Event.{Event}
 use Rattle.cred_event.specs.declared.answer.Answer.{Answer}
 use Rattle.cred_event.specs.declared.entry.Entry.{Entry}
 use Rattle.cred_model.specs.Script.{Script, NamedFile}
-use Rattle.cred_spelling.specs.Words.{words_of}
+use Rattle.cred_spelling.specs.Words.{line_words}
 use Rattle.cred_report.specs.Text.{entry_text}
-use Rattle.cred_reader.specs.Answers.{told_by, answer_of}
-use Rattle.cred_reader.specs.Events.{event_of}
-use Rattle.cred_reader.specs.Entry.{entry_of, body_of}
+use Rattle.cred_reader.specs.Answers.{told_by, read_answer}
+use Rattle.cred_reader.specs.Events.{read_event}
+use Rattle.cred_reader.specs.Entry.{read_entry, body_of}
 use Rattle.cred_reader.specs.Fits.{Fits, IsNumber}
 use Rattle.cred_reader.proofs.Agrees.{can_agree}
 use Rattle.cred_reader.proofs.AnswersBack.{answer_back}
@@ -69,16 +69,16 @@ body_back text =
     rw long (take_at text (codes "\n") (length text) refl)
 
 entry_from : (files : List NamedFile) (line : ℕ) (event : Event) (answer : Answer) (es vs : List (List ℕ)) → IsNumber line
-    → list_all is_plain es ≡ true → event_of files es ≡ Ok event → answer_of (told_by event) vs ≡ Ok answer
-    → entry_of files (decimal line ∷ behind es vs) ≡ Ok (record { line = line; event = event; answer = answer })
-unfolding entry_of
+    → list_all is_plain es ≡ true → read_event files es ≡ Ok event → read_answer (told_by event) vs ≡ Ok answer
+    → read_entry files (decimal line ∷ behind es vs) ≡ Ok (record { line = line; event = event; answer = answer })
+unfolding read_entry
 entry_from files line event answer es vs small plain e v =
     let prefix_is : take (length es) (behind es vs) ≡ es = take_at es (codes "->" ∷ vs) (length es) refl in
     let back : drop (length es + 1) (behind es vs) ≡ vs = drop-append-add es (codes "->" ∷ vs) 1 in
     rw (number_back line small, arrow_back es vs plain, prefix_is, e, back, v) refl
 
 -- the words of a fitting entry's text are read as the entry
-pub entry_back : (script : Script) (entry : Entry) → Fits script entry → entry_of script.files (words_of (body_of (entry_text script entry))) ≡ Ok entry
+pub entry_back : (script : Script) (entry : Entry) → Fits script entry → read_entry script.files (line_words (body_of (entry_text script entry))) ≡ Ok entry
 entry_back script entry fits =
     let eb = event_back script entry.event fits.event fits.sound.names.files in
     let ab = answer_back (told_by entry.event) entry.answer fits.answer (can_agree entry.event entry.answer fits.sound.row) in
@@ -88,8 +88,8 @@ entry_back script entry fits =
     let body : body_of (entry_text script entry) ≡ decimal entry.line ++ spaced (behind es vs)
     = ap body_of text ∙ body_back (decimal entry.line ++ spaced (behind es vs)) in
     let split = words_back (decimal entry.line) (behind es vs) (plain_whole (decimal entry.line) (decimal_plain entry.line (long_number entry.line fits.line))) (behind_whole es vs eb.plain ab.plain) in
-    ap (λ (b : List ℕ). entry_of script.files (words_of b)) body
-    ∙ ap (entry_of script.files) split
+    ap (λ (b : List ℕ). read_entry script.files (line_words b)) body
+    ∙ ap (read_entry script.files) split
     ∙ entry_from script.files entry.line entry.event entry.answer es vs fits.line eb.plain eb.read ab.read
 
 -- a text is that of one fitting entry at most
@@ -97,6 +97,6 @@ pub once : (script : Script) (a b : Entry) → Fits script a → Fits script b �
 once script a b fits_a fits_b same =
     let ra = entry_back script a fits_a in
     let rb = entry_back script b fits_b in
-    let e : entry_of script.files (words_of (body_of (entry_text script a))) ≡ entry_of script.files (words_of (body_of (entry_text script b)))
-    = ap (λ (t : List ℕ). entry_of script.files (words_of (body_of t))) same in
+    let e : read_entry script.files (line_words (body_of (entry_text script a))) ≡ read_entry script.files (line_words (body_of (entry_text script b)))
+    = ap (λ (t : List ℕ). read_entry script.files (line_words (body_of t))) same in
     cc

@@ -61,7 +61,7 @@ arg_fits word = either_holds IsArg _ (Some Keep) _ tt (map_some IsId IsArg (spel
 pub set_fits : OfAll IsCaps spelling.set_of
 set_fits word =
     either_holds IsCaps _ _ None
-    (then_some (λ bits. Unit {0}) IsCaps (spelling.hexadecimal word) spelling.set_with (any_some (spelling.hexadecimal word)) (λ bits h. if_holds IsCaps _ bits (λ t. below _ (2 ^ 41) t)))
+    (then_some (λ bits. Unit {0}) IsCaps (spelling.hexadecimal_number word) spelling.set_with (any_some (spelling.hexadecimal_number word)) (λ bits h. if_holds IsCaps _ bits (λ t. below _ (2 ^ 41) t)))
     tt
   where
     any_some : (o : Option ℕ) → HoldsSome (λ bits. Unit {0}) o
@@ -72,19 +72,19 @@ pub behind_fits : (P : ℕ → Type 0) (letter : ℕ) (spelled : List ℕ → Op
 behind_fits P letter spelled all [] = tt
 behind_fits P letter spelled all (first ∷ digits) = either_holds P (first == letter) _ None (all digits) tt
 
-pub task_fits : OfAll IsNumber kinds.task_of
+pub task_fits : OfAll IsNumber kinds.task_word
 task_fits word = behind_fits IsNumber 116 spelling.number_of number_fits word
 
-pub process_fits : OfAll IsNumber kinds.process_of
+pub process_fits : OfAll IsNumber kinds.process_word
 process_fits word = behind_fits IsNumber 112 spelling.number_of number_fits word
 
-pub label_fits : OfAll IsNumber kinds.label_of
+pub label_fits : OfAll IsNumber kinds.label_word
 label_fits word = behind_fits IsNumber 104 spelling.number_of number_fits word
 
 pub fd_fits : OfAll IsNumber kinds.fd_of
 fd_fits word = behind_fits IsNumber 102 spelling.number_of number_fits word
 
-pub slot_fits : OfAll IsNumber kinds.slot_of
+pub slot_fits : OfAll IsNumber kinds.slot_word
 slot_fits word = behind_fits IsNumber 115 spelling.number_of number_fits word
 
 pub cred_fits : OfAll IsLong kinds.cred_of

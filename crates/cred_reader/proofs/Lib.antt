@@ -4,6 +4,7 @@ pub mod Sets
 pub mod WordsBack
 pub mod Ids
 pub mod Back
+pub mod FileWordsBack
 pub mod QueriesBack
 pub mod ChangesBack
 pub mod CallsBack
@@ -14,6 +15,7 @@ pub mod AnswersBack
 pub mod EntryBack
 pub mod Spelled
 pub mod KindsFit
+pub mod FileWords
 pub mod EventsFit
 pub mod AnswersFit
 pub mod EntryFit

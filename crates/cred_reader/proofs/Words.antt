@@ -5,7 +5,7 @@ use Rattle.std.proofs.lemmas.Bool.Decides.{nat_tests}
 use Rattle.std.proofs.lemmas.List.{append-nil}
 use Rattle.std.proofs.lemmas.List.Elements.{All-cons}
 use Rattle.std.proofs.lemmas.List.Splits.{slice_split_none, slice_split_at}
-use Rattle.cred_spelling.specs.Words.{words_of}
+use Rattle.cred_spelling.specs.Words.{line_words}
 use Rattle.cred_reader.specs.Entry.{is_arrow}
 
 -- a byte that is no space, and none before it, as LF
@@ -74,7 +74,7 @@ some_bytes ((b ∷ bs) ∷ ws) h =
     rw test (rw (some_bytes ws parts.1) refl)
 
 -- words that are joined by spaces are those that splitting gives
-pub words_back : (w : List ℕ) (ws : List (List ℕ)) → is_whole w ≡ true → list_all is_whole ws ≡ true → words_of (w ++ spaced ws) ≡ w ∷ ws
+pub words_back : (w : List ℕ) (ws : List (List ℕ)) → is_whole w ≡ true → list_all is_whole ws ≡ true → line_words (w ++ spaced ws) ≡ w ∷ ws
 words_back w ws h hs =
     ap (filter (λ word. not (length word == 0))) (split_spaced w ws h hs)
     ∙ some_bytes (w ∷ ws) (rw h hs)

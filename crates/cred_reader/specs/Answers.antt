@@ -19,14 +19,14 @@ use Rattle.cred_event.specs.declared.answer.Answer.{Answer}
 use Rattle.cred_event.specs.declared.answer.Answer.TheVariants as answer
 use Rattle.cred_spelling.specs.declared.reason.Reason.{Reason}
 use Rattle.cred_spelling.specs.declared.reason.Reason.TheVariants.{Word, Count}
-use Rattle.cred_spelling.specs.Spellings.{letter, id_of, set_of, number_of}
+use Rattle.cred_spelling.specs.Spellings.{letter, id_of, mode_of, set_of, number_of}
 use Rattle.cred_spelling.specs.Table as table
 use Rattle.cred_spelling.specs.Words.{◌>>=◌, word_of, one_of, two_of, three_of, five_of}
 use Rattle.cred_forms.specs.IdCalls.{ids}
 use Rattle.cred_reader.specs.declared.answers.Tells.{Tells}
 use Rattle.cred_reader.specs.declared.answers.Tells.TheVariants.{Nothing, Ids, Caps, Groups, Bits}
-use Rattle.cred_reader.specs.declared.answers.Tells.TheVariants.{Flag}
-use Rattle.cred_reader.specs.Kinds.{task_of, label_of, cred_of, slot_of, flag_of, bits_of}
+use Rattle.cred_reader.specs.declared.answers.Tells.TheVariants.{Flag, File}
+use Rattle.cred_reader.specs.Kinds.{task_word, label_word, cred_of, slot_word, flag_of, bits_of}
 
 -- what a question is told
 abbrev pub query_tells : Query → Tells
@@ -43,6 +43,7 @@ query_tells (query.Check file want) = Nothing
 abbrev pub told_by : Event → Tells
 told_by (event.Ask label query) = query_tells query
 told_by (event.Dumped task) = Flag
+told_by (event.Stat hold file) = File
 told_by event = Nothing
 
 -- ids of users and ids of groups, four of each
@@ -58,18 +59,18 @@ ids_told words = Err Count
 -- the task that followed a broadcast, its new credential, and how many are left
 unfoldable pub acted : List (List ℕ) → Result Answer Reason
 acted (task ∷ a ∷ b ∷ left ∷ number ∷ []) = do
-  word ← two_of task_of cred_of (task ∷ a ∷ [])
-  rest ← two_of slot_of number_of (b ∷ number ∷ [])
+  word ← two_of task_word cred_of (task ∷ a ∷ [])
+  rest ← two_of slot_word number_of (b ∷ number ∷ [])
   Ok (answer.Acted word.0 word.1 rest.0 rest.1)
 acted words = Err Count
 
 -- a sealed credential and its slot, and what came of it
 unfoldable pub longest : List (List ℕ) → Result Answer Reason
 longest (a ∷ b ∷ left ∷ number ∷ []) = do
-  word ← three_of cred_of slot_of number_of (a ∷ b ∷ number ∷ [])
+  word ← three_of cred_of slot_word number_of (a ∷ b ∷ number ∷ [])
   Ok (answer.Began word.0 word.1 word.2)
 longest (a ∷ b ∷ ended ∷ number ∷ gain ∷ words) = do
-  word ← three_of cred_of slot_of number_of (a ∷ b ∷ number ∷ [])
+  word ← three_of cred_of slot_word number_of (a ∷ b ∷ number ∷ [])
   set ← three_of set_of set_of set_of words
   Ok (answer.Executed word.0 word.1 word.2
       (record { file = set.0; inherit = set.1; root = set.2 }))
@@ -83,13 +84,21 @@ longer words = if length words == 5 then acted words else longest words
 unfoldable pub plain : List (List ℕ) → Result Answer Reason
 plain [] = Ok answer.Done
 plain (slot ∷ []) = do
-  kept ← word_of slot_of slot
+  kept ← word_of slot_word slot
   Ok (answer.Kept kept)
 plain (a ∷ b ∷ []) =
     if bytes_eq a (codes "was")
     then (word_of id_of b >>= λ id. Ok (answer.Was id))
-    else (two_of cred_of slot_of (a ∷ b ∷ []) >>= λ word. Ok (answer.Sealed word.0 word.1))
+    else (two_of cred_of slot_word (a ∷ b ∷ []) >>= λ word. Ok (answer.Sealed word.0 word.1))
 plain words = longer words
+
+-- the owner, the group and the mode of a file, and whether it has an attribute
+unfoldable pub file_told : List (List ℕ) → Result Answer Reason
+file_told (owner ∷ group ∷ words) = do
+  id ← two_of id_of id_of (owner ∷ group ∷ [])
+  rest ← two_of mode_of flag_of words
+  Ok (answer.Told (told.File id.0 id.1 rest.0 rest.1))
+file_told words = Err Count
 
 -- what stands behind `ok`
 unfoldable pub ok_words : Tells → List (List ℕ) → Result Answer Reason
@@ -107,6 +116,7 @@ ok_words Bits words = do
 ok_words Flag words = do
   flag ← one_of flag_of words
   Ok (answer.Told (told.Flag flag))
+ok_words File words = file_told words
 
 -- a refusal of one word
 abbrev pub one_word : List ℕ → Option Answer
@@ -150,11 +160,12 @@ two_words a b =
 -- what isn't there
 unfoldable pub no_of : List ℕ → List ℕ → Result Answer Reason
 no_of what word =
-    if bytes_eq what (codes "task") then (word_of task_of word >>= λ task. Ok (answer.NoTask task))
+    if bytes_eq what (codes "task") then (word_of task_word word
+    >>= λ task. Ok (answer.NoTask task))
     else if bytes_eq what (codes "hold")
-    then (word_of label_of word >>= λ label. Ok (answer.NoHold label))
+    then (word_of label_word word >>= λ label. Ok (answer.NoHold label))
     else if bytes_eq what (codes "prepared")
-    then (word_of label_of word >>= λ label. Ok (answer.NoPrepared label))
+    then (word_of label_word word >>= λ label. Ok (answer.NoPrepared label))
     else if bytes_eq what (codes "broadcast")
     then (word_of number_of word >>= λ cast. Ok (answer.NoBroadcast cast))
     else Err Word
@@ -187,19 +198,19 @@ three_words a b c =
     else if bytes_eq a (codes "too")
     then (ok_or (counted_of c) Word >>= λ counted. Ok (answer.TooMany counted))
     else if bytes_eq a (codes "aborted")
-    then (word_of task_of b >>= λ task. ok_or (cause_of c) Word >>= λ cause.
+    then (word_of task_word b >>= λ task. ok_or (cause_of c) Word >>= λ cause.
     Ok (answer.Aborted task cause))
     else Err Word
 
 -- a refusal
-unfoldable pub refusal_of : List (List ℕ) → Result Answer Reason
-refusal_of (a ∷ []) = ok_or (one_word a) Word
-refusal_of (a ∷ b ∷ []) = two_words a b
-refusal_of (a ∷ b ∷ c ∷ []) = three_words a b c
-refusal_of words = Err Count
+unfoldable pub read_refusal : List (List ℕ) → Result Answer Reason
+read_refusal (a ∷ []) = ok_or (one_word a) Word
+read_refusal (a ∷ b ∷ []) = two_words a b
+read_refusal (a ∷ b ∷ c ∷ []) = three_words a b c
+read_refusal words = Err Count
 
 -- the answer to an event that is told this
-unfoldable pub answer_of : Tells → List (List ℕ) → Result Answer Reason
-answer_of told [] = Err Count
-answer_of told (word ∷ words) =
-    if bytes_eq word (codes "ok") then ok_words told words else refusal_of (word ∷ words)
+unfoldable pub read_answer : Tells → List (List ℕ) → Result Answer Reason
+read_answer told [] = Err Count
+read_answer told (word ∷ words) =
+    if bytes_eq word (codes "ok") then ok_words told words else read_refusal (word ∷ words)

@@ -8,21 +8,21 @@ use Rattle.cred_spelling.specs.declared.reason.Reason.{Reason}
 use Rattle.cred_spelling.specs.declared.reason.Reason.TheVariants.{Word, Count}
 use Rattle.cred_spelling.specs.Spellings.{number_of}
 use Rattle.cred_spelling.specs.Words.{◌>>=◌, word_of}
-use Rattle.cred_reader.specs.Events.{event_of}
-use Rattle.cred_reader.specs.Answers.{told_by, answer_of}
+use Rattle.cred_reader.specs.Events.{read_event}
+use Rattle.cred_reader.specs.Answers.{told_by, read_answer}
 
 -- what stands between an event and its answer
 abbrev pub is_arrow : List ℕ → Bool
 is_arrow word = bytes_eq word (codes "->")
 
 -- the number of a line, an event, the arrow and an answer
-unfoldable pub entry_of : List NamedFile → List (List ℕ) → Result Entry Reason
-entry_of files [] = Err Count
-entry_of files (number ∷ words) = do
+unfoldable pub read_entry : List NamedFile → List (List ℕ) → Result Entry Reason
+read_entry files [] = Err Count
+read_entry files (number ∷ words) = do
   line ← word_of number_of number
   place ← ok_or (position is_arrow words) Word
-  event ← event_of files (take place words)
-  answer ← answer_of (told_by event) (drop (place + 1) words)
+  event ← read_event files (take place words)
+  answer ← read_answer (told_by event) (drop (place + 1) words)
   Ok (record { line = line; event = event; answer = answer })
 
 -- a line without its last byte, which is LF in the text of an entry

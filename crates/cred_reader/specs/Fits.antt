@@ -2,13 +2,15 @@
 -- their words is spelled as the grammar asks, and the event may be given the answer. Numbers of
 -- lines, tasks, processes, labels, descriptors and slots may be any of 32 bits, numbers of
 -- credentials any of 64.
-use Rattle.std.specs.Prelude.{◌≡◌, ℕ, ◌^◌, ◌<◌, ◌≤◌, ◌||◌, Some, IsTrue, All, ⊤}
+use Rattle.std.specs.Prelude.{◌≡◌, ℕ, ◌^◌, ◌<◌, ◌≤◌, ◌||◌, List, Some, IfSome, IsTrue, All, ⊤}
+use Rattle.std.specs.Prelude.{length}
 use Rattle.cred_ids.specs.declared.arg.Arg.{Arg}
 use Rattle.cred_ids.specs.declared.arg.Arg.TheVariants.{Keep, Set}
 use Rattle.cred_ids.specs.declared.id.Ids4.{Ids4}
 use Rattle.cred_ids.specs.Id.{IsId}
 use Rattle.cred_ids.specs.Limits.{LAST_NAMESPACE}
 use Rattle.cred_caps.specs.Caps.{IsCaps}
+use Rattle.cred_record.specs.File.{IsMode}
 use Rattle.cred_record.specs.declared.want.Want.{Want}
 use Rattle.cred_record.specs.declared.gains.Gains.{Gains}
 use Rattle.cred_record.specs.declared.id_call.IdCall.{IdCall}
@@ -29,7 +31,10 @@ use Rattle.cred_event.specs.declared.event.Event.TheVariants.{Signal, Prepare, A
 use Rattle.cred_event.specs.declared.event.Event.TheVariants.{Override, Revert, Begin, Act}
 use Rattle.cred_event.specs.declared.event.Event.TheVariants.{OpenFile, CloseFile, Spawn, Fork}
 use Rattle.cred_event.specs.declared.event.Event.TheVariants.{Exit, Sweep, Dumpable, Dumped}
-use Rattle.cred_event.specs.declared.event.Event.TheVariants.{Ptrace}
+use Rattle.cred_event.specs.declared.event.Event.TheVariants.{Ptrace, Chown, Chmod, SetAttr, Stat}
+use Rattle.cred_event.specs.declared.event.Event.TheVariants.{Raw}
+use Rattle.cred_event.specs.declared.content.FileCall.{FileCall}
+use Rattle.cred_event.specs.declared.content.FileCall.TheVariants as call
 use Rattle.cred_event.specs.declared.answer.Told.{Told}
 use Rattle.cred_event.specs.declared.answer.Told.TheVariants as told
 use Rattle.cred_event.specs.declared.answer.Answer.{Answer}
@@ -38,7 +43,7 @@ use Rattle.cred_event.specs.declared.entry.Entry.{Entry}
 use Rattle.cred_model.specs.Script.{Script}
 use Rattle.cred_model.specs.Named.{AreDeclared, event_files, event_namespaces}
 use Rattle.cred_spelling.specs.Spellings.{is_name}
-use Rattle.cred_script.specs.Files.{place_of}
+use Rattle.cred_script.specs.Files.{file_place}
 use Rattle.cred_report.specs.Questions.{file_text}
 use Rattle.cred_answers.specs.Rows.{CanAnswer}
 
@@ -52,7 +57,7 @@ IsLong n = n < 2 ^ 64
 
 -- The script declares a file at this place, whose name is a name, and that of no earlier file.
 pub record IsFile (script : Script) (place : ℕ) : Type 0 where
-  pub own : place_of script.files (file_text script place) ≡ Some place
+  pub own : file_place script.files (file_text script place) ≡ Some place
   pub name : IsTrue (is_name (file_text script place))
 
 -- the number of a namespace
@@ -104,6 +109,18 @@ FitsQuery (query.Bset cap) = IsNumber cap
 FitsQuery (query.AmbIs cap) = IsNumber cap
 FitsQuery (query.Check file want) = IsWant want
 
+-- bytes that a word may spell: at most 128 hexadecimal digits, two of each
+pub record AreBytes (bytes : List ℕ) : Type 0 where
+  pub some : 1 ≤ length bytes
+  pub few : length bytes ≤ 64
+  pub each : All (λ byte. byte < 256) bytes
+
+abbrev pub FitsFileCall : FileCall → Type 0
+FitsFileCall (call.Chown file owner group) = IsArg owner × IsArg group
+FitsFileCall (call.Chmod file mode) = IsMode mode
+FitsFileCall (call.SetAttr file attr) = IfSome attr AreBytes
+FitsFileCall (call.Stat file) = ⊤
+
 abbrev pub FitsEvent : Event → Type 0
 FitsEvent (Init task process user group ns) =
     IsNumber task × IsNumber process × IsId user × IsId group × IsNamespace ns
@@ -132,6 +149,11 @@ FitsEvent (Dumpable task value) = IsNumber task × IsNumber value
 FitsEvent (Dumped task) = IsNumber task
 FitsEvent (Ptrace from hold to target mode) =
     IsNumber from × IsNumber hold × IsNumber to × IsNumber target
+FitsEvent (Chown hold file owner group) = IsNumber hold × IsArg owner × IsArg group
+FitsEvent (Chmod hold file mode) = IsNumber hold × IsMode mode
+FitsEvent (SetAttr hold file attr) = IsNumber hold × IfSome attr AreBytes
+FitsEvent (Stat hold file) = IsNumber hold
+FitsEvent (Raw task call) = IsNumber task × FitsCall call
 
 abbrev pub FitsIds : Ids4 → Type 0
 FitsIds ids = IsId ids.real × IsId ids.effective × IsId ids.saved × IsId ids.fs
@@ -143,6 +165,7 @@ FitsTold (told.Caps perm inh eff bound amb) =
 FitsTold (told.Groups groups) = All IsId groups
 FitsTold (told.Bits bits nnp) = bits < 2 ^ 8
 FitsTold (told.Flag flag) = ⊤
+FitsTold (told.File owner group mode attr) = IsId owner × IsId group × IsMode mode
 
 abbrev pub FitsGains : Gains → Type 0
 FitsGains gains = IsCaps gains.file × IsCaps gains.inherit × IsCaps gains.root
@@ -182,7 +205,7 @@ pub record IsOf (script : Script) (event : Event) : Type 0 where
   pub namespaces : AreDeclared script.namespaces (event_namespaces event)
 
 -- an entry that names what is the script's, and whose event may be given its answer
-pub record IsSound (script : Script) (entry : Entry) : Type 0 where
+pub record IsSoundEntry (script : Script) (entry : Entry) : Type 0 where
   pub names : IsOf script entry.event
   pub row : CanAnswer entry.event entry.answer
 
@@ -191,4 +214,4 @@ pub record Fits (script : Script) (entry : Entry) : Type 0 where
   pub line : IsNumber entry.line
   pub event : FitsEvent entry.event
   pub answer : FitsAnswer entry.answer
-  pub sound : IsSound script entry
+  pub sound : IsSoundEntry script entry

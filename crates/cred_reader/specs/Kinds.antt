@@ -13,24 +13,24 @@ behind letter spelled [] = None
 behind letter spelled (first ∷ digits) = if first == letter then spelled digits else None
 
 -- a task, as `t1`
-abbrev pub task_of : List ℕ → Option ℕ
-task_of word = behind (letter (codes "t")) number_of word
+abbrev pub task_word : List ℕ → Option ℕ
+task_word word = behind (letter (codes "t")) number_of word
 
 -- a process, as `p1`
-abbrev pub process_of : List ℕ → Option ℕ
-process_of word = behind (letter (codes "p")) number_of word
+abbrev pub process_word : List ℕ → Option ℕ
+process_word word = behind (letter (codes "p")) number_of word
 
 -- a label, as `h100030`
-abbrev pub label_of : List ℕ → Option ℕ
-label_of word = behind (letter (codes "h")) number_of word
+abbrev pub label_word : List ℕ → Option ℕ
+label_word word = behind (letter (codes "h")) number_of word
 
 -- a descriptor, as `f1`
 abbrev pub fd_of : List ℕ → Option ℕ
 fd_of word = behind (letter (codes "f")) number_of word
 
 -- a slot, as `s1`
-abbrev pub slot_of : List ℕ → Option ℕ
-slot_of word = behind (letter (codes "s")) number_of word
+abbrev pub slot_word : List ℕ → Option ℕ
+slot_word word = behind (letter (codes "s")) number_of word
 
 -- a sealed credential, as `c1`
 abbrev pub cred_of : List ℕ → Option ℕ

@@ -4,8 +4,8 @@ ghost use Rattle.cred_spelling.specs.Read.{Says, nows};
 ghost use Rattle.cred_forms.specs.Read.{GivesLine};
 ghost use Rattle.cred_reader.specs.Answers as spec;
 
-use crate::kinds::{Bits, Cred, Flag, Slot, Task};
-use crate::refusals::refusal_of;
+use crate::kinds::{Bits, Cred, Flag, Mode, Slot, Task};
+use crate::refusals::read_refusal;
 use cred_caps::CapSet;
 use cred_event::{Answer, Event, Query, Told};
 use cred_forms::{LineRefusal, ids};
@@ -30,6 +30,8 @@ pub enum Tells {
     Bits,
     /// A flag.
     Flag,
+    /// How a file stands.
+    File,
 }
 
 /// What the event is told.
@@ -39,6 +41,7 @@ pub(crate) fn told_by(event: &Event) -> Tells
     match event {
         Event::Ask { query, .. } => query_tells(*query),
         Event::Dumped { .. } => Tells::Flag,
+        Event::Stat { .. } => Tells::File,
         _ => Tells::Nothing,
     }
 }
@@ -169,6 +172,26 @@ fn plain(words: &[&[u8]]) -> Result<Answer, Reason>
     }
 }
 
+/// The owner, the group and the mode of a file, and whether it has an attribute.
+#[tactic(auto, unfolding(crate::specs::Answers::file_told))]
+fn file_told(words: &[&[u8]]) -> Result<Answer, Reason>
+    ensures { Says (λ answer. answer) result (spec.file_told (nows words.now)) }
+{
+    match words {
+        [owner, group, words @ ..] => {
+            let (owner, group) = two::<Id, Id>(&[*owner, *group])?;
+            let (mode, attr) = two::<Mode, Flag>(words)?;
+            Ok(Answer::Told(Told::File {
+                owner,
+                group,
+                mode,
+                attr,
+            }))
+        }
+        _ => Err(Reason::Count),
+    }
+}
+
 /// What stands behind `ok`.
 #[tactic(auto, unfolding(crate::specs::Answers::ok_words))]
 fn ok_words(alloc: Global, told: Tells, words: &[&[u8]]) -> Result<Answer, LineRefusal>
@@ -198,20 +221,25 @@ fn ok_words(alloc: Global, told: Tells, words: &[&[u8]]) -> Result<Answer, LineR
             Ok(Answer::Told(Told::Bits { bits, nnp }))
         }
         Tells::Flag => Ok(Answer::Told(Told::Flag(one::<Flag>(words)?))),
+        Tells::File => Ok(file_told(words)?),
     }
 }
 
 /// The answer to an event that is told this.
-#[tactic(auto, unfolding(crate::specs::Answers::answer_of))]
-pub(crate) fn answer_of(alloc: Global, told: Tells, words: &[&[u8]]) -> Result<Answer, LineRefusal>
-    ensures { GivesLine (λ answer. answer) result (spec.answer_of told (nows words.now)) }
+#[tactic(auto, unfolding(crate::specs::Answers::read_answer))]
+pub(crate) fn read_answer(
+    alloc: Global,
+    told: Tells,
+    words: &[&[u8]],
+) -> Result<Answer, LineRefusal>
+    ensures { GivesLine (λ answer. answer) result (spec.read_answer told (nows words.now)) }
 {
     match words {
         [name, rest @ ..] => {
             if is(name, "ok") {
                 return ok_words(alloc, told, rest);
             }
-            Ok(refusal_of(words)?)
+            Ok(read_refusal(words)?)
         }
         [] => Err(LineRefusal::Bad(Reason::Count)),
     }

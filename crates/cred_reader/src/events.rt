@@ -1,17 +1,22 @@
 //! The event that words are the text of.
 ghost use Rattle.cred_spelling.specs.Read.{Says, nows};
 ghost use Rattle.cred_forms.specs.Read.{GivesLine};
+ghost use Rattle.std.specs.Prelude.{◌≡◌};
+ghost use Rattle.cred_model.specs.Course.{calling};
 ghost use Rattle.cred_reader.specs.Events as spec;
 
 use crate::kinds::{Fd, Label, Process, Task};
 use crate::names::{EventName, LabelEvent, TaskEvent, event_name};
-use cred_event::{Change, Event, Side};
-use cred_forms::{AccessMode, LineRefusal, change_of, file_at, id_call_of, query_named};
+use cred_event::{Change, Event, FileCall, Side};
+use cred_forms::{
+    AccessMode, LineRefusal, change_of, file_at, file_call_of, id_call_of, query_named,
+};
 use cred_ids::Id;
 use cred_record::{IdCall, Want};
 use cred_script::Script;
 use cred_spelling::{
-    Namespace, Number, Reason, altered_name, five, id_name, no_words, one, three, two, word,
+    FileCallName, Namespace, Number, Reason, altered_name, five, id_name, no_words, one, three,
+    two, word,
 };
 use std::alloc::Global;
 
@@ -31,18 +36,18 @@ fn init_of(words: &[&[u8]]) -> Result<Event, Reason>
 }
 
 /// A label, and the task whose credential it takes.
-#[tactic(auto, unfolding(crate::specs::Events::take_of))]
-fn take_of(side: Side, words: &[&[u8]]) -> Result<Event, Reason>
-    ensures { Says (λ event. event) result (spec.take_of side (nows words.now)) }
+#[tactic(auto, unfolding(crate::specs::Events::read_take))]
+fn read_take(side: Side, words: &[&[u8]]) -> Result<Event, Reason>
+    ensures { Says (λ event. event) result (spec.read_take side (nows words.now)) }
 {
     let (label, task) = two::<Label, Task>(words)?;
     Ok(Event::Take { label, task, side })
 }
 
 /// A label, and a question.
-#[tactic(auto, unfolding(crate::specs::Events::ask_of))]
-fn ask_of(script: &Script, words: &[&[u8]]) -> Result<Event, Reason>
-    ensures { Says (λ event. event) result (spec.ask_of script.now.files (nows words.now)) }
+#[tactic(auto, unfolding(crate::specs::Events::read_ask))]
+fn read_ask(script: &Script, words: &[&[u8]]) -> Result<Event, Reason>
+    ensures { Says (λ event. event) result (spec.read_ask script.now.files (nows words.now)) }
 {
     match words {
         [hold, asked, words @ ..] => {
@@ -85,9 +90,9 @@ fn change_named(script: &Script, name: &[u8], words: &[&[u8]]) -> Result<Change,
 }
 
 /// A label, and a change.
-#[tactic(auto, unfolding(crate::specs::Events::alter_of))]
-fn alter_of(script: &Script, words: &[&[u8]]) -> Result<Event, Reason>
-    ensures { Says (λ event. event) result (spec.alter_of script.now.files (nows words.now)) }
+#[tactic(auto, unfolding(crate::specs::Events::read_alter))]
+fn read_alter(script: &Script, words: &[&[u8]]) -> Result<Event, Reason>
+    ensures { Says (λ event. event) result (spec.read_alter script.now.files (nows words.now)) }
 {
     match words {
         [prepared, changed, words @ ..] => {
@@ -108,9 +113,9 @@ fn call_named(alloc: Global, name: &[u8], words: &[&[u8]]) -> Result<IdCall, Lin
 }
 
 /// A task, and an id call.
-#[tactic(auto, unfolding(crate::specs::Events::begin_of))]
-fn begin_of(alloc: Global, words: &[&[u8]]) -> Result<Event, LineRefusal>
-    ensures { GivesLine (λ event. event) result (spec.begin_of (nows words.now)) }
+#[tactic(auto, unfolding(crate::specs::Events::read_begin))]
+fn read_begin(alloc: Global, words: &[&[u8]]) -> Result<Event, LineRefusal>
+    ensures { GivesLine (λ event. event) result (spec.read_begin (nows words.now)) }
 {
     match words {
         [caller, called, words @ ..] => {
@@ -122,10 +127,63 @@ fn begin_of(alloc: Global, words: &[&[u8]]) -> Result<Event, LineRefusal>
     }
 }
 
+/// A task, and an id call of its own.
+#[tactic(auto, unfolding(crate::specs::Events::raw_of))]
+fn raw_of(alloc: Global, words: &[&[u8]]) -> Result<Event, LineRefusal>
+    ensures { GivesLine (λ event. event) result (spec.raw_of (nows words.now)) }
+{
+    match words {
+        [caller, called, words @ ..] => {
+            let task = word::<Task>(caller)?;
+            let call = call_named(alloc, called, words)?;
+            Ok(Event::Raw { task, call })
+        }
+        _ => Err(LineRefusal::Bad(Reason::Count)),
+    }
+}
+
+/// The event of a call on a file, which the hold decides.
+fn calling(hold: u32, call: FileCall) -> Event
+    ensures { result ≡ calling hold call }
+{
+    match call {
+        FileCall::Chown { file, owner, group } => Event::Chown {
+            hold,
+            file,
+            owner,
+            group,
+        },
+        FileCall::Chmod { file, mode } => Event::Chmod { hold, file, mode },
+        FileCall::SetAttr { file, attr } => Event::SetAttr { hold, file, attr },
+        FileCall::Stat { file } => Event::Stat { hold, file },
+    }
+}
+
+/// A hold, and a call on a file.
+#[tactic(auto, unfolding(crate::specs::Events::file_event))]
+fn file_event(
+    alloc: Global,
+    script: &Script,
+    name: FileCallName,
+    words: &[&[u8]],
+) -> Result<Event, LineRefusal>
+    ensures { GivesLine (λ event. event) result
+        (spec.file_event script.now.files name (nows words.now)) }
+{
+    match words {
+        [hold, words @ ..] => {
+            let hold = word::<Label>(hold)?;
+            let call = file_call_of(alloc, script.files(), name, words)?;
+            Ok(calling(hold, call))
+        }
+        [] => Err(LineRefusal::Bad(Reason::Count)),
+    }
+}
+
 /// A hold, a file, what is wanted of it, and a descriptor.
-#[tactic(auto, unfolding(crate::specs::Events::open_of))]
-fn open_of(script: &Script, words: &[&[u8]]) -> Result<Event, Reason>
-    ensures { Says (λ event. event) result (spec.open_of script.now.files (nows words.now)) }
+#[tactic(auto, unfolding(crate::specs::Events::read_open))]
+fn read_open(script: &Script, words: &[&[u8]]) -> Result<Event, Reason>
+    ensures { Says (λ event. event) result (spec.read_open script.now.files (nows words.now)) }
 {
     match words {
         [hold, name, words @ ..] => {
@@ -150,8 +208,8 @@ fn label_event(script: &Script, name: LabelEvent, words: &[&[u8]]) -> Result<Eve
         (spec.label_event script.now.files name (nows words.now)) }
 {
     match name {
-        LabelEvent::Take => take_of(Side::Subjective, words),
-        LabelEvent::TakeReal => take_of(Side::Objective, words),
+        LabelEvent::Take => read_take(Side::Subjective, words),
+        LabelEvent::TakeReal => read_take(Side::Objective, words),
         LabelEvent::TakeFile => {
             let (label, fd) = two::<Label, Fd>(words)?;
             Ok(Event::TakeFile { label, fd })
@@ -159,19 +217,19 @@ fn label_event(script: &Script, name: LabelEvent, words: &[&[u8]]) -> Result<Eve
         LabelEvent::Release => Ok(Event::Release {
             label: one::<Label>(words)?,
         }),
-        LabelEvent::Ask => ask_of(script, words),
+        LabelEvent::Ask => read_ask(script, words),
         LabelEvent::Prepare => {
             let (label, task, hold) = three::<Label, Task, Label>(words)?;
             Ok(Event::Prepare { label, task, hold })
         }
-        LabelEvent::Alter => alter_of(script, words),
+        LabelEvent::Alter => read_alter(script, words),
         LabelEvent::Commit => Ok(Event::Commit {
             label: one::<Label>(words)?,
         }),
         LabelEvent::Abort => Ok(Event::Abort {
             label: one::<Label>(words)?,
         }),
-        LabelEvent::OpenFile => open_of(script, words),
+        LabelEvent::OpenFile => read_open(script, words),
     }
 }
 
@@ -190,7 +248,7 @@ fn task_event(alloc: Global, name: TaskEvent, words: &[&[u8]]) -> Result<Event, 
         TaskEvent::Revert => Ok(Event::Revert {
             task: one::<Task>(words)?,
         }),
-        TaskEvent::Begin => begin_of(alloc, words),
+        TaskEvent::Begin => read_begin(alloc, words),
         TaskEvent::Spawn => {
             let (task, child) = two::<Task, Task>(words)?;
             Ok(Event::Spawn { task, child })
@@ -213,6 +271,7 @@ fn task_event(alloc: Global, name: TaskEvent, words: &[&[u8]]) -> Result<Event, 
         TaskEvent::Dumped => Ok(Event::Dumped {
             task: one::<Task>(words)?,
         }),
+        TaskEvent::Raw => raw_of(alloc, words),
     }
 }
 
@@ -263,18 +322,19 @@ fn event_named(
             Ok(Event::Sweep)
         }
         EventName::Ptrace => Ok(ptrace_of(words)?),
+        EventName::File(name) => file_event(alloc, script, name, words),
     }
 }
 
 /// The event that the words are the text of.
-#[tactic(auto, unfolding(crate::specs::Events::event_of))]
-pub(crate) fn event_of(
+#[tactic(auto, unfolding(crate::specs::Events::read_event))]
+pub(crate) fn read_event(
     alloc: Global,
     script: &Script,
     words: &[&[u8]],
 ) -> Result<Event, LineRefusal>
     ensures { GivesLine (λ event. event) result
-        (spec.event_of script.now.files (nows words.now)) }
+        (spec.read_event script.now.files (nows words.now)) }
 {
     match words {
         [name, words @ ..] => {

@@ -38,7 +38,11 @@ pub(crate) fn is_of(script: &Script, event: &Event) -> bool
             change: Change::Exec { file },
             ..
         } => is_file(script, *file),
-        Event::OpenFile { file, .. } => is_file(script, *file),
+        Event::OpenFile { file, .. }
+        | Event::Chown { file, .. }
+        | Event::Chmod { file, .. }
+        | Event::SetAttr { file, .. }
+        | Event::Stat { file, .. } => is_file(script, *file),
         _ => true,
     }
 }

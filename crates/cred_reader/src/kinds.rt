@@ -1,10 +1,11 @@
 //! The kinds of words that entries have and scripts spell otherwise.
 ghost use Rattle.std.specs.Prelude.{◌≡◌};
 ghost use Rattle.cred_spelling.specs.Spellings.{number_of};
+ghost use Rattle.cred_spelling.specs.Spellings as spelling;
 ghost use Rattle.cred_reader.specs.Kinds as spec;
 
 use cred_caps::SecureBits;
-use cred_spelling::{Number, Spelling, long_of, named};
+use cred_spelling::{Number, Spelling, long_of, mode_of, named};
 
 /// The number behind a letter.
 fn behind(letter: u8, word: &[u8]) -> Option<u32>
@@ -22,7 +23,7 @@ pub(crate) enum Task {}
 impl Spelling for Task {
     type Value = u32;
 
-    ghost spelled = { spec.task_of };
+    ghost spelled = { spec.task_word };
 
     fn of(word: &[u8]) -> Option<u32> {
         behind(b't', word)
@@ -35,7 +36,7 @@ pub(crate) enum Process {}
 impl Spelling for Process {
     type Value = u32;
 
-    ghost spelled = { spec.process_of };
+    ghost spelled = { spec.process_word };
 
     fn of(word: &[u8]) -> Option<u32> {
         behind(b'p', word)
@@ -48,7 +49,7 @@ pub(crate) enum Label {}
 impl Spelling for Label {
     type Value = u32;
 
-    ghost spelled = { spec.label_of };
+    ghost spelled = { spec.label_word };
 
     fn of(word: &[u8]) -> Option<u32> {
         behind(b'h', word)
@@ -74,7 +75,7 @@ pub(crate) enum Slot {}
 impl Spelling for Slot {
     type Value = u32;
 
-    ghost spelled = { spec.slot_of };
+    ghost spelled = { spec.slot_word };
 
     fn of(word: &[u8]) -> Option<u32> {
         behind(b's', word)
@@ -130,5 +131,18 @@ impl Spelling for Bits {
 
     fn of(word: &[u8]) -> Option<SecureBits> {
         SecureBits::new(Number::of(word)?)
+    }
+}
+
+/// A file's mode, in four octal digits.
+pub(crate) enum Mode {}
+
+impl Spelling for Mode {
+    type Value = u16;
+
+    ghost spelled = { spelling.mode_of };
+
+    fn of(word: &[u8]) -> Option<u16> {
+        mode_of(word)
     }
 }

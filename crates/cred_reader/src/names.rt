@@ -2,7 +2,7 @@
 ghost use Rattle.std.specs.Prelude.{◌≡◌};
 ghost use Rattle.cred_reader.specs.Events as spec;
 
-use cred_spelling::named;
+use cred_spelling::{FileCallName, named};
 
 /// The events of a report, by the word that their text begins with.
 #[derive(Clone, Copy)]
@@ -16,6 +16,8 @@ pub enum EventName {
     Sweep,
     /// How it is asked for stands behind the word.
     Ptrace,
+    /// A label stands behind the word, and then the file.
+    File(FileCallName),
 }
 
 /// The events whose text has a label behind its first word.
@@ -46,9 +48,10 @@ pub enum TaskEvent {
     Exit,
     Dumpable,
     Dumped,
+    Raw,
 }
 
-static EVENT_NAMES: [(&str, EventName); 24] = [
+static EVENT_NAMES: [(&str, EventName); 30] = [
     ("init", EventName::Task(TaskEvent::Init)),
     ("take", EventName::Label(LabelEvent::Take)),
     ("takereal", EventName::Label(LabelEvent::TakeReal)),
@@ -73,6 +76,12 @@ static EVENT_NAMES: [(&str, EventName); 24] = [
     ("dumpable", EventName::Task(TaskEvent::Dumpable)),
     ("dumped", EventName::Task(TaskEvent::Dumped)),
     ("ptrace", EventName::Ptrace),
+    ("chown", EventName::File(FileCallName::Chown)),
+    ("chmod", EventName::File(FileCallName::Chmod)),
+    ("setattr", EventName::File(FileCallName::SetAttr)),
+    ("clearattr", EventName::File(FileCallName::ClearAttr)),
+    ("stat", EventName::File(FileCallName::Stat)),
+    ("raw", EventName::Task(TaskEvent::Raw)),
 ];
 
 /// The event that the word names.

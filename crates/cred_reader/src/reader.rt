@@ -6,10 +6,10 @@ ghost use Rattle.cred_spelling.specs.Read.{nows};
 ghost use Rattle.cred_forms.specs.Read.{GivesLine};
 ghost use Rattle.cred_report.specs.Text.{entry_text};
 ghost use Rattle.cred_reader.specs.Entry as spec;
-ghost use Rattle.cred_reader.specs.Fits.{Fits, IsSound};
+ghost use Rattle.cred_reader.specs.Fits.{Fits, IsSoundEntry};
 
-use crate::answers::{answer_of, told_by};
-use crate::events::event_of;
+use crate::answers::{read_answer, told_by};
+use crate::events::read_event;
 use crate::fits::is_of;
 use cred_answers::can_answer;
 use cred_event::Entry;
@@ -36,8 +36,8 @@ pub fn read(alloc: Global, script: &Script, line: &[u8]) -> Result<Option<Entry>
 {
     let mut words = Vec::new(alloc);
     split_into(&mut words, body_of(line))?;
-    match entry_of(alloc, script, &words) {
-        Ok(entry) => confirmed(alloc, script, line, entry),
+    match read_entry(alloc, script, &words) {
+        Ok(entry) => confirm(alloc, script, line, entry),
         Err(LineRefusal::Bad(_)) => Ok(None),
         Err(LineRefusal::Memory) => Err(NoMemory),
     }
@@ -51,15 +51,15 @@ fn body_of(line: &[u8]) -> &[u8]
 }
 
 /// The entry, if it is one of the script's and the line is its text.
-fn confirmed(
+fn confirm(
     alloc: Global,
     script: &Script,
     line: &[u8],
     entry: Entry,
 ) -> Result<Option<Entry>, NoMemory>
     ensures value { IfOk result (λ found. IfSome found (λ e. (e ≡ entry)
-        × (entry_text script.now entry ≡ line.now) × IsSound script.now entry)) }
-    ensures each_value { IsSound script.now entry → entry_text script.now entry ≡ line.now
+        × (entry_text script.now entry ≡ line.now) × IsSoundEntry script.now entry)) }
+    ensures each_value { IsSoundEntry script.now entry → entry_text script.now entry ≡ line.now
         → IfOk result (λ found. found ≡ Some entry) }
 {
     match is_confirmed(alloc, script, line, &entry) {
@@ -83,8 +83,8 @@ fn is_confirmed(
     entry: &Entry,
 ) -> Result<bool, NoMemory>
     ensures sound { IfOk result (λ confirmed. confirmed ≡ true
-        → (entry_text script.now entry.now ≡ line.now) × IsSound script.now entry.now) }
-    ensures each { IsSound script.now entry.now → entry_text script.now entry.now ≡ line.now
+        → (entry_text script.now entry.now ≡ line.now) × IsSoundEntry script.now entry.now) }
+    ensures each { IsSoundEntry script.now entry.now → entry_text script.now entry.now ≡ line.now
         → IfOk result (λ confirmed. confirmed ≡ true) }
 {
     if !is_of(script, &entry.event) || !can_answer(&entry.event, &entry.answer) {
@@ -95,17 +95,17 @@ fn is_confirmed(
 }
 
 /// The number of a line, an event, the arrow and an answer.
-#[tactic(auto, unfolding(crate::specs::Entry::entry_of))]
-fn entry_of(alloc: Global, script: &Script, words: &[&[u8]]) -> Result<Entry, LineRefusal>
+#[tactic(auto, unfolding(crate::specs::Entry::read_entry))]
+fn read_entry(alloc: Global, script: &Script, words: &[&[u8]]) -> Result<Entry, LineRefusal>
     ensures { GivesLine (λ entry. entry) result
-        (spec.entry_of script.now.files (nows words.now)) }
+        (spec.read_entry script.now.files (nows words.now)) }
 {
     match words {
         [number, words @ ..] => {
             let line = word::<Number>(number)?;
             let place = arrow(words).ok_or(Reason::Word)?;
-            let event = event_of(alloc, script, before(words, place))?;
-            let answer = answer_of(alloc, told_by(&event), behind(words, place))?;
+            let event = read_event(alloc, script, before(words, place))?;
+            let answer = read_answer(alloc, told_by(&event), behind(words, place))?;
             Ok(Entry {
                 line,
                 event,

@@ -150,9 +150,9 @@ fn three_words(a: &[u8], b: &[u8], c: &[u8]) -> Result<Answer, Reason>
 }
 
 /// A refusal.
-#[tactic(auto, unfolding(crate::specs::Answers::refusal_of))]
-pub(crate) fn refusal_of(words: &[&[u8]]) -> Result<Answer, Reason>
-    ensures { Says (λ answer. answer) result (spec.refusal_of (nows words.now)) }
+#[tactic(auto, unfolding(crate::specs::Answers::read_refusal))]
+pub(crate) fn read_refusal(words: &[&[u8]]) -> Result<Answer, Reason>
+    ensures { Says (λ answer. answer) result (spec.read_refusal (nows words.now)) }
 {
     match words {
         [a] => one_word(a).ok_or(Reason::Word),

@@ -8,7 +8,7 @@ use Rattle.cred_ids.specs.Id.{NO_ID, IsId}
 use Rattle.cred_ids.specs.Groups.{IsGroupList}
 use Rattle.cred_ids.proofs.InOrder.{in_order-rises}
 use Rattle.cred_record.specs.Credential.{Credential}
-use Rattle.cred_record.specs.Words.{pair, unpaired, words_of, credential_of, group_count, are_words}
+use Rattle.cred_record.specs.Words.{pair, unpaired, words_of, credential_in, group_count, are_words}
 use Rattle.cred_record.specs.declared.layout.TheConstants.{WORDS, FLAGS, GROUPS}
 use Rattle.cred_record.proofs.WordLemmas.{AllGroups, at_group, length-words_of, credential-is, words-are}
 
@@ -73,9 +73,9 @@ group-list gs h = record {
   few = h.few;
 }
 
-pub groups-there : (ws : List ℕ) → take (group_count (slice_index ws FLAGS)) (unpaired (drop GROUPS ws)) ≡ (credential_of ws).groups
-unfolding credential_of
+pub groups-there : (ws : List ℕ) → take (group_count (slice_index ws FLAGS)) (unpaired (drop GROUPS ws)) ≡ (credential_in ws).groups
+unfolding credential_in
 groups-there ws = refl
 
-pub groups-listed : (ws : List ℕ) → are_words ws ≡ true → IsGroupList (credential_of ws).groups
-groups-listed ws is = group-list _ (credential-is (credential_of ws) (words-are ws is).0).groups
+pub groups-listed : (ws : List ℕ) → are_words ws ≡ true → IsGroupList (credential_in ws).groups
+groups-listed ws is = group-list _ (credential-is (credential_in ws) (words-are ws is).0).groups

@@ -5,7 +5,7 @@ use Rattle.std.proofs.lemmas.Bool.{cases_lt, eqb-true, eq-eqb}
 use Rattle.std.proofs.lemmas.List.{get_or-drop, get_or-take, drop-take}
 use Rattle.cred_ids.specs.Ordered.{in_order}
 use Rattle.cred_record.specs.Credential.{Credential}
-use Rattle.cred_record.specs.Words.{low, high, half, unpaired, ids_of, group_count, credential_of, IsCredential, are_words}
+use Rattle.cred_record.specs.Words.{low, high, half, unpaired, ids_of, group_count, credential_in, IsCredential, are_words}
 use Rattle.cred_record.specs.declared.layout.TheConstants.{USER, SAVED_USER, GROUP, SAVED_GROUP, PERMITTED, INHERITABLE, EFFECTIVE, BOUNDING, AMBIENT, FLAGS, NAMESPACE, ROOT, GROUPS}
 use Rattle.cred_record.proofs.WordLemmas.{unpaired-low, unpaired-high, AllGroups, IsValid, credential-is, credential-test, words-are}
 
@@ -35,8 +35,8 @@ head-at : (ws : List ℕ) (i : ℕ) → i < GROUPS → slice_index (take GROUPS 
 head-at ws i small = get_or-take GROUPS ws i 0 small
 
 -- they have all but the groups
-head-but : (ws gs : List ℕ) → record (credential_of (take GROUPS ws)) { groups = gs } ≡ record (credential_of ws) { groups = gs }
-unfolding credential_of
+head-but : (ws gs : List ℕ) → record (credential_in (take GROUPS ws)) { groups = gs } ≡ record (credential_in ws) { groups = gs }
+unfolding credential_in
 head-but ws gs k = record {
   uid = ids_of (head-at ws USER (omega arith) k) (head-at ws SAVED_USER (omega arith) k);
   gid = ids_of (head-at ws GROUP (omega arith) k) (head-at ws SAVED_GROUP (omega arith) k);
@@ -53,15 +53,15 @@ head-but ws gs k = record {
 }
 
 -- with the groups, they are the credential of the words
-pub joined : (ws head gs : List ℕ) → head ≡ take GROUPS ws → gs ≡ (credential_of ws).groups → record (credential_of head) { groups = gs } ≡ credential_of ws
-joined ws head gs is same = (λ k. record (credential_of (is k)) { groups = same k }) ∙ head-but ws (credential_of ws).groups
+pub joined : (ws head gs : List ℕ) → head ≡ take GROUPS ws → gs ≡ (credential_in ws).groups → record (credential_in head) { groups = gs } ≡ credential_in ws
+joined ws head gs is same = (λ k. record (credential_in (is k)) { groups = same k }) ∙ head-but ws (credential_in ws).groups
 
 take-none : (n : ℕ) → take {A = ℕ} n [] ≡ []
 take-none zero = refl
 take-none (suc n) = refl
 
-head-groups : (ws : List ℕ) → (credential_of (take GROUPS ws)).groups ≡ []
-unfolding credential_of
+head-groups : (ws : List ℕ) → (credential_in (take GROUPS ws)).groups ≡ []
+unfolding credential_in
 head-groups ws =
     let n = group_count (slice_index (take GROUPS ws) FLAGS) in
     ap (λ (xs : List ℕ). take n (unpaired xs)) (drop-take GROUPS 0 ws) ∙ take-none n
@@ -71,11 +71,11 @@ unfolding in_order
 no-groups = record { ordered = refl; each = tt; few = omega arith }
 
 -- they are a credential's with no groups
-pub head-is : (ws : List ℕ) → are_words ws ≡ true → IsCredential (credential_of (take GROUPS ws))
+pub head-is : (ws : List ℕ) → are_words ws ≡ true → IsCredential (credential_in (take GROUPS ws))
 head-is ws is =
-    let v = credential-is (credential_of ws) (words-are ws is).0 in
-    let gs = (credential_of (take GROUPS ws)).groups in
-    let bare : Credential = record (credential_of ws) { groups = gs } in
+    let v = credential-is (credential_in ws) (words-are ws is).0 in
+    let gs = (credential_in (take GROUPS ws)).groups in
+    let bare : Credential = record (credential_in ws) { groups = gs } in
     let valid : IsValid bare = record {
       uid = v.uid;
       gid = v.gid;

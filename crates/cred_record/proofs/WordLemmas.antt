@@ -16,7 +16,7 @@ use Rattle.cred_ids.specs.Ordered.{in_order}
 use Rattle.cred_ids.proofs.InOrder.{in_order-is}
 use Rattle.cred_ids.specs.Limits.{GROUP_LIMIT}
 use Rattle.cred_record.specs.Credential.{Credential, AreValidSets}
-use Rattle.cred_record.specs.Words.{pair, low, high, group_words, unpaired, words_of, credential_of, ids_of, group_count, are_ids, are_groups, are_sets, is_credential, IsCredential, are_words}
+use Rattle.cred_record.specs.Words.{pair, low, high, group_words, unpaired, words_of, credential_in, ids_of, group_count, are_ids, are_groups, are_sets, is_credential, IsCredential, are_words}
 use Rattle.cred_record.specs.WordLaws.{NoWordsSpellTwo, WordsAreTested}
 use Rattle.cred_record.specs.declared.layout.TheConstants.{WORDS, USER, SAVED_USER, GROUP, SAVED_GROUP, PERMITTED, INHERITABLE, EFFECTIVE, BOUNDING, AMBIENT, FLAGS, NAMESPACE, ROOT, GROUPS}
 
@@ -236,8 +236,8 @@ nnp-again n b false small = let is : (n * 2 ^ 16 + (0 * 2 ^ 8 + b)) / 2 ^ 8 % 2 
 count-again : (n f b : ℕ) → f < 2 → b < 256 → (n * 2 ^ 16 + (f * 2 ^ 8 + b)) / 2 ^ 16 ≡ n
 count-again n f b one small = omega arith
 
-pub again : (c : Credential) → IsValid c → credential_of (words_of c) ≡ c
-unfolding words_of credential_of
+pub again : (c : Credential) → IsValid c → credential_in (words_of c) ≡ c
+unfolding words_of credential_in
 again c h k = record {
   uid = ids-again c.uid h.uid k;
   gid = ids-again c.gid h.gid k;
@@ -255,7 +255,7 @@ again c h k = record {
   root = c.root;
 }
 
-pub words-again : (c : Credential) → IsCredential c → credential_of (words_of c) ≡ c
+pub words-again : (c : Credential) → IsCredential c → credential_in (words_of c) ≡ c
 words-again c is = again c (credential-is c is)
 
 -- ---- the test of words
@@ -265,16 +265,16 @@ unfolding are_words
 words-test c is =
     subst (λ (d : Credential). (is_credential d && pointwise nat_eq (words_of d) (words_of c)) ≡ true) (sym (words-again c is)) (both_true is (same (words_of c)))
 
-pub words-are : (ws : List ℕ) → are_words ws ≡ true → IsCredential (credential_of ws) × (ws ≡ words_of (credential_of ws))
+pub words-are : (ws : List ℕ) → are_words ws ≡ true → IsCredential (credential_in ws) × (ws ≡ words_of (credential_in ws))
 unfolding are_words
 words-are ws is = let h = both _ _ is in (h.0, sym (same_text _ _ (sym h.1)))
 
 pub no_words_spell_two : NoWordsSpellTwo
-no_words_spell_two a b is is' one = sym (words-again a is) ∙ ap credential_of one ∙ words-again b is'
+no_words_spell_two a b is is' one = sym (words-again a is) ∙ ap credential_in one ∙ words-again b is'
 
 pub words_are_tested : WordsAreTested
 words_are_tested ws = (
-  (λ is. let h = words-are ws is in (credential_of ws, h.0, h.1)),
+  (λ is. let h = words-are ws is in (credential_in ws, h.0, h.1)),
   (λ h. subst (λ xs. are_words xs ≡ true) (sym h.2) (words-test h.0 h.1)),
 )
 
@@ -330,10 +330,10 @@ pub record WordFacts (ws : List ℕ) : Type 0 where
   pub ns : slice_index ws NAMESPACE < 2 ^ 32
   pub root : slice_index ws ROOT < NO_ID
 
-pub head-facts : (ws : List ℕ) → IsCredential (credential_of ws) → WordFacts ws
-unfolding credential_of
+pub head-facts : (ws : List ℕ) → IsCredential (credential_in ws) → WordFacts ws
+unfolding credential_in
 head-facts ws is =
-    let h = credential-is (credential_of ws) is in
+    let h = credential-is (credential_in ws) is in
     record {
       uid = ids-test _ h.uid;
       gid = ids-test _ h.gid;
@@ -351,15 +351,15 @@ pub word-facts : (ws : List ℕ) → are_words ws ≡ true → WordFacts ws
 word-facts ws is = head-facts ws (words-are ws is).0
 
 -- the number of groups that stands in the words
-pub count-is : (ws : List ℕ) → are_words ws ≡ true → group_count (slice_index ws FLAGS) ≡ length (credential_of ws).groups
+pub count-is : (ws : List ℕ) → are_words ws ≡ true → group_count (slice_index ws FLAGS) ≡ length (credential_in ws).groups
 unfolding words_of
 count-is ws is =
     let h = words-are ws is in
-    let d = credential_of ws in
+    let d = credential_in ws in
     let v = credential-is d h.0 in
     ap (λ (xs : List ℕ). group_count (slice_index xs FLAGS)) h.1 ∙ count-again (length d.groups) (from_bool d.nnp) d.bits (from_bool-small d.nnp) v.bits
 
-pub none-is : {T : Type 0} (o : Option T) (ws : List ℕ) → (IsCredential (credential_of ws) → ⊥) → IfNone o (IsCredential (credential_of ws) → ⊥)
+pub none-is : {T : Type 0} (o : Option T) (ws : List ℕ) → (IsCredential (credential_in ws) → ⊥) → IfNone o (IsCredential (credential_in ws) → ⊥)
 none-is None ws p = p
 none-is (Some x) ws p = tt
 
@@ -369,26 +369,26 @@ last_bit n = and_mask n 1
 -- ---- the groups in words
 
 pub group-at : (ws : List ℕ) (k : ℕ) → are_words ws ≡ true → k < group_count (slice_index ws FLAGS) → slice_index (unpaired (drop GROUPS ws)) k < NO_ID
-unfolding credential_of
+unfolding credential_in
 group-at ws k is below =
-    let h = (credential-is (credential_of ws) (words-are ws is).0).groups in
+    let h = (credential-is (credential_in ws) (words-are ws is).0).groups in
     let n = group_count (slice_index ws FLAGS) in
     let count = count-is ws is in
     let at = each-at (take n (unpaired (drop GROUPS ws))) k h.each (omega arith) in
     subst (λ (g : ℕ). g < NO_ID) (get_or-take n (unpaired (drop GROUPS ws)) k 0 below) at
 
-pub groups-sorted : (ws : List ℕ) (n : ℕ) → are_words ws ≡ true → n ≡ group_count (slice_index ws FLAGS) → in_order (take n (unpaired (drop GROUPS ws))) ≡ (credential_of ws).groups
-unfolding credential_of
+pub groups-sorted : (ws : List ℕ) (n : ℕ) → are_words ws ≡ true → n ≡ group_count (slice_index ws FLAGS) → in_order (take n (unpaired (drop GROUPS ws))) ≡ (credential_in ws).groups
+unfolding credential_in
 groups-sorted ws n is same =
     ap (λ (m : ℕ). in_order (take m (unpaired (drop GROUPS ws)))) same ∙
-    (credential-is (credential_of ws) (words-are ws is).0).groups.ordered
+    (credential-is (credential_in ws) (words-are ws is).0).groups.ordered
 
 -- no more than a credential has
 pub groups-few : (ws : List ℕ) → are_words ws ≡ true → group_count (slice_index ws FLAGS) ≤ GROUP_LIMIT
 groups-few ws is =
-    let few = (credential-is (credential_of ws) (words-are ws is).0).groups.few in
+    let few = (credential-is (credential_in ws) (words-are ws is).0).groups.few in
     omega (arith, count-is ws is)
 
 -- words that are said to be a credential's
-pub spelled : (ws : List ℕ) (d : Credential) → IsCredential d → ws ≡ words_of d → (are_words ws ≡ true) × (credential_of ws ≡ d)
-spelled ws d is same = (ap are_words same ∙ words-test d is, ap credential_of same ∙ words-again d is)
+pub spelled : (ws : List ℕ) (d : Credential) → IsCredential d → ws ≡ words_of d → (are_words ws ≡ true) × (credential_in ws ≡ d)
+spelled ws d is same = (ap are_words same ∙ words-test d is, ap credential_in same ∙ words-again d is)

@@ -40,7 +40,7 @@ capable c n = has c.eff n
 
 -- what a first task has in a namespace where root has this user id: root's permitted and effective
 -- sets are full, any other user's are empty, and the bounding set is full
-abbrev pub first_credential : ℕ → ℕ → ℕ → ℕ → Credential
+abbrev pub first_credential : (user group ns root : ℕ) → Credential
 first_credential user group ns root = record {
   uid = all_four user;
   gid = all_four group;

@@ -126,8 +126,8 @@ abbrev pub group_count : ℕ → ℕ
 group_count word = word / 2 ^ 16
 
 -- what stands in the words, at the places of a credential's parts
-unfoldable pub credential_of : List ℕ → Credential
-credential_of ws = record {
+unfoldable pub credential_in : List ℕ → Credential
+credential_in ws = record {
   uid = ids_of (slice_index ws USER) (slice_index ws SAVED_USER);
   gid = ids_of (slice_index ws GROUP) (slice_index ws SAVED_GROUP);
   groups = take (group_count (slice_index ws FLAGS)) (unpaired (drop GROUPS ws));
@@ -153,4 +153,4 @@ pub record AreSetsOf (ws : List ℕ) (perm inh eff bound amb : Caps) : Type 0 wh
 
 -- the words are a credential's: what stands in them is a credential, and has these words
 unfoldable pub are_words : List ℕ → Bool
-are_words ws = is_credential (credential_of ws) && pointwise nat_eq (words_of (credential_of ws)) ws
+are_words ws = is_credential (credential_in ws) && pointwise nat_eq (words_of (credential_in ws)) ws

@@ -1,6 +1,7 @@
 -- The text of an event. A letter says what a number is of: a task, a process, a label (h), a
 -- descriptor (f) or a namespace.
-use Rattle.std.specs.Prelude.{ℕ, List, ◌++◌, codes, decimal}
+use Rattle.std.specs.Prelude.{ℕ, List, ◌++◌, codes, decimal, Some, None}
+use Rattle.hex.specs.Hex.{encode_lower}
 use Rattle.cred_event.specs.declared.event.Side.{Side}
 use Rattle.cred_event.specs.declared.event.Side.TheVariants.{Subjective, Objective}
 use Rattle.cred_event.specs.declared.event.Event.{Event}
@@ -9,12 +10,15 @@ use Rattle.cred_event.specs.declared.event.Event.TheVariants.{Signal, Prepare, A
 use Rattle.cred_event.specs.declared.event.Event.TheVariants.{Override, Revert, Begin, Act}
 use Rattle.cred_event.specs.declared.event.Event.TheVariants.{OpenFile, CloseFile, Spawn, Fork}
 use Rattle.cred_event.specs.declared.event.Event.TheVariants.{Exit, Sweep, Dumpable, Dumped}
-use Rattle.cred_event.specs.declared.event.Event.TheVariants.{Ptrace}
+use Rattle.cred_event.specs.declared.event.Event.TheVariants.{Ptrace, Chown, Chmod, SetAttr, Stat}
+use Rattle.cred_event.specs.declared.event.Event.TheVariants.{Raw}
 use Rattle.cred_event.specs.declared.event.Mode.{Mode}
 use Rattle.cred_event.specs.declared.event.Mode.TheVariants.{Fs, Real}
 use Rattle.cred_model.specs.Script.{Script}
 use Rattle.cred_report.specs.Questions.{file_text, want_text, query_text}
+use Rattle.cred_pen.specs.Numbers.{arg_text}
 use Rattle.cred_report.specs.Calls.{call_text, change_text}
+use Rattle.cred_report.specs.Told.{mode_text}
 
 -- what the label that takes a credential of a task follows
 abbrev pub take_text : Side → List ℕ
@@ -69,3 +73,16 @@ event_text script (Dumped task) = codes "dumped t" ++ decimal task
 event_text script (Ptrace from hold to target mode) =
     trace_text mode ++ decimal from ++ codes " h" ++ decimal hold ++ codes " t" ++ decimal to ++
     codes " h" ++ decimal target
+event_text script (Chown hold file owner group) =
+    codes "chown h" ++ decimal hold ++ codes " " ++ file_text script file ++ arg_text owner ++
+    arg_text group
+event_text script (Chmod hold file mode) =
+    codes "chmod h" ++ decimal hold ++ codes " " ++ file_text script file ++ mode_text mode
+event_text script (SetAttr hold file (Some attr)) =
+    codes "setattr h" ++ decimal hold ++ codes " " ++ file_text script file ++ codes " " ++
+    encode_lower attr
+event_text script (SetAttr hold file None) =
+    codes "clearattr h" ++ decimal hold ++ codes " " ++ file_text script file
+event_text script (Stat hold file) =
+    codes "stat h" ++ decimal hold ++ codes " " ++ file_text script file
+event_text script (Raw task call) = codes "raw t" ++ decimal task ++ codes " " ++ call_text call

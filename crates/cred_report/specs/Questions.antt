@@ -10,13 +10,13 @@ use Rattle.cred_model.specs.Script.{Script, NamedFile}
 
 -- Where there is no file there is no name. An entry of a script names only the files that it
 -- declares.
-abbrev pub name_of : Option NamedFile → List ℕ
-name_of None = []
-name_of (Some file) = file.name
+abbrev pub name_text : Option NamedFile → List ℕ
+name_text None = []
+name_text (Some file) = file.name
 
 -- the name of the file at this place among the script's files
 abbrev pub file_text : Script → ℕ → List ℕ
-file_text script place = name_of (slice_get script.files place)
+file_text script place = name_text (slice_get script.files place)
 
 -- the letters of what is wanted, in this order
 abbrev pub want_text : Want → List ℕ

@@ -23,6 +23,10 @@ SEALED = NUMBER + 2 + NUMBER
 abbrev pub GAINS : ℕ
 GAINS = 7 + NUMBER + 5 + SETS
 
+-- a mode: a space, and four digits
+abbrev pub MODE : ℕ
+MODE = 5
+
 -- the longest answer: `ok`, and the ids of users and of groups
 abbrev pub ANSWER : ℕ
 ANSWER = 2 + 2 * IDS

@@ -5,6 +5,7 @@ ghost use Rattle.cred_report.specs.Events.{take_text, trace_text, event_text};
 ghost use Rattle.cred_report.specs.Room.{EVENT, BEFORE_EVENT};
 
 use crate::calls::{prepend_call, prepend_change};
+use crate::file_events::{prepend_chmod, prepend_chown, prepend_set_attr, prepend_stat};
 use crate::questions::{prepend_file, prepend_letters, prepend_query};
 use cred_event::{Change, Event, Mode, Query, Side};
 use cred_ids::{Id, NoMemory};
@@ -128,6 +129,19 @@ fn prepend_begin(out: &mut Pen, task: u32, call: &IdCall) -> Result<(), NoMemory
     Ok(())
 }
 
+/// Writes the id call of a thread for itself alone.
+fn prepend_raw(out: &mut Pen, task: u32, call: &IdCall) -> Result<(), NoMemory>
+    requires { BEFORE_EVENT + EVENT ≤ out.old.room }
+    ensures text { OnOk result (out.new.text
+        ≡ (codes "raw t" ++ decimal task ++ codes " " ++ call_text call.now) ++ out.old.text) }
+    ensures room { OnOk result (BEFORE_EVENT ≤ out.new.room) }
+{
+    prepend_call(out, call)?;
+    prepend_word(out, " ");
+    prepend_number(out, "raw t", task);
+    Ok(())
+}
+
 /// Writes the step of a thread in a call, which is told by its line: mostly that of the entry.
 #[inline(always)]
 fn prepend_act(out: &mut Pen, cast: u32)
@@ -220,6 +234,16 @@ pub(crate) fn prepend_event(out: &mut Pen, script: &Script, event: &Event) -> Re
             target,
             mode,
         } => prepend_ptrace(out, *from, *hold, *to, *target, *mode),
+        Event::Chown {
+            hold,
+            file,
+            owner,
+            group,
+        } => prepend_chown(out, script, *hold, *file, *owner, *group)?,
+        Event::Chmod { hold, file, mode } => prepend_chmod(out, script, *hold, *file, *mode)?,
+        Event::SetAttr { hold, file, attr } => prepend_set_attr(out, script, *hold, *file, attr)?,
+        Event::Stat { hold, file } => prepend_stat(out, script, *hold, *file)?,
+        Event::Raw { task, call } => prepend_raw(out, *task, call)?,
     }
     Ok(())
 }

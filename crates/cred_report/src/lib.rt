@@ -9,6 +9,7 @@ mod answers;
 mod calls;
 mod entry;
 mod events;
+mod file_events;
 mod questions;
 mod told;
 

@@ -1,7 +1,8 @@
 //! What a question is told.
-ghost use Rattle.std.specs.Prelude.{◌≡◌, ◌≤◌, ◌+◌, ◌++◌, OnOk, codes, length};
-ghost use Rattle.cred_report.specs.Told.{ids4_text, told_text};
-ghost use Rattle.cred_report.specs.Room.{IDS, ANSWER, BEFORE_ANSWER};
+ghost use Rattle.std.specs.Prelude.{◌≡◌, ◌≤◌, ◌<◌, ◌+◌, ◌++◌, OnOk, codes, length};
+ghost use Rattle.cred_report.specs.Told as spec;
+ghost use Rattle.cred_report.specs.Told.{ids4_text, mode_text, told_text};
+ghost use Rattle.cred_report.specs.Room.{IDS, MODE, ANSWER, BEFORE_ANSWER};
 
 use cred_event::Told;
 use cred_ids::{Ids4, NoMemory};
@@ -18,6 +19,31 @@ fn prepend_ids4(out: &mut Pen, ids: Ids4)
 {
     prepend_two(out, (" ", ids.saved.number()), (" ", ids.fs.number()));
     prepend_two(out, (" ", ids.real.number()), (" ", ids.effective.number()))
+}
+
+/// Writes the mode, in four octal digits after a space.
+#[tactic(auto, unfolding(crate::specs::Told::mode_text))]
+pub(crate) fn prepend_mode(out: &mut Pen, mode: u16)
+    requires { MODE ≤ out.old.room }
+    ensures text { out.new.text ≡ mode_text mode ++ out.old.text }
+    ensures room { out.old.room ≤ out.new.room + MODE }
+{
+    let digits = [
+        b' ',
+        octal(mode / 512 % 8),
+        octal(mode / 64 % 8),
+        octal(mode / 8 % 8),
+        octal(mode % 8),
+    ];
+    out.piece(&digits)
+}
+
+/// An octal digit.
+fn octal(digit: u16) -> u8
+    requires { digit < 8 }
+    ensures { result ≡ spec.octal digit }
+{
+    b'0' + digit as u8
 }
 
 /// Writes what is told, after `ok`.
@@ -60,6 +86,16 @@ fn prepend_values(out: &mut Pen, told: &Told) -> Result<(), NoMemory>
             prepend_number(out, " ", bits.number())
         }
         Told::Flag(flag) => prepend_flag(out, *flag),
+        Told::File {
+            owner,
+            group,
+            mode,
+            attr,
+        } => {
+            prepend_flag(out, *attr);
+            prepend_mode(out, *mode);
+            prepend_two(out, (" ", owner.number()), (" ", group.number()))
+        }
     }
     Ok(())
 }

@@ -46,13 +46,13 @@ class_of c f =
     else OTHERS
 
 -- all that is asked for is permitted
-abbrev pub is_within : Want → Want → Bool
-is_within asked permitted =
+abbrev pub is_asked_within : Want → Want → Bool
+is_asked_within asked permitted =
     (not asked.r || permitted.r) && (not asked.w || permitted.w) && (not asked.x || permitted.x)
 
 -- the bits of the one class permit all that is asked for
 abbrev pub bits_permit : Credential → File → Want → Bool
-bits_permit c f asked = is_within asked (permits f.mode (class_of c f))
+bits_permit c f asked = is_asked_within asked (permits f.mode (class_of c f))
 
 abbrev pub is_directory : FileKind → Bool
 is_directory Directory = true

@@ -10,7 +10,7 @@ use Rattle.cred_caps.specs.declared.secure.Flag.TheVariants.{NoRoot, NoSetuidFix
 use Rattle.cred_caps.specs.declared.secure.Flag.TheVariants.{NoAmbientRaise}
 use Rattle.cred_caps.specs.Caps.{Caps, empty, has, with, without, union, meet, is_within}
 use Rattle.cred_caps.specs.Numbers.{LAST, SETPCAP}
-use Rattle.cred_caps.specs.Secure.{place, is_set, is_locked, with_flag}
+use Rattle.cred_caps.specs.Secure.{flag_place, is_set, is_locked, with_secure_flag}
 use Rattle.cred_record.specs.declared.adj_call.AdjCall.{AdjCall}
 use Rattle.cred_record.specs.declared.adj_call.AdjCall.TheVariants as call
 use Rattle.cred_record.specs.declared.refusal.Denial.{Denial}
@@ -72,7 +72,7 @@ FLAGS = NoRoot ∷ NoSetuidFixup ∷ KeepCaps ∷ NoAmbientRaise ∷ []
 
 -- from the old to the new securebits, the flag is as it was
 abbrev pub is_same_flag : ℕ → ℕ → Flag → Bool
-is_same_flag old new f = bit_at old (place f) == bit_at new (place f)
+is_same_flag old new f = bit_at old (flag_place f) == bit_at new (flag_place f)
 
 -- a lock that is set stays set, and then its flag stays as it is
 abbrev pub keeps_lock : ℕ → ℕ → Flag → Bool
@@ -93,7 +93,7 @@ unfoldable pub after_keep_caps : Credential → ℕ → Result Credential Denial
 after_keep_caps c n =
     if nat_lt 1 n then Err Invalid
     else if is_locked c.bits KeepCaps then Err Perm
-    else Ok (record c { bits = with_flag c.bits KeepCaps (n == 1) })
+    else Ok (record c { bits = with_secure_flag c.bits KeepCaps (n == 1) })
 
 -- prctl(2), PR_SET_NO_NEW_PRIVS: it is set by 1, and no number unsets it
 unfoldable pub after_no_new_privs : Credential → ℕ → Result Credential Denial

@@ -7,7 +7,7 @@ use Rattle.std.specs.Option.{is_some}
 use Rattle.cred_ids.specs.declared.id.Ids4.{Ids4}
 use Rattle.cred_caps.specs.declared.secure.Flag.TheVariants.{NoRoot, KeepCaps}
 use Rattle.cred_caps.specs.Caps.{Caps, empty, full, union, meet, less, is_within}
-use Rattle.cred_caps.specs.Secure.{is_set, with_flag}
+use Rattle.cred_caps.specs.Secure.{is_set, with_secure_flag}
 use Rattle.cred_record.specs.declared.gains.Gains.{Gains}
 use Rattle.cred_record.specs.declared.want.Want.{Want}
 use Rattle.cred_record.specs.Credential.{Credential, is_root}
@@ -187,7 +187,7 @@ after_exec c f a =
       perm = perm_after c f a;
       eff = eff_after c f a;
       amb = amb_after c f a;
-      bits = with_flag c.bits KeepCaps false;
+      bits = with_secure_flag c.bits KeepCaps false;
     }
 
 -- ---- what is gained

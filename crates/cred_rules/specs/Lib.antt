@@ -3,7 +3,9 @@ pub mod Adjust
 pub mod Attribute
 pub mod Bits
 pub mod Exec
+pub mod Files
 pub mod Fix
+pub mod Modes
 pub mod SetFs
 pub mod SetId
 pub use Rattle.cred_record.specs.Credential

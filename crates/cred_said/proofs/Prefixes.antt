@@ -9,7 +9,7 @@ use Rattle.cred_io.proofs.Known.{appends_more, appends_kept}
 use Rattle.cred_event.specs.declared.entry.Entry.{Entry}
 use Rattle.cred_io.specs.declared.sink.SinkRefusal.TheVariants as sink
 use Rattle.cred_model.specs.Script.{Script}
-use Rattle.cred_said.specs.Ends.{finished}
+use Rattle.cred_said.specs.Ends.{status_after}
 use Rattle.cred_said.specs.declared.status.Status.TheVariants as status
 use Rattle.cred_report.specs.Text.{text}
 use Rattle.cred_report.proofs.Journals.{text_at, take_past}
@@ -54,12 +54,12 @@ flushed a b c bytes (Ok done) all kept = tt
 flushed a b c bytes (Err refusal) all kept = whole_kept a b c bytes all kept
 
 -- a text that was refused isn't done
-pub refused_apart : (refusal : SinkRefusal) → finished (Err refusal) status.Done ≡ status.Done → ⊥
+pub refused_apart : (refusal : SinkRefusal) → status_after (Err refusal) status.Done ≡ status.Done → ⊥
 refused_apart sink.Failed is = cc
 refused_apart sink.Memory is = cc
 
 -- a text whose writing was answered by Done was written
 pub done_written : (a b : Option (List ℕ)) (bytes : List ℕ) (r : Result (Unit {0}) SinkRefusal) → OnOk r (Appends a b bytes)
-    → finished r status.Done ≡ status.Done → Appends a b bytes
+    → status_after r status.Done ≡ status.Done → Appends a b bytes
 done_written a b bytes (Ok done) all is = all
 done_written a b bytes (Err refusal) all is = absurd (refused_apart refusal is)

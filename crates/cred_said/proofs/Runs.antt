@@ -14,11 +14,11 @@ use Rattle.cred_model.specs.Journal.{IsLegal}
 use Rattle.cred_model.specs.Script.{Script, SetupFirst}
 use Rattle.cred_report.specs.Text.{text}
 use Rattle.cred_grammar.specs.Grammar.{script_of}
-use Rattle.cred_grammar.specs.Read.{Gives}
+use Rattle.cred_grammar.specs.Read.{ReadsAs}
 use Rattle.cred_grammar.specs.declared.refusal.ScriptRefusal.{ScriptRefusal}
 use Rattle.cred_grammar.specs.declared.refusal.ScriptRefusal.TheVariants as refusal
 use Rattle.cred_spelling.specs.declared.reason.Reason.{Reason}
-use Rattle.cred_said.specs.Ends.{BeginsOne, IsForText, IsWhole, IsWithin, Reports, Suits}
+use Rattle.cred_said.specs.Ends.{BeginsOne, IsForText, IsWhole, IsWithinLimits, Reports, Suits}
 use Rattle.cred_said.specs.Cuts.{Cuts}
 use Rattle.cred_said.specs.Leaves.{LeavesReport, RunsBytes}
 use Rattle.cred_said.specs.Telling.{SaysRefusal, TellsSaid}
@@ -32,7 +32,7 @@ use Rattle.cred_said.proofs.Telling.{SaidOne, by_ends, or_so, same_or_so, told_o
 
 -- The bytes are within both limits and are this script. The setup's lines come first.
 pub record IsScript (bytes : List ℕ) (script : Script) : Type 0 where
-  pub within : IsWithin bytes
+  pub within : IsWithinLimits bytes
   pub few : length script.lines ≤ LINE_LIMIT
   pub read : script_of bytes ≡ Ok script
   pub setup : SetupFirst script
@@ -86,7 +86,7 @@ record IsBad (bytes : List ℕ) (its : Status) (said : List ℕ) : Type 0 where
   read : script_of bytes ≡ Err bad
   said_is : said ≡ bad_text bad
 
-is_bad : (bytes : List ℕ) (r : ScriptRefusal) (its : Status) (said : List ℕ) → Gives (λ (s : Script). s) (Err r) (script_of bytes)
+is_bad : (bytes : List ℕ) (r : ScriptRefusal) (its : Status) (said : List ℕ) → ReadsAs (λ (s : Script). s) (Err r) (script_of bytes)
     → SaysRefusal r its said → IsBad bytes its said
 is_bad bytes (refusal.Bad line reason) its said given says = record { bad = (line, reason); its_is = says.0; read = given; said_is = says.1 }
 is_bad bytes refusal.Memory its said given says = absurd says
@@ -95,7 +95,7 @@ pub refusal_whole : (r : ScriptRefusal) (its : Status) (said : List ℕ) → Say
 refusal_whole (refusal.Bad line reason) its said says = subst IsWhole (sym says.0) tt
 refusal_whole refusal.Memory its said says = absurd says
 
-bad_suits : (bytes : List ℕ) (bad : ℕ × Reason) → IsWithin bytes → script_of bytes ≡ Err bad → Suits bytes status.Bad
+bad_suits : (bytes : List ℕ) (bad : ℕ × Reason) → IsWithinLimits bytes → script_of bytes ≡ Err bad → Suits bytes status.Bad
 bad_suits bytes bad within read = (within, rw read tt)
 
 bad_begins : (These : Script → List Entry → Type 0) (a b : Option (List ℕ)) (bytes : List ℕ) (bad : ℕ × Reason) → script_of bytes ≡ Err bad
@@ -108,7 +108,7 @@ bad_cuts a b bytes bad read prefix = rw read prefix
 
 -- where what is said of such bytes was to be said
 bad_said : (These : Script → List Entry → Type 0) (bytes : List ℕ) (answer : Status) (a b : Option (List ℕ)) (untouched : Type 0)
-    → IsWithin bytes → SaidOne (IsBad bytes) answer a b untouched → RunsBytes These bytes answer a b untouched
+    → IsWithinLimits bytes → SaidOne (IsBad bytes) answer a b untouched → RunsBytes These bytes answer a b untouched
 bad_said These bytes answer a b untouched within one = record {
   done = λ e. let all = one.whole (subst IsWhole (sym e) tt) in let no : status.Bad ≡ status.Done = sym all.1.its_is ∙ e in cc;
   bad = λ e.
@@ -124,7 +124,7 @@ bad_said These bytes answer a b untouched within one = record {
 
 -- where no script was read of them
 pub ran_refused : {E : Type 0} (These : Script → List Entry → Type 0) (bytes : List ℕ) (r : ScriptRefusal) (said : Result Said E) (answer : Status)
-    (a b : Option (List ℕ)) (untouched : Type 0) → IsWithin bytes → Gives (λ (s : Script). s) (Err r) (script_of bytes)
+    (a b : Option (List ℕ)) (untouched : Type 0) → IsWithinLimits bytes → ReadsAs (λ (s : Script). s) (Err r) (script_of bytes)
     → IfOk said (λ s. SaysRefusal r s.status s.text.items) → TellsSaid said answer a b untouched → RunsBytes These bytes answer a b untouched
 ran_refused These bytes r said answer a b untouched within given says tells =
     let bad : IfOk said (λ s. IsBad bytes s.status s.text.items) = IfOk-weaker said _ _ (λ s is. is_bad bytes r s.status s.text.items given is) says in

@@ -6,7 +6,7 @@ use Rattle.std.specs.Io.KnownBytes.{Appends}
 use Rattle.cred_io.specs.Ends.{AppendsPrefix}
 use Rattle.cred_io.specs.declared.sink.SinkRefusal.{SinkRefusal}
 use Rattle.cred_io.specs.declared.sink.SinkRefusal.TheVariants as sink
-use Rattle.cred_said.specs.Ends.{IsWhole, finished}
+use Rattle.cred_said.specs.Ends.{IsWhole, status_after}
 use Rattle.cred_said.specs.Telling.{EndsAs, Tells, TellsSaid}
 use Rattle.cred_said.specs.declared.said.Said.{Said}
 use Rattle.cred_said.specs.declared.status.Status.{Status}
@@ -15,7 +15,7 @@ use Rattle.cred_said.proofs.Prefixes.{whole}
 
 -- by what the writing of the text answered
 pub told : (its : Status) (text : List ℕ) (r : Result (Unit {0}) SinkRefusal) (answer : Status) (a b : Option (List ℕ)) → IsWhole its
-    → OnOk r (Appends a b text) → OnErr r (AppendsPrefix a b text) → answer ≡ finished r its → Tells its text answer a b
+    → OnOk r (Appends a b text) → OnErr r (AppendsPrefix a b text) → answer ≡ status_after r its → Tells its text answer a b
 told its text (Ok done) answer a b is all prefix same = record { whole = λ e. all; ends = inl same; prefix = whole a b text all }
 told its text (Err sink.Failed) answer a b is all prefix same = record {
   whole = λ e. absurd (subst IsWhole (sym e ∙ same) is);

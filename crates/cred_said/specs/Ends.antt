@@ -21,7 +21,7 @@ use Rattle.cred_said.specs.declared.status.Status.TheVariants as status
 use Rattle.cred_said.specs.Texts.{bad_text}
 
 -- an input that has no more bytes and no more lines than it may have
-pub record IsWithin (input : List ℕ) : Type 0 where
+pub record IsWithinLimits (input : List ℕ) : Type 0 where
   pub bytes : length input ≤ BYTE_LIMIT
   pub lines : length (lines_of input) ≤ LINE_LIMIT
 
@@ -94,21 +94,21 @@ BeginsOne These before after input =
     (λ bad. AppendsPrefix before after (bad_text bad))
 
 -- A prefix of the text that the input has was written, and nothing else.
-abbrev pub Begins : Option (List ℕ) → Option (List ℕ) → List ℕ → Type 0
-Begins before after input = BeginsOne IsSequence before after input
+abbrev pub WritesStart : Option (List ℕ) → Option (List ℕ) → List ℕ → Type 0
+WritesStart before after input = BeginsOne IsSequence before after input
 
 -- The statuses that an input may have: which of Done, Bad and TooLarge it is, the input alone
 -- decides, and nothing but a fault or lack of memory takes their place. Only what is within the
 -- limits has a text that can fail to be written.
 abbrev pub Suits : List ℕ → Status → Type 0
 Suits input status.Done =
-    IsWithin input × MatchResult (script_of input) (λ script. ⊤) (λ bad. ⊥)
+    IsWithinLimits input × MatchResult (script_of input) (λ script. ⊤) (λ bad. ⊥)
 Suits input status.Bad =
-    IsWithin input × MatchResult (script_of input) (λ script. ⊥) (λ bad. ⊤)
+    IsWithinLimits input × MatchResult (script_of input) (λ script. ⊥) (λ bad. ⊤)
 Suits input status.TooLarge = IsTooLarge input
 Suits input status.Usage = ⊥
 Suits input status.ReadFault = ⊤
-Suits input status.WriteFault = IsWithin input
+Suits input status.WriteFault = IsWithinLimits input
 Suits input status.Memory = ⊤
 Suits input status.NotLegal = ⊥
 
@@ -128,7 +128,7 @@ IsWhole status.NotLegal = ⊤
 IsWhole other = ⊥
 
 -- the status after a text was written or refused
-abbrev pub finished : Result (Unit {0}) SinkRefusal → Status → Status
-finished (Ok done) answer = answer
-finished (Err sink.Failed) answer = status.WriteFault
-finished (Err sink.Memory) answer = status.Memory
+abbrev pub status_after : Result (Unit {0}) SinkRefusal → Status → Status
+status_after (Ok done) answer = answer
+status_after (Err sink.Failed) answer = status.WriteFault
+status_after (Err sink.Memory) answer = status.Memory

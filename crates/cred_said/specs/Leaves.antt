@@ -10,7 +10,7 @@ use Rattle.cred_model.specs.Script.{Script}
 use Rattle.cred_said.specs.declared.status.Status.{Status}
 use Rattle.cred_said.specs.declared.status.Status.TheVariants as status
 use Rattle.cred_said.specs.Cuts.{Cuts}
-use Rattle.cred_said.specs.Ends.{BeginsOne, HasTooManyLines, IsWhole, IsWithin}
+use Rattle.cred_said.specs.Ends.{BeginsOne, HasTooManyLines, IsWhole, IsWithinLimits}
 use Rattle.cred_said.specs.Ends.{Reads, ReadsTooMuch, ReadsWithin, Refuses, Reports, Suits}
 
 -- The source's count of faults rises for a ReadFault alone, which comes before the limit of bytes
@@ -38,8 +38,8 @@ pub record RunsBytes
   pub too_large : answer ≡ status.TooLarge → HasTooManyLines bytes × untouched
   pub no_read_fault : answer ≢ status.ReadFault
   pub suits : Suits bytes answer
-  pub prefix : untouched ⊎ (IsWithin bytes × BeginsOne These written now bytes)
-  pub cut : untouched ⊎ (IsWithin bytes × Cuts written now bytes)
+  pub prefix : untouched ⊎ (IsWithinLimits bytes × BeginsOne These written now bytes)
+  pub cut : untouched ⊎ (IsWithinLimits bytes × Cuts written now bytes)
 
 -- What a run of a script leaves, where one of these journals of it may come about: what was left at
 -- the source was read, and is within the limits, wherever something was written.
@@ -47,12 +47,12 @@ pub record LeavesReport
     (These : Script → List Entry → Type 0) (answer : Status)
     (before after : Option (List ℕ)) (written now : Option (List ℕ))
     : Type 0 where
-  pub done : answer ≡ status.Done → Reads IsWithin before after (Reports These written now)
-  pub bad : answer ≡ status.Bad → Reads IsWithin before after (Refuses written now)
+  pub done : answer ≡ status.Done → Reads IsWithinLimits before after (Reports These written now)
+  pub bad : answer ≡ status.Bad → Reads IsWithinLimits before after (Refuses written now)
   pub no_usage : answer ≢ status.Usage
   pub no_not_legal : answer ≢ status.NotLegal
   pub too_large : answer ≡ status.TooLarge → ReadsTooMuch BYTE_LIMIT HasTooManyLines before after
-  pub write_fault : answer ≡ status.WriteFault → ReadsWithin IsWithin before after
+  pub write_fault : answer ≡ status.WriteFault → ReadsWithin IsWithinLimits before after
   pub suits : (input : List ℕ) → before ≡ Some input → Suits input answer
-  pub prefix : (now ≡ written) ⊎ Reads IsWithin before after (BeginsOne These written now)
-  pub cut : (now ≡ written) ⊎ Reads IsWithin before after (Cuts written now)
+  pub prefix : (now ≡ written) ⊎ Reads IsWithinLimits before after (BeginsOne These written now)
+  pub cut : (now ≡ written) ⊎ Reads IsWithinLimits before after (Cuts written now)

@@ -1,7 +1,7 @@
 -- What the commands write beside reports.
 use Rattle.std.specs.Prelude.{ℕ, List, ◌++◌, codes, decimal}
 use Rattle.cred_rules.specs.Attribute.{Attribute, Fault}
-use Rattle.cred_filecap.specs.Refusals.{refusal_of}
+use Rattle.cred_filecap.specs.Refusals.{attr_refusal_of}
 use Rattle.cred_filecap.specs.declared.refusal.AttrRefusal.{AttrRefusal}
 use Rattle.cred_filecap.specs.declared.refusal.AttrRefusal.TheVariants.{BadLength, BadRevision}
 use Rattle.cred_generate.specs.declared.summing.Summary.{Summary}
@@ -35,7 +35,7 @@ refusal_text (BadLength n) = codes "bad length " ++ decimal n ++ codes "\n"
 refusal_text (BadRevision n) = codes "bad revision " ++ decimal n ++ codes "\n"
 
 abbrev pub fault_text : Fault → List ℕ
-fault_text fault = refusal_text (refusal_of fault)
+fault_text fault = refusal_text (attr_refusal_of fault)
 
 -- of the journal of a script that is made from a number
 abbrev pub summary_text : Summary → List ℕ

@@ -1,6 +1,6 @@
 //! How a run of the program ended.
 ghost use Rattle.std.specs.Prelude.{◌≡◌};
-ghost use Rattle.cred_said.specs.Ends.{finished};
+ghost use Rattle.cred_said.specs.Ends.{status_after};
 
 use cred_io::SinkRefusal;
 
@@ -12,7 +12,8 @@ pub enum Status {
     /// The words are no command, and the usage line was written.
     Usage,
     /// The input is no script, and its first bad line was written; or an input of `audit` has no
-    /// line `report`, or the word of `decode` spells no attribute, and the reason was written.
+    /// line `report`, the word of `decode` spells no attribute, that of `encode` is no text of a
+    /// file's capabilities, or that of `capdata` spells no record, and the reason was written.
     Bad,
     /// The input could not be read.
     ReadFault,
@@ -40,7 +41,7 @@ impl Status {
 
 /// The status, if its text was written.
 pub fn finish(written: Result<(), SinkRefusal>, status: Status) -> Status
-    ensures { result ≡ finished written status }
+    ensures { result ≡ status_after written status }
 {
     match written {
         Ok(()) => status,

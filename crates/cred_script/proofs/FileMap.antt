@@ -11,8 +11,8 @@ use Rattle.indexmap.specs.IndexMap.{insert_entry}
 use Rattle.std.proofs.lemmas.Map.Keys.{IsDistinct-head, IsDistinct-tail}
 use Rattle.indexmap.proofs.MapLemmas.{Missing-position, insert_entry-absent}
 use Rattle.cred_record.specs.File.{File}
-use Rattle.cred_script.specs.Files.{place_of}
-use Rattle.cred_script.specs.Kept.{file_of, files_of}
+use Rattle.cred_script.specs.Files.{file_place}
+use Rattle.cred_script.specs.Kept.{named_file, files_of}
 
 before : (name : List ℕ) (es : List (String Global × File))
     → prefix_len (λ key. not (bytes_eq name (string_bytes key))) (keys_of es) ≡ prefix_len (λ file. not (bytes_eq name file.name)) (files_of es)
@@ -25,15 +25,15 @@ lengths (e ∷ es) = ap suc (lengths es)
 
 -- the place that a name has in the map
 pub place_by_name : (name : List ℕ) (es : List (String Global × File))
-    → position (λ key. bytes_eq name (string_bytes key)) (keys_of es) ≡ place_of (files_of es) name
+    → position (λ key. bytes_eq name (string_bytes key)) (keys_of es) ≡ file_place (files_of es) name
 place_by_name name es = rw (before name es, lengths es) refl
 
 -- a file of a new name goes last
-pub added : (name : String Global) (info : File) (es more : List (String Global × File)) → place_of (files_of es) (string_bytes name) ≡ None
-    → more ≡ insert_entry string_eq es name info → files_of more ≡ files_of es ++ file_of (name, info) ∷ []
+pub added : (name : String Global) (info : File) (es more : List (String Global × File)) → file_place (files_of es) (string_bytes name) ≡ None
+    → more ≡ insert_entry string_eq es name info → files_of more ≡ files_of es ++ named_file (name, info) ∷ []
 added name info es more new is =
     let absent = Missing-position (string_eq name) es (place_by_name (string_bytes name) es ∙ new) in
-    ap files_of (is ∙ insert_entry-absent string_eq name info es absent.absent) ∙ map-append file_of es ((name, info) ∷ [])
+    ap files_of (is ∙ insert_entry-absent string_eq name info es absent.absent) ∙ map-append named_file es ((name, info) ∷ [])
 
 -- what holds of each key holds of the one at a place
 at_place : {K : Type 0} (P : K → Type 0) (ks : List K) (i : ℕ) (k : K) → AllByRecursion P ks → slice_get ks i ≡ Some k → P k
@@ -62,7 +62,7 @@ before_own (x ∷ es) (suc i) e apart is =
 
 -- the name of an entry has the entry's place
 pub own_place : (es : List (String Global × File)) (i : ℕ) (e : String Global × File) → IsDistinct string_eq (keys_of es) → slice_get es i ≡ Some e
-    → place_of (files_of es) (string_bytes e.0) ≡ Some i
+    → file_place (files_of es) (string_bytes e.0) ≡ Some i
 own_place es i e apart is =
     let within : i < length (keys_of es) = slice_get_within (keys_of es) i e.0 (key_at es i e is) in
     let test : nat_lt i (length (keys_of es)) ≡ true = grind (arith, nat_tests) in

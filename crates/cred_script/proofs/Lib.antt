@@ -1,2 +1,3 @@
 pub mod SmallLanes
 pub mod FileMap
+pub mod Fixed

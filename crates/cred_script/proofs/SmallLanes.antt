@@ -4,14 +4,14 @@ use Rattle.std.proofs.lemmas.List.Elements.{All-nil, All-cons, All-head, All-tai
 use Rattle.cred_ids.specs.Limits.{LAST_LANE}
 use Rattle.cred_model.specs.Script.{Line, Namespace}
 use Rattle.cred_script.specs.Lanes.{lanes}
-use Rattle.cred_script.specs.Sound.{IsSound}
+use Rattle.cred_script.specs.Sound.{IsSoundLine}
 
 -- no lane is greater than the last
-pub lanes_small : (count : ℕ) (declared : List Namespace) (lines : List Line) → All (IsSound count declared) lines → lanes lines ≤ LAST_LANE
+pub lanes_small : (count : ℕ) (declared : List Namespace) (lines : List Line) → All (IsSoundLine count declared) lines → lanes lines ≤ LAST_LANE
 lanes_small count declared [] all = omega arith
 lanes_small count declared (line ∷ lines) all =
-    let head = (All-head (IsSound count declared) line lines all).lane in
-    let tail = lanes_small count declared lines (All-tail (IsSound count declared) line lines all) in
+    let head = (All-head (IsSoundLine count declared) line lines all).lane in
+    let tail = lanes_small count declared lines (All-tail (IsSoundLine count declared) line lines all) in
     omega arith
 
 -- where none is named all lines are the setup's

@@ -4,6 +4,7 @@ use Rattle.std.specs.declared.option.Option.{Option}
 use Rattle.cred_event.specs.declared.event.Event.{Event}
 use Rattle.cred_event.specs.declared.event.Event.TheVariants.{Prepare, Override, Revert, Begin}
 use Rattle.cred_event.specs.declared.event.Event.TheVariants.{Spawn, Fork, Exit, Dumpable, Dumped}
+use Rattle.cred_event.specs.declared.event.Event.TheVariants.{Raw}
 use Rattle.cred_event.specs.declared.content.Content.{Content}
 use Rattle.cred_event.specs.declared.content.Content.TheVariants.{One, Nothing}
 use Rattle.cred_event.specs.declared.content.Content.TheVariants as line
@@ -20,6 +21,7 @@ event_actor (Fork task child process) = Some task
 event_actor (Exit task) = Some task
 event_actor (Dumpable task value) = Some task
 event_actor (Dumped task) = Some task
+event_actor (Raw task call) = Some task
 event_actor event = None
 
 -- The same of what a line holds. A line `T close F` doesn't show its task here: its event names
@@ -35,3 +37,4 @@ actor (line.Signal task to) = Some task
 actor (line.Ptrace task to mode) = Some task
 actor (line.Change task change) = Some task
 actor (line.Access task file want) = Some task
+actor (line.OnFile task call) = Some task

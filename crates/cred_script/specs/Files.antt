@@ -5,5 +5,5 @@ use Rattle.std.specs.Str.{bytes_eq}
 use Rattle.cred_model.specs.Script.{NamedFile}
 
 -- the place of the file of this name
-abbrev pub place_of : List NamedFile → List ℕ → Option ℕ
-place_of files name = position (λ file. bytes_eq name file.name) files
+abbrev pub file_place : List NamedFile → List ℕ → Option ℕ
+file_place files name = position (λ file. bytes_eq name file.name) files

@@ -8,11 +8,11 @@ use Rattle.cred_ids.specs.Limits.{FILES}
 use Rattle.cred_record.specs.File.{File}
 use Rattle.cred_model.specs.Script.{NamedFile}
 
-abbrev pub file_of : String Global × File → NamedFile
-file_of entry = record { name = string_bytes entry.0; info = entry.1 }
+abbrev pub named_file : String Global × File → NamedFile
+named_file entry = record { name = string_bytes entry.0; info = entry.1 }
 
 abbrev pub files_of : List (String Global × File) → List NamedFile
-files_of entries = map file_of entries
+files_of entries = map named_file entries
 
 -- There are no more files than a script may declare, and no two of them have one name.
 pub record AreFew (entries : List (String Global × File)) : Type 0 where

@@ -10,5 +10,5 @@ abbrev pub line_at : Script → ℕ → Option Line
 line_at given number = if number == 0 then None else slice_get given.lines (number - 1)
 
 -- the line that a lane and a content make
-abbrev pub seen : ℕ × Bor Content → Line
-seen found = record { lane = found.0; content = found.1.now }
+abbrev pub line_seen : ℕ × Bor Content → Line
+line_seen found = record { lane = found.0; content = found.1.now }

@@ -4,14 +4,16 @@ use Rattle.std.specs.List.{cons_option}
 use Rattle.cred_ids.specs.Limits.{LINE_LIMIT, LAST_LANE, LAST_NUMBER}
 use Rattle.cred_model.specs.Script.{Line, Namespace, SetupBefore}
 use Rattle.cred_model.specs.Named.{IsContentOf}
+use Rattle.cred_model.specs.Changing.{ChangesInSetup}
 use Rattle.cred_script.specs.Acting.{actor}
 use Rattle.cred_names.specs.Labels.{labels}
 
 -- what is true of each line of a script that declares so many files, and these namespaces
-pub record IsSound (count : ℕ) (declared : List Namespace) (line : Line) : Type 0 where
+pub record IsSoundLine (count : ℕ) (declared : List Namespace) (line : Line) : Type 0 where
   pub lane : line.lane ≤ LAST_LANE
   pub labels : All (λ label. label ≤ LAST_NUMBER) (labels line.content)
   pub content : IsContentOf count declared line.content
+  pub fixed : ChangesInSetup line
 
 -- the lists have no number in common
 abbrev pub ShareNone : List ℕ → List ℕ → Type 0
@@ -29,6 +31,6 @@ AreApart earlier later =
 pub record IsSoundScript (count : ℕ) (declared : List Namespace) (lines : List Line)
     : Type 0 where
   pub few : length lines ≤ LINE_LIMIT
-  pub each : All (IsSound count declared) lines
+  pub each : All (IsSoundLine count declared) lines
   pub first : AllPairs SetupBefore lines
   pub apart : AllPairs AreApart lines

@@ -17,6 +17,7 @@ pub fn event_actor(event: &Event) -> Option<u32>
         | Event::Fork { task, .. }
         | Event::Dumpable { task, .. }
         | Event::Dumped { task }
+        | Event::Raw { task, .. }
         | Event::Exit { task } => Some(*task),
         _ => None,
     }

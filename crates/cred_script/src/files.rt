@@ -69,7 +69,7 @@ impl Files {
     /// The place of the file of this name, from 0 to 255; none for a name that isn't declared.
     #[inline(always)]
     pub fn place_of(&self, name: &str) -> Option<u32>
-        ensures place { result ≡ spec.place_of self.now name.now }
+        ensures place { result ≡ spec.file_place self.now name.now }
         ensures few { IfSome result (λ place. place < FILES) }
     {
         Some(self.by_name.get_index_of(name)? as u32)
@@ -80,7 +80,7 @@ impl Files {
     pub fn name(&self, place: u32) -> Option<&str>
         ensures name { option_map (λ name. name.now) result
             ≡ option_map (λ file. file.name) (slice_get self.now place) }
-        ensures own { IfSome result (λ name. spec.place_of self.now name.now ≡ Some place) }
+        ensures own { IfSome result (λ name. spec.file_place self.now name.now ≡ Some place) }
     {
         let (name, _) = self.by_name.get_index(place as usize)?;
         Some(name)
@@ -102,7 +102,7 @@ impl Files {
     /// `NoMemory` where there is no memory for it; then nothing changes.
     pub fn add(&mut self, file: ScriptFile) -> Result<(), NoMemory>
         requires room { length self.old < FILES }
-        requires new { spec.place_of self.old file.name ≡ None }
+        requires new { spec.file_place self.old file.name ≡ None }
         ensures ok { OnOk result (self.new ≡ self.old ++ file ∷ []) }
         ensures err { OnErr result (self.new ≡ self.old) }
     {

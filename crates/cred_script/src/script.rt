@@ -4,11 +4,12 @@ ghost use Rattle.std.specs.Option.{option_map};
 ghost use Rattle.cred_ids.specs.Limits.{LINE_LIMIT, FILES};
 ghost use Rattle.cred_ids.specs.Limits.{LAST_LANE};
 ghost use Rattle.cred_model.specs.Named.{IsContentOf};
+ghost use Rattle.cred_model.specs.Changing.{FixesFiles};
 ghost use Rattle.cred_model.specs.Script.{SetupFirst, chain_in, reaches};
 ghost use Rattle.cred_script.specs.Files as spec;
 ghost use Rattle.cred_script.specs.Lanes.{lanes};
-ghost use Rattle.cred_script.specs.Lines.{line_at, seen};
-ghost use Rattle.cred_script.specs.Sound.{AreApart, IsSound, IsSoundScript};
+ghost use Rattle.cred_script.specs.Lines.{line_at, line_seen};
+ghost use Rattle.cred_script.specs.Sound.{AreApart, IsSoundLine, IsSoundScript};
 
 use crate::files::Files;
 use cred_event::Content;
@@ -65,6 +66,7 @@ impl Script {
         ensures value { result
             ≡ record { files = files; namespaces = namespaces; lines = lines.items } }
         ensures setup { SetupFirst result }
+        ensures fixed { FixesFiles result }
     {
         Script {
             files,
@@ -80,11 +82,13 @@ impl Script {
         &self.files
     }
 
-    /// How many lines there are.
+    /// How many lines there are. The setup's come before all others, and those that change a file
+    /// are among them.
     pub fn lines(&self) -> u32
         ensures count { result ≡ length self.now.lines }
         ensures few { result ≤ LINE_LIMIT }
         ensures setup { SetupFirst self.now }
+        ensures fixed { FixesFiles self.now }
     {
         self.lines.len() as u32
     }
@@ -107,7 +111,7 @@ impl Script {
     pub fn name(&self, place: u32) -> Option<&str>
         ensures name { option_map (λ name. name.now) result
             ≡ option_map (λ file. file.name) (slice_get self.now.files place) }
-        ensures own { IfSome result (λ name. spec.place_of self.now.files name.now ≡ Some place) }
+        ensures own { IfSome result (λ name. spec.file_place self.now.files name.now ≡ Some place) }
     {
         self.files.name(place)
     }
@@ -122,7 +126,7 @@ impl Script {
 
     /// The place of the file of this name, from 0 to 255; none for a name that isn't declared.
     pub fn place_of(&self, name: &str) -> Option<u32>
-        ensures place { result ≡ spec.place_of self.now.files name.now }
+        ensures place { result ≡ spec.file_place self.now.files name.now }
         ensures few { IfSome result (λ place. place < FILES) }
     {
         self.files.place_of(name)
@@ -146,12 +150,12 @@ impl Script {
 
     /// The lane and the content of the line of this number; none for 0 and past the last line.
     pub fn line(&self, number: u32) -> Option<(u32, &Content)>
-        ensures found { option_map seen result ≡ line_at self.now number }
+        ensures found { option_map line_seen result ≡ line_at self.now number }
         ensures few { IfSome result (λ _. number ≤ LINE_LIMIT) }
         ensures sound { IfSome result
-            (λ found. IsSound (length self.now.files) self.now.namespaces (seen found)) }
+            (λ found. IsSoundLine (length self.now.files) self.now.namespaces (line_seen found)) }
         ensures kind { IfSome result (λ found.
-            IsContentOf (length self.now.files) self.now.namespaces (seen found).content) }
+            IsContentOf (length self.now.files) self.now.namespaces (line_seen found).content) }
     {
         let place = number.checked_sub(1)?;
         let line = self.lines.get(place as usize)?;

@@ -21,8 +21,8 @@ BecomesBy old new (Err refusal.Invalid) given = (given ≡ Err denial.Invalid) �
 BecomesBy old new (Err refusal.Memory) given = Permits given × (new ≡ old)
 
 -- made anew: what was made is what the rule gives, or the reason for which it denies
-abbrev pub IsMade : Result Credential Denial → Result Credential Refusal → Type 0
-IsMade given (Ok cred) = given ≡ Ok cred
-IsMade given (Err refusal.Perm) = given ≡ Err denial.Perm
-IsMade given (Err refusal.Invalid) = given ≡ Err denial.Invalid
-IsMade given (Err refusal.Memory) = ⊤
+abbrev pub IsAnew : Result Credential Denial → Result Credential Refusal → Type 0
+IsAnew given (Ok cred) = given ≡ Ok cred
+IsAnew given (Err refusal.Perm) = given ≡ Err denial.Perm
+IsAnew given (Err refusal.Invalid) = given ≡ Err denial.Invalid
+IsAnew given (Err refusal.Memory) = ⊤

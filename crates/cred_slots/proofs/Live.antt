@@ -6,9 +6,9 @@ use Rattle.std.proofs.lemmas.List.Folds.{list_any-append}
 use Rattle.std.proofs.lemmas.Bool.{cases_lt}
 use Rattle.std.proofs.lemmas.Bool.Decides.{nat_tests}
 use Rattle.cred_slots.specs.declared.row.Row.{Row}
-use Rattle.cred_slots.specs.Table.{Table, slots, stands_in, is_live, least_free, swept, free}
+use Rattle.cred_slots.specs.Table.{Table, slots, is_sealed_in, is_live_in, least_free_in, swept_table, free_in}
 use Rattle.cred_slots.specs.Flags.{in_either, first_unset}
-use Rattle.cred_slots.specs.Rows.{row_at, repeated, held_in, held_count, late_count, IsSound}
+use Rattle.cred_slots.specs.Rows.{row_at, repeated, held_in, held_count, late_count, AreSoundRows}
 use Rattle.cred_slots.proofs.Counting.{weight, any-count, count-repeated, sum_only}
 use Rattle.cred_slots.proofs.Tables.{room-free, room-full}
 
@@ -23,7 +23,7 @@ weight_none true n e = e
 weight_none false n e = refl
 
 weight_here : (sealed : List ℕ) (count : Row → ℕ) (row : Row) (slot : ℕ) → (0 < count row → slice_get sealed row.number ≡ Some slot)
-    → weight count (stands_in sealed slot) row ≡ count row
+    → weight count (is_sealed_in sealed slot) row ≡ count row
 weight_here sealed count row slot stands = elim (cases_lt 0 (count row)) [
   | inl lt ↦
       let there = stands lt in
@@ -31,40 +31,40 @@ weight_here sealed count row slot stands = elim (cases_lt 0 (count row)) [
       rw (there, same) refl
   | inr ge ↦
       let none : count row ≡ 0 = omega arith in
-      weight_none (stands_in sealed slot row.number) (count row) none ∙ sym none
+      weight_none (is_sealed_in sealed slot row.number) (count row) none ∙ sym none
 ]
 
 pub weight_elsewhere : (sealed : List ℕ) (count : Row → ℕ) (row : Row) (slot i : ℕ) → i ≢ slot → (0 < count row → slice_get sealed row.number ≡ Some i)
-    → weight count (stands_in sealed slot) row ≡ 0
+    → weight count (is_sealed_in sealed slot) row ≡ 0
 weight_elsewhere sealed count row slot i ne stands = elim (cases_lt 0 (count row)) [
   | inl lt ↦
       let there = stands lt in
       let other : (i == slot) ≡ false = grind (arith, nat_tests) in
       rw (there, other) refl
-  | inr ge ↦ weight_none (stands_in sealed slot row.number) (count row) (omega arith)
+  | inr ge ↦ weight_none (is_sealed_in sealed slot row.number) (count row) (omega arith)
 ]
 
 -- A row counts the references to all numbers in its slot.
 count-in_slot : (rows : List Row) (sealed : List ℕ) (count : Row → ℕ) → length rows ≡ 256
     → ((slot : ℕ) → slot < 256 → 0 < count (row_at rows slot) → slice_get sealed (row_at rows slot).number ≡ Some slot)
-    → (slot : ℕ) → slot < 256 → count_by (stands_in sealed slot) (repeated count rows) ≡ count (row_at rows slot)
+    → (slot : ℕ) → slot < 256 → count_by (is_sealed_in sealed slot) (repeated count rows) ≡ count (row_at rows slot)
 count-in_slot rows sealed count long stands slot within =
-    count-repeated count (stands_in sealed slot) rows
-    ∙ sum_only (weight count (stands_in sealed slot)) rows slot (omega arith)
+    count-repeated count (is_sealed_in sealed slot) rows
+    ∙ sum_only (weight count (is_sealed_in sealed slot)) rows slot (omega arith)
     (λ i h ne. weight_elsewhere sealed count (row_at rows i) slot i ne (stands i (omega arith)))
     ∙ weight_here sealed count (row_at rows slot) slot (stands slot within)
 
 pub held-in_slot : {rows : List Row} {sealed deferred : List ℕ} {kept used late : List Bool} {held spare sealable referable : ℕ}
-    → IsSound rows sealed deferred kept used late held spare sealable referable
-    → (slot : ℕ) → slot < 256 → count_by (stands_in sealed slot) (held_in rows) ≡ (row_at rows slot).held
+    → AreSoundRows rows sealed deferred kept used late held spare sealable referable
+    → (slot : ℕ) → slot < 256 → count_by (is_sealed_in sealed slot) (held_in rows) ≡ (row_at rows slot).held
 held-in_slot {rows = rows} {sealed = sealed} s slot within =
     count-in_slot rows sealed held_count s.all_rows (λ k h some. s.stands k h (omega arith)) slot within
 
 pub late-in_slot : {rows : List Row} {sealed deferred : List ℕ} {kept used late : List Bool} {held spare sealable referable : ℕ}
-    → IsSound rows sealed deferred kept used late held spare sealable referable
-    → (slot : ℕ) → slot < 256 → count_by (stands_in sealed slot) deferred ≡ (row_at rows slot).late
+    → AreSoundRows rows sealed deferred kept used late held spare sealable referable
+    → (slot : ℕ) → slot < 256 → count_by (is_sealed_in sealed slot) deferred ≡ (row_at rows slot).late
 late-in_slot {rows = rows} {sealed = sealed} s slot within =
-    s.given_up.counts (stands_in sealed slot)
+    s.given_up.counts (is_sealed_in sealed slot)
     ∙ count-in_slot rows sealed late_count s.all_rows (λ k h some. s.stands k h (omega arith)) slot within
 
 reorder : (u l k : Bool) → ((u || l) || k) ≡ ((k || u) || l)
@@ -86,11 +86,11 @@ abbrev pub seen : List Row → List ℕ → List ℕ → List Bool → ℕ → T
 seen rows sealed deferred kept spare = record { sealed = sealed; held = held_in rows; deferred = deferred; kept = kept; spare = spare }
 
 pub live-by_flags : {rows : List Row} {sealed deferred : List ℕ} {kept used late : List Bool} {held spare sealable referable : ℕ}
-    → IsSound rows sealed deferred kept used late held spare sealable referable
-    → (slot : ℕ) → slot < 256 → is_live (seen rows sealed deferred kept spare) slot ≡ in_either (map (in_either kept used) slots) late slot
+    → AreSoundRows rows sealed deferred kept used late held spare sealable referable
+    → (slot : ℕ) → slot < 256 → is_live_in (seen rows sealed deferred kept spare) slot ≡ in_either (map (in_either kept used) slots) late slot
 unfolding slots
 live-by_flags {rows = rows} {sealed = sealed} {deferred = deferred} {kept = kept} {used = used} {late = late} s slot within =
-    let test : ℕ → Bool = stands_in sealed slot in
+    let test : ℕ → Bool = is_sealed_in sealed slot in
     let u : list_any test (held_in rows) ≡ get_or used slot false =
     any-count test (held_in rows) ∙ ap (nat_lt 0) (held-in_slot s slot within) ∙ sym (s.is_used.each slot within) in
     let l : list_any test deferred ≡ get_or late slot false =
@@ -99,29 +99,29 @@ live-by_flags {rows = rows} {sealed = sealed} {deferred = deferred} {kept = kept
     (reorder (get_or used slot false) (get_or late slot false) (get_or kept slot false))
 
 pub live-once_swept : {rows : List Row} {sealed deferred : List ℕ} {kept used late : List Bool} {held spare sealable referable : ℕ}
-    → IsSound rows sealed deferred kept used late held spare sealable referable
-    → (slot : ℕ) → slot < 256 → is_live (seen rows sealed [] kept spare) slot ≡ in_either kept used slot
+    → AreSoundRows rows sealed deferred kept used late held spare sealable referable
+    → (slot : ℕ) → slot < 256 → is_live_in (seen rows sealed [] kept spare) slot ≡ in_either kept used slot
 live-once_swept {rows = rows} {sealed = sealed} {deferred = deferred} {kept = kept} {used = used} {late = late} s slot within =
-    let test : ℕ → Bool = stands_in sealed slot in
+    let test : ℕ → Bool = is_sealed_in sealed slot in
     let u : list_any test (held_in rows) ≡ get_or used slot false =
     any-count test (held_in rows) ∙ ap (nat_lt 0) (held-in_slot s slot within) ∙ sym (s.is_used.each slot within) in
     rw (list_any-append test (held_in rows) [], u) (reorder (get_or used slot false) false (get_or kept slot false) ∙ or_none _)
 
 pub least-by_flags : {rows : List Row} {sealed deferred : List ℕ} {kept used late : List Bool} {held spare sealable referable : ℕ}
-    → IsSound rows sealed deferred kept used late held spare sealable referable
-    → first_unset (map (in_either (map (in_either kept used) slots) late) slots) ≡ least_free (seen rows sealed deferred kept spare)
+    → AreSoundRows rows sealed deferred kept used late held spare sealable referable
+    → first_unset (map (in_either (map (in_either kept used) slots) late) slots) ≡ least_free_in (seen rows sealed deferred kept spare)
 unfolding slots
 least-by_flags {rows = rows} {sealed = sealed} {deferred = deferred} {kept = kept} {used = used} {late = late} {spare = spare} s =
     let both : ℕ → Bool = in_either (map (in_either kept used) slots) late in
-    find-same (λ slot. not (get_or (map both slots) slot false)) (λ slot. not (is_live (seen rows sealed deferred kept spare) slot)) 0 256
+    find-same (λ slot. not (get_or (map both slots) slot false)) (λ slot. not (is_live_in (seen rows sealed deferred kept spare) slot)) 0 256
     (λ k l h. ap not (get_or-map-range_with_len both 0 256 k k false (omega arith) (omega arith) ∙ sym (live-by_flags s k (omega arith))))
 
 pub least-once_swept : {rows : List Row} {sealed deferred : List ℕ} {kept used late : List Bool} {held spare sealable referable : ℕ}
-    → IsSound rows sealed deferred kept used late held spare sealable referable
-    → first_unset (map (in_either kept used) slots) ≡ least_free (seen rows sealed [] kept spare)
+    → AreSoundRows rows sealed deferred kept used late held spare sealable referable
+    → first_unset (map (in_either kept used) slots) ≡ least_free_in (seen rows sealed [] kept spare)
 unfolding slots
 least-once_swept {rows = rows} {sealed = sealed} {kept = kept} {used = used} {spare = spare} s =
-    find-same (λ slot. not (get_or (map (in_either kept used) slots) slot false)) (λ slot. not (is_live (seen rows sealed [] kept spare) slot)) 0 256
+    find-same (λ slot. not (get_or (map (in_either kept used) slots) slot false)) (λ slot. not (is_live_in (seen rows sealed [] kept spare) slot)) 0 256
     (λ k l h. ap not (get_or-map-range_with_len (in_either kept used) 0 256 k k false (omega arith) (omega arith) ∙ sym (live-once_swept s k (omega arith))))
 
 none_set : (a b c : Bool) → not ((a || b) || c) ≡ true → (a ≡ false) × (b ≡ false)
@@ -149,14 +149,14 @@ find-passes test a (suc n) s e = elim (some_is (test a) a s (find test (range_wi
 
 -- the least slot is in the table, and nothing refers to a number in it
 pub least-is : {rows : List Row} {sealed deferred : List ℕ} {kept used late : List Bool} {held spare sealable referable : ℕ}
-    → IsSound rows sealed deferred kept used late held spare sealable referable
-    → (slot : ℕ) → least_free (seen rows sealed deferred kept spare) ≡ Some slot
+    → AreSoundRows rows sealed deferred kept used late held spare sealable referable
+    → (slot : ℕ) → least_free_in (seen rows sealed deferred kept spare) ≡ Some slot
     → (slot < 256) × ((row_at rows slot).held + (row_at rows slot).late ≡ 0)
 unfolding slots
 least-is {rows = rows} {sealed = sealed} {deferred = deferred} {kept = kept} {used = used} {late = late} {spare = spare} s slot e =
-    let found = find-passes (λ k. not (is_live (seen rows sealed deferred kept spare) k)) 0 256 slot e in
+    let found = find-passes (λ k. not (is_live_in (seen rows sealed deferred kept spare) k)) 0 256 slot e in
     let within : slot < 256 = omega (arith, found.0) in
-    let test : ℕ → Bool = stands_in sealed slot in
+    let test : ℕ → Bool = is_sealed_in sealed slot in
     let u : list_any test (held_in rows) ≡ nat_lt 0 (row_at rows slot).held = any-count test (held_in rows) ∙ ap (nat_lt 0) (held-in_slot s slot within) in
     let l : list_any test deferred ≡ nat_lt 0 (row_at rows slot).late = any-count test deferred ∙ ap (nat_lt 0) (late-in_slot s slot within) in
     let dead : not ((nat_lt 0 (row_at rows slot).held || nat_lt 0 (row_at rows slot).late) || get_or kept slot false) ≡ true =
@@ -182,21 +182,21 @@ find-fails test a (suc n) s none low high =
 -- then something was.
 pub record IsNext (t : Table) (late slot : ℕ) : Type 0 where
   pub within : slot < 256
-  pub at_once : late ≡ 0 → least_free t ≡ Some slot
-  pub all_live : 0 < late → (least_free t ≡ None) × (least_free (swept t) ≡ Some slot)
+  pub at_once : late ≡ 0 → least_free_in t ≡ Some slot
+  pub all_live : 0 < late → (least_free_in t ≡ None) × (least_free_in (swept_table t) ≡ Some slot)
 
 pub next-is : {rows : List Row} {sealed deferred : List ℕ} {kept used late : List Bool} {held spare sealable referable : ℕ}
-    → IsSound rows sealed deferred kept used late held spare sealable referable
-    → (slot : ℕ) → free (seen rows sealed deferred kept spare) ≡ Some slot
+    → AreSoundRows rows sealed deferred kept used late held spare sealable referable
+    → (slot : ℕ) → free_in (seen rows sealed deferred kept spare) ≡ Some slot
     → IsNext (seen rows sealed deferred kept spare) (row_at rows slot).late slot
 unfolding slots
 next-is {rows = rows} {sealed = sealed} {deferred = deferred} {kept = kept} {used = used} {late = late} {spare = spare} s slot takes =
-    by_least (least_free (seen rows sealed deferred kept spare)) refl
+    by_least (least_free_in (seen rows sealed deferred kept spare)) refl
   where
-    by_least : (o : Option ℕ) → least_free (seen rows sealed deferred kept spare) ≡ o → IsNext (seen rows sealed deferred kept spare) (row_at rows slot).late slot
+    by_least : (o : Option ℕ) → least_free_in (seen rows sealed deferred kept spare) ≡ o → IsNext (seen rows sealed deferred kept spare) (row_at rows slot).late slot
     by_least (Some n) at =
         let t = seen rows sealed deferred kept spare in
-        let here : least_free t ≡ Some slot = sym (ap least_free (room-free t (ap is_some at))) ∙ takes in
+        let here : least_free_in t ≡ Some slot = sym (ap least_free_in (room-free t (ap is_some at))) ∙ takes in
         let is = least-is s slot here in
         record {
           within = is.0;
@@ -205,21 +205,21 @@ next-is {rows = rows} {sealed = sealed} {deferred = deferred} {kept = kept} {use
         }
     by_least None at =
         let t = seen rows sealed deferred kept spare in
-        let test : ℕ → Bool = stands_in sealed slot in
-        let later : least_free (swept t) ≡ Some slot = sym (ap least_free (room-full t (ap is_some at))) ∙ takes in
-        let found = find-passes (λ k. not (is_live (swept t) k)) 0 256 slot later in
+        let test : ℕ → Bool = is_sealed_in sealed slot in
+        let later : least_free_in (swept_table t) ≡ Some slot = sym (ap least_free_in (room-full t (ap is_some at))) ∙ takes in
+        let found = find-passes (λ k. not (is_live_in (swept_table t) k)) 0 256 slot later in
         let within : slot < 256 = omega (arith, found.0) in
-        let live : not (is_live t slot) ≡ false = find-fails (λ k. not (is_live t k)) 0 256 slot at (omega arith) within in
+        let live : not (is_live_in t slot) ≡ false = find-fails (λ k. not (is_live_in t k)) 0 256 slot at (omega arith) within in
         let given_up : list_any test deferred ≡ nat_lt 0 (row_at rows slot).late = any-count test deferred ∙ ap (nat_lt 0) (late-in_slot s slot within) in
         record {
           within = within;
           at_once = λ none.
               let nothing : list_any test deferred ≡ false = given_up ∙ ap (nat_lt 0) none in
-              let same : is_live t slot ≡ is_live (swept t) slot =
+              let same : is_live_in t slot ≡ is_live_in (swept_table t) slot =
               ap (λ (b : Bool). b || get_or kept slot false)
               (list_any-append test (held_in rows) deferred ∙ ap (λ (b : Bool). list_any test (held_in rows) || b) nothing
               ∙ sym (list_any-append test (held_in rows) [])) in
-              let dead : not (is_live t slot) ≡ true = ap not same ∙ found.1 in
+              let dead : not (is_live_in t slot) ≡ true = ap not same ∙ found.1 in
               absurd (let wrong : false ≡ true = sym live ∙ dead in cc);
           all_live = λ some. (at, later);
         }

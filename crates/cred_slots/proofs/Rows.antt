@@ -5,7 +5,7 @@ use Rattle.std.proofs.lemmas.List.{length-map, take-append-le, take_all}
 use Rattle.std.proofs.lemmas.List.FromFn.{length-map-range_with_len, get_or-map-range_with_len}
 use Rattle.cred_slots.specs.declared.row.Row.{Row}
 use Rattle.cred_slots.specs.Table.{slots}
-use Rattle.cred_slots.specs.Rows.{row_at, repeated, held_in, late_in, held_count, late_count, without_late, unused, IsSound}
+use Rattle.cred_slots.specs.Rows.{row_at, repeated, held_in, late_in, held_count, late_count, without_late, unused, AreSoundRows}
 
 pub map-is : (f : Row → Row) (xs ys : List Row) → length ys ≡ length xs → ((k : ℕ) → k < length xs → row_at ys k ≡ f (row_at xs k)) → ys ≡ map f xs
 map-is f [] [] long each = refl
@@ -38,8 +38,8 @@ unfolding slots
 flags_long = length-map-range_with_len (λ _. false) 0 256
 
 pub sweep-sound : {rows : List Row} {sealed deferred : List ℕ} {kept used late : List Bool} {held spare sealable referable : ℕ}
-    → IsSound rows sealed deferred kept used late held spare sealable referable
-    → IsSound (map without_late rows) sealed [] kept used (map (λ _. false) slots) held spare sealable referable
+    → AreSoundRows rows sealed deferred kept used late held spare sealable referable
+    → AreSoundRows (map without_late rows) sealed [] kept used (map (λ _. false) slots) held spare sealable referable
 sweep-sound {rows = rows} {deferred = deferred} s = record {
   all_rows = omega (arith, s.all_rows, length-map rows without_late);
   all_kept = s.all_kept;
@@ -64,7 +64,7 @@ pub repeated-replicate : (count : Row → ℕ) (n : ℕ) → count unused ≡ 0 
 repeated-replicate count zero none = refl
 repeated-replicate count (suc n) none = rw none (repeated-replicate count n none)
 
-pub new-sound : (sealable referable : ℕ) → IsSound (replicate 256 unused) [] [] (map (λ _. false) slots) (map (λ _. false) slots) (map (λ _. false) slots) 0 0 sealable referable
+pub new-sound : (sealable referable : ℕ) → AreSoundRows (replicate 256 unused) [] [] (map (λ _. false) slots) (map (λ _. false) slots) (map (λ _. false) slots) 0 0 sealable referable
 new-sound sealable referable = record {
   all_rows = refl;
   all_kept = flags_long;

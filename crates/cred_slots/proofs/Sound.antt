@@ -6,7 +6,7 @@ use Rattle.std.proofs.lemmas.Bool.{cases_lt, cases_eq}
 use Rattle.std.proofs.lemmas.Bool.Decides.{nat_tests}
 use Rattle.cred_slots.specs.declared.row.Row.{Row}
 use Rattle.cred_slots.specs.Table.{IsSameBag}
-use Rattle.cred_slots.specs.Rows.{row_at, repeated, held_in, late_in, held_count, late_count, IsFlagged, IsSound}
+use Rattle.cred_slots.specs.Rows.{row_at, repeated, held_in, late_in, held_count, late_count, IsFlagged, AreSoundRows}
 use Rattle.cred_slots.proofs.Counting.{weight, count-append, count-cons, count-repeated, count-repeated-set, length-repeated-set, count-le-length, sum_some, bag_length}
 
 pub place_within : (sealed : List ℕ) (number slot : ℕ) → slice_get sealed number ≡ Some slot → number < length sealed
@@ -68,7 +68,7 @@ pub record Standing (rows : List Row) (sealed : List ℕ) (number slot : ℕ) : 
   pub place : slice_get sealed number ≡ Some slot
 
 standing : {rows : List Row} {sealed deferred : List ℕ} {kept used late : List Bool} {held spare sealable referable : ℕ}
-    → IsSound rows sealed deferred kept used late held spare sealable referable
+    → AreSoundRows rows sealed deferred kept used late held spare sealable referable
     → (count : Row → ℕ) → ((row : Row) → count row ≤ row.held + row.late) → (number : ℕ) → 0 < count_by (λ n. n == number) (repeated count rows)
     → (slot : ℕ) × Standing rows sealed number slot × (0 < count (row_at rows slot))
 standing {rows = rows} {sealed = sealed} s count bounded number some =
@@ -89,13 +89,13 @@ standing {rows = rows} {sealed = sealed} s count bounded number some =
     )
 
 pub held_standing : {rows : List Row} {sealed deferred : List ℕ} {kept used late : List Bool} {held spare sealable referable : ℕ}
-    → IsSound rows sealed deferred kept used late held spare sealable referable
+    → AreSoundRows rows sealed deferred kept used late held spare sealable referable
     → (number : ℕ) → 0 < count_by (λ n. n == number) (held_in rows)
     → (slot : ℕ) × Standing rows sealed number slot × (0 < (row_at rows slot).held)
 held_standing s number some = standing s held_count (λ row. omega arith) number some
 
 pub referred_standing : {rows : List Row} {sealed deferred : List ℕ} {kept used late : List Bool} {held spare sealable referable : ℕ}
-    → IsSound rows sealed deferred kept used late held spare sealable referable
+    → AreSoundRows rows sealed deferred kept used late held spare sealable referable
     → (number : ℕ) → 0 < count_by (λ n. n == number) (held_in rows ++ deferred)
     → (slot : ℕ) × Standing rows sealed number slot × (0 < (row_at rows slot).held + (row_at rows slot).late)
 referred_standing {rows = rows} {deferred = deferred} s number some =
@@ -109,7 +109,7 @@ referred_standing {rows = rows} {deferred = deferred} s number some =
 
 -- no count comes near the greatest number
 pub row_fits : {rows : List Row} {sealed deferred : List ℕ} {kept used late : List Bool} {held spare sealable referable : ℕ}
-    → IsSound rows sealed deferred kept used late held spare sealable referable
+    → AreSoundRows rows sealed deferred kept used late held spare sealable referable
     → (slot : ℕ) → slot < 256 → (row_at rows slot).held + (row_at rows slot).late + spare ≤ referable
 row_fits {rows = rows} {deferred = deferred} s slot within =
     omega (
@@ -153,9 +153,9 @@ weight_more : (test : ℕ → Bool) (row : Row) (number : ℕ) → row.number �
 weight_more test row number e = rw (← e) (more (test row.number) row.late)
 
 pub seal-sound : {rows : List Row} {sealed deferred : List ℕ} {kept used late : List Bool} {held spare sealable referable : ℕ}
-    → IsSound rows sealed deferred kept used late held spare sealable referable
+    → AreSoundRows rows sealed deferred kept used late held spare sealable referable
     → (slot number : ℕ) → slot < 256 → get_or kept slot false ≡ true → 0 < spare → number ≡ length sealed
-    → IsSound (slice_set rows slot (record { number = number; held = 1; late = 0 })) (sealed ++ slot ∷ []) deferred
+    → AreSoundRows (slice_set rows slot (record { number = number; held = 1; late = 0 })) (sealed ++ slot ∷ []) deferred
     (slice_set kept slot false) (slice_set used slot true) late (held + 1) (spare - 1) sealable referable
 seal-sound {rows = rows} {sealed = sealed} {deferred = deferred} {kept = kept} {used = used} {late = late} s slot number within is some next =
     let row : Row = record { number = number; held = 1; late = 0 } in
@@ -187,9 +187,9 @@ seal-sound {rows = rows} {sealed = sealed} {deferred = deferred} {kept = kept} {
     }
 
 pub add-sound : {rows : List Row} {sealed deferred : List ℕ} {kept used late : List Bool} {held spare sealable referable : ℕ}
-    → IsSound rows sealed deferred kept used late held spare sealable referable
+    → AreSoundRows rows sealed deferred kept used late held spare sealable referable
     → (number slot : ℕ) → Standing rows sealed number slot → (row : Row) → row ≡ row_at rows slot → 0 < row.held + row.late → 0 < spare
-    → IsSound (slice_set rows slot (record { number = row.number; held = row.held + 1; late = row.late })) sealed deferred
+    → AreSoundRows (slice_set rows slot (record { number = row.number; held = row.held + 1; late = row.late })) sealed deferred
     kept (slice_set used slot true) late (held + 1) (spare - 1) sealable referable
 add-sound {rows = rows} {sealed = sealed} {deferred = deferred} {kept = kept} {used = used} {late = late} s number slot at row is more some =
     let new : Row = record { number = row.number; held = row.held + 1; late = row.late } in
@@ -215,9 +215,9 @@ add-sound {rows = rows} {sealed = sealed} {deferred = deferred} {kept = kept} {u
     }
 
 pub drop-sound : {rows : List Row} {sealed deferred : List ℕ} {kept used late : List Bool} {held spare sealable referable : ℕ}
-    → IsSound rows sealed deferred kept used late held spare sealable referable
+    → AreSoundRows rows sealed deferred kept used late held spare sealable referable
     → (number slot : ℕ) → Standing rows sealed number slot → (row : Row) → row ≡ row_at rows slot → 0 < row.held
-    → IsSound (slice_set rows slot (record { number = row.number; held = row.held - 1; late = row.late + 1 })) sealed (deferred ++ number ∷ [])
+    → AreSoundRows (slice_set rows slot (record { number = row.number; held = row.held - 1; late = row.late + 1 })) sealed (deferred ++ number ∷ [])
     kept (slice_set used slot (nat_lt 0 (row.held - 1))) (slice_set late slot true) (held - 1) spare sealable referable
 drop-sound {rows = rows} {sealed = sealed} {deferred = deferred} {kept = kept} {used = used} {late = late} s number slot at row is more =
     let new : Row = record { number = row.number; held = row.held - 1; late = row.late + 1 } in
@@ -255,9 +255,9 @@ drop-sound {rows = rows} {sealed = sealed} {deferred = deferred} {kept = kept} {
     }
 
 pub keep-sound : {rows : List Row} {sealed deferred : List ℕ} {kept used late : List Bool} {held spare sealable referable : ℕ}
-    → IsSound rows sealed deferred kept used late held spare sealable referable
+    → AreSoundRows rows sealed deferred kept used late held spare sealable referable
     → (slot : ℕ) → slot < 256 → (row_at rows slot).held + (row_at rows slot).late ≡ 0
-    → IsSound rows sealed deferred (slice_set kept slot true) used late held spare sealable referable
+    → AreSoundRows rows sealed deferred (slice_set kept slot true) used late held spare sealable referable
 keep-sound {rows = rows} {kept = kept} s slot within none = record {
   all_rows = s.all_rows;
   all_kept = omega (arith, s.all_kept, length-set {A = Bool});
@@ -277,7 +277,7 @@ keep-sound {rows = rows} {kept = kept} s slot within none = record {
 
 -- what the calls do to the references
 pub seal-bag : {rows : List Row} {sealed deferred : List ℕ} {kept used late : List Bool} {held spare sealable referable : ℕ}
-    → IsSound rows sealed deferred kept used late held spare sealable referable
+    → AreSoundRows rows sealed deferred kept used late held spare sealable referable
     → (slot number : ℕ) → slot < 256 → get_or kept slot false ≡ true
     → IsSameBag (held_in (slice_set rows slot (record { number = number; held = 1; late = 0 }))) (number ∷ held_in rows)
 seal-bag {rows = rows} s slot number within is = record {
@@ -318,7 +318,7 @@ drop-bag rows sealed number slot long at row is some = record {
 
 -- a number that is referred to, at the slot that was read for it
 pub referred_at : {rows : List Row} {sealed deferred : List ℕ} {kept used late : List Bool} {held spare sealable referable : ℕ}
-    → IsSound rows sealed deferred kept used late held spare sealable referable
+    → AreSoundRows rows sealed deferred kept used late held spare sealable referable
     → (number : ℕ) → 0 < count_by (λ n. n == number) (held_in rows ++ deferred) → (read : ℕ) → read ≡ get_or sealed number read
     → Standing rows sealed number read × (0 < (row_at rows read).held + (row_at rows read).late)
 referred_at {rows = rows} {sealed = sealed} s number some read is =
@@ -327,7 +327,7 @@ referred_at {rows = rows} {sealed = sealed} s number some read is =
     subst (λ (k : ℕ). Standing rows sealed number k × (0 < (row_at rows k).held + (row_at rows k).late)) (sym same) (found.1, found.2)
 
 pub held_at : {rows : List Row} {sealed deferred : List ℕ} {kept used late : List Bool} {held spare sealable referable : ℕ}
-    → IsSound rows sealed deferred kept used late held spare sealable referable
+    → AreSoundRows rows sealed deferred kept used late held spare sealable referable
     → (number : ℕ) → 0 < count_by (λ n. n == number) (held_in rows) → (read : ℕ) → read ≡ get_or sealed number read
     → Standing rows sealed number read × (0 < (row_at rows read).held)
 held_at {rows = rows} {sealed = sealed} s number some read is =
@@ -345,6 +345,6 @@ kept_in (k ∷ kept) zero is = omega arith
 kept_in (k ∷ kept) (suc slot) is = let rest = kept_in kept slot is in omega arith
 
 pub kept_within : {rows : List Row} {sealed deferred : List ℕ} {kept used late : List Bool} {held spare sealable referable : ℕ}
-    → IsSound rows sealed deferred kept used late held spare sealable referable
+    → AreSoundRows rows sealed deferred kept used late held spare sealable referable
     → (slot : ℕ) → get_or kept slot false ≡ true → slot < 256
 kept_within {kept = kept} s slot is = omega (arith, kept_in kept slot is, s.all_kept)

@@ -1,7 +1,7 @@
 -- What callers need to know of a table.
 use Rattle.std.proofs.Common.{◌≡◌, ℕ, zero, suc, ◌<◌, ◌==◌, Bool, true, false, List, [], ◌∷◌, get_or, refl, sym, ap, arith, slice_set, is_some}
 use Rattle.std.specs.List.{count_by}
-use Rattle.cred_slots.specs.Table.{Table, references_to, least_free, swept, swept_if_full}
+use Rattle.cred_slots.specs.Table.{Table, references_to, least_free_in, swept_table, swept_table_if_full}
 use Rattle.cred_slots.proofs.Counting.{count-append}
 
 -- what is held is referred to
@@ -14,8 +14,8 @@ kept_again [] slot none = refl
 kept_again (k ∷ kept) zero none = ap (λ (b : Bool). b ∷ kept) (sym none)
 kept_again (k ∷ kept) (suc slot) none = ap (λ (rest : List Bool). k ∷ rest) (kept_again kept slot none)
 
-pub room-free : (t : Table) → is_some (least_free t) ≡ true → swept_if_full t ≡ t
+pub room-free : (t : Table) → is_some (least_free_in t) ≡ true → swept_table_if_full t ≡ t
 room-free t e = rw e refl
 
-pub room-full : (t : Table) → is_some (least_free t) ≡ false → swept_if_full t ≡ swept t
+pub room-full : (t : Table) → is_some (least_free_in t) ≡ false → swept_table_if_full t ≡ swept_table t
 room-full t e = rw e refl

@@ -5,33 +5,33 @@ use Rattle.std.specs.Option.{option_map_or}
 use Rattle.std.proofs.lemmas.Bool.{cases_lt, cases_eq}
 use Rattle.std.proofs.lemmas.Bool.Decides.{nat_tests}
 use Rattle.cred_slots.specs.declared.row.Row.{Row}
-use Rattle.cred_slots.specs.Table.{stands_in}
-use Rattle.cred_slots.specs.Rows.{unused, row_at, repeated, held_in, held_count, late_count, IsSound}
+use Rattle.cred_slots.specs.Table.{is_sealed_in}
+use Rattle.cred_slots.specs.Rows.{unused, row_at, repeated, held_in, held_count, late_count, AreSoundRows}
 use Rattle.cred_slots.proofs.Counting.{weight, count-append, count-repeated, sum_only, sum_zero}
 use Rattle.cred_slots.proofs.Sound.{Standing, referred_standing}
 use Rattle.cred_slots.proofs.Live.{held-in_slot, late-in_slot, weight_none, weight_elsewhere}
 
 pub uses_here : {rows : List Row} {sealed deferred : List ℕ} {kept used late : List Bool} {held spare sealable referable : ℕ}
-    → IsSound rows sealed deferred kept used late held spare sealable referable
-    → (slot : ℕ) → slot < 256 → (row_at rows slot).held + (row_at rows slot).late ≡ count_by (stands_in sealed slot) (held_in rows ++ deferred)
+    → AreSoundRows rows sealed deferred kept used late held spare sealable referable
+    → (slot : ℕ) → slot < 256 → (row_at rows slot).held + (row_at rows slot).late ≡ count_by (is_sealed_in sealed slot) (held_in rows ++ deferred)
 uses_here {rows = rows} {sealed = sealed} {deferred = deferred} s slot within =
-    omega (arith, count-append (stands_in sealed slot) (held_in rows) deferred, held-in_slot s slot within, late-in_slot s slot within)
+    omega (arith, count-append (is_sealed_in sealed slot) (held_in rows) deferred, held-in_slot s slot within, late-in_slot s slot within)
 
 none_beyond : {rows : List Row} {sealed deferred : List ℕ} {kept used late : List Bool} {held spare sealable referable : ℕ}
-    → IsSound rows sealed deferred kept used late held spare sealable referable
-    → (count : Row → ℕ) → ((row : Row) → count row ≤ row.held + row.late) → (slot : ℕ) → 256 ≤ slot → count_by (stands_in sealed slot) (repeated count rows) ≡ 0
+    → AreSoundRows rows sealed deferred kept used late held spare sealable referable
+    → (count : Row → ℕ) → ((row : Row) → count row ≤ row.held + row.late) → (slot : ℕ) → 256 ≤ slot → count_by (is_sealed_in sealed slot) (repeated count rows) ≡ 0
 none_beyond {rows = rows} {sealed = sealed} s count bounded slot beyond =
-    count-repeated count (stands_in sealed slot) rows
-    ∙ sum_zero (weight count (stands_in sealed slot)) rows (λ i h.
+    count-repeated count (is_sealed_in sealed slot) rows
+    ∙ sum_zero (weight count (is_sealed_in sealed slot)) rows (λ i h.
     let within : i < 256 = omega (arith, s.all_rows) in
     weight_elsewhere sealed count (row_at rows i) slot i (omega arith) (λ some. s.stands i within (omega (arith, bounded (row_at rows i)))))
 
 -- no number stands past the last slot
 pub uses_beyond : {rows : List Row} {sealed deferred : List ℕ} {kept used late : List Bool} {held spare sealable referable : ℕ}
-    → IsSound rows sealed deferred kept used late held spare sealable referable
-    → (slot : ℕ) → 256 ≤ slot → count_by (stands_in sealed slot) (held_in rows ++ deferred) ≡ 0
+    → AreSoundRows rows sealed deferred kept used late held spare sealable referable
+    → (slot : ℕ) → 256 ≤ slot → count_by (is_sealed_in sealed slot) (held_in rows ++ deferred) ≡ 0
 uses_beyond {rows = rows} {sealed = sealed} {deferred = deferred} s slot beyond =
-    let test : ℕ → Bool = stands_in sealed slot in
+    let test : ℕ → Bool = is_sealed_in sealed slot in
     omega (
       arith,
       count-append test (held_in rows) deferred,
@@ -60,7 +60,7 @@ another sealed count row number slot i ne place stands = elim (cases_lt 0 (count
 ]
 
 in_one : {rows : List Row} {sealed deferred : List ℕ} {kept used late : List Bool} {held spare sealable referable : ℕ}
-    → IsSound rows sealed deferred kept used late held spare sealable referable
+    → AreSoundRows rows sealed deferred kept used late held spare sealable referable
     → (count : Row → ℕ) → ((row : Row) → count row ≤ row.held + row.late) → (slot number : ℕ) → slot < 256 → slice_get sealed number ≡ Some slot
     → (row_at rows slot).number ≡ number → count_by (λ n. n == number) (repeated count rows) ≡ count (row_at rows slot)
 in_one {rows = rows} {sealed = sealed} s count bounded slot number within place is =
@@ -74,8 +74,8 @@ in_one {rows = rows} {sealed = sealed} s count bounded slot number within place 
 
 -- A number in the slot that is referred to is the one that the slot's row counts.
 pub of_row : {rows : List Row} {sealed deferred : List ℕ} {kept used late : List Bool} {held spare sealable referable : ℕ}
-    → IsSound rows sealed deferred kept used late held spare sealable referable
-    → (slot number : ℕ) → stands_in sealed slot number ≡ true → 0 < count_by (λ n. n == number) (held_in rows ++ deferred)
+    → AreSoundRows rows sealed deferred kept used late held spare sealable referable
+    → (slot number : ℕ) → is_sealed_in sealed slot number ≡ true → 0 < count_by (λ n. n == number) (held_in rows ++ deferred)
     → Standing rows sealed number slot
 of_row {rows = rows} {sealed = sealed} s slot number is some =
     let found = referred_standing s number some in
@@ -86,8 +86,8 @@ of_row {rows = rows} {sealed = sealed} s slot number is some =
 
 -- all references to numbers in the slot are to the one that is referred to
 pub one_number : {rows : List Row} {sealed deferred : List ℕ} {kept used late : List Bool} {held spare sealable referable : ℕ}
-    → IsSound rows sealed deferred kept used late held spare sealable referable
-    → (slot number : ℕ) → stands_in sealed slot number ≡ true → 0 < count_by (λ n. n == number) (held_in rows ++ deferred)
+    → AreSoundRows rows sealed deferred kept used late held spare sealable referable
+    → (slot number : ℕ) → is_sealed_in sealed slot number ≡ true → 0 < count_by (λ n. n == number) (held_in rows ++ deferred)
     → (row_at rows slot).held + (row_at rows slot).late ≡ count_by (λ n. n == number) (held_in rows ++ deferred)
 one_number {rows = rows} {sealed = sealed} {deferred = deferred} s slot number is some =
     let at = of_row s slot number is some in
@@ -102,9 +102,9 @@ one_number {rows = rows} {sealed = sealed} {deferred = deferred} s slot number i
 
 -- Where a row is set to count a number, no other number in its slot is referred to.
 pub alone-set : (rows : List Row) (slot : ℕ) (row : Row) {sealed deferred : List ℕ} {kept used late : List Bool} {held spare sealable referable : ℕ}
-    → IsSound (slice_set rows slot row) sealed deferred kept used late held spare sealable referable
+    → AreSoundRows (slice_set rows slot row) sealed deferred kept used late held spare sealable referable
     → slot < length rows
-    → (other : ℕ) → stands_in sealed slot other ≡ true → 0 < count_by (λ n. n == other) (held_in (slice_set rows slot row) ++ deferred)
+    → (other : ℕ) → is_sealed_in sealed slot other ≡ true → 0 < count_by (λ n. n == other) (held_in (slice_set rows slot row) ++ deferred)
     → other ≡ row.number
 alone-set rows slot row s within other is some =
     let at = of_row s slot other is some in

@@ -40,7 +40,7 @@ pub record IsFlagged (count : Row → ℕ) (flags : List Bool) (rows : List Row)
 
 -- `sealable` and `referable` are how many numbers may be sealed, and how many may be given up, in
 -- the memory that is there.
-pub record IsSound (rows : List Row) (sealed deferred : List ℕ) (kept used late : List Bool)
+pub record AreSoundRows (rows : List Row) (sealed deferred : List ℕ) (kept used late : List Bool)
     (held spare sealable referable : ℕ) : Type 0 where
   pub all_rows : length rows ≡ SLOTS
   pub all_kept : length kept ≡ SLOTS

@@ -20,8 +20,8 @@ pub record Table : Type 0 where
   pub spare : ℕ
 
 -- the table before the first number is sealed
-unfoldable pub empty : Table
-empty = record {
+unfoldable pub empty_table : Table
+empty_table = record {
   sealed = [];
   held = [];
   deferred = [];
@@ -38,41 +38,41 @@ abbrev pub references_to : Table → ℕ → ℕ
 references_to t number = count_by (λ n. n == number) (references t)
 
 -- the number stands in the slot
-abbrev pub stands_in : List ℕ → ℕ → ℕ → Bool
-stands_in sealed slot number =
+abbrev pub is_sealed_in : List ℕ → ℕ → ℕ → Bool
+is_sealed_in sealed slot number =
     option_map_or (λ place. place == slot) (slice_get sealed number) false
 
 -- how many references there are to numbers in the slot
-abbrev pub uses : Table → ℕ → ℕ
-uses t slot = count_by (λ number. stands_in t.sealed slot number) (references t)
+abbrev pub uses_in : Table → ℕ → ℕ
+uses_in t slot = count_by (λ number. is_sealed_in t.sealed slot number) (references t)
 
-abbrev pub is_kept : Table → ℕ → Bool
-is_kept t slot = slice_index_or t.kept slot false
+abbrev pub is_kept_in : Table → ℕ → Bool
+is_kept_in t slot = slice_index_or t.kept slot false
 
 -- A slot is live if something refers to a number in it, or if it is kept.
-abbrev pub is_live : Table → ℕ → Bool
-is_live t slot =
-    list_any (λ number. stands_in t.sealed slot number) (references t) || is_kept t slot
+abbrev pub is_live_in : Table → ℕ → Bool
+is_live_in t slot =
+    list_any (λ number. is_sealed_in t.sealed slot number) (references t) || is_kept_in t slot
 
 -- 0 to 255
 unfoldable pub slots : List ℕ
 slots = range_with_len 0 SLOTS
 
 -- the least slot that isn't live
-abbrev pub least_free : Table → Option ℕ
-least_free t = find (λ slot. not (is_live t slot)) slots
+abbrev pub least_free_in : Table → Option ℕ
+least_free_in t = find (λ slot. not (is_live_in t slot)) slots
 
 -- The sweep lets go of all that was given up.
-abbrev pub swept : Table → Table
-swept t = record t { deferred = [] }
+abbrev pub swept_table : Table → Table
+swept_table t = record t { deferred = [] }
 
 -- Where all slots are live, a sweep makes room, if there is any to be made.
-abbrev pub swept_if_full : Table → Table
-swept_if_full t = record t { deferred = if is_some (least_free t) then t.deferred else [] }
+abbrev pub swept_table_if_full : Table → Table
+swept_table_if_full t = record t { deferred = if is_some (least_free_in t) then t.deferred else [] }
 
 -- the slot that is taken next, in the table with room
-abbrev pub free : Table → Option ℕ
-free t = least_free (swept_if_full t)
+abbrev pub free_in : Table → Option ℕ
+free_in t = least_free_in (swept_table_if_full t)
 
 -- Two lists have the same numbers, each as often, if each test passes as many of the one as of the
 -- other.
@@ -80,6 +80,6 @@ pub record IsSameBag (xs ys : List ℕ) : Type 0 where
   pub counts : (test : ℕ → Bool) → count_by test xs ≡ count_by test ys
 
 -- Of all numbers that stand in the slot, only this one is referred to.
-pub record IsAlone (t : Table) (number slot : ℕ) : Type 0 where
-  pub only : (other : ℕ) → stands_in t.sealed slot other ≡ true → 0 < references_to t other
+pub record IsOnlyUser (t : Table) (number slot : ℕ) : Type 0 where
+  pub only : (other : ℕ) → is_sealed_in t.sealed slot other ≡ true → 0 < references_to t other
       → other ≡ number

@@ -3,10 +3,12 @@ ghost use Rattle.std.specs.Prelude.{◌≡◌, ℕ, ◌<◌, ◌+◌, ◌-◌, �
 ghost use Rattle.std.specs.Prelude.{slice_get, slice_set, count_by, ◌==◌, IfOk, OnOk, OnErr};
 ghost use Rattle.std.specs.Prelude.{IsTrue};
 ghost use Rattle.cred_ids.specs.Limits.{SLOTS};
-ghost use Rattle.cred_slots.specs.Table.{empty, references_to, uses, stands_in, is_kept};
-ghost use Rattle.cred_slots.specs.Table.{is_live, least_free, swept, swept_if_full, free};
+ghost use Rattle.cred_slots.specs.Table.{empty_table, references_to, uses_in, is_sealed_in};
+ghost use Rattle.cred_slots.specs.Table.{is_kept_in};
+ghost use Rattle.cred_slots.specs.Table.{is_live_in, least_free_in, swept_table};
+ghost use Rattle.cred_slots.specs.Table.{swept_table_if_full, free_in};
 ghost use Rattle.cred_slots.specs.Table.{IsSameBag};
-ghost use Rattle.cred_slots.specs.Table.{IsAlone};
+ghost use Rattle.cred_slots.specs.Table.{IsOnlyUser};
 
 use crate::flags::Flags;
 use crate::row::{Row, UNUSED, forget_late};
@@ -42,7 +44,7 @@ pub struct Slots {
 impl Model for Slots {
     ghost use Rattle.std.specs.Prelude.{vec_capacity};
     ghost use Rattle.cred_slots.specs.Table.{Table};
-    ghost use Rattle.cred_slots.specs.Rows.{held_in, IsSound};
+    ghost use Rattle.cred_slots.specs.Rows.{held_in, AreSoundRows};
 
     ghost Value = { Table };
 
@@ -55,7 +57,7 @@ impl Model for Slots {
     } };
 
     ghost invariant = { λ s.
-        IsSound s.rows.items s.sealed.items s.deferred.items s.kept s.used s.late s.held s.spare
+        AreSoundRows s.rows.items s.sealed.items s.deferred.items s.kept s.used s.late s.held s.spare
         (vec_capacity s.sealed) (vec_capacity s.deferred) };
 }
 
@@ -66,7 +68,7 @@ impl Slots {
     ///
     /// `NoMemory` if the allocation of the rows fails.
     pub fn new(alloc: Global) -> Result<Slots, NoMemory>
-        ensures { IfOk result (λ slots. slots ≡ empty) }
+        ensures { IfOk result (λ slots. slots ≡ empty_table) }
     {
         let rows = Vec::from_array(alloc, [UNUSED; limits::SLOTS])?;
         Ok(Slots {
@@ -83,7 +85,7 @@ impl Slots {
 
     /// The least slot that isn't live, or that isn't once what was given up no longer counts.
     pub fn free_slot(&self) -> Option<u32>
-        ensures { result ≡ free self.now }
+        ensures { result ≡ free_in self.now }
     {
         match self.least_free() {
             Some(slot) => Some(slot),
@@ -101,10 +103,10 @@ impl Slots {
     /// Keeps the slot that `free_slot` gives. If all are live, a sweep comes first.
     #[inline(always)]
     pub fn claim(&mut self, slot: u32)
-        requires { free self.old ≡ Some slot }
+        requires { free_in self.old ≡ Some slot }
         ensures table { self.new
-            ≡ record (swept_if_full self.old) { kept = slice_set self.old.kept slot true } }
-        ensures kept { IsTrue (is_kept self.new slot) }
+            ≡ record (swept_table_if_full self.old) { kept = slice_set self.old.kept slot true } }
+        ensures kept { IsTrue (is_kept_in self.new slot) }
     {
         self.make_room(slot);
         self.keep(slot);
@@ -112,7 +114,7 @@ impl Slots {
 
     /// The slot is no longer kept.
     pub fn give_up(&mut self, slot: u32)
-        requires { IsTrue (is_kept self.old slot) }
+        requires { IsTrue (is_kept_in self.old slot) }
         ensures { self.new ≡ record self.old { kept = slice_set self.old.kept slot false } }
     {
         self.kept.put(slot, false);
@@ -140,11 +142,11 @@ impl Slots {
     /// The next number stands in the slot, which is no longer kept, and has one reference.
     #[inline(always)]
     pub fn seal(&mut self, slot: u32) -> u64
-        requires kept { IsTrue (is_kept self.old slot) }
+        requires kept { IsTrue (is_kept_in self.old slot) }
         requires spare { 0 < self.old.spare }
         ensures number { result ≡ length self.old.sealed }
         ensures in_table { slot < SLOTS }
-        ensures alone { IsAlone self.new result slot }
+        ensures alone { IsOnlyUser self.new result slot }
         ensures held { IsSameBag self.new.held (result ∷ self.old.held) }
         ensures table { self.new ≡ record self.old {
           sealed = self.old.sealed ++ slot ∷ [];
@@ -208,7 +210,7 @@ impl Slots {
 
     /// What was given up no longer counts.
     pub fn sweep(&mut self)
-        ensures { self.new ≡ swept self.old }
+        ensures { self.new ≡ swept_table self.old }
     {
         self.deferred.clear();
         forget_late(self.rows.as_mut_slice());
@@ -218,8 +220,8 @@ impl Slots {
     /// How many references there are to the number that stands in the slot, with those that were
     /// given up since the last sweep; 0 where none stands there.
     pub fn uses(&self, slot: u32) -> u64
-        ensures uses { result ≡ uses self.now slot }
-        ensures one_number { (number : ℕ) → IsTrue (stands_in self.now.sealed slot number)
+        ensures uses { result ≡ uses_in self.now slot }
+        ensures one_number { (number : ℕ) → IsTrue (is_sealed_in self.now.sealed slot number)
             → 0 < references_to self.now number → result ≡ references_to self.now number }
     {
         match self.rows.get(slot as usize) {
@@ -240,14 +242,14 @@ impl Slots {
     /// The least slot that isn't live.
     #[inline(always)]
     fn least_free(&self) -> Option<u32>
-        ensures { result ≡ least_free self.now }
+        ensures { result ≡ least_free_in self.now }
     {
         self.kept.union(&self.used).union(&self.late).first_unset()
     }
 
     /// The least slot that isn't live once what was given up no longer counts.
     fn least_free_once_swept(&self) -> Option<u32>
-        ensures { result ≡ least_free (swept self.now) }
+        ensures { result ≡ least_free_in (swept_table self.now) }
     {
         self.kept.union(&self.used).first_unset()
     }
@@ -256,9 +258,9 @@ impl Slots {
     /// where something that was given up is counted in it.
     #[inline(always)]
     fn make_room(&mut self, slot: u32)
-        requires { free self.old ≡ Some slot }
-        ensures room { self.new ≡ swept_if_full self.old }
-        ensures slot { least_free self.new ≡ Some slot }
+        requires { free_in self.old ≡ Some slot }
+        ensures room { self.new ≡ swept_table_if_full self.old }
+        ensures slot { least_free_in self.new ≡ Some slot }
     {
         let late = self.rows[slot as usize].late;
         if late > 0 {
@@ -268,9 +270,9 @@ impl Slots {
 
     /// Keeps a slot that isn't live.
     fn keep(&mut self, slot: u32)
-        requires { least_free self.old ≡ Some slot }
+        requires { least_free_in self.old ≡ Some slot }
         ensures table { self.new ≡ record self.old { kept = slice_set self.old.kept slot true } }
-        ensures kept { IsTrue (is_kept self.new slot) }
+        ensures kept { IsTrue (is_kept_in self.new slot) }
     {
         self.kept.put(slot, true);
     }

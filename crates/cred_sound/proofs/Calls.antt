@@ -9,7 +9,7 @@ use Rattle.cred_record.specs.Credential.{Credential}
 use Rattle.cred_record.specs.declared.id_call.IdCall.{IdCall}
 use Rattle.cred_record.specs.declared.refusal.Denial.{Denial}
 use Rattle.cred_rules.specs.SetId.{set_id}
-use Rattle.cred_event.specs.declared.event.Event.TheVariants.{Begin, Act, Spawn, Fork, Exit}
+use Rattle.cred_event.specs.declared.event.Event.TheVariants.{Begin, Act, Spawn, Fork, Exit, Raw}
 use Rattle.cred_event.specs.declared.answer.Answer.TheVariants.{Done, Sealed, Began, Acted, TableFull, Aborted}
 use Rattle.cred_event.specs.declared.answer.AbortCause.{AbortCause}
 use Rattle.cred_event.specs.declared.answer.AbortCause.TheVariants as cause
@@ -18,7 +18,7 @@ use Rattle.cred_model.specs.State.{State, Task, Broadcast, Numbered, numbered, t
 use Rattle.cred_model.specs.Slots.{refs}
 use Rattle.cred_model.specs.Change.{by_rule}
 use Rattle.cred_model.specs.Ends.{is_task, is_thread_of, survivors, ended}
-use Rattle.cred_model.specs.Dumpable.{is_dumpable, with_flag, without_flag, differs, renewed, flags_left}
+use Rattle.cred_model.specs.Dumpable.{is_dumpable, with_process_flag, without_flag, differs, renewed, flags_left}
 use Rattle.cred_model.specs.Casts.{others_of, with_cast, waits_no_more, joined, dropped}
 use Rattle.cred_model.specs.Moves.{table_full, with_current, first_task, replaced}
 use Rattle.cred_model.specs.Step.{aborted, follow, step}
@@ -26,7 +26,7 @@ use Rattle.cred_model.proofs.Numbers.{owner_number}
 use Rattle.cred_model.proofs.Referred.{all_survive, each_ended}
 use Rattle.cred_sound.proofs.References.{own_refs, current_stands}
 use Rattle.cred_sound.proofs.Tests.{outcome_has, if_some, if_none, if_fewer, if_idle, if_own, if_rule, in_slots}
-use Rattle.cred_sound.proofs.Parts.{with_left, Changes, OfCall, ByBegin, ByAct, BySpawn, ByFork, ByExit, ByAbort, Shares, Renews, Fewer}
+use Rattle.cred_sound.proofs.Parts.{with_left, Changes, OfCall, ByBegin, ByAct, ByRaw, BySpawn, ByFork, ByExit, ByAbort, Shares, Renews, Fewer}
 use Rattle.cred_sound.proofs.OnePart.{still_left, gives_up, still, refused, with_tasks, only_tasks}
 
 -- what the tasks that end referred to
@@ -116,6 +116,33 @@ act_changes script s line number =
     (λ old at.
     follow_changes script s number task cast owner old (set_id old.cred cast.call) opened first found (own_is s task owner old found at) refl)))))
 
+pub raw_changes : (script : Script) (s : State) (line task : ℕ) (call : IdCall)
+    → Changes script s (Raw task call) (step script s line (Raw task call))
+raw_changes script s line task call =
+    let event = Raw task call in
+    let Q = Changes script s event in
+    outcome_has Q s _ (refused script s event)
+    (if_some Q (task_of s task) _ _
+    (λ owner found. if_some Q (numbered s.creds owner.current) _ _
+    (λ old at. if_idle Q (cast_in s owner.process) _
+    (λ idle. if_own Q owner _
+    (if_rule Q (set_id old.cred call) _
+    (λ new ruled.
+    in_slots Q s table_full
+    (λ s slot. (
+      Sealed (length s.creds) slot,
+      record (replaced s task old.number new slot) { dumpable = renewed s.dumpable owner.process (differs old.cred new) },
+    ))
+    (still script s event TableFull)
+    (λ left slot fewer free.
+    let is = own_is s task owner old found at in
+    with_tasks script s event (Sealed (length s.creds) slot) left (with_current s.tasks task (length s.creds))
+    s.casts (renewed s.dumpable owner.process (differs old.cred new)) new slot (left ++ old.number ∷ []) fewer free
+    (OfCall task old call is ruled)
+    (Renews task slot owner new (λ t. false) (renewed_all s task) refl found
+    (ByRaw call old slot refl is ruled idle refl refl refl refl))
+    (gives_up (with_left s left) old.number (current_stands (with_left s left) task old is)))))))))
+
 pub spawn_changes : (script : Script) (s : State) (line task child : ℕ) → Changes script s (Spawn task child) (step script s line (Spawn task child))
 spawn_changes script s line task child =
     let event = Spawn task child in
@@ -146,7 +173,7 @@ fork_changes script s line task child process =
     (λ unused. if_own Q owner _
     (if_fewer Q (length s.tasks) TASKS _ _
     (only_tasks script s event (Sealed parent.number parent.slot) s.deferred (s.tasks ++ first_task child process parent.number ∷ []) s.casts
-    (with_flag s.dumpable process (is_dumpable s.dumpable owner.process)) s.deferred (All-contains_itself s.deferred)
+    (with_process_flag s.dumpable process (is_dumpable s.dumpable owner.process)) s.deferred (All-contains_itself s.deferred)
     (Shares task child process parent refl refl (own_is s task owner parent found at) new (ByFork owner refl found unused refl refl))
     (still_left s s.deferred)))))))))
 

@@ -8,14 +8,14 @@ use Rattle.cred_event.specs.declared.answer.Answer.{Answer}
 use Rattle.cred_model.specs.Script.{Script}
 use Rattle.cred_model.specs.State.{State, Task, ProcessFlag, task_of}
 use Rattle.cred_model.specs.Ends.{survivors}
-use Rattle.cred_model.specs.Dumpable.{with_flag, set_flag, without_flag, flags_left, differs_by}
+use Rattle.cred_model.specs.Dumpable.{with_process_flag, set_flag, without_flag, flags_left, differs_by}
 use Rattle.cred_model.specs.Moves.{first_task, overriding, updated, with_current}
 use Rattle.cred_model.specs.Step.{ends_with}
 use Rattle.cred_model.proofs.Numbers.{overriding_as, updated_as}
 use Rattle.cred_model.proofs.Referred.{all_survive}
 use Rattle.cred_sound.specs.Flags.{AreFlagged}
 use Rattle.cred_sound.specs.Sound.{IsSound}
-use Rattle.cred_sound.proofs.Parts.{TasksChange, Cause, Creation, Death, ByBegin, ByAct, ByCommit, BySpawn, ByFork, ByExit, ByAbort, SameTasks, SetsFlag, Creates, Shares, Renews, Overrides, Fewer}
+use Rattle.cred_sound.proofs.Parts.{TasksChange, Cause, Creation, Death, ByBegin, ByAct, ByRaw, ByCommit, BySpawn, ByFork, ByExit, ByAbort, SameTasks, SetsFlag, Creates, Shares, Renews, Overrides, Fewer}
 use Rattle.cred_sound.proofs.Flags.{lives, flags_set, flags_renewed, flags_done, flags_kept, flags_joined, flags_more, flags_alone, flags_aborted, flags_exited, owner_lives}
 
 -- so it is with these tasks and flags
@@ -55,6 +55,9 @@ renewed_flags s event task owner ends made c (ByBegin call before number slot is
 renewed_flags s event task owner ends made c (ByAct number slot cast before is opened first has ruled none casts answer flags) found are =
     let now = with_current (survivors ends s.tasks) task (length s.creds) in
     subst (AreFlagged now) (sym flags) (flags_renewed now s.dumpable owner.process _ (none_ends ends s.tasks s.dumpable task (length s.creds) none are))
+renewed_flags s event task owner ends made c (ByRaw call before slot is has ruled idle none casts answer flags) found are =
+    let now = with_current (survivors ends s.tasks) task (length s.creds) in
+    subst (AreFlagged now) (sym flags) (flags_renewed now s.dumpable owner.process _ (none_ends ends s.tasks s.dumpable task (length s.creds) none are))
 renewed_flags s event task owner ends made c (ByCommit label place slot count p last is first at own changed same cred ending casts answer flags) found are =
     let now = with_current (survivors ends s.tasks) task (length s.creds) in
     subst (AreFlagged now) (sym flags)
@@ -82,9 +85,9 @@ fewer_flags s event ends made (ByAbort number task cause cast is ending casts an
 
 -- a first task
 begun_flags : (s : State) (t : Task) → AreFlagged s.tasks s.dumpable
-    → AreFlagged (s.tasks ++ t ∷ []) (cond (lives s.tasks t.process) s.dumpable (with_flag s.dumpable t.process true))
+    → AreFlagged (s.tasks ++ t ∷ []) (cond (lives s.tasks t.process) s.dumpable (with_process_flag s.dumpable t.process true))
 begun_flags s t are =
-    elim (lives s.tasks t.process) as (λ b. lives s.tasks t.process ≡ b → AreFlagged (s.tasks ++ t ∷ []) (cond b s.dumpable (with_flag s.dumpable t.process true))) [
+    elim (lives s.tasks t.process) as (λ b. lives s.tasks t.process ≡ b → AreFlagged (s.tasks ++ t ∷ []) (cond b s.dumpable (with_process_flag s.dumpable t.process true))) [
       | true ↦ λ live. flags_joined s.tasks s.dumpable t live are
       | false ↦ λ none. flags_more s.tasks s.dumpable t true none are
     ] refl

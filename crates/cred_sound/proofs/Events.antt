@@ -1,15 +1,19 @@
 -- What each event changes.
-use Rattle.std.proofs.Common.{◌≡◌, ◌==◌, ◌&&◌, ◌⊎◌, inl, inr, Bool, ℕ, List, [], ◌∷◌, ◌++◌, length, slice_get, drop, Option, Some, None, true, false, cond, refl, sym, subst, position}
+use Rattle.std.proofs.Common.{◌≡◌, ◌==◌, ◌&&◌, ◌⊎◌, inl, inr, Bool, ℕ, List, [], ◌∷◌, ◌++◌, length, slice_get, slice_set, drop, Option, Some, None, true, false, cond, refl, sym, subst, position}
 use Rattle.std.specs.List.{All, Contains, count_by, remove}
 use Rattle.std.specs.Option.{option_and_then}
 use Rattle.std.proofs.lemmas.Bool.{eqb-true}
 use Rattle.std.proofs.lemmas.List.Elements.{All-append, All-cons, All-contains_itself, All-drop, All-nil, All-weaker}
 use Rattle.cred_ids.specs.Limits.{TASKS, OPEN_FILES, HOLDS, PREPARED, DEPTH}
-use Rattle.cred_record.specs.Credential.{first_credential}
+use Rattle.cred_ids.specs.declared.arg.Arg.{Arg}
+use Rattle.cred_record.specs.Credential.{Credential, first_credential}
+use Rattle.cred_record.specs.File.{File}
+use Rattle.cred_record.specs.declared.refusal.Denial.{Denial}
 use Rattle.cred_record.specs.declared.want.Want.{Want}
 use Rattle.cred_rules.specs.Access.{may_signal}
+use Rattle.cred_rules.specs.Files.{chown, chmod, set_attr}
 use Rattle.cred_event.specs.declared.event.Event.{Event}
-use Rattle.cred_event.specs.declared.event.Event.TheVariants.{Init, Take, TakeFile, Release, Ask, Signal, Prepare, Alter, Commit, Abort, Override, Revert, Begin, Act, OpenFile, CloseFile, Spawn, Fork, Exit, Sweep, Dumpable, Dumped, Ptrace}
+use Rattle.cred_event.specs.declared.event.Event.TheVariants.{Init, Take, TakeFile, Release, Ask, Signal, Prepare, Alter, Commit, Abort, Override, Revert, Begin, Act, OpenFile, CloseFile, Spawn, Fork, Exit, Sweep, Dumpable, Dumped, Ptrace, Chown, Chmod, SetAttr, Stat, Raw}
 use Rattle.cred_event.specs.declared.event.Change.{Change}
 use Rattle.cred_event.specs.declared.event.Change.TheVariants.{Exec}
 use Rattle.cred_event.specs.declared.event.Mode.{Mode}
@@ -17,25 +21,26 @@ use Rattle.cred_event.specs.declared.event.Side.{Side}
 use Rattle.cred_event.specs.declared.answer.Answer.{Answer}
 use Rattle.cred_event.specs.declared.answer.Answer.TheVariants.{Done, Sealed, Kept, Told, Einval, Stale, TableFull}
 use Rattle.cred_event.specs.declared.answer.Told.TheVariants as told
-use Rattle.cred_model.specs.Script.{Script, info_of, chain_of, root_of, reaches}
-use Rattle.cred_model.specs.State.{State, Task, OpenFile as Open, Hold, Prepared, Changed, Numbered, numbered, task_of, cast_in, begun_by, open_of, hold_of, prepared_of, held_by, opener_of, credential_of}
+use Rattle.cred_model.specs.Script.{Script, chain_of, root_of, reaches}
+use Rattle.cred_model.specs.State.{State, Task, OpenFile as Open, Hold, Prepared, Changed, Numbered, numbered, task_of, cast_in, begun_by, open_of, hold_of, prepared_of, held_by, opener_of, credential_of, info_of}
 use Rattle.cred_model.specs.Slots.{refs}
 use Rattle.cred_model.specs.Named.{change_files}
+use Rattle.cred_model.specs.Changing.{changed_file, changed_by}
 use Rattle.cred_model.specs.Answers.{checked}
 use Rattle.cred_model.specs.Change.{by_change}
 use Rattle.cred_model.specs.Ends.{ended}
 use Rattle.cred_model.specs.Ptrace.{may_trace}
 use Rattle.cred_model.specs.Dumpable.{is_dumpable, set_flag, flags_begun, flags_committed, flag_of_value}
-use Rattle.cred_model.specs.Moves.{table_full, with_overrides, lent, overridden, with_change}
+use Rattle.cred_model.specs.Moves.{table_full, with_overrides, with_override, overridden, with_change}
 use Rattle.cred_model.specs.Moves.{first_task, created, preparing, committed, given_up}
-use Rattle.cred_model.specs.Step.{ends_with, casts_after, commit_answer, try_commit, take_hold, is_access, for_task, for_access, override_held, override_prepared, step}
+use Rattle.cred_model.specs.Step.{ends_with, casts_after, commit_answer, try_commit, take_hold, is_access, for_task, for_access, override_held, override_prepared, by_file, outcome, step}
 use Rattle.cred_model.proofs.Lists.{All-at}
 use Rattle.cred_sound.specs.Ledger.{SealsOf}
 use Rattle.cred_sound.proofs.References.{owner_stands, overrides_stand, credential_stands, opener_stands, held_by_stands, file_stands, found_stands, held_stands, base_stands}
-use Rattle.cred_sound.proofs.Tests.{IfAllowed, outcome_has, if_some, if_none, if_either, if_fewer, if_passed, if_idle, if_own, if_last, if_ok, in_slots}
-use Rattle.cred_sound.proofs.Parts.{with_left, Old, OldOrNew, grows, casts_left, Changes, Seals, OfFirst, OfLabel, ByCommit, SetsFlag, Creates, Renews, Overrides, Stays, Adds, Removes, Prepares, Alters, Ends}
-use Rattle.cred_sound.proofs.OnePart.{still_left, gives_up, fits_own, still, refused, with_tasks, only_tasks, with_lists, with_prepared}
-use Rattle.cred_sound.proofs.Calls.{ended_stay, begin_changes, act_changes, spawn_changes, fork_changes, exit_changes}
+use Rattle.cred_sound.proofs.Tests.{IfAllowed, outcome_has, if_some, if_none, if_either, if_fewer, if_passed, if_idle, if_own, if_last, if_ok, if_file_rule, in_slots}
+use Rattle.cred_sound.proofs.Parts.{with_left, Old, OldOrNew, grows, casts_left, Changes, Seals, OfFirst, OfLabel, ByCommit, SetsFlag, Creates, Renews, Overrides, Stays, Adds, Removes, Prepares, Alters, Ends, SameInfos, Writes}
+use Rattle.cred_sound.proofs.OnePart.{still_left, gives_up, fits_own, still, refused, with_tasks, only_tasks, with_lists, with_prepared, only_infos}
+use Rattle.cred_sound.proofs.Calls.{ended_stay, begin_changes, act_changes, raw_changes, spawn_changes, fork_changes, exit_changes}
 
 -- ---- the events
 
@@ -107,7 +112,7 @@ open_changes script s line hold place asked fd =
     outcome_has Q s _ (refused script s event)
     (if_some Q (held_by s hold) _ _
     (λ held is. if_none Q (open_of s fd) _ _
-    (λ new. if_passed Q (checked held.cred (info_of script (place ∷ [])) asked) _
+    (λ new. if_passed Q (checked held.cred (info_of s.infos (place ∷ [])) asked) _
     (if_fewer Q (length s.files) OPEN_FILES _ _
     (let file : Open = record { fd = fd; opener = held.number; file = place } in
     with_lists script s event Done (s.files ++ file ∷ []) s.holds s.deferred
@@ -166,11 +171,11 @@ alter_changes script s line label change =
     outcome_has Q s _ (refused script s event)
     (if_some Q (prepared_of s label) _ _
     (λ p is. if_some Q (numbered s.creds p.base) _ _
-    (λ base at. if_ok Q (by_change (info_of script (change_files change)) (chain_of script base.cred.ns) base.cred change) _
+    (λ base at. if_ok Q (by_change (info_of s.infos (change_files change)) (chain_of script base.cred.ns) base.cred change) _
     (λ made so.
     let to : Changed = record { change = change; cred = made.cred; gains = made.gains } in
     with_prepared script s event made.answer s.deferred (with_change s.prepared label to) s.deferred (All-contains_itself s.deferred)
-    (Alters label to p base made.answer refl is at so) (still_left s s.deferred)))))
+    (Alters label to p base made.answer refl is at so refl) (still_left s s.deferred)))))
 
 -- what a label prepared is given up, by its abort or by a commit that is stale
 gives_up_prepared : (script : Script) (s : State) (event : Event) (answer : Answer) (label place : ℕ) (p : Prepared)
@@ -208,6 +213,7 @@ commit_fresh script s label place p last owner at is changed found same =
       holds = Stays refl;
       prepared = Ends label place p (inl refl) refl at is;
       creds = Seals last.cred p.slot refl (fits_own s (Commit label) t label place p refl refl at is) (OfLabel place p last is changed refl);
+      infos = SameInfos refl;
       deferred = All-append Has (ended ends s).deferred (owner.current ∷ p.base ∷ []) (ended_stay s ends)
           (All-cons Has owner.current (p.base ∷ []) (owner_stands s p.task owner found)
           (All-cons Has p.base [] (base_stands s place p is) (All-nil Has)));
@@ -266,7 +272,7 @@ override_held_has : (script : Script) (s : State) (event : Event) (task label : 
     → IfAllowed (Changes script s event) (override_held s owner held)
 override_held_has script s event task label owner held found is =
     let Q = Changes script s event in
-    let t = lent s owner held.number in
+    let t = with_override s owner held.number in
     if_fewer Q (length owner.overrides) DEPTH _ _
     (only_tasks script s event (Sealed held.number held.slot) s.deferred t.tasks s.casts s.dumpable s.deferred (All-contains_itself s.deferred)
     (Overrides owner.number (held.number ∷ owner.overrides) refl
@@ -308,6 +314,7 @@ override_prepared_has script s task label owner found =
       prepared = Ends label place p (inl refl) refl at is;
       creds = Seals last.cred p.slot refl (fits_own s event t label place p refl refl at is)
           (OfLabel place p last is (changed_for_access owner.number p last changed) refl);
+      infos = SameInfos refl;
       deferred = gives_up s p.base (base_stands s place p is);
     }))))
 
@@ -370,6 +377,26 @@ ptrace_changes script s line from hold to target mode =
     if_last Q (may_trace own.cred other.cred (sender.process == receiver.process) (reaches script.namespaces own.cred.ns other.cred.ns) (is_dumpable s.dumpable receiver.process) mode) _ _
     (refused script s event Done))))))
 
+-- a file is changed, by one of the three calls
+file_changes : (script : Script) (s : State) (event : Event) (hold place : ℕ) → changed_file event ≡ Some place
+    → Changes script s event (outcome s (by_file s hold place (changed_by event)))
+file_changes script s event hold place is =
+    let Q = Changes script s event in
+    outcome_has Q s _ (refused script s event)
+    (if_some Q (held_by s hold) _ _
+    (λ held at. if_some Q (slice_get s.infos place) _ _
+    (λ old there. if_file_rule Q (changed_by event held.cred old) _
+    (λ new ruled.
+    only_infos script s event Done (slice_set s.infos place new) (Writes place held old new is there ruled refl refl)))))
+
+stat_changes : (script : Script) (s : State) (line hold place : ℕ) → Changes script s (Stat hold place) (step script s line (Stat hold place))
+stat_changes script s line hold place =
+    let event = Stat hold place in
+    let Q = Changes script s event in
+    outcome_has Q s _ (refused script s event)
+    (if_some Q (held_by s hold) _ _
+    (λ held at. if_some Q (slice_get s.infos place) _ _ (λ file there. refused script s event _)))
+
 -- what an event changes
 pub changes : (script : Script) (s : State) (line : ℕ) (event : Event) → Changes script s event (step script s line event)
 changes script s line (Init task process user group ns) = init_changes script s line task process user group ns
@@ -396,4 +423,9 @@ changes script s line (Exit task) = exit_changes script s line task
 changes script s line (Dumpable task value) = dumpable_changes script s line task value
 changes script s line (Dumped task) = dumped_changes script s line task
 changes script s line (Ptrace from hold to target mode) = ptrace_changes script s line from hold to target mode
+changes script s line (Chown hold place owner group) = file_changes script s (Chown hold place owner group) hold place refl
+changes script s line (Chmod hold place mode) = file_changes script s (Chmod hold place mode) hold place refl
+changes script s line (SetAttr hold place attr) = file_changes script s (SetAttr hold place attr) hold place refl
+changes script s line (Stat hold place) = stat_changes script s line hold place
+changes script s line (Raw task call) = raw_changes script s line task call
 changes script s line Sweep = still script s Sweep Done [] (All-nil (Contains s.deferred))

@@ -121,4 +121,4 @@ few_from script (entry ∷ journal) s few =
     few_from script journal (step script s entry.line entry.event).1 (step_few script s entry.line entry.event few)
 
 pub few_after : TasksAreFew
-few_after script journal = few_from script journal opening (omega arith)
+few_after script journal = few_from script journal (opening script) (omega arith)

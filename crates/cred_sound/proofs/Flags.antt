@@ -15,7 +15,7 @@ use Rattle.cred_event.specs.declared.event.Change.{Change}
 use Rattle.cred_event.specs.declared.event.Change.TheVariants.{Exec}
 use Rattle.cred_model.specs.State.{Task, ProcessFlag}
 use Rattle.cred_model.specs.Ends.{is_task, is_thread_of, is_beside, survivors}
-use Rattle.cred_model.specs.Dumpable.{flag_in, with_flag, flagged, set_flag, without_flag, renewed, flags_by}
+use Rattle.cred_model.specs.Dumpable.{flag_in, with_process_flag, flagged, set_flag, without_flag, renewed, flags_by}
 use Rattle.cred_model.proofs.Lists.{Differ, alone, find-map, found}
 use Rattle.cred_model.proofs.Numbers.{found_number}
 use Rattle.cred_sound.specs.Flags.{AreFlagged}
@@ -250,7 +250,7 @@ flags_joined tasks flags t live are = record {
 
 -- the first thread of another
 pub flags_more : (tasks : List Task) (flags : List ProcessFlag) (t : Task) (dumpable : Bool) → lives tasks t.process ≡ false
-    → AreFlagged tasks flags → AreFlagged (tasks ++ t ∷ []) (with_flag flags t.process dumpable)
+    → AreFlagged tasks flags → AreFlagged (tasks ++ t ∷ []) (with_process_flag flags t.process dumpable)
 flags_more tasks flags t dumpable none are =
     let new : ProcessFlag = record { process = t.process; dumpable = dumpable } in
     record {

@@ -13,3 +13,4 @@ pub mod Dumpable
 pub mod Sound
 pub mod Survivors
 pub mod Few
+pub mod Infos

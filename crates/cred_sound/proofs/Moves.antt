@@ -7,7 +7,7 @@ use Rattle.std.proofs.lemmas.List.Elements.{All-contains, All-push, All-weaker}
 use Rattle.std.proofs.lemmas.List.Quantifiers.{all_pairs_push}
 use Rattle.cred_ids.specs.Limits.{SLOTS}
 use Rattle.cred_model.proofs.Lists.{slice_get-left, slice_get-last}
-use Rattle.cred_sound.specs.Ledger.{Ledger, referred, StandsIn, IsClear, AreApart, IsOrderly}
+use Rattle.cred_sound.specs.Ledger.{Ledger, referred, StandsIn, IsClear, SlotsApart, IsOrderly}
 
 abbrev pub Apart : ℕ → ℕ → Type 0
 Apart a b = a ≢ b
@@ -70,7 +70,7 @@ new_stands : (slots : List ℕ) (new slot n : ℕ) → n ≡ length slots → St
 new_stands slots new slot n last at =
     let both : Some new ≡ Some slot = sym (ap (slice_get (slots ++ new ∷ [])) last ∙ slice_get-last slots new) ∙ at in cc
 
-apart_cases : (slots xs : List ℕ) (new : ℕ) → AreApart slots xs → All (λ n. n < length slots) xs → IsClear slots new xs
+apart_cases : (slots xs : List ℕ) (new : ℕ) → SlotsApart slots xs → All (λ n. n < length slots) xs → IsClear slots new xs
     → (slot m n : ℕ) → OldOrNew slots xs m → OldOrNew slots xs n
     → StandsIn (slots ++ new ∷ []) slot m → StandsIn (slots ++ new ∷ []) slot n → m ≡ n
 apart_cases slots xs new apart sealed clear slot m n (inl a) (inl b) at_m at_n =

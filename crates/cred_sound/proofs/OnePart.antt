@@ -6,6 +6,7 @@ use Rattle.std.proofs.lemmas.List.Elements.{All-contains_itself, All-map, All-pu
 use Rattle.std.proofs.lemmas.List.Quantifiers.{position-Some}
 use Rattle.cred_ids.specs.Limits.{SLOTS}
 use Rattle.cred_record.specs.Credential.{Credential}
+use Rattle.cred_record.specs.File.{File}
 use Rattle.cred_event.specs.declared.event.Event.{Event}
 use Rattle.cred_event.specs.declared.answer.Answer.{Answer}
 use Rattle.cred_model.specs.Script.{Script}
@@ -15,7 +16,7 @@ use Rattle.cred_model.proofs.Lists.{All-at, All-unmap, AllPairs-unmap, alone, at
 use Rattle.cred_sound.specs.Ledger.{IsClear, IsOrderly, SealsOf, ledger}
 use Rattle.cred_sound.proofs.Moves.{Apart}
 use Rattle.cred_sound.proofs.References.{IsFree, own_refs}
-use Rattle.cred_sound.proofs.Parts.{with_left, sealed_cred, Fits, Origin, Changes, TasksChange, FilesChange, HoldsChange, PreparedChange, SameCreds, Seals, SameTasks, Stays, SamePrepared}
+use Rattle.cred_sound.proofs.Parts.{with_left, sealed_cred, Fits, Origin, Changes, TasksChange, FilesChange, HoldsChange, PreparedChange, InfosChange, SameCreds, Seals, SameTasks, Stays, SamePrepared, SameInfos}
 
 -- ---- the references that are left
 
@@ -72,6 +73,7 @@ still script s event answer left fewer = record {
   holds = Stays refl;
   prepared = SamePrepared refl;
   creds = SameCreds refl;
+  infos = SameInfos refl;
   deferred = still_left s left;
 }
 
@@ -94,6 +96,7 @@ with_tasks script s event answer left tasks casts flags c slot deferred fewer fr
       holds = Stays refl;
       prepared = SamePrepared refl;
       creds = Seals c slot refl (λ order. fits_free s event left t slot refl free) origin;
+      infos = SameInfos refl;
       deferred = refer;
     }
 
@@ -111,6 +114,7 @@ only_tasks script s event answer left tasks casts flags deferred fewer change re
   holds = Stays refl;
   prepared = SamePrepared refl;
   creds = SameCreds refl;
+  infos = SameInfos refl;
   deferred = refer;
 }
 
@@ -127,6 +131,7 @@ with_lists script s event answer files holds deferred file hold refer = record {
   holds = hold;
   prepared = SamePrepared refl;
   creds = SameCreds refl;
+  infos = SameInfos refl;
   deferred = refer;
 }
 
@@ -143,5 +148,21 @@ with_prepared script s event answer left prepared deferred fewer change refer = 
   holds = Stays refl;
   prepared = change;
   creds = SameCreds refl;
+  infos = SameInfos refl;
   deferred = refer;
+}
+
+-- a file is changed
+pub only_infos : (script : Script) (s : State) (event : Event) (answer : Answer) (infos : List File)
+    → InfosChange s event (answer, record s { infos = infos }) → Changes script s event (answer, record s { infos = infos })
+only_infos script s event answer infos change = record {
+  left = s.deferred;
+  fewer = All-contains_itself s.deferred;
+  tasks = SameTasks refl refl refl;
+  files = Stays refl;
+  holds = Stays refl;
+  prepared = SamePrepared refl;
+  creds = SameCreds refl;
+  infos = change;
+  deferred = still_left s s.deferred;
 }

@@ -15,7 +15,7 @@ use Rattle.cred_model.specs.Step.{ends_with}
 use Rattle.cred_model.proofs.Numbers.{overriding_as, overriding_number, owner_number, updated_as, updated_number}
 use Rattle.cred_sound.specs.Casts.{IsThread}
 use Rattle.cred_sound.specs.Sound.{IsSound}
-use Rattle.cred_sound.proofs.Parts.{TasksChange, Cause, Creation, Death, casts_left, ByBegin, ByAct, ByCommit, BySpawn, ByFork, ByExit, ByAbort, SameTasks, SetsFlag, Creates, Shares, Renews, Overrides, Fewer}
+use Rattle.cred_sound.proofs.Parts.{TasksChange, Cause, Creation, Death, casts_left, ByBegin, ByAct, ByRaw, ByCommit, BySpawn, ByFork, ByExit, ByAbort, SameTasks, SetsFlag, Creates, Shares, Renews, Overrides, Fewer}
 use Rattle.cred_sound.proofs.Threads.{AreOpen, is_thread, thread_among, thread_kept, thread_stays, open_with, open_begun, open_left, open_joined, open_dropped}
 use Rattle.cred_sound.proofs.Unique.{none_has}
 
@@ -85,6 +85,9 @@ renewed_open s event task owner ends made c (ByAct number slot cast before is op
     subst (AreOpen now) (sym casts)
     (open_left s.tasks now s.casts task (λ k d lt. stays _ _ (sound.under_way k d lt).caller)
     (λ process number other. stays process number) (sound_open s sound))
+renewed_open s event task owner ends made c (ByRaw call before slot is has ruled idle none casts answer flags) found sound =
+    let now = with_current (survivors ends s.tasks) task (length s.creds) in
+    subst (AreOpen now) (sym casts) (open_with s.tasks now s.casts (all_stay ends s.tasks task (length s.creds) none) (sound_open s sound))
 renewed_open s event task owner ends made c (ByCommit label place slot count p last is first at own changed same cred ending casts answer flags) found sound =
     let now = with_current (survivors ends s.tasks) task (length s.creds) in
     subst (AreOpen now) (sym casts) (commit_open s owner ends task (length s.creds) last.change ending (sound_open s sound))

@@ -1,25 +1,27 @@
 -- What an event may change, part by part.
-use Rattle.std.proofs.Common.{◌≡◌, ◌≢◌, ◌==◌, ◌-◌, ◌⊎◌, Bool, false, ℕ, ◌<◌, List, [], ◌∷◌, ◌++◌, length, slice_get, Some, None, Ok, position, refl, ap, arith}
+use Rattle.std.proofs.Common.{◌≡◌, ◌≢◌, ◌==◌, ◌-◌, ◌⊎◌, Bool, false, ℕ, ◌<◌, List, [], ◌∷◌, ◌++◌, length, slice_get, slice_set, Some, None, Ok, position, refl, ap, arith}
 use Rattle.std.specs.List.{All, Contains, find, remove}
 use Rattle.std.proofs.lemmas.List.{length_push}
 use Rattle.cred_ids.specs.Limits.{SLOTS}
 use Rattle.cred_record.specs.Credential.{Credential, first_credential}
+use Rattle.cred_record.specs.File.{File}
 use Rattle.cred_record.specs.declared.id_call.IdCall.{IdCall}
 use Rattle.cred_rules.specs.SetId.{set_id}
 use Rattle.cred_event.specs.declared.event.Event.{Event}
-use Rattle.cred_event.specs.declared.event.Event.TheVariants.{Init, Release, Commit, Abort, Begin, Act, CloseFile, Spawn, Fork, Exit, Dumpable}
+use Rattle.cred_event.specs.declared.event.Event.TheVariants.{Init, Release, Alter, Commit, Abort, Begin, Act, CloseFile, Spawn, Fork, Exit, Dumpable, Raw}
 use Rattle.cred_event.specs.declared.event.Change.{Change}
 use Rattle.cred_event.specs.declared.event.Change.TheVariants.{Exec}
 use Rattle.cred_event.specs.declared.answer.Answer.{Answer}
-use Rattle.cred_event.specs.declared.answer.Answer.TheVariants.{Began, Acted, Aborted}
+use Rattle.cred_event.specs.declared.answer.Answer.TheVariants.{Done, Sealed, Began, Acted, Aborted}
 use Rattle.cred_event.specs.declared.answer.AbortCause.{AbortCause}
-use Rattle.cred_model.specs.Script.{Script, info_of, chain_of, root_of}
-use Rattle.cred_model.specs.State.{State, SealedCred, Task, Broadcast, OpenFile, Hold, Prepared, Changed, Numbered, numbered, task_of, cast_of, cast_in, begun_by, hold_of, prepared_of, current_of}
+use Rattle.cred_model.specs.Script.{Script, chain_of, root_of}
+use Rattle.cred_model.specs.State.{State, SealedCred, Task, Broadcast, OpenFile, Hold, Prepared, Changed, Numbered, numbered, task_of, cast_of, cast_in, begun_by, hold_of, prepared_of, current_of, info_of}
 use Rattle.cred_model.specs.Slots.{refs, kept}
 use Rattle.cred_model.specs.Named.{change_files}
+use Rattle.cred_model.specs.Changing.{changed_file, changed_by}
 use Rattle.cred_model.specs.Change.{by_change}
 use Rattle.cred_model.specs.Ends.{is_task, is_thread_of, survivors}
-use Rattle.cred_model.specs.Dumpable.{is_dumpable, with_flag, set_flag, without_flag, differs, renewed, flags_committed, flags_begun, flags_left, flag_of_value}
+use Rattle.cred_model.specs.Dumpable.{is_dumpable, with_process_flag, set_flag, without_flag, differs, renewed, flags_committed, flags_begun, flags_left, flag_of_value}
 use Rattle.cred_model.specs.Casts.{others_of, with_cast, waits_no_more, joined, dropped}
 use Rattle.cred_model.specs.Moves.{with_change, with_current, with_overrides, first_task}
 use Rattle.cred_model.specs.Step.{commit_answer, ends_with}
@@ -99,6 +101,10 @@ pub data Cause (s : State) (event : Event) (task : ℕ) (owner : Task) (ends : T
       → ends ≡ (λ t. false) → made.1.casts ≡ waits_no_more task s.casts
       → made.0 ≡ Acted task (length s.creds) slot (length cast.waiting - 1)
       → made.1.dumpable ≡ renewed s.dumpable owner.process (differs before.cred c) → Cause s event task owner ends c made
+  ByRaw : (call : IdCall) (before : Numbered) (slot : ℕ) → event ≡ Raw task call → current_of s task ≡ Some before
+      → set_id before.cred call ≡ Ok c → cast_in s owner.process ≡ None → ends ≡ (λ t. false) → made.1.casts ≡ s.casts
+      → made.0 ≡ Sealed (length s.creds) slot → made.1.dumpable ≡ renewed s.dumpable owner.process (differs before.cred c)
+      → Cause s event task owner ends c made
   ByCommit : (label place slot count : ℕ) (p : Prepared) (last : Changed) → event ≡ Commit label
       → position (λ p. p.label == label) s.prepared ≡ Some place → slice_get s.prepared place ≡ Some p → p.task ≡ task
       → p.changed ≡ Some last → owner.current ≡ p.base → c ≡ last.cred → ends ≡ ends_with last.change owner
@@ -111,7 +117,7 @@ pub data Creation (s : State) (event : Event) (task child process : ℕ) (made :
   BySpawn : (owner : Task) → event ≡ Spawn task child → task_of s task ≡ Some owner → process ≡ owner.process
       → made.1.casts ≡ joined task child s.casts → made.1.dumpable ≡ s.dumpable → Creation s event task child process made
   ByFork : (owner : Task) → event ≡ Fork task child process → task_of s task ≡ Some owner → find (is_thread_of process) s.tasks ≡ None
-      → made.1.casts ≡ s.casts → made.1.dumpable ≡ with_flag s.dumpable process (is_dumpable s.dumpable owner.process)
+      → made.1.casts ≡ s.casts → made.1.dumpable ≡ with_process_flag s.dumpable process (is_dumpable s.dumpable owner.process)
       → Creation s event task child process made
 
 -- How tasks end, and no other has a new credential: a task exits, or all threads of a process end,
@@ -176,11 +182,18 @@ pub data PreparedChange (script : Script) (s : State) (event : Event) (left : Li
       → PreparedChange script s event left t
   Alters : (label : ℕ) (to : Changed) (p : Prepared) (base : Numbered) (answer : Answer)
       → t.prepared ≡ with_change s.prepared label to → prepared_of s label ≡ Some p → numbered s.creds p.base ≡ Some base
-      → by_change (info_of script (change_files to.change)) (chain_of script base.cred.ns) base.cred to.change ≡ Ok (record { answer = answer; cred = to.cred; gains = to.gains })
-      → PreparedChange script s event left t
+      → by_change (info_of s.infos (change_files to.change)) (chain_of script base.cred.ns) base.cred to.change ≡ Ok (record { answer = answer; cred = to.cred; gains = to.gains })
+      → event ≡ Alter label to.change → PreparedChange script s event left t
   Ends : (label place : ℕ) (p : Prepared) → SealsOf event label ⊎ (event ≡ Abort label)
       → t.prepared ≡ remove s.prepared place → position (λ p. p.label == label) s.prepared ≡ Some place
       → slice_get s.prepared place ≡ Some p → PreparedChange script s event left t
+
+-- The files: as they were, or one of them as the event's call leaves it.
+pub data InfosChange (s : State) (event : Event) (made : Answer × State) : Type 0 where
+  SameInfos : made.1.infos ≡ s.infos → InfosChange s event made
+  Writes : (place : ℕ) (held : Numbered) (old new : File) → changed_file event ≡ Some place → slice_get s.infos place ≡ Some old
+      → changed_by event held.cred old ≡ Ok new → made.0 ≡ Done → made.1.infos ≡ slice_set s.infos place new
+      → InfosChange s event made
 
 -- What an event changes, with the deferred references that are left by the sweep, if it makes one.
 pub record Changes (script : Script) (s : State) (event : Event) (made : Answer × State) : Type 0 where
@@ -191,4 +204,5 @@ pub record Changes (script : Script) (s : State) (event : Event) (made : Answer 
   pub holds : HoldsChange s event left made.1
   pub prepared : PreparedChange script s event left made.1
   pub creds : CredsChange s event left made.1
+  pub infos : InfosChange s event made
   pub deferred : All (Contains (refs (with_left s left))) made.1.deferred

@@ -13,7 +13,7 @@ use Rattle.cred_model.specs.State.{State, SealedCred, Task, OpenFile, Hold, Prep
 use Rattle.cred_model.specs.Slots.{in_use, refs, kept}
 use Rattle.cred_model.specs.Like.{IsLike}
 use Rattle.cred_model.specs.Ends.{survivors}
-use Rattle.cred_model.specs.Moves.{updated, overriding, changed}
+use Rattle.cred_model.specs.Moves.{updated, overriding, relabelled}
 use Rattle.cred_model.specs.Step.{step}
 use Rattle.cred_model.proofs.Lists.{All-kept, All-remove, All-unmap, AllPairs-map, AllPairs-unmap, map_same}
 use Rattle.cred_model.proofs.Numbers.{updated_as, overriding_as, changed_as}
@@ -83,10 +83,10 @@ bases_refer : (script : Script) (s : State) (event : Event) (left : List ℕ) (t
 bases_refer script s event left t (SamePrepared same) old = subst (All (OfBase s left)) (sym same) old
 bases_refer script s event left t (Prepares p prepared fresh unheld new has free) old =
     subst (All (OfBase s left)) (sym prepared) (All-push (OfBase s left) s.prepared p old has)
-bases_refer script s event left t (Alters label to p base answer prepared is at so) old =
+bases_refer script s event left t (Alters label to p base answer prepared is at so acts) old =
     let P = OfBase s left in
     subst (All P) (sym prepared)
-    (All-kept P (changed label to) s.prepared (λ p one. changed_as P label to p (λ test. one) one) old)
+    (All-kept P (relabelled label to) s.prepared (λ p one. changed_as P label to p (λ test. one) one) old)
 bases_refer script s event left t (Ends label place p ends prepared at is) old =
     subst (All (OfBase s left)) (sym prepared) (All-remove (OfBase s left) s.prepared place old)
 
@@ -133,9 +133,9 @@ kept_orderly script s event left t (Prepares p prepared fresh unheld new has fre
     subst (λ k. IsOrderly (with_kept (ledger (with_left s left)) k))
     (sym (ap (map slot_of) prepared ∙ map_push slot_of s.prepared p))
     (keeps (ledger (with_left s left)) p.slot free.below free.clear free.unkept order)
-kept_orderly script s event left t (Alters label to p base answer prepared is at so) order =
+kept_orderly script s event left t (Alters label to p base answer prepared is at so acts) order =
     subst (λ k. IsOrderly (with_kept (ledger (with_left s left)) k))
-    (sym (ap (map slot_of) prepared ∙ map_same slot_of (changed label to) s.prepared (λ p. changed_as (λ q. q.slot ≡ p.slot) label to p (λ test. refl) refl)))
+    (sym (ap (map slot_of) prepared ∙ map_same slot_of (relabelled label to) s.prepared (λ p. changed_as (λ q. q.slot ≡ p.slot) label to p (λ test. refl) refl)))
     order
 kept_orderly script s event left t (Ends label place p ends prepared at is) order =
     let now = ledger (with_left s left) in
@@ -206,8 +206,8 @@ pub step_sound : (script : Script) (s : State) (line : ℕ) (event : Event) → 
 step_sound script s line event sound =
     changes_sound script s event (step script s line event) (changes script s line event) sound
 
-pub opening_sound : IsSound opening
-opening_sound = record {
+pub opening_sound : (script : Script) → IsSound (opening script)
+opening_sound script = record {
   tasks = λ i j d lt within. absurd (omega arith);
   casts = λ i j d lt within. absurd (omega arith);
   processes = λ i j d lt within. absurd (omega arith);
@@ -234,7 +234,7 @@ sound_from script (entry ∷ journal) s sound =
     sound_from script journal (step script s entry.line entry.event).1 (step_sound script s entry.line entry.event sound)
 
 pub sound_after : StatesAreSound
-sound_after script journal = sound_from script journal opening opening_sound
+sound_after script journal = sound_from script journal (opening script) (opening_sound script)
 
 -- ---- states that are alike
 

@@ -4,6 +4,7 @@ use Rattle.std.specs.List.{All, Contains}
 use Rattle.std.specs.Option.{option_map_or}
 use Rattle.std.proofs.lemmas.List.Elements.{All-contains_itself, All-nil}
 use Rattle.cred_record.specs.Credential.{Credential}
+use Rattle.cred_record.specs.File.{File}
 use Rattle.cred_record.specs.declared.refusal.Denial.{Denial}
 use Rattle.cred_event.specs.declared.answer.Answer.{Answer}
 use Rattle.cred_model.specs.State.{State, Task, Broadcast}
@@ -80,6 +81,12 @@ pub if_rule : (Q : Answer × State → Type 0) (r : Result Credential Denial) (f
     → ((c : Credential) → r ≡ Ok c → IfAllowed Q (f c)) → IfAllowed Q (by_rule r >>= f)
 if_rule Q (Ok c) f each = each c refl
 if_rule Q (Err denial) f each = tt
+
+-- the same of a rule that changes a file
+pub if_file_rule : (Q : Answer × State → Type 0) (r : Result File Denial) (f : File → Result (Answer × State) Answer)
+    → ((file : File) → r ≡ Ok file → IfAllowed Q (f file)) → IfAllowed Q (by_rule r >>= f)
+if_file_rule Q (Ok file) f each = each file refl
+if_file_rule Q (Err denial) f each = tt
 
 pub if_ok : {A : Type 0} (Q : Answer × State → Type 0) (r : Result A Answer) (f : A → Result (Answer × State) Answer)
     → ((x : A) → r ≡ Ok x → IfAllowed Q (f x)) → IfAllowed Q (r >>= f)

@@ -13,7 +13,7 @@ use Rattle.cred_ids.specs.Ordered.{in_order}
 use Rattle.cred_record.specs.declared.id_call.IdCall.{IdCall}
 use Rattle.cred_model.specs.State.{Task, Broadcast}
 use Rattle.cred_model.specs.Ends.{is_beside, survivors}
-use Rattle.cred_model.specs.Casts.{waits_in, is_open, with_cast, without, waits_no_more, with_child, joined, dropped}
+use Rattle.cred_model.specs.Casts.{waits_in, is_open, with_cast, without_waiter, waits_no_more, with_child, joined, dropped}
 use Rattle.cred_model.proofs.Numbers.{found_number}
 use Rattle.cred_model.proofs.Lists.{AllPairs-map, AllPairs-weaker, Differ, find_changed, none_passes}
 use Rattle.cred_model.proofs.Rising.{AllPairs-head, AllPairs-tail, All-in_order, any-in_order, length-in_order, rising-in_order, rising_differ, Below, All-passed, find-filter}
@@ -241,13 +241,13 @@ pub open_left : (tasks now : List Task) (casts : List Broadcast) (task : ℕ)
     → ((process number : ℕ) → number ≢ task → IsThread tasks process number → IsThread now process number)
     → AreOpen tasks casts → AreOpen now (waits_no_more task casts)
 open_left tasks now casts task callers stays are =
-    let rest = map (without task) casts in
+    let rest = map (without_waiter task) casts in
     let goes_on : ℕ → Bool = λ n. not (n == task) in
     let Left : Broadcast → Type 0 = λ c. is_open c ≡ true → IsUnderWay now c in
     record {
-      apart = apart_fewer is_open rest (apart_changed (without task) casts (λ c. refl) (λ c. refl) are.apart);
+      apart = apart_fewer is_open rest (apart_changed (without_waiter task) casts (λ c. refl) (λ c. refl) are.apart);
       under_way = All-passed is_open Left (IsUnderWay now) rest (λ c some holds. holds some)
-          (All-map Left (without task) casts (λ k d lt some.
+          (All-map Left (without_waiter task) casts (λ k d lt some.
           let c = get_or casts k d in
           let was : IsUnderWay tasks c = are.under_way k d lt in
           record {

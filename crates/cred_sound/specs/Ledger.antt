@@ -37,8 +37,8 @@ abbrev pub IsClear : List ℕ → ℕ → List ℕ → Type 0
 IsClear slots slot numbers = All (λ n. slice_get slots n ≢ Some slot) numbers
 
 -- two of these numbers whose credentials stand in one slot are one number
-abbrev pub AreApart : List ℕ → List ℕ → Type 0
-AreApart slots numbers =
+abbrev pub SlotsApart : List ℕ → List ℕ → Type 0
+SlotsApart slots numbers =
     (slot m n : ℕ) → Contains numbers m → Contains numbers n
     → StandsIn slots slot m → StandsIn slots slot n → m ≡ n
 
@@ -48,7 +48,7 @@ AreApart slots numbers =
 pub record IsOrderly (l : Ledger) : Type 0 where
   pub sealed : All (λ n. n < length l.slots) (referred l)
   pub slotted : All (λ slot. slot < SLOTS) l.slots
-  pub apart : AreApart l.slots (referred l)
+  pub apart : SlotsApart l.slots (referred l)
   pub kept : All (λ slot. slot < SLOTS) l.kept
   pub own : AllPairs (λ a b. a ≢ b) l.kept
   pub clear : All (λ slot. IsClear l.slots slot (referred l)) l.kept

@@ -7,7 +7,7 @@ use Rattle.std.proofs.lemmas.List.Elements.{All-cons}
 use Rattle.std.proofs.lemmas.List.Splits.{slice_split_none, slice_split_at}
 use Rattle.cred_spelling.specs.Lines.{lines_of, is_printable, is_printable_byte}
 use Rattle.cred_spelling.specs.LineWords.{is_word_byte, some_word, Stops}
-use Rattle.cred_spelling.specs.Words.{words_of}
+use Rattle.cred_spelling.specs.Words.{line_words}
 
 both : (a b : Bool) → (a && b) ≡ true → (a ≡ true) × (b ≡ true)
 both true b h = (refl, h)
@@ -54,13 +54,13 @@ word_before (b ∷ bs) word (suc end) is good =
     rw is (rw (good 0 (omega arith)) (word_before bs (take end bs) end refl (λ k lt. good (suc k) (omega arith))))
 
 -- a word, a space, and more
-word_then : (word tail : List ℕ) → list_all is_word_byte word ≡ true → words_of (word ++ 32 ∷ tail) ≡ some_word word ++ words_of tail
+word_then : (word tail : List ℕ) → list_all is_word_byte word ≡ true → line_words (word ++ 32 ∷ tail) ≡ some_word word ++ line_words tail
 word_then word tail h =
     ap (filter (λ w. not (length w == 0))) (slice_split_at (λ b. b == 32) word 32 tail (no_spaces word h) refl)
     ∙ kept word (slice_split (λ b. b == 32) tail)
 
 -- the last word
-word_last : (word : List ℕ) → list_all is_word_byte word ≡ true → words_of word ≡ some_word word
+word_last : (word : List ℕ) → list_all is_word_byte word ≡ true → line_words word ≡ some_word word
 word_last word h =
     ap (filter (λ w. not (length w == 0))) (slice_split_none (λ b. b == 32) word (no_spaces word h))
     ∙ kept word [] ∙ append-nil (some_word word)
@@ -70,8 +70,8 @@ pub record IsPast (bytes behind : List ℕ) (words : List (List ℕ)) : Type 0 w
   pub front : List ℕ
   pub joined : bytes ≡ front ++ behind
   pub printable : is_printable front ≡ true
-  pub all : words_of front ≡ words
-  pub more : (tail : List ℕ) → words_of (front ++ 32 ∷ tail) ≡ words ++ words_of tail
+  pub all : line_words front ≡ words
+  pub more : (tail : List ℕ) → line_words (front ++ 32 ∷ tail) ≡ words ++ line_words tail
   pub stops : Stops behind
 
 pub past_first : (bytes word behind : List ℕ) → bytes ≡ word ++ behind → list_all is_word_byte word ≡ true → Stops behind → IsPast bytes behind (some_word word)
@@ -93,10 +93,10 @@ past_next bytes rest word behind words past is h stops =
       printable = printable_both past.front (32 ∷ word) past.printable (printable_word word h);
       all = past.more word ∙ ap (λ (w : List (List ℕ)). words ++ w) (word_last word h);
       more = λ tail.
-          ap words_of (append_assoc past.front (32 ∷ word) (32 ∷ tail))
+          ap line_words (append_assoc past.front (32 ∷ word) (32 ∷ tail))
           ∙ past.more (word ++ 32 ∷ tail)
           ∙ ap (λ (w : List (List ℕ)). words ++ w) (word_then word tail h)
-          ∙ sym (append_assoc words (some_word word) (words_of tail));
+          ∙ sym (append_assoc words (some_word word) (line_words tail));
       stops = stops;
     }
 

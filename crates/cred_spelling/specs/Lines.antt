@@ -9,9 +9,9 @@ lines_of (byte ∷ bytes) =
     if byte == 10 then [] ∷ lines_of bytes else onto_first byte (lines_of bytes)
 
 -- how many LF there are
-abbrev pub ends : List ℕ → ℕ
-ends [] = 0
-ends (byte ∷ bytes) = if byte == 10 then 1 + ends bytes else ends bytes
+abbrev pub line_ends : List ℕ → ℕ
+line_ends [] = 0
+line_ends (byte ∷ bytes) = if byte == 10 then 1 + line_ends bytes else line_ends bytes
 
 -- from 0x20 to 0x7E: neither CR nor a tab is
 abbrev pub is_printable_byte : ℕ → Bool

@@ -16,9 +16,11 @@ use Rattle.cred_spelling.specs.declared.names.QueryName.{QueryName}
 use Rattle.cred_spelling.specs.declared.names.QueryName.TheVariants as query
 use Rattle.cred_spelling.specs.declared.names.OtherName.{OtherName}
 use Rattle.cred_spelling.specs.declared.names.OtherName.TheVariants as other
+use Rattle.cred_spelling.specs.declared.names.FileCallName.{FileCallName}
+use Rattle.cred_spelling.specs.declared.names.FileCallName.TheVariants as file
 use Rattle.cred_spelling.specs.declared.names.CallName.{CallName}
 use Rattle.cred_spelling.specs.declared.names.CallName.TheVariants as call
-use Rattle.cred_spelling.specs.Spellings.{task_of}
+use Rattle.cred_spelling.specs.Spellings.{spelled_task}
 use Rattle.cred_spelling.specs.Table.{named}
 
 -- the lines that no task calls
@@ -101,11 +103,23 @@ other_names =
     (codes "dumpable", other.Dumpable) ∷
     (codes "dumped", other.Dumped) ∷
     (codes "ptrace", other.Ptrace) ∷
+    (codes "capsetraw", other.CapsetRaw) ∷
+    (codes "raw", other.Raw) ∷
+    []
+
+-- the calls on a file, but for those by which it is opened or executed
+unfoldable pub file_call_names : List (List ℕ × FileCallName)
+file_call_names =
+    (codes "chown", file.Chown) ∷
+    (codes "chmod", file.Chmod) ∷
+    (codes "setattr", file.SetAttr) ∷
+    (codes "clearattr", file.ClearAttr) ∷
+    (codes "stat", file.Stat) ∷
     []
 
 -- what a line is by its first word: a call or a question of a task is named by the task
 abbrev pub form_of : List ℕ → Option Form
-form_of word = option_or (option_map Task (task_of word)) (named forms word)
+form_of word = option_or (option_map Task (spelled_task word)) (named forms word)
 
 -- the id call that a word names
 abbrev pub id_name : List ℕ → Option IdName
@@ -125,10 +139,15 @@ altered_name word =
 abbrev pub query_name : List ℕ → Option QueryName
 query_name word = named query_names word
 
+-- the call on a file that a word names
+abbrev pub file_call_name : List ℕ → Option FileCallName
+file_call_name word = named file_call_names word
+
 -- what a task does on a line of its own, by its name
 abbrev pub call_name : List ℕ → Option CallName
 call_name word =
     option_or (option_map call.Question (query_name word))
     (option_or (option_map call.Id (id_name word))
     (option_or (option_map call.Change (change_name word))
-    (option_map call.Other (named other_names word))))
+    (option_or (option_map call.Other (named other_names word))
+    (option_map call.File (file_call_name word)))))

@@ -62,8 +62,8 @@ abbrev pub cap_of : List ℕ → Option ℕ
 cap_of word = option_or (number_of word) (cap_named word)
 
 -- the number that hexadecimal digits write, of either case
-abbrev pub hexadecimal : List ℕ → Option ℕ
-hexadecimal word =
+abbrev pub hexadecimal_number : List ℕ → Option ℕ
+hexadecimal_number word =
     if list_all (λ byte. is_digit byte 16) word then Some (digits_value 16 word) else None
 
 -- the set of these bits, if none is above 40
@@ -74,7 +74,7 @@ set_with bits = if nat_lt bits (2 ^ 41) then Some bits else None
 abbrev pub set_of : List ℕ → Option ℕ
 set_of word =
     if nat_le 1 (length word) && nat_le (length word) 16
-    then option_and_then set_with (hexadecimal word)
+    then option_and_then set_with (hexadecimal_number word)
     else None
 
 -- the digits, without `0x` before them
@@ -91,7 +91,7 @@ bytes_of word =
     else None
 
 -- the number, if it is from the least to the most
-abbrev pub within : ℕ → ℕ → ℕ → Option ℕ
+abbrev pub within : (least most number : ℕ) → Option ℕ
 within least most number = if nat_le least number && nat_le number most then Some number else None
 
 -- a word that is such a number
@@ -99,9 +99,9 @@ abbrev pub number_within : ℕ → ℕ → List ℕ → Option ℕ
 number_within least most word = option_and_then (within least most) (number_of word)
 
 -- a letter, and a number from the least to the most
-abbrev pub numbered : ℕ → ℕ → ℕ → List ℕ → Option ℕ
-numbered letter least most [] = None
-numbered letter least most (first ∷ digits) =
+abbrev pub letter_number : ℕ → ℕ → ℕ → List ℕ → Option ℕ
+letter_number letter least most [] = None
+letter_number letter least most (first ∷ digits) =
     if first == letter then number_within least most digits else None
 
 -- the letter that a text is
@@ -109,24 +109,24 @@ abbrev pub letter : List ℕ → ℕ
 letter text = slice_index text 0
 
 -- a task, as `t1`
-abbrev pub task_of : List ℕ → Option ℕ
-task_of word = numbered (letter (codes "t")) 1 LAST_NUMBER word
+abbrev pub spelled_task : List ℕ → Option ℕ
+spelled_task word = letter_number (letter (codes "t")) 1 LAST_NUMBER word
 
 -- a process, as `p1`
-abbrev pub process_of : List ℕ → Option ℕ
-process_of word = numbered (letter (codes "p")) 1 LAST_NUMBER word
+abbrev pub spelled_process : List ℕ → Option ℕ
+spelled_process word = letter_number (letter (codes "p")) 1 LAST_NUMBER word
 
 -- a label, as `h1`
-abbrev pub label_of : List ℕ → Option ℕ
-label_of word = numbered (letter (codes "h")) 1 LAST_NUMBER word
+abbrev pub spelled_label : List ℕ → Option ℕ
+spelled_label word = letter_number (letter (codes "h")) 1 LAST_NUMBER word
 
 -- the descriptor of an open file, as `f1`
 abbrev pub descriptor_of : List ℕ → Option ℕ
-descriptor_of word = numbered (letter (codes "f")) 1 LAST_NUMBER word
+descriptor_of word = letter_number (letter (codes "f")) 1 LAST_NUMBER word
 
 -- a namespace, as `n0`
 abbrev pub namespace_of : List ℕ → Option ℕ
-namespace_of word = numbered (letter (codes "n")) 0 LAST_NAMESPACE word
+namespace_of word = letter_number (letter (codes "n")) 0 LAST_NAMESPACE word
 
 -- the number of a namespace that is declared: 0 is the initial one, which is there
 abbrev pub new_namespace_of : List ℕ → Option ℕ

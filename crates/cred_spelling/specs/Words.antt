@@ -9,8 +9,8 @@ use Rattle.cred_spelling.specs.declared.reason.Reason.TheVariants.{Word, Count}
 use Rattle.cred_spelling.specs.Spellings.{is_name}
 
 -- A line is split into words at runs of spaces.
-abbrev pub words_of : List ℕ → List (List ℕ)
-words_of line = filter (λ word. not (length word == 0)) (slice_split (λ byte. byte == 32) line)
+abbrev pub line_words : List ℕ → List (List ℕ)
+line_words line = filter (λ word. not (length word == 0)) (slice_split (λ byte. byte == 32) line)
 
 -- A line whose first word begins with `#` is a comment.
 abbrev pub is_comment : List ℕ → Bool

@@ -3,7 +3,9 @@ ghost use Rattle.std.specs.Prelude.{◌≡◌, ℕ, List};
 ghost use Rattle.std.specs.declared.option.Option.{Option};
 ghost use Rattle.cred_spelling.specs.Spellings as spec;
 
-use crate::spellings::{cap_named, hexadecimal, is, number_of, number_within, numbered};
+use crate::spellings::{
+    cap_named, hexadecimal_number, is, letter_number, number_of, number_within,
+};
 use crate::table::named;
 use cred_caps::CapSet;
 use cred_ids::limits::{LAST_LANE, LAST_NAMESPACE, LAST_NUMBER, LINE_LIMIT};
@@ -56,10 +58,10 @@ pub enum Task {}
 impl Spelling for Task {
     type Value = u32;
 
-    ghost spelled = { spec.task_of };
+    ghost spelled = { spec.spelled_task };
 
     fn of(word: &[u8]) -> Option<u32> {
-        numbered(b't', 1, LAST_NUMBER, word)
+        letter_number(b't', 1, LAST_NUMBER, word)
     }
 }
 
@@ -69,10 +71,10 @@ pub enum Process {}
 impl Spelling for Process {
     type Value = u32;
 
-    ghost spelled = { spec.process_of };
+    ghost spelled = { spec.spelled_process };
 
     fn of(word: &[u8]) -> Option<u32> {
-        numbered(b'p', 1, LAST_NUMBER, word)
+        letter_number(b'p', 1, LAST_NUMBER, word)
     }
 }
 
@@ -82,10 +84,10 @@ pub enum Label {}
 impl Spelling for Label {
     type Value = u32;
 
-    ghost spelled = { spec.label_of };
+    ghost spelled = { spec.spelled_label };
 
     fn of(word: &[u8]) -> Option<u32> {
-        numbered(b'h', 1, LAST_NUMBER, word)
+        letter_number(b'h', 1, LAST_NUMBER, word)
     }
 }
 
@@ -98,7 +100,7 @@ impl Spelling for Descriptor {
     ghost spelled = { spec.descriptor_of };
 
     fn of(word: &[u8]) -> Option<u32> {
-        numbered(b'f', 1, LAST_NUMBER, word)
+        letter_number(b'f', 1, LAST_NUMBER, word)
     }
 }
 
@@ -111,7 +113,7 @@ impl Spelling for Namespace {
     ghost spelled = { spec.namespace_of };
 
     fn of(word: &[u8]) -> Option<u32> {
-        numbered(b'n', 0, LAST_NAMESPACE, word)
+        letter_number(b'n', 0, LAST_NAMESPACE, word)
     }
 }
 
@@ -199,7 +201,7 @@ impl Spelling for CapSet {
         if word.is_empty() || 16 < word.len() {
             return None;
         }
-        CapSet::of_bits(hexadecimal(word)?)
+        CapSet::of_bits(hexadecimal_number(word)?)
     }
 }
 

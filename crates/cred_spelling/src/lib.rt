@@ -28,8 +28,8 @@ pub use line_words::split_first_line;
 pub use lines::{first_line, line_count};
 pub use long::long_of;
 pub use names::{
-    CallName, ChangeName, EventName, Form, IdName, OtherName, QueryName, altered_name, call_name,
-    change_name, form_of, id_name, query_name,
+    CallName, ChangeName, EventName, FileCallName, Form, IdName, OtherName, QueryName,
+    altered_name, call_name, change_name, form_of, id_name, query_name,
 };
 pub use reason::Reason;
 pub use spellings::{is, mode_of};

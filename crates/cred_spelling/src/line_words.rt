@@ -5,7 +5,7 @@ ghost use Rattle.std.specs.List.{list_all};
 ghost use Rattle.cred_spelling.specs.Lines as lines;
 ghost use Rattle.cred_spelling.specs.Read.{nows};
 ghost use Rattle.cred_spelling.specs.LineWords as spec;
-ghost use Rattle.cred_spelling.specs.Words.{words_of};
+ghost use Rattle.cred_spelling.specs.Words.{line_words};
 
 use crate::lines::any_line;
 use cred_ids::NoMemory;
@@ -26,7 +26,7 @@ pub fn split_first_line<'b>(
         lines.lines_of bytes.now ≡ split.0.now ∷ lines.lines_of split.1.now) }
     ensures printable { IfOk result (λ split. split.2 ≡ lines.is_printable split.0.now) }
     ensures words { IfOk result (λ split.
-        split.2 ≡ true → nows words.new.items ≡ words_of split.0.now) }
+        split.2 ≡ true → nows words.new.items ≡ line_words split.0.now) }
     ensures shorter { IfOk result (λ split. length split.1.now < length bytes.now) }
 {
     words.clear();

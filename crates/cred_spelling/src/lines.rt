@@ -1,7 +1,7 @@
 //! The lines of a text.
 ghost use Rattle.std.specs.Prelude.{◌≡◌, ◌≢◌, ◌≤◌, ◌<◌, ◌∷◌, ℕ, true, length, slice_index};
 ghost use Rattle.cred_spelling.specs.Lines as spec;
-ghost use Rattle.cred_spelling.specs.Lines.{ends};
+ghost use Rattle.cred_spelling.specs.Lines.{line_ends};
 
 /// How many lines a text has.
 pub fn line_count(bytes: &[u8]) -> usize
@@ -24,7 +24,7 @@ const TOGETHER: usize = 240;
 
 /// How many LF there are.
 fn end_count(bytes: &[u8]) -> usize
-    ensures count { result ≡ ends bytes.now }
+    ensures count { result ≡ line_ends bytes.now }
     ensures few { result ≤ length bytes.now }
 {
     let mut count = 0;
@@ -40,7 +40,7 @@ fn end_count(bytes: &[u8]) -> usize
 /// How many LF there are among few bytes.
 fn few_ends(bytes: &[u8]) -> u8
     requires { length bytes.now ≤ 255 }
-    ensures count { result ≡ ends bytes.now }
+    ensures count { result ≡ line_ends bytes.now }
     ensures few { result ≤ length bytes.now }
 {
     let mut count = 0;

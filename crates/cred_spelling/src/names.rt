@@ -119,6 +119,20 @@ pub enum OtherName {
     Dumped,
     /// Whether the task may look into another.
     Ptrace,
+    /// capset(2), whose sets stand in its record.
+    CapsetRaw,
+    /// An id call of the one thread.
+    Raw,
+}
+
+/// The calls on a file that a line may name, but for those by which it is opened or executed.
+#[derive(Clone, Copy)]
+pub enum FileCallName {
+    Chown,
+    Chmod,
+    SetAttr,
+    ClearAttr,
+    Stat,
 }
 
 /// What a task may do on a line of its own.
@@ -128,6 +142,7 @@ pub enum CallName {
     Change(ChangeName),
     Question(QueryName),
     Other(OtherName),
+    File(FileCallName),
 }
 
 static FORMS: [(&str, Form); 18] = [
@@ -188,7 +203,7 @@ static QUERY_NAMES: [(&str, QueryName); 8] = [
     ("check", QueryName::Check),
 ];
 
-static OTHER_NAMES: [(&str, OtherName); 11] = [
+static OTHER_NAMES: [(&str, OtherName); 13] = [
     ("open", OtherName::Open),
     ("close", OtherName::Close),
     ("fcap", OtherName::Fcap),
@@ -200,6 +215,16 @@ static OTHER_NAMES: [(&str, OtherName); 11] = [
     ("dumpable", OtherName::Dumpable),
     ("dumped", OtherName::Dumped),
     ("ptrace", OtherName::Ptrace),
+    ("capsetraw", OtherName::CapsetRaw),
+    ("raw", OtherName::Raw),
+];
+
+static FILE_CALL_NAMES: [(&str, FileCallName); 5] = [
+    ("chown", FileCallName::Chown),
+    ("chmod", FileCallName::Chmod),
+    ("setattr", FileCallName::SetAttr),
+    ("clearattr", FileCallName::ClearAttr),
+    ("stat", FileCallName::Stat),
 ];
 
 /// The form that a line's first word names: a call or a question of a task is named by the task.
@@ -248,6 +273,14 @@ pub fn query_name(word: &[u8]) -> Option<QueryName>
     named(&QUERY_NAMES, word)
 }
 
+/// The call on a file that the word names.
+#[tactic(auto, unfolding(crate::specs::Names::file_call_names))]
+pub fn file_call_name(word: &[u8]) -> Option<FileCallName>
+    ensures { result ≡ spec.file_call_name word.now }
+{
+    named(&FILE_CALL_NAMES, word)
+}
+
 /// What a task does on a line of its own, by its name.
 #[tactic(auto, unfolding(crate::specs::Names::other_names))]
 pub fn call_name(word: &[u8]) -> Option<CallName>
@@ -262,5 +295,8 @@ pub fn call_name(word: &[u8]) -> Option<CallName>
     if let Some(name) = change_name(word) {
         return Some(CallName::Change(name));
     }
-    Some(CallName::Other(named(&OTHER_NAMES, word)?))
+    if let Some(name) = named(&OTHER_NAMES, word) {
+        return Some(CallName::Other(name));
+    }
+    Some(CallName::File(file_call_name(word)?))
 }

@@ -99,9 +99,9 @@ pub(crate) fn cap_named(word: &[u8]) -> Option<u32>
 }
 
 /// The number that hexadecimal digits write, of either case.
-pub(crate) fn hexadecimal(word: &[u8]) -> Option<u64>
+pub(crate) fn hexadecimal_number(word: &[u8]) -> Option<u64>
     requires { length word.now ≤ 16 }
-    ensures { result ≡ spec.hexadecimal word.now }
+    ensures { result ≡ spec.hexadecimal_number word.now }
 {
     let mut number = 0;
     for byte in word {
@@ -112,8 +112,8 @@ pub(crate) fn hexadecimal(word: &[u8]) -> Option<u64>
 }
 
 /// A letter, and a number from the least to the most.
-pub(crate) fn numbered(letter: u8, least: u32, most: u32, word: &[u8]) -> Option<u32>
-    ensures value { result ≡ spec.numbered letter least most word.now }
+pub(crate) fn letter_number(letter: u8, least: u32, most: u32, word: &[u8]) -> Option<u32>
+    ensures value { result ≡ spec.letter_number letter least most word.now }
     ensures within { IfSome result (λ number. number ≤ most) }
 {
     match word {

@@ -13,7 +13,7 @@ use std::alloc::AllocError;
 ///
 /// `AllocError` if the list cannot grow: nothing is said of the words that it has then.
 pub fn split_into<'b>(words: &mut Vec<&'b [u8]>, line: &'b [u8]) -> Result<(), AllocError>
-    ensures { OnOk result (nows words.new.items ≡ spec.words_of line.now) }
+    ensures { OnOk result (nows words.new.items ≡ spec.line_words line.now) }
 {
     words.clear();
     words.extend(

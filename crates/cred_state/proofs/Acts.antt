@@ -251,7 +251,7 @@ module _ {parts : Parts} {store : List (Option Credential)} {t : Table} (is : Is
   abbrev s : State
   s = state_of parts store t
 
-  pub act_full : table.free t ≡ None → outcome s (by_act s number) ≡ (Aborted task Full, aborted next.cast (at_abort Full s))
+  pub act_full : table.free_in t ≡ None → outcome s (by_act s number) ≡ (Aborted task Full, aborted next.cast (at_abort Full s))
   act_full none =
       act_tests s number task next old current new rule
       ∙ in_none_or is (λ r. (Aborted task Full, aborted next.cast r))

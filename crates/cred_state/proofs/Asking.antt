@@ -6,8 +6,8 @@ use Rattle.cred_event.specs.declared.event.Event.{Event}
 use Rattle.cred_event.specs.declared.event.Event.TheVariants.{Ask, Signal, Alter, OpenFile}
 use Rattle.cred_event.specs.declared.event.Query.{Query}
 use Rattle.cred_record.specs.declared.want.Want.{Want}
-use Rattle.cred_hold.specs.Tokens.{Entry, Held, Written, entry}
-use Rattle.cred_work.specs.Decisions.{AreOf, event_of}
+use Rattle.cred_hold.specs.Tokens.{Loan, Held, Written, loan}
+use Rattle.cred_work.specs.Decisions.{AreOf, work_event}
 use Rattle.cred_work.specs.declared.lent.Lent.{Lent}
 use Rattle.cred_work.specs.declared.lent.Lent.TheVariants.{Asking, Opening, Signalling, Altering}
 use Rattle.cred_model.specs.State.{Numbered, held_by}
@@ -15,21 +15,21 @@ use Rattle.cred_sound.specs.Sound.{IsSound}
 use Rattle.cred_tables.specs.Kept.{Standing, creds_in}
 use Rattle.cred_tables.specs.Out.{AreHome, AreOut, ArePut, hold_token, tokens_in}
 use Rattle.cred_tables.proofs.Outs.{hold_token_is, kept_tokens_are}
-use Rattle.cred_state.specs.Lending.{IsKeptBy, IsStanding, entries_of}
+use Rattle.cred_state.specs.TokensOut.{IsKeptBy, IsStanding, entries_of}
 
 -- The tokens were lent of this state, under labels that nothing else was lent under.
 pub record WereLent (before : Standing) (lent : Lent) : Type 0 where
   pub cells : TableId
   pub of : AreOf cells lent
-  pub tokens : entries_of lent ≡ tokens_in before.state (event_of lent)
+  pub tokens : entries_of lent ≡ tokens_in before.state (work_event lent)
   pub sound : IsSound before.state
   pub out : AreOut before.state before.words.out
-  pub home : AreHome (event_of lent) before.words.out
+  pub home : AreHome (work_event lent) before.words.out
   pub put : ArePut before.state.prepared before.words.out before.places
   pub slots : List ℕ
   pub creds : before.state.creds ≡ creds_in before.places slots
 
-pub were_of : (before : Standing) (cells : TableId) (lent : Lent) (event : Event) → event_of lent ≡ event → AreOf cells lent
+pub were_of : (before : Standing) (cells : TableId) (lent : Lent) (event : Event) → work_event lent ≡ event → AreOf cells lent
     → entries_of lent ≡ tokens_in before.state event → IsSound before.state → AreOut before.state before.words.out → AreHome event before.words.out
     → IsStanding before → WereLent before lent
 were_of before cells lent event named of tokens sound out home standing = record {
@@ -51,8 +51,8 @@ module _ (before : Standing) (cells : TableId) (label : ℕ) (own : Numbered) (h
   its : hold.label ≡ label
   its = ap (λ (h : Held). h.label) is
 
-  token : entry hold.label hold.slot (Some hold.cred) ∷ [] ≡ hold_token before.state label
-  token = ap (λ (h : Held). entry h.label h.slot (Some h.cred) ∷ []) is ∙ sym (hold_token_is before.state label own held)
+  token : loan hold.label hold.slot (Some hold.cred) ∷ [] ≡ hold_token before.state label
+  token = ap (λ (h : Held). loan h.label h.slot (Some h.cred) ∷ []) is ∙ sym (hold_token_is before.state label own held)
 
   pub were_asked : (query : Query) → AreHome (Ask label query) before.words.out → WereLent before (Asking hold query None)
   were_asked query home =
@@ -71,7 +71,7 @@ pub were_signalled : (before : Standing) (cells : TableId) (from label to target
     → IsSound before.state → AreOut before.state before.words.out → AreHome (Signal from label to target) before.words.out
     → IsStanding before → WereLent before (Signalling from a to b None)
 were_signalled before cells from label to target own other a b held theirs first second sound out home standing =
-    let as_entry : Held → Entry = λ h. entry h.label h.slot (Some h.cred) in
+    let as_entry : Held → Loan = λ h. loan h.label h.slot (Some h.cred) in
     let mine = hold_token_is before.state label own held in
     let yours = hold_token_is before.state target other theirs in
     let its : a.label ≡ label = ap (λ (h : Held). h.label) first in
@@ -93,6 +93,6 @@ were_altered before cells label change base writer kept sound out home standing 
       ap (λ (w : Written). w.id) kept.writer_is,
       ap (λ (w : Written). w.label) kept.writer_is ∙ sym its,
     )
-    ((λ k. entry (kept.writer_is k).label (kept.writer_is k).slot None ∷ entry (kept.base_is k).label (kept.base_is k).slot (Some (kept.base_is k).cred) ∷ [])
+    ((λ k. loan (kept.writer_is k).label (kept.writer_is k).slot None ∷ loan (kept.base_is k).label (kept.base_is k).slot (Some (kept.base_is k).cred) ∷ [])
     ∙ sym (kept_tokens_are before.state label kept.preparation kept.found kept.prepared kept.sealed))
     sound out home standing

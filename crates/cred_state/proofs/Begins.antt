@@ -30,7 +30,7 @@ use Rattle.cred_sound.proofs.Threads.{beside_is, finds_itself, is_thread}
 use Rattle.cred_cast.specs.Casts.{WaitsNowhere}
 use Rattle.cred_cast.proofs.Conditions.{idle_waits_nowhere}
 use Rattle.cred_procs.specs.Tasks.{those}
-use Rattle.cred_slots.specs.Table.{Table, IsSameBag, IsAlone}
+use Rattle.cred_slots.specs.Table.{Table, IsSameBag, IsOnlyUser}
 use Rattle.cred_slots.specs.Table as table
 use Rattle.cred_tables.specs.Begin.{MayBegin, MayWait, cast_begun}
 use Rattle.cred_tables.specs.Kept.{Parts, state_of, IsKept, Seals}
@@ -75,8 +75,8 @@ module _ (s : State) (owner : Task) (sound : IsSound s) where
       (finds_itself (λ (t : Task). t.number) s.tasks sound.tasks))
 
 -- the broadcast may be begun
-pub may_wait : (s : State) (line task : ℕ) (old : Numbered) → MayBegin s line task old → IsSound s → MayWait s.tasks s.casts line task
-may_wait s line task old may sound = record {
+pub broadcast_may_begin : (s : State) (line task : ℕ) (old : Numbered) → MayBegin s line task old → IsSound s → MayWait s.tasks s.casts line task
+broadcast_may_begin s line task old may sound = record {
   owner = may.owner;
   lives = may.lives;
   new = may.new;
@@ -127,8 +127,8 @@ module _ {parts : Parts} {store : List (Option Credential)} {t : Table} (is : Is
   abbrev s : State
   s = state_of parts store t
 
-  pub begin_full : (line : ℕ) (call : IdCall) → MayBegin s line task old → set_id old.cred call ≡ Ok new → table.free t ≡ None
-      → state_of parts store (table.swept_if_full t) ≡ state_of parts store after
+  pub begin_full : (line : ℕ) (call : IdCall) → MayBegin s line task old → set_id old.cred call ≡ Ok new → table.free_in t ≡ None
+      → state_of parts store (table.swept_table_if_full t) ≡ state_of parts store after
       → IsOutcomeLike (outcome s (by_begin s line task call)) TableFull (state_of parts store after)
   begin_full line call may rule none makes =
       does_same _ _ _
@@ -184,7 +184,7 @@ module _ {parts : Parts} {store : List (Option Credential)} {t : Table} (is : Is
         (like_beside
         (stored_like store after t.sealed new slot (made parts.casts parts.dumpable number)
         updated_kept sealed_is (omega (arith, long, seals.in_table))
-        (subst (λ (n : ℕ). IsAlone after n slot) seals.counted (alone_later late seals.alone)) refl
+        (subst (λ (n : ℕ). IsOnlyUser after n slot) seals.counted (alone_later late seals.alone)) refl
         (late.deferred ∙ ap (λ (ds : List ℕ). ds ++ old.number ∷ []) seals.deferred) refl)
         casts flags)
 

@@ -37,6 +37,7 @@ like_casts like casts = record {
   prepared = like.prepared;
   deferred = like.deferred;
   dumpable = like.dumpable;
+  infos = like.infos;
   slots = like.slots;
   creds = like.creds;
 }
@@ -58,6 +59,7 @@ like_beside like casts flags = record {
   prepared = like.prepared;
   deferred = like.deferred;
   dumpable = refl;
+  infos = like.infos;
   slots = like.slots;
   creds = like.creds;
 }

@@ -20,7 +20,7 @@ use Rattle.cred_model.specs.Like.{IsLike, IsOutcomeLike}
 use Rattle.cred_model.specs.Moves.{not_overridden, with_current, given_up, committed}
 use Rattle.cred_model.specs.Step.{by_abort, by_commit, outcome, try_commit, commit_answer, committed_by, casts_after, ends_with, for_task, is_access}
 use Rattle.cred_model.proofs.Likes.{does_same}
-use Rattle.cred_slots.specs.Table.{Table, IsSameBag, is_kept}
+use Rattle.cred_slots.specs.Table.{Table, IsSameBag, is_kept_in}
 use Rattle.cred_slots.proofs.Counting.{count-cons}
 use Rattle.cred_sound.proofs.Survivors.{find_goes_on}
 use Rattle.cred_tables.specs.Prepared.{changed_of}
@@ -198,7 +198,7 @@ module _ {parts : Parts} {after : List Task} {store : List (Option Credential)} 
         ∙ ap (λ (n : ℕ). n + count_by (λ m. m == p.base) mid.held) (counts_itself p.base) in
         omega (arith, twice, same, drops.held.counts (λ m. m == p.base), one)
 
-    pub slot-kept_still : is_kept mid p.slot ≡ true
+    pub slot-kept_still : is_kept_in mid p.slot ≡ true
     slot-kept_still = ap (λ ks. slice_index_or ks p.slot false) drops.kept ∙ slot-kept on_is place p there
 
     module _ (last_table : Table) {number : ℕ} (last : Changed) (words : slice_get store p.slot ≡ Some (Some last.cred)) (seals : SealsKept mid last_table number p.base p.slot)

@@ -7,7 +7,7 @@ use Rattle.cred_event.specs.declared.answer.Named.TheVariants as named
 use Rattle.cred_event.specs.declared.answer.Counted.TheVariants as counted
 use Rattle.cred_model.specs.State.{State, Task, Broadcast, Numbered, ProcessFlag, numbered, task_of, current_of, begun_by}
 use Rattle.cred_model.specs.Casts.{not_busy, joined}
-use Rattle.cred_model.specs.Dumpable.{is_dumpable, with_flag}
+use Rattle.cred_model.specs.Dumpable.{is_dumpable, with_process_flag}
 use Rattle.cred_model.specs.Moves.{not_overridden, first_task}
 use Rattle.cred_model.specs.Step.{by_fork, by_spawn, outcome}
 use Rattle.cred_model.proofs.Numbers.{numbered_is}
@@ -16,7 +16,7 @@ use Rattle.cred_slots.specs.Table.{Table}
 use Rattle.cred_tables.specs.Kept.{Parts, state_of}
 use Rattle.cred_tables.proofs.Owners.{own_none}
 use Rattle.cred_state.proofs.Inits.{few_tasks}
-use Rattle.cred_state.specs.Refusals.{by_creating, IsUnused, MayCreate}
+use Rattle.cred_state.specs.Refusals.{by_creating, IsUnusedProcess, MayCreate}
 
 -- ---- what refuses it
 
@@ -43,12 +43,12 @@ module _ (s : State) (task child : ℕ) where
         pub creating_used : (number : ℕ) → has_process s.tasks number ≡ true → outcome s (by_creating s task child (Some number)) ≡ (Exists named.Process number, s)
         creating_used number there = rw (lives, own_current, idle, new, there) refl
 
-        pub creating_overridden : (process : Option ℕ) (depth : ℕ) → IsUnused s process → not_overridden owner ≡ Err (Overridden depth)
+        pub creating_overridden : (process : Option ℕ) (depth : ℕ) → IsUnusedProcess s process → not_overridden owner ≡ Err (Overridden depth)
             → outcome s (by_creating s task child process) ≡ (Overridden depth, s)
         creating_overridden None depth unused over = rw (lives, own_current, idle, new, over) refl
         creating_overridden (Some number) depth unused over = rw (lives, own_current, idle, new, unused, over) refl
 
-        pub creating_many : (process : Option ℕ) → IsUnused s process → not_overridden owner ≡ Ok tt → nat_lt (length s.tasks) 64 ≡ false
+        pub creating_many : (process : Option ℕ) → IsUnusedProcess s process → not_overridden owner ≡ Ok tt → nat_lt (length s.tasks) 64 ≡ false
             → outcome s (by_creating s task child process) ≡ (TooMany counted.Tasks, s)
         creating_many None unused own many = rw (lives, own_current, idle, new, own, many) refl
         creating_many (Some number) unused own many = rw (lives, own_current, idle, new, unused, own, many) refl
@@ -86,12 +86,12 @@ module _ (parts : Parts) (store : List (Option Credential)) (t : Table) {r later
   -- the flags of the processes, where the new one is dumpable as its creator's is
   abbrev forked_flags : ℕ → List ProcessFlag
   forked_flags process =
-      with_flag parts.dumpable process (is_dumpable parts.dumpable may.owner.process)
+      with_process_flag parts.dumpable process (is_dumpable parts.dumpable may.owner.process)
 
   pub fork_done : (process : ℕ) → has_process parts.tasks process ≡ false → {tasks : List Task}
       {flags : List ProcessFlag} → tasks ≡ forked parts.tasks task child process
       → ((owner : Task) → task_of s task ≡ Some owner
-      → flags ≡ with_flag parts.dumpable process (is_dumpable parts.dumpable owner.process))
+      → flags ≡ with_process_flag parts.dumpable process (is_dumpable parts.dumpable owner.process))
       → outcome s (by_fork s task child process)
       ≡ (
         Sealed now.number now.slot,

@@ -22,8 +22,8 @@ use Rattle.cred_sound.specs.Ledger.{ledger}
 use Rattle.cred_sound.specs.Sound.{IsSound}
 use Rattle.cred_sound.proofs.Sound.{like_sound}
 use Rattle.cred_words.specs.Lists.{Has, IsTaken}
-use Rattle.cred_hold.specs.Tokens.{Entry, Held, Written, entry, IsAlone}
-use Rattle.cred_work.specs.Decisions.{event_of, put_by}
+use Rattle.cred_hold.specs.Tokens.{Loan, Held, Written, loan, IsAlone}
+use Rattle.cred_work.specs.Decisions.{work_event, put_by}
 use Rattle.cred_work.specs.declared.lent.Lent.{Lent}
 use Rattle.cred_work.specs.declared.lent.Lent.TheVariants.{Asking, Opening, Signalling, Altering}
 use Rattle.cred_tables.specs.Kept.{Standing, creds_in}
@@ -32,28 +32,28 @@ use Rattle.cred_tables.proofs.Back.{back_new, has_taken, set_again}
 use Rattle.cred_tables.proofs.Outs.{IsToken, has_first, has_last, has_out, held_token, kept_alone, kept_token, out_like}
 use Rattle.cred_tables.proofs.Puts.{was_put}
 use Rattle.cred_tables.proofs.Stored.{slots-creds_in}
-use Rattle.cred_state.specs.Lending.{AreTaken, IsChainOf, IsKeptBy, IsNs, earlier_of, entries_of, held_entry, with_hold, with_kept, with_lent}
+use Rattle.cred_state.specs.TokensOut.{AreTaken, IsChainOf, IsKeptBy, IsNs, earlier_of, entries_of, hold_loan, with_hold, with_kept, with_lent}
 use Rattle.cred_state.proofs.Asking.{WereLent}
 use Rattle.cred_state.proofs.Keeping.{home_is}
-use Rattle.cred_state.proofs.Lending.{like_lent}
+use Rattle.cred_state.proofs.TokensOut.{like_lent}
 use Rattle.cred_state.proofs.Returns.{all_back, fresh, named_for, writer_is}
 
 -- ---- the tokens of an event are out
 
-hold_in : (s : State) (label : ℕ) (e : Entry) → Has (hold_token s label) e → IsToken s e
+hold_in : (s : State) (label : ℕ) (e : Loan) → Has (hold_token s label) e → IsToken s e
 hold_in s label e has =
     let h = held_token s label e has in
-    subst (λ n. Has (hold_token s n ++ kept_tokens s n) e) (ap (λ (x : Entry). x.label) h.is) (has_first (hold_token s label) (kept_tokens s label) e has)
+    subst (λ n. Has (hold_token s n ++ kept_tokens s n) e) (ap (λ (x : Loan). x.label) h.is) (has_first (hold_token s label) (kept_tokens s label) e has)
 
-kept_in : (s : State) (label : ℕ) (e : Entry) → Has (kept_tokens s label) e → IsToken s e
+kept_in : (s : State) (label : ℕ) (e : Loan) → Has (kept_tokens s label) e → IsToken s e
 kept_in s label e has = by (kept_token s label e has).is
   where
     to : label ≡ e.label → IsToken s e
     to same = subst (λ n. Has (hold_token s n ++ kept_tokens s n) e) same (has_last (hold_token s label) (kept_tokens s label) e has)
 
-    by : {slot place : ℕ} {c : Credential} → (entry label slot None ≡ e) ⊎ (entry label place (Some c) ≡ e) → IsToken s e
-    by (inl is) = to (ap (λ (x : Entry). x.label) is)
-    by (inr is) = to (ap (λ (x : Entry). x.label) is)
+    by : {slot place : ℕ} {c : Credential} → (loan label slot None ≡ e) ⊎ (loan label place (Some c) ≡ e) → IsToken s e
+    by (inl is) = to (ap (λ (x : Loan). x.label) is)
+    by (inr is) = to (ap (λ (x : Loan). x.label) is)
 
 pub tokens_out : (s : State) (event : Event) → AreOut s (tokens_in s event)
 tokens_out s (Ask label query) = has_out s (hold_token s label) (hold_in s label)
@@ -87,13 +87,13 @@ module _ {before : Standing} {lent : Lent} (were : WereLent before lent) where
 
   pub lent_are : AreOut now.state now.words.out
   lent_are =
-      let own : AreOut before.state (entries_of lent) = subst (λ es. AreOut before.state es) (sym were.tokens) (tokens_out before.state (event_of lent)) in
+      let own : AreOut before.state (entries_of lent) = subst (λ es. AreOut before.state es) (sym were.tokens) (tokens_out before.state (work_event lent)) in
       out_like now.state before.state lent_like now.words.out
       (subst (λ es. AreOut before.state es) (sym (lent_out before lent))
       (All-append (λ e. IsToken before.state e) (entries_of lent) before.words.out own were.out))
 
   -- all comes back
-  pub lent_back : (new : List Entry) → AreTaken (entries_of lent) now.words.out new → new ≡ before.words.out
+  pub lent_back : (new : List Loan) → AreTaken (entries_of lent) now.words.out new → new ≡ before.words.out
   lent_back new taken =
       all_back were.cells lent before.words.out new were.of were.home
       (subst (λ es. AreTaken (entries_of lent) es new) (lent_out before lent) taken)
@@ -126,14 +126,14 @@ chain_is cells script s label change.Access base writer ns kept right = tt
 module _ (before : Standing) (base : Held) (writer : Written) (ch : Change) (made : Option (Result Made Answer))
     (were : WereLent before (Altering base writer ch made)) (label : ℕ) (for : writer.label ≡ label)
     (p : Prepared) (prepared : prepared_of before.state label ≡ Some p) (slot : p.slot ≡ writer.slot) where
-  home : All (λ (e : Entry). e.label ≢ label) before.words.out
+  home : All (λ (e : Loan). e.label ≢ label) before.words.out
   home =
-      let event = event_of (Altering base writer ch made) in
+      let event = work_event (Altering base writer ch made) in
       let own = named_for were.cells (Altering base writer ch made) were.of in
-      let P : Entry → Type 0 = λ e. Contains (event_labels event) e.label in
+      let P : Loan → Type 0 = λ e. Contains (event_labels event) e.label in
       home_is event label before.words.out were.home
       (subst (λ n. Contains (event_labels event) n) for
-      (All-head P (entry writer.label writer.slot None) (entry base.label base.slot (Some base.cred) ∷ []) own))
+      (All-head P (loan writer.label writer.slot None) (loan base.label base.slot (Some base.cred) ∷ []) own))
 
   was_there : slice_get before.places writer.slot ≡ Some (was_put p)
   was_there =
@@ -171,20 +171,20 @@ module _ (before old mid new : Standing) where
   pub back_one : (hold : Held) (event : Event) → AreHome event before.words.out → Contains (event_labels event) hold.label
       → old ≡ with_hold before hold
       → new.state ≡ old.state → new.places ≡ old.places → new.words.id ≡ old.words.id
-      → IsTaken old.words.out (held_entry hold) new.words.out → new ≡ before
+      → IsTaken old.words.out (hold_loan hold) new.words.out → new ≡ before
   back_one hold event home named is state places id taken =
-      let on : IsTaken (held_entry hold ∷ before.words.out) (held_entry hold) new.words.out
-      = subst (λ (x : Standing). IsTaken x.words.out (held_entry hold) new.words.out) is taken in
+      let on : IsTaken (hold_loan hold ∷ before.words.out) (hold_loan hold) new.words.out
+      = subst (λ (x : Standing). IsTaken x.words.out (hold_loan hold) new.words.out) is taken in
       standing_is (state ∙ ap (λ (x : Standing). x.state) is) (id ∙ ap (λ (x : Standing). x.words.id) is)
-      (back_new (held_entry hold) before.words.out new.words.out on (fresh event before.words.out (held_entry hold) home named))
+      (back_new (hold_loan hold) before.words.out new.words.out on (fresh event before.words.out (hold_loan hold) home named))
       (places ∙ ap (λ (x : Standing). x.places) is)
 
   pub back_two : (from to : ℕ) (hold target : Held) (may : Option Bool) → WereLent before (Signalling from hold to target may)
       → old ≡ with_lent before (Signalling from hold to target may)
       → mid.state ≡ old.state → mid.places ≡ old.places → mid.words.id ≡ old.words.id
-      → IsTaken old.words.out (held_entry target) mid.words.out
+      → IsTaken old.words.out (hold_loan target) mid.words.out
       → new.state ≡ mid.state → new.places ≡ mid.places → new.words.id ≡ mid.words.id
-      → IsTaken mid.words.out (held_entry hold) new.words.out → new ≡ before
+      → IsTaken mid.words.out (hold_loan hold) new.words.out → new ≡ before
   back_two from to hold target may were is state places id taken state' places' id' taken' =
       let lent : Lent = Signalling from hold to target may in
       let on : AreTaken (entries_of lent) (with_lent before lent).words.out new.words.out
@@ -197,18 +197,18 @@ module _ (before old mid new : Standing) where
       → AreOut old.state old.words.out
       → mid.state ≡ record old.state { creds = creds_in mid.places (ledger old.state).slots }
       → mid.places ≡ slice_set old.places writer.slot (earlier_of old.state base.label) → mid.words.id ≡ old.words.id
-      → IsTaken old.words.out (entry writer.label writer.slot None) mid.words.out
+      → IsTaken old.words.out (loan writer.label writer.slot None) mid.words.out
       → new.state ≡ mid.state → new.places ≡ mid.places → new.words.id ≡ mid.words.id
-      → IsTaken mid.words.out (held_entry base) new.words.out → new ≡ before
+      → IsTaken mid.words.out (hold_loan base) new.words.out → new ≡ before
   back_kept base writer ch done for were is are state places id taken state' places' id' taken' =
       let label = base.label in
       let lent = with_kept before base writer in
       let on : AreTaken (entries_of (Altering base writer ch done)) lent.words.out new.words.out
       = subst (λ (x : Standing). AreTaken (entries_of (Altering base writer ch done)) x.words.out new.words.out) is
       (mid.words.out, taken, (new.words.out, taken', refl)) in
-      let has : Has lent.words.out (entry label writer.slot None)
-      = subst (λ (x : Standing). Has x.words.out (entry label writer.slot None)) is
-      (subst (λ n. Has old.words.out (entry n writer.slot None)) for (has_taken old.words.out _ mid.words.out taken)) in
+      let has : Has lent.words.out (loan label writer.slot None)
+      = subst (λ (x : Standing). Has x.words.out (loan label writer.slot None)) is
+      (subst (λ n. Has old.words.out (loan n writer.slot None)) for (has_taken old.words.out _ mid.words.out taken)) in
       let w = writer_is lent.state lent.words.out label writer.slot (subst (λ (x : Standing). AreOut x.state x.words.out) is are) has in
       let again : mid.places ≡ before.places
       = places_again before base writer ch done were label for w.preparation w.prepared w.is mid.places

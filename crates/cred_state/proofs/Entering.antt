@@ -17,48 +17,48 @@ use Rattle.cred_model.specs.Answers.{checked}
 use Rattle.cred_model.specs.Change.{Made, by_change}
 use Rattle.cred_model.specs.Moves.{altered}
 use Rattle.cred_model.specs.Named.{change_files}
-use Rattle.cred_model.specs.Script.{Script, chain_of, info_of}
-use Rattle.cred_model.specs.State.{State, Prepared, Numbered, held_by, numbered, open_of, prepared_of}
+use Rattle.cred_model.specs.Script.{Script, chain_of}
+use Rattle.cred_model.specs.State.{State, Prepared, Numbered, held_by, info_of, numbered, open_of, prepared_of}
 use Rattle.cred_model.specs.Step.{by_alter, by_open, outcome}
 use Rattle.cred_model.proofs.Places.{if_some}
-use Rattle.cred_hold.specs.Tokens.{Entry}
+use Rattle.cred_hold.specs.Tokens.{Loan}
 use Rattle.cred_tables.specs.Out.{AreSameTokens}
 use Rattle.cred_tables.proofs.Back.{count_one, taken_count}
-use Rattle.cred_state.specs.Lending.{AreTaken, IsBase, IsChainOf, IsMadeOf}
+use Rattle.cred_state.specs.TokensOut.{AreTaken, IsBase, IsChainOf, IsMadeOf}
 
 -- ---- a file
 
 few_files : (n : ℕ) → n < OPEN_FILES → nat_lt n OPEN_FILES ≡ true
 few_files n few = grind (arith, nat_tests)
 
-module _ (script : Script) (s : State) (label file : ℕ) (want : Want) (fd : ℕ) where
-  pub open_none : held_by s label ≡ None → outcome s (by_open script s label file want fd) ≡ (NoHold label, s)
+module _ (s : State) (label file : ℕ) (want : Want) (fd : ℕ) where
+  pub open_none : held_by s label ≡ None → outcome s (by_open s label file want fd) ≡ (NoHold label, s)
   open_none none = rw none refl
 
   module _ (held : Numbered) (at : held_by s label ≡ Some held) where
-    pub open_exists : is_some (open_of s fd) ≡ true → outcome s (by_open script s label file want fd) ≡ (Exists named.File fd, s)
+    pub open_exists : is_some (open_of s fd) ≡ true → outcome s (by_open s label file want fd) ≡ (Exists named.File fd, s)
     open_exists there = rw (at, there) refl
 
-    module _ (may : Bool) (right : IfSome (held_by s label) (λ held. checked held.cred (info_of script (file ∷ [])) want ≡ (if may then Done else Eacces)))
+    module _ (may : Bool) (right : IfSome (held_by s label) (λ held. checked held.cred (info_of s.infos (file ∷ [])) want ≡ (if may then Done else Eacces)))
         (new : open_of s fd ≡ None) where
-      checks : checked held.cred (info_of script (file ∷ [])) want ≡ (if may then Done else Eacces)
+      checks : checked held.cred (info_of s.infos (file ∷ [])) want ≡ (if may then Done else Eacces)
       checks =
-          if_some (λ (h : Numbered). checked h.cred (info_of script (file ∷ [])) want ≡ (if may then Done else Eacces)) (held_by s label) held at right
+          if_some (λ (h : Numbered). checked h.cred (info_of s.infos (file ∷ [])) want ≡ (if may then Done else Eacces)) (held_by s label) held at right
 
-      pub open_refused : may ≡ false → outcome s (by_open script s label file want fd) ≡ (Eacces, s)
+      pub open_refused : may ≡ false → outcome s (by_open s label file want fd) ≡ (Eacces, s)
       open_refused is =
-          let refused : checked held.cred (info_of script (file ∷ [])) want ≡ Eacces = checks ∙ ap (λ (b : Bool). if b then Done else Eacces) is in
+          let refused : checked held.cred (info_of s.infos (file ∷ [])) want ≡ Eacces = checks ∙ ap (λ (b : Bool). if b then Done else Eacces) is in
           rw (at, new, refused) refl
 
       module _ (allowed : may ≡ true) where
-        may_be : checked held.cred (info_of script (file ∷ [])) want ≡ Done
+        may_be : checked held.cred (info_of s.infos (file ∷ [])) want ≡ Done
         may_be = checks ∙ ap (λ (b : Bool). if b then Done else Eacces) allowed
 
-        pub open_full : nat_lt (length s.files) OPEN_FILES ≡ false → outcome s (by_open script s label file want fd) ≡ (TooMany counted.Files, s)
+        pub open_full : nat_lt (length s.files) OPEN_FILES ≡ false → outcome s (by_open s label file want fd) ≡ (TooMany counted.Files, s)
         open_full many = rw (at, new, may_be, many) refl
 
         pub open_done : length s.files < OPEN_FILES
-            → outcome s (by_open script s label file want fd)
+            → outcome s (by_open s label file want fd)
             ≡ (Done, record s { files = s.files ++ record { fd = fd; opener = held.number; file = file } ∷ [] })
         open_done few = rw (at, new, may_be, few_files (length s.files) few) refl
 
@@ -80,15 +80,15 @@ module _ (script : Script) (s : State) (label : ℕ) (ch : Change) (p : Prepared
       (if_some (λ (q : Prepared). IfSome (numbered s.creds q.base) (λ b. b.cred ≡ own)) (prepared_of s label) p prepared of)
 
   by_same : IsChainOf script ch own.ns chain
-      → by_change (info_of script (change_files ch)) (chain_of script base.cred.ns) base.cred ch ≡ by_change (info_of script (change_files ch)) chain own ch
+      → by_change (info_of s.infos (change_files ch)) (chain_of script base.cred.ns) base.cred ch ≡ by_change (info_of s.infos (change_files ch)) chain own ch
   by_same is =
-      ap (λ (c : Credential). by_change (info_of script (change_files ch)) (chain_of script c.ns) c ch) base_is
-      ∙ sym (chain_right script ch own.ns chain (info_of script (change_files ch)) own is)
+      ap (λ (c : Credential). by_change (info_of s.infos (change_files ch)) (chain_of script c.ns) c ch) base_is
+      ∙ sym (chain_right script ch own.ns chain (info_of s.infos (change_files ch)) own is)
 
-  pub alter_refused : (answer : Answer) → IsMadeOf script chain own ch (Err answer) → outcome s (by_alter script s label ch) ≡ (answer, s)
+  pub alter_refused : (answer : Answer) → IsMadeOf script s.infos chain own ch (Err answer) → outcome s (by_alter script s label ch) ≡ (answer, s)
   alter_refused answer (is, refused) = rw (prepared, sealed, by_same is ∙ sym refused) refl
 
-  pub alter_made : (made : Made) → IsMadeOf script chain own ch (Ok made)
+  pub alter_made : (made : Made) → IsMadeOf script s.infos chain own ch (Ok made)
       → outcome s (by_alter script s label ch) ≡ (made.answer, altered s label (record { change = ch; cred = made.cred; gains = made.gains }))
   alter_made made (is, done) = rw (prepared, sealed, by_same is ∙ sym done) refl
 
@@ -120,8 +120,8 @@ with_ok (Err e) T P Q on is f = tt
 
 -- ---- what came back counts as what was lent
 
-pub taken_same : (es old new : List Entry) → AreTaken es old new → AreSameTokens old (es ++ new)
-taken_same [] old new is test = ap (λ (xs : List Entry). count_by test xs) (sym is)
+pub taken_same : (es old new : List Loan) → AreTaken es old new → AreSameTokens old (es ++ new)
+taken_same [] old new is test = ap (λ (xs : List Loan). count_by test xs) (sym is)
 taken_same (e ∷ es) old new (mid, taken, rest) test =
     let one = taken_count test old e mid taken in
     let less = taken_same es mid new rest test in

@@ -6,7 +6,7 @@ use Rattle.cred_record.specs.Credential.{Credential}
 use Rattle.cred_model.specs.State.{State, Task, Prepared}
 use Rattle.cred_model.specs.Slots.{in_use, kept}
 use Rattle.cred_model.specs.Like.{IsLike}
-use Rattle.cred_slots.specs.Table.{Table, IsSameBag, IsAlone}
+use Rattle.cred_slots.specs.Table.{Table, IsSameBag, IsOnlyUser}
 use Rattle.cred_slots.proofs.Counting.{count-cons}
 use Rattle.cred_tables.specs.Kept.{Parts, creds_in, state_of, IsKept, SealsKept}
 use Rattle.cred_tables.proofs.Filled.{NoMore, filled_put, no_more_finished}
@@ -56,5 +56,5 @@ module _ {parts : Parts} {store : List (Option Credential)} {t : Table} (is : Is
       → IsLike (state_of done_parts put after) made
   finish_like made same deferred creds =
       stored_like store after t.sealed c p.slot made finish_kept sealed_is within
-      (subst (λ (n : ℕ). IsAlone after n p.slot) (seals.counted ∙ ap length sealed) seals.alone) same
+      (subst (λ (n : ℕ). IsOnlyUser after n p.slot) (seals.counted ∙ ap length sealed) seals.alone) same
       (seals.deferred ∙ deferred) creds

@@ -15,7 +15,7 @@ use Rattle.cred_model.specs.Like.{IsOutcomeLike}
 use Rattle.cred_model.specs.Moves.{in_slot, table_full, first_task, created}
 use Rattle.cred_model.specs.Step.{by_init, outcome}
 use Rattle.cred_model.proofs.Likes.{does_same}
-use Rattle.cred_slots.specs.Table.{Table, IsAlone, IsSameBag}
+use Rattle.cred_slots.specs.Table.{Table, IsOnlyUser, IsSameBag}
 use Rattle.cred_slots.specs.Table as table
 use Rattle.cred_tables.specs.Kept.{Parts, state_of, IsKept, Seals}
 use Rattle.cred_tables.proofs.Filled.{filled_put, no_more_sealed}
@@ -92,7 +92,7 @@ module _ {parts : Parts} {store : List (Option Credential)} {t : Table} (is : Is
 
   module _ (idle : not_busy (cast_in s process) ≡ Ok tt) (new : find (λ u. u.number == task) parts.tasks ≡ None) (few : length parts.tasks < 64)
       (user group ns root : ℕ) where
-    pub init_full : table.free t ≡ None → state_of parts store (table.swept_if_full t) ≡ state_of parts store after
+    pub init_full : table.free_in t ≡ None → state_of parts store (table.swept_table_if_full t) ≡ state_of parts store after
         → IsOutcomeLike (outcome s (by_init s task process user group ns root)) TableFull (state_of parts store after)
     init_full none makes =
         does_same _ _ _ (init_tests s task process user group ns root idle new few ∙ in_none is (init_does task process user group ns root) after none makes)
@@ -116,7 +116,7 @@ module _ {parts : Parts} {store : List (Option Credential)} {t : Table} (is : Is
         ∙ ap (λ (n : ℕ). (Sealed n slot, made n)) count)
         (stored_like store after t.sealed c slot (made number) (init_kept long seals c flags)
         seals.sealed (omega (arith, long, seals.in_table))
-        (subst (λ (n : ℕ). IsAlone after n slot) seals.counted seals.alone) refl seals.deferred refl)
+        (subst (λ (n : ℕ). IsOnlyUser after n slot) seals.counted seals.alone) refl seals.deferred refl)
 
 -- ---- another task is created
 

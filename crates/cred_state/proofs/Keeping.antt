@@ -11,21 +11,21 @@ use Rattle.cred_model.proofs.Lists.{All-at}
 use Rattle.cred_model.proofs.Places.{find-at}
 use Rattle.cred_names.specs.Labels.{event_labels}
 use Rattle.cred_sound.specs.Sound.{IsSound}
-use Rattle.cred_hold.specs.Tokens.{Entry, IsAlone}
+use Rattle.cred_hold.specs.Tokens.{Loan, IsAlone}
 use Rattle.cred_slots.specs.Table.{Table}
 use Rattle.cred_tables.specs.Kept.{Parts, state_of, IsKept}
 use Rattle.cred_tables.specs.Out.{AreHome, AreOut, ArePut}
 use Rattle.cred_tables.proofs.Outs.{kept_alone}
 use Rattle.cred_tables.proofs.Puts.{was_put}
-use Rattle.cred_state.specs.Lending.{IsHome}
+use Rattle.cred_state.specs.TokensOut.{IsHome}
 
 -- nothing is lent under a label that an event names
-pub home_is : (event : Event) (label : ℕ) (out : List Entry) → AreHome event out → Contains (event_labels event) label → IsHome label out
+pub home_is : (event : Event) (label : ℕ) (out : List Loan) → AreHome event out → Contains (event_labels event) label → IsHome label out
 home_is event label out home named =
-    All-weaker (λ (e : Entry). Contains (event_labels event) e.label → ⊥) (λ e. e.label ≢ label)
+    All-weaker (λ (e : Loan). Contains (event_labels event) e.label → ⊥) (λ e. e.label ≢ label)
     (λ e away same. away (subst (λ n. Contains (event_labels event) n) (sym same) named)) out home
 
-module _ {parts : Parts} {store : List (Option Credential)} {t : Table} (out : List Entry) (inv : IsKept parts store t × ArePut parts.prepared out store) where
+module _ {parts : Parts} {store : List (Option Credential)} {t : Table} (out : List Loan) (inv : IsKept parts store t × ArePut parts.prepared out store) where
   abbrev s : State
   s = state_of parts store t
 

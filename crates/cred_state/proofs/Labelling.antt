@@ -17,7 +17,7 @@ use Rattle.cred_model.specs.Moves as moves
 use Rattle.cred_model.specs.Moves.{in_slot, table_full, with_change}
 use Rattle.cred_model.specs.Like.{IsLike, IsOutcomeLike}
 use Rattle.cred_model.specs.Step.{by_abort, by_prepare, outcome}
-use Rattle.cred_slots.specs.Table.{Table, IsSameBag, is_kept, references_to}
+use Rattle.cred_slots.specs.Table.{Table, IsSameBag, is_kept_in, references_to}
 use Rattle.cred_state.specs.Refusals.{MayPrepare}
 use Rattle.cred_slots.specs.Table as table
 use Rattle.cred_slots.proofs.Tables.{held_is_referred}
@@ -41,29 +41,29 @@ remove-map f xs i =
 -- The slot was free, and is kept; a sweep was made where one was needed, and then a reference to
 -- the base was added.
 pub record Claims (before after : Table) (base slot : ℕ) : Type 0 where
-  pub takes : table.free before ≡ Some slot
+  pub takes : table.free_in before ≡ Some slot
   pub held : IsSameBag after.held (base ∷ before.held)
   pub sealed : after.sealed ≡ before.sealed
-  pub deferred : after.deferred ≡ (table.swept_if_full before).deferred
+  pub deferred : after.deferred ≡ (table.swept_table_if_full before).deferred
   pub kept : after.kept ≡ slice_set before.kept slot true
-  pub here : is_kept after slot ≡ true
+  pub here : is_kept_in after slot ≡ true
 
 -- what a claim gives where there was more room to spare, and then a reference is added
-pub claims : (t r claimed after : Table) (m n base slot : ℕ) → r ≡ record t { spare = m } → Some slot ≡ table.free r
-    → claimed ≡ record (table.swept_if_full r) { kept = slice_set r.kept slot true } → is_kept claimed slot ≡ true
+pub claims : (t r claimed after : Table) (m n base slot : ℕ) → r ≡ record t { spare = m } → Some slot ≡ table.free_in r
+    → claimed ≡ record (table.swept_table_if_full r) { kept = slice_set r.kept slot true } → is_kept_in claimed slot ≡ true
     → IsSameBag after.held (base ∷ claimed.held) → after ≡ record claimed { held = after.held; spare = n }
     → Claims t after base slot
 claims t r claimed after m n base slot spared free gives kept held added =
-    let takes : table.free t ≡ Some slot = sym (subst (λ (x : Table). Some slot ≡ table.free x) spared free) in
-    let own : claimed ≡ record (table.swept_if_full t) { kept = slice_set t.kept slot true; spare = m }
-    = subst (λ (x : Table). claimed ≡ record (table.swept_if_full x) { kept = slice_set x.kept slot true }) spared gives in
+    let takes : table.free_in t ≡ Some slot = sym (subst (λ (x : Table). Some slot ≡ table.free_in x) spared free) in
+    let own : claimed ≡ record (table.swept_table_if_full t) { kept = slice_set t.kept slot true; spare = m }
+    = subst (λ (x : Table). claimed ≡ record (table.swept_table_if_full x) { kept = slice_set x.kept slot true }) spared gives in
     record {
       takes = takes;
       held = subst (λ (x : Table). IsSameBag after.held (base ∷ x.held)) own held;
       sealed = ap (λ (x : Table). x.sealed) added ∙ ap (λ (x : Table). x.sealed) own;
       deferred = ap (λ (x : Table). x.deferred) added ∙ ap (λ (x : Table). x.deferred) own;
       kept = ap (λ (x : Table). x.kept) added ∙ ap (λ (x : Table). x.kept) own;
-      here = ap (λ (x : Table). is_kept x slot) added ∙ kept;
+      here = ap (λ (x : Table). is_kept_in x slot) added ∙ kept;
     }
 
 -- ---- what the tests of an event lead to
@@ -121,8 +121,8 @@ module _ {parts : Parts} {store : List (Option Credential)} {t : Table} (is : Is
   abbrev s : State
   s = state_of parts store t
 
-  pub prepare_full : (after : Table) (label task hold number : ℕ) → MayPrepare s label task hold number → table.free t ≡ None
-      → state_of parts store (table.swept_if_full t) ≡ state_of parts store after
+  pub prepare_full : (after : Table) (label task hold number : ℕ) → MayPrepare s label task hold number → table.free_in t ≡ None
+      → state_of parts store (table.swept_table_if_full t) ≡ state_of parts store after
       → outcome s (by_prepare s label task hold) ≡ (TableFull, state_of parts store after)
   prepare_full after label task hold number may none makes =
       prepare_tests s label task hold number may ∙ in_none is (prepare_does label task may.base.number) after none makes
@@ -149,7 +149,7 @@ module _ {parts : Parts} {store : List (Option Credential)} {t : Table} (is : Is
     -- nothing that is referred to stands in it
     none_there : 0 < count_by (λ m. m == p.base) t.held → (n : ℕ) → slice_get after.sealed n ≡ Some p.slot → 0 < references_to after n → ⊥
     none_there has n at some =
-        let room = table.swept_if_full t in
+        let room = table.swept_table_if_full t in
         free_clear t p.slot claim.takes n (ap (λ ss. slice_get ss n) (sym claim.sealed) ∙ at)
         (no_more_counted room after p.base claim.held claim.deferred (held_is_referred room p.base has) n some)
 
@@ -192,7 +192,7 @@ module _ {parts : Parts} {store : List (Option Credential)} {t : Table} (is : Is
     kept-there = slice_get-map (λ (q : Prepared). q.slot) parts.prepared place ∙ ap (option_map (λ (q : Prepared). q.slot)) there
 
     -- the slot of a prepared label is kept, and its base held
-    pub slot-kept : is_kept t p.slot ≡ true
+    pub slot-kept : is_kept_in t p.slot ≡ true
     slot-kept = is.counted.keeps p.slot ∙ among-at (kept s) place p.slot kept-there
 
     pub base-held : 0 < count_by (λ m. m == p.base) t.held

@@ -1,9 +1,10 @@
 pub mod OneChanged
-pub mod Overriding
+pub mod OverrideCounts
 pub mod Broadcasts
 pub mod Inits
 pub mod Creating
 pub mod Begins
+pub mod Raw
 pub mod Acts
 pub mod Reserved
 pub mod Reading
@@ -15,12 +16,13 @@ pub mod Finishing
 pub mod Commits
 pub mod Overrides
 pub mod Stays
-pub mod Lending
+pub mod TokensOut
 pub mod Lines
 pub mod Keeping
 pub mod Returns
 pub mod Entering
-pub mod Lends
+pub mod FileCalls
+pub mod LentForEvent
 pub mod Asking
 pub mod Deciding
 pub mod Traces

@@ -4,18 +4,20 @@ use Rattle.std.specs.List.{All}
 use Rattle.std.proofs.lemmas.Option.{same_Some}
 use Rattle.std.proofs.lemmas.List.Elements.{All-contains, All-cons, All-nil}
 use Rattle.cred_event.specs.declared.content.Stage.{Stage}
-use Rattle.cred_event.specs.declared.content.Stage.TheVariants.{First, Acting, Asking, Opening, TakingTarget, Signalling, Tracing, ReleasingTarget, Preparing, Altering, Committing, Aborting, Overriding, TakingAccess, ReleasingAccess, Reverting, Releasing, Retrying}
+use Rattle.cred_event.specs.declared.content.Stage.TheVariants.{First, Acting, Asking, Opening, TakingTarget, Signalling, Tracing, ReleasingTarget, Preparing, Altering, Committing, Aborting, Overriding, TakingAccess, ReleasingAccess, Reverting, Releasing, Retrying, Calling}
 use Rattle.cred_event.specs.declared.event.Event.{Event}
 use Rattle.cred_event.specs.declared.event.Event.TheVariants.{Ask, Alter, OpenFile}
 use Rattle.cred_event.specs.declared.event.Event.TheVariants as event
 use Rattle.cred_event.specs.declared.event.Change.TheVariants as change
 use Rattle.cred_event.specs.declared.event.Query.TheVariants.{Capable, Check}
 use Rattle.cred_event.specs.declared.content.Content.{Content}
-use Rattle.cred_event.specs.declared.content.Content.TheVariants.{Nothing, One, Id, Question, Open, Fcap, Signal, Ptrace, Change, Access}
-use Rattle.cred_model.specs.Course.{event_in, hold_label, new_label, target_label, access_label}
+use Rattle.cred_event.specs.declared.content.Content.TheVariants.{Nothing, One, Id, Question, Open, Fcap, Signal, Ptrace, Change, Access, OnFile}
+use Rattle.cred_event.specs.declared.content.FileCall.{FileCall}
+use Rattle.cred_event.specs.declared.content.FileCall.TheVariants.{Chown, Chmod, SetAttr, Stat}
+use Rattle.cred_model.specs.Course.{calling, event_in, hold_label, new_label, target_label, access_label}
 use Rattle.cred_model.specs.State.{State}
 use Rattle.cred_names.specs.Labels.{event_labels, labels}
-use Rattle.cred_tables.specs.Out.{waits_in}
+use Rattle.cred_tables.specs.Out.{needs_tokens}
 
 -- the label is one of those that the line takes for itself
 abbrev pub IsOwnLabel : ℕ → ℕ → Type 0
@@ -41,6 +43,18 @@ module _ (line : ℕ) (content : Content) where
 abbrev OfEvent : ℕ → Content → Option Event → Type 0
 OfEvent line content None = Unit {0}
 OfEvent line content (Some event) = All (IsLines line content) (event_labels event)
+
+-- a call on a file names the hold
+names_called : (line task : ℕ) (call : FileCall)
+    → OfEvent line (OnFile task call) (Some (calling (hold_label line) call))
+names_called line task (Chown file owner group) =
+    one line (OnFile task (Chown file owner group)) (hold_label line) (inl refl)
+names_called line task (Chmod file mode) =
+    one line (OnFile task (Chmod file mode)) (hold_label line) (inl refl)
+names_called line task (SetAttr file attr) =
+    one line (OnFile task (SetAttr file attr)) (hold_label line) (inl refl)
+names_called line task (Stat file) =
+    one line (OnFile task (Stat file)) (hold_label line) (inl refl)
 
 names_at : (line : ℕ) (content : Content) (stage : Stage) → OfEvent line content (event_in line content stage)
 names_at line (One event) First = λ k d lt. inl (k, lt, at_itself (event_labels event) k d lt)
@@ -92,6 +106,9 @@ names_at line (Access task file want) ReleasingAccess = one line (Access task fi
 names_at line (Access task file want) Reverting = none line (Access task file want)
 names_at line (Access task file want) Aborting = one line (Access task file want) (new_label line) (inr (inl refl))
 names_at line (Access task file want) Releasing = one line (Access task file want) (hold_label line) (inl refl)
+names_at line (OnFile task call) First = one line (OnFile task call) (hold_label line) (inl refl)
+names_at line (OnFile task call) Calling = names_called line task call
+names_at line (OnFile task call) Releasing = one line (OnFile task call) (hold_label line) (inl refl)
 names_at line content stage = tt
 
 -- an event of a line names labels of its content, or the line's own
@@ -103,14 +120,14 @@ names_own line content stage event is label has =
 -- ---- the events that wait for a decision
 
 -- in some states the event waits
-abbrev pub may_wait : Event → Bool
-may_wait (Ask label query) = true
-may_wait (OpenFile hold file want fd) = true
-may_wait (event.Signal from hold to target) = true
-may_wait (Alter label change) = true
-may_wait event = false
+abbrev pub may_need_tokens : Event → Bool
+may_need_tokens (Ask label query) = true
+may_need_tokens (OpenFile hold file want fd) = true
+may_need_tokens (event.Signal from hold to target) = true
+may_need_tokens (Alter label change) = true
+may_need_tokens event = false
 
-pub waiting_may : (s : State) (waiting : Event) → waits_in s waiting ≡ true → may_wait waiting ≡ true
+pub waiting_may : (s : State) (waiting : Event) → needs_tokens s waiting ≡ true → may_need_tokens waiting ≡ true
 waiting_may s (Ask label query) waits = refl
 waiting_may s (OpenFile hold file want fd) waits = refl
 waiting_may s (event.Signal from hold to target) waits = refl
@@ -135,7 +152,15 @@ IsWaiting line content event = waiting_of line content ≡ Some event
 
 abbrev IfWaiting : ℕ → Content → Option Event → Type 0
 IfWaiting line content None = Unit {0}
-IfWaiting line content (Some event) = may_wait event ≡ true → IsWaiting line content event
+IfWaiting line content (Some event) = may_need_tokens event ≡ true → IsWaiting line content event
+
+-- a call on a file waits for no decision
+called_at_once : (line task : ℕ) (call : FileCall)
+    → IfWaiting line (OnFile task call) (Some (calling (hold_label line) call))
+called_at_once line task (Chown file owner group) = λ waits. cc
+called_at_once line task (Chmod file mode) = λ waits. cc
+called_at_once line task (SetAttr file attr) = λ waits. cc
+called_at_once line task (Stat file) = λ waits. cc
 
 waiting_at : (line : ℕ) (content : Content) (stage : Stage) → IfWaiting line content (event_in line content stage)
 waiting_at line (One event) First = λ waits. refl
@@ -177,9 +202,12 @@ waiting_at line (Access task file want) ReleasingAccess = λ waits. cc
 waiting_at line (Access task file want) Reverting = λ waits. cc
 waiting_at line (Access task file want) Aborting = λ waits. cc
 waiting_at line (Access task file want) Releasing = λ waits. cc
+waiting_at line (OnFile task call) First = λ waits. cc
+waiting_at line (OnFile task call) Calling = called_at_once line task call
+waiting_at line (OnFile task call) Releasing = λ waits. cc
 waiting_at line content stage = tt
 
-is_waiting : (line : ℕ) (content : Content) (stage : Stage) (event : Event) → event_in line content stage ≡ Some event → may_wait event ≡ true
+is_waiting : (line : ℕ) (content : Content) (stage : Stage) (event : Event) → event_in line content stage ≡ Some event → may_need_tokens event ≡ true
     → IsWaiting line content event
 is_waiting line content stage event is = subst (IfWaiting line content) is (waiting_at line content stage)
 
@@ -195,7 +223,7 @@ labels_apart line label new access =
 
 -- two events of one line that wait and share a label are one
 pub same_event : (line : ℕ) (content : Content) (stage other : Stage) (a b : Event) → event_in line content stage ≡ Some a → event_in line content other ≡ Some b
-    → may_wait a ≡ true → may_wait b ≡ true → (label : ℕ) → Contains (event_labels a) label → Contains (event_labels b) label → a ≡ b
+    → may_need_tokens a ≡ true → may_need_tokens b ≡ true → (label : ℕ) → Contains (event_labels a) label → Contains (event_labels b) label → a ≡ b
 same_event line content stage other a b one two waits wait label here there =
     by content (is_waiting line content stage a one waits) (is_waiting line content other b two wait)
   where
@@ -217,3 +245,4 @@ same_event line content stage other a b one two waits wait label here there =
     by (Signal task to) is iz = same_Some _ _ (sym is ∙ iz)
     by (Ptrace task to mode) is iz = cc
     by (Change task change) is iz = same_Some _ _ (sym is ∙ iz)
+    by (OnFile task call) is iz = cc

@@ -9,7 +9,7 @@ use Rattle.cred_event.specs.declared.answer.Answer.TheVariants.{Done, NoHold, Se
 use Rattle.cred_model.specs.State.{State, Task, Prepared, Changed, Numbered, task_of, prepared_of, held_by}
 use Rattle.cred_model.specs.Slots.{in_use, kept}
 use Rattle.cred_model.specs.Like.{IsLike, IsOutcomeLike}
-use Rattle.cred_model.specs.Moves.{with_overrides, lent, overridden}
+use Rattle.cred_model.specs.Moves.{with_overrides, with_override, overridden}
 use Rattle.cred_model.specs.Step.{by_override, by_revert, for_access, is_access, outcome}
 use Rattle.cred_model.proofs.Likes.{does_same}
 use Rattle.cred_model.proofs.Numbers.{owner_number}
@@ -24,7 +24,7 @@ use Rattle.cred_model.proofs.Places.{find-at, place-of_found}
 use Rattle.cred_tables.proofs.Sealing.{Drops, keeps_same, kept_less, kept_more, over_later}
 use Rattle.cred_tables.proofs.Filled.{NoMore}
 use Rattle.cred_tables.proofs.InUse.{Differ}
-use Rattle.cred_state.proofs.Overriding.{in_use-lent, in_use-reverted}
+use Rattle.cred_state.proofs.OverrideCounts.{in_use-lent, in_use-reverted}
 use Rattle.cred_tables.proofs.Stored.{does_made, length-creds_in}
 use Rattle.cred_state.proofs.Finishing.{finish_kept, finish_like}
 
@@ -104,7 +104,7 @@ module _ (tasks after : List Task) (task : ℕ) (alive : IsSome (task_in tasks t
 module _ (s : State) (task label : ℕ) (owner : Task) (lives : task_of s task ≡ Some owner) where
   module _ (held : Numbered) (has : held_by s label ≡ Some held) where
     pub held_tests : nat_lt (length owner.overrides) DEPTH ≡ true
-        → outcome s (by_override s task label) ≡ (Sealed held.number held.slot, lent s owner held.number)
+        → outcome s (by_override s task label) ≡ (Sealed held.number held.slot, with_override s owner held.number)
     held_tests few = rw (lives, has, few) refl
 
   module _ (none : held_by s label ≡ None) where

@@ -10,9 +10,9 @@ use Rattle.cred_model.specs.Slots.{in_use}
 use Rattle.cred_model.proofs.Lists.{slice_get-left}
 use Rattle.cred_model.proofs.Numbers.{numbered_is}
 use Rattle.cred_hold.specs.Tokens.{IsSealed}
-use Rattle.cred_slots.specs.Table.{Table, free, references_to, stands_in}
+use Rattle.cred_slots.specs.Table.{Table, free_in, references_to, is_sealed_in}
 use Rattle.cred_slots.proofs.Counting.{count-append}
-use Rattle.cred_tables.specs.Kept.{Parts, placed, creds_in, cred_under, seen_in, no_credential, state_of, AreInPlace, IsInUse, IsKept, Seals}
+use Rattle.cred_tables.specs.Kept.{Parts, stored_at, creds_in, cred_under, seen_in, no_credential, state_of, AreInPlace, IsInUse, IsKept, Seals}
 use Rattle.cred_tables.specs.declared.table.Numbered as table
 use Rattle.cred_tables.proofs.Sealing.{used_is_referred}
 
@@ -25,8 +25,8 @@ is_found creds number (Some x) c is =
     subst (λ (n : ℕ). numbered creds n ≡ Some c) (sym same) is
 
 -- the slot that is taken next in a table with more room to spare
-pub some_spare : (t : Table) {r : Table} {m slot : ℕ} → r ≡ record t { spare = m } → free r ≡ Some slot → free t ≡ Some slot
-some_spare t {slot = slot} is takes = subst (λ (x : Table). free x ≡ Some slot) is takes
+pub some_spare : (t : Table) {r : Table} {m slot : ℕ} → r ≡ record t { spare = m } → free_in r ≡ Some slot → free_in t ≡ Some slot
+some_spare t {slot = slot} is takes = subst (λ (x : Table). free_in x ≡ Some slot) is takes
 
 -- the slot of what is sealed
 at_slot : (places : List (Option Credential)) (slots : List ℕ) (n : ℕ) (x : SealedCred) → slice_get (creds_in places slots) n ≡ Some x
@@ -37,16 +37,16 @@ at_slot places (s ∷ slots) (suc n) x at = at_slot places slots n x at
 
 -- what is sealed is what stands in its slot's place
 at_place : (places : List (Option Credential)) (slots : List ℕ) (n : ℕ) (x : SealedCred) → slice_get (creds_in places slots) n ≡ Some x
-    → x.cred ≡ placed places x.slot
+    → x.cred ≡ stored_at places x.slot
 at_place places [] n x at = cc
 at_place places (s ∷ slots) zero x at =
-    let same : record { cred = placed places s; slot = s } ≡ x = same_Some _ _ at in
-    subst (λ (y : SealedCred). y.cred ≡ placed places y.slot) same refl
+    let same : record { cred = stored_at places s; slot = s } ≡ x = same_Some _ _ at in
+    subst (λ (y : SealedCred). y.cred ≡ stored_at places y.slot) same refl
 at_place places (s ∷ slots) (suc n) x at = at_place places slots n x at
 
 -- a place that is filled has a credential
 filled_is : (places : List (Option Credential)) (slot : ℕ) → IsSome (get_or places slot None)
-    → slice_get places slot ≡ Some (Some (placed places slot))
+    → slice_get places slot ≡ Some (Some (stored_at places slot))
 filled_is [] slot is = absurd (cc)
 filled_is (None ∷ places) zero is = absurd (cc)
 filled_is (Some c ∷ places) zero is = refl
@@ -101,7 +101,7 @@ stands_apart {before = before} {after = after} {number = number} {slot = slot} s
     let small = slice_get_within before.sealed n own is in
     let there : slice_get after.sealed n ≡ Some slot
     = ap (λ (ns : List ℕ). slice_get ns n) seals.sealed ∙ slice_get-left before.sealed (slot ∷ []) n small ∙ is ∙ ap (λ (s : ℕ). Some s) same in
-    let stands : stands_in after.sealed slot n ≡ true
+    let stands : is_sealed_in after.sealed slot n ≡ true
     = ap (λ (o : Option ℕ). option_map_or (λ place. place == slot) o false) there ∙ itself slot in
     let all = count-append (λ m. m == n) after.held after.deferred in
     let one = seals.alone.only n stands (omega (arith, all, many)) in

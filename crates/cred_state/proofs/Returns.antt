@@ -11,7 +11,7 @@ use Rattle.cred_record.specs.Credential.{Credential}
 use Rattle.cred_event.specs.declared.event.Event.{Event}
 use Rattle.cred_model.specs.State.{State, Prepared, Changed, Numbered, numbered, held_by, prepared_of}
 use Rattle.cred_model.specs.Slots.{kept}
-use Rattle.cred_model.specs.Moves.{changed, with_change, altered}
+use Rattle.cred_model.specs.Moves.{relabelled, with_change, altered}
 use Rattle.cred_model.specs.Like.{IsLike}
 use Rattle.cred_model.proofs.Lists.{All-unmap, alone, found}
 use Rattle.cred_model.proofs.Places.{place-of_found}
@@ -19,9 +19,9 @@ use Rattle.cred_model.proofs.Lists as lists
 use Rattle.cred_names.specs.Labels.{event_labels}
 use Rattle.cred_sound.specs.Sound.{IsSound}
 use Rattle.cred_words.specs.Lists.{Has, IsTaken}
-use Rattle.cred_hold.specs.Tokens.{Entry, entry, IsAlone}
+use Rattle.cred_hold.specs.Tokens.{Loan, loan, IsAlone}
 use Rattle.atomic_table.specs.Seated.{TableId}
-use Rattle.cred_work.specs.Decisions.{AreOf, event_of}
+use Rattle.cred_work.specs.Decisions.{AreOf, work_event}
 use Rattle.cred_work.specs.declared.lent.Lent.{Lent}
 use Rattle.cred_work.specs.declared.lent.Lent.TheVariants.{Asking, Opening, Signalling, Altering}
 use Rattle.cred_slots.specs.Table.{Table}
@@ -31,7 +31,7 @@ use Rattle.cred_tables.proofs.Back.{has_taken, taken_has, back_new, back_newer}
 use Rattle.cred_tables.proofs.Outs.{IsHeld, IsPrepared, base_out, hold_apart, hold_out, kept_alone_by, kept_spare, kept_none, out_has, token_is}
 use Rattle.cred_tables.proofs.Puts.{put_back, put_changed, put_held, was_put}
 use Rattle.cred_tables.proofs.Stored.{spare_like}
-use Rattle.cred_state.specs.Lending.{AreApart, AreTaken, IsBase, earlier_of, entries_of, held_entry}
+use Rattle.cred_state.specs.TokensOut.{HoldsApart, AreTaken, IsBase, earlier_of, entries_of, hold_loan}
 use Rattle.cred_state.proofs.Labelling.{alter_kept}
 
 -- ---- lists
@@ -45,33 +45,33 @@ pub all_by : {A : Type 0} (P : A → Type 0) (xs : List A) → ((x : A) → Has 
 all_by P [] each = All-nil P
 all_by P (x ∷ xs) each = All-cons P x xs (each x (inl refl)) (all_by P xs (λ y has. each y (inr has)))
 
-not_alone : (out : List Entry) (e : Entry) → Has out e → IsAlone out e.slot → ⊥
+not_alone : (out : List Loan) (e : Loan) → Has out e → IsAlone out e.slot → ⊥
 not_alone [] e has are = has
-not_alone (x ∷ out) e (inl is) are = are.0 (ap (λ (y : Entry). y.slot) is)
+not_alone (x ∷ out) e (inl is) are = are.0 (ap (λ (y : Loan). y.slot) is)
 not_alone (x ∷ out) e (inr has) are = not_alone out e has are.1
 
 -- ---- a hold
 
 -- nothing that is held stands in a kept slot
-pub holds_apart : (s : State) (out : List Entry) → IsSound s → AreOut s out → AreApart (kept s) out
+pub holds_apart : (s : State) (out : List Loan) → IsSound s → AreOut s out → HoldsApart (kept s) out
 holds_apart s out sound are = all_by (λ e. IsSome e.held → All (λ slot. e.slot ≢ slot) (kept s)) out (λ e has. by e has e.held refl)
   where
-    by : (e : Entry) → Has out e → (held : Option Credential) → e.held ≡ held → IsSome e.held → All (λ slot. e.slot ≢ slot) (kept s)
+    by : (e : Loan) → Has out e → (held : Option Credential) → e.held ≡ held → IsSome e.held → All (λ slot. e.slot ≢ slot) (kept s)
     by e has None is some = let none : is_some e.held ≡ false = ap is_some is in cc
     by e has (Some c) is some =
         All-map (λ slot. e.slot ≢ slot) (λ (p : Prepared). p.slot) s.prepared
-        (hold_apart s sound out are e.label e.slot c (subst (λ (x : Entry). Has out x) (ap (λ h. entry e.label e.slot h) is) has))
+        (hold_apart s sound out are e.label e.slot c (subst (λ (x : Loan). Has out x) (ap (λ h. loan e.label e.slot h) is) has))
 
-pub apart_taken : (slots : List ℕ) (old : List Entry) (x : Entry) (new : List Entry) → AreApart slots old → IsTaken old x new → AreApart slots new
+pub apart_taken : (slots : List ℕ) (old : List Loan) (x : Loan) (new : List Loan) → HoldsApart slots old → IsTaken old x new → HoldsApart slots new
 apart_taken slots old x new apart taken =
-    let P : Entry → Type 0 = λ e. IsSome e.held → All (λ slot. e.slot ≢ slot) slots in
+    let P : Loan → Type 0 = λ e. IsSome e.held → All (λ slot. e.slot ≢ slot) slots in
     all_by P new (λ e has. all_has P old e apart (taken_has old x new taken e has))
 
-pub held_put : (s : State) (out new : List Entry) (places : List (Option Credential)) (label slot : ℕ) (c : Credential) → AreApart (kept s) out
-    → IsTaken out (entry label slot (Some c)) new → ArePut s.prepared out places → ArePut s.prepared new places
+pub held_put : (s : State) (out new : List Loan) (places : List (Option Credential)) (label slot : ℕ) (c : Credential) → HoldsApart (kept s) out
+    → IsTaken out (loan label slot (Some c)) new → ArePut s.prepared out places → ArePut s.prepared new places
 held_put s out new places label slot c apart taken are =
-    let e = entry label slot (Some c) in
-    let P : Entry → Type 0 = λ e. IsSome e.held → All (λ slot. e.slot ≢ slot) (kept s) in
+    let e = loan label slot (Some c) in
+    let P : Loan → Type 0 = λ e. IsSome e.held → All (λ slot. e.slot ≢ slot) (kept s) in
     let far = all_has P out e apart (has_taken out e new taken) refl in
     put_held s.prepared out e new places taken (All-unmap (λ n. slot ≢ n) (λ (p : Prepared). p.slot) s.prepared far) are
 
@@ -84,16 +84,16 @@ pub record IsWritten (s : State) (label slot : ℕ) : Type 0 where
   pub sealed : numbered s.creds preparation.base ≡ Some base
   pub is : preparation.slot ≡ slot
 
-pub writer_is : (s : State) (out : List Entry) (label slot : ℕ) → AreOut s out → Has out (entry label slot None) → IsWritten s label slot
-writer_is s out label slot are has = by (token_is s (entry label slot None) (out_has s out (entry label slot None) are has))
+pub writer_is : (s : State) (out : List Loan) (label slot : ℕ) → AreOut s out → Has out (loan label slot None) → IsWritten s label slot
+writer_is s out label slot are has = by (token_is s (loan label slot None) (out_has s out (loan label slot None) are has))
   where
-    by : IsHeld s label (entry label slot None) ⊎ IsPrepared s label (entry label slot None) → IsWritten s label slot
-    by (inl h) = let gone = ap (λ (x : Entry). x.held) h.is in cc
+    by : IsHeld s label (loan label slot None) ⊎ IsPrepared s label (loan label slot None) → IsWritten s label slot
+    by (inl h) = let gone = ap (λ (x : Loan). x.held) h.is in cc
     by (inr q) = of q.is
       where
-        of : (entry label q.preparation.slot None ≡ entry label slot None) ⊎ (entry label q.base.slot (Some q.base.cred) ≡ entry label slot None) → IsWritten s label slot
-        of (inl at) = record { preparation = q.preparation; base = q.base; prepared = q.prepared; sealed = q.sealed; is = ap (λ (x : Entry). x.slot) at }
-        of (inr at) = let gone = ap (λ (x : Entry). x.held) at in cc
+        of : (loan label q.preparation.slot None ≡ loan label slot None) ⊎ (loan label q.base.slot (Some q.base.cred) ≡ loan label slot None) → IsWritten s label slot
+        of (inl at) = record { preparation = q.preparation; base = q.base; prepared = q.prepared; sealed = q.sealed; is = ap (λ (x : Loan). x.slot) at }
+        of (inr at) = let gone = ap (λ (x : Loan). x.held) at in cc
 
 module _ (s : State) (sound : IsSound s) (label : ℕ) (p : Prepared) (prepared : prepared_of s label ≡ Some p) where
   named : p.label ≡ label
@@ -108,14 +108,14 @@ module _ (s : State) (sound : IsSound s) (label : ℕ) (p : Prepared) (prepared 
       lists.All-at (λ (x : Prepared). All (λ (y : Prepared). y.label ≡ x.label → y ≡ x) s.prepared) s.prepared at.0 p at.2
       (alone (λ (r : Prepared). r.label) s.prepared sound.prepared)
 
-module _ {parts : Parts} {store : List (Option Credential)} {t : Table} {out : List Entry} (inv : IsKept parts store t × ArePut parts.prepared out store)
+module _ {parts : Parts} {store : List (Option Credential)} {t : Table} {out : List Loan} (inv : IsKept parts store t × ArePut parts.prepared out store)
     (sound : IsSound (state_of parts store t)) (are : AreOut (state_of parts store t) out)
-    (label slot : ℕ) (new : List Entry) (taken : IsTaken out (entry label slot None) new) where
+    (label slot : ℕ) (new : List Loan) (taken : IsTaken out (loan label slot None) new) where
   abbrev s : State
   s = state_of parts store t
 
-  has : Has out (entry label slot None)
-  has = has_taken out (entry label slot None) new taken
+  has : Has out (loan label slot None)
+  has = has_taken out (loan label slot None) new taken
 
   pub written : IsWritten s label slot
   written = writer_is s out label slot are has
@@ -145,7 +145,7 @@ module _ {parts : Parts} {store : List (Option Credential)} {t : Table} {out : L
       pub earlier_kept : IsKept parts (slice_set store slot value) t × ArePut parts.prepared new (slice_set store slot value)
       earlier_kept = (
         words_kept,
-        put_back parts.prepared out (entry label slot None) new store value lt taken
+        put_back parts.prepared out (loan label slot None) new store value lt taken
             (λ k d within same. earlier_is ∙ ap was_put (sym (one_slot k d within (same ∙ sym written.is)))) inv.1,
       )
 
@@ -168,12 +168,12 @@ module _ {parts : Parts} {store : List (Option Credential)} {t : Table} {out : L
       pub changed_kept : IsKept more (slice_set store slot value) t × ArePut more.prepared new (slice_set store slot value)
       changed_kept = (
         alter_kept words_kept label to,
-        put_back more.prepared out (entry label slot None) new store value lt taken
-            (All-map (λ (q : Prepared). q.slot ≡ slot → value ≡ was_put q) (changed label to) parts.prepared
+        put_back more.prepared out (loan label slot None) new store value lt taken
+            (All-map (λ (q : Prepared). q.slot ≡ slot → value ≡ was_put q) (relabelled label to) parts.prepared
             (λ k d within. is_changed (get_or parts.prepared k d) (one_slot k d within) ((get_or parts.prepared k d).label == label) refl))
             (put_changed parts.prepared label to out store
             (λ k d within own alone.
-            not_alone out (entry label slot None) has
+            not_alone out (loan label slot None) has
             (subst (λ (n : ℕ). IsAlone out n)
             (ap (λ (r : Prepared). r.slot) (one_label s sound label p written.prepared k d within (own ∙ sym (named s sound label p written.prepared))) ∙ written.is) alone))
             inv.1),
@@ -192,59 +192,59 @@ set_within xs ys n x is at =
 -- ---- all that was lent comes back
 
 -- the event names the labels of what is lent for it
-pub named_for : (cells : TableId) (lent : Lent) → AreOf cells lent → All (λ e. Contains (event_labels (event_of lent)) e.label) (entries_of lent)
+pub named_for : (cells : TableId) (lent : Lent) → AreOf cells lent → All (λ e. Contains (event_labels (work_event lent)) e.label) (entries_of lent)
 named_for cells (Asking hold query told) of =
-    let P : Entry → Type 0 = λ e. Contains (hold.label ∷ []) e.label in
-    All-cons P (held_entry hold) [] (Contains-push [] hold.label) (All-nil P)
+    let P : Loan → Type 0 = λ e. Contains (hold.label ∷ []) e.label in
+    All-cons P (hold_loan hold) [] (Contains-push [] hold.label) (All-nil P)
 named_for cells (Opening hold file want fd may) of =
-    let P : Entry → Type 0 = λ e. Contains (hold.label ∷ []) e.label in
-    All-cons P (held_entry hold) [] (Contains-push [] hold.label) (All-nil P)
+    let P : Loan → Type 0 = λ e. Contains (hold.label ∷ []) e.label in
+    All-cons P (hold_loan hold) [] (Contains-push [] hold.label) (All-nil P)
 named_for cells (Signalling from hold to target may) of =
-    let P : Entry → Type 0 = λ e. Contains (hold.label ∷ target.label ∷ []) e.label in
-    All-cons P (held_entry target) (held_entry hold ∷ []) (Contains-push (hold.label ∷ []) target.label)
-    (All-cons P (held_entry hold) [] (Contains-append_left (hold.label ∷ []) (target.label ∷ []) hold.label (Contains-push [] hold.label)) (All-nil P))
+    let P : Loan → Type 0 = λ e. Contains (hold.label ∷ target.label ∷ []) e.label in
+    All-cons P (hold_loan target) (hold_loan hold ∷ []) (Contains-push (hold.label ∷ []) target.label)
+    (All-cons P (hold_loan hold) [] (Contains-append_left (hold.label ∷ []) (target.label ∷ []) hold.label (Contains-push [] hold.label)) (All-nil P))
 named_for cells (Altering base writer change made) (own, its, same) =
-    let P : Entry → Type 0 = λ e. Contains (base.label ∷ []) e.label in
-    All-cons P (entry writer.label writer.slot None) (held_entry base ∷ []) (subst (λ n. Contains (base.label ∷ []) n) (sym same) (Contains-push [] base.label))
-    (All-cons P (held_entry base) [] (Contains-push [] base.label) (All-nil P))
+    let P : Loan → Type 0 = λ e. Contains (base.label ∷ []) e.label in
+    All-cons P (loan writer.label writer.slot None) (hold_loan base ∷ []) (subst (λ n. Contains (base.label ∷ []) n) (sym same) (Contains-push [] base.label))
+    (All-cons P (hold_loan base) [] (Contains-push [] base.label) (All-nil P))
 
 -- nothing that is out has one of them
-pub fresh : (event : Event) (out : List Entry) (e : Entry) → AreHome event out → Contains (event_labels event) e.label → Has out e → ⊥
-fresh event out e home named has = all_has (λ (x : Entry). Contains (event_labels event) x.label → ⊥) out e home has named
+pub fresh : (event : Event) (out : List Loan) (e : Loan) → AreHome event out → Contains (event_labels event) e.label → Has out e → ⊥
+fresh event out e home named has = all_has (λ (x : Loan). Contains (event_labels event) x.label → ⊥) out e home has named
 
-pair_back : (event : Event) (y x : Entry) (out mid later new : List Entry) → AreHome event out → All (λ e. Contains (event_labels event) e.label) (y ∷ x ∷ [])
+pair_back : (event : Event) (y x : Loan) (out mid later new : List Loan) → AreHome event out → All (λ e. Contains (event_labels event) e.label) (y ∷ x ∷ [])
     → IsTaken (y ∷ x ∷ out) y mid → IsTaken mid x later → new ≡ later → new ≡ out
 pair_back event y x out mid later new home own first second rest =
-    let Named : Entry → Type 0 = λ e. Contains (event_labels event) e.label in
+    let Named : Loan → Type 0 = λ e. Contains (event_labels event) e.label in
     let one = back_newer y x out mid first (fresh event out y home (All-head Named y (x ∷ []) own)) in
     rest ∙ back_new x out later (subst (λ es. IsTaken es x later) one second) (fresh event out x home (All-head Named x [] (All-tail Named y (x ∷ []) own)))
 
-pub all_back : (cells : TableId) (lent : Lent) (out new : List Entry) → AreOf cells lent → AreHome (event_of lent) out
+pub all_back : (cells : TableId) (lent : Lent) (out new : List Loan) → AreOf cells lent → AreHome (work_event lent) out
     → AreTaken (entries_of lent) (entries_of lent ++ out) new → new ≡ out
 all_back cells lent out new of home taken = by lent (named_for cells lent of) home taken
   where
-    one : (event : Event) (e : Entry) → AreHome event out → All (λ e. Contains (event_labels event) e.label) (e ∷ [])
+    one : (event : Event) (e : Loan) → AreHome event out → All (λ e. Contains (event_labels event) e.label) (e ∷ [])
         → AreTaken (e ∷ []) (e ∷ out) new → new ≡ out
     one event e home own (mid, taken, rest) =
-        let Named : Entry → Type 0 = λ e. Contains (event_labels event) e.label in
+        let Named : Loan → Type 0 = λ e. Contains (event_labels event) e.label in
         rest ∙ back_new e out mid taken (fresh event out e home (All-head Named e [] own))
 
-    two : (event : Event) (y x : Entry) → AreHome event out → All (λ e. Contains (event_labels event) e.label) (y ∷ x ∷ [])
+    two : (event : Event) (y x : Loan) → AreHome event out → All (λ e. Contains (event_labels event) e.label) (y ∷ x ∷ [])
         → AreTaken (y ∷ x ∷ []) (y ∷ x ∷ out) new → new ≡ out
     two event y x home own (mid, first, (later, second, rest)) = pair_back event y x out mid later new home own first second rest
 
-    by : (lent : Lent) → All (λ e. Contains (event_labels (event_of lent)) e.label) (entries_of lent) → AreHome (event_of lent) out
+    by : (lent : Lent) → All (λ e. Contains (event_labels (work_event lent)) e.label) (entries_of lent) → AreHome (work_event lent) out
         → AreTaken (entries_of lent) (entries_of lent ++ out) new → new ≡ out
-    by (Asking hold query told) own home taken = one (event_of (Asking hold query told)) (held_entry hold) home own taken
-    by (Opening hold file want fd may) own home taken = one (event_of (Opening hold file want fd may)) (held_entry hold) home own taken
+    by (Asking hold query told) own home taken = one (work_event (Asking hold query told)) (hold_loan hold) home own taken
+    by (Opening hold file want fd may) own home taken = one (work_event (Opening hold file want fd may)) (hold_loan hold) home own taken
     by (Signalling from hold to target may) own home taken =
-        two (event_of (Signalling from hold to target may)) (held_entry target) (held_entry hold) home own taken
+        two (work_event (Signalling from hold to target may)) (hold_loan target) (hold_loan hold) home own taken
     by (Altering base writer change made) own home taken =
-        two (event_of (Altering base writer change made)) (entry writer.label writer.slot None) (held_entry base) home own taken
+        two (work_event (Altering base writer change made)) (loan writer.label writer.slot None) (hold_loan base) home own taken
 
 -- ---- what a label has is what is lent under it
 
-pub held_own : (s : State) (out : List Entry) → IsSound s → AreOut s out → (label slot : ℕ) (cred : Credential) → Has out (entry label slot (Some cred))
+pub held_own : (s : State) (out : List Loan) → IsSound s → AreOut s out → (label slot : ℕ) (cred : Credential) → Has out (loan label slot (Some cred))
     → IfSome (held_by s label) (λ held. held.cred ≡ cred)
 held_own s out sound are label slot cred has = by (held_by s label) refl
   where
@@ -252,7 +252,7 @@ held_own s out sound are label slot cred has = by (held_by s label) refl
     by None at = tt
     by (Some c) at = (hold_out s sound out are label slot c cred at has).1
 
-pub base_own : (s : State) (out : List Entry) → IsSound s → AreOut s out → (label slot : ℕ) (cred : Credential) → Has out (entry label slot (Some cred))
+pub base_own : (s : State) (out : List Loan) → IsSound s → AreOut s out → (label slot : ℕ) (cred : Credential) → Has out (loan label slot (Some cred))
     → IsBase s label cred
 base_own s out sound are label slot cred has = by (prepared_of s label) refl
   where

@@ -9,7 +9,7 @@ use Rattle.cred_event.specs.declared.event.Event.{Event}
 use Rattle.cred_event.specs.declared.event.Event.TheVariants.{Release, Abort, Commit, Override, Ask, Signal, Alter, OpenFile}
 use Rattle.cred_model.specs.Script.{Script}
 use Rattle.cred_model.specs.State.{State, Hold, Prepared, Changed, Numbered, SealedCred, numbered, hold_of, held_by, prepared_of}
-use Rattle.cred_model.specs.Moves.{changed}
+use Rattle.cred_model.specs.Moves.{relabelled}
 use Rattle.cred_model.specs.Step.{step}
 use Rattle.cred_model.proofs.Lists.{find-remove_other, find_changed, found, slice_get_at}
 use Rattle.cred_model.proofs.Numbers.{numbered_stays}
@@ -20,8 +20,8 @@ use Rattle.cred_sound.proofs.Parts.{Stays, Adds, Removes, SamePrepared, Prepares
 use Rattle.cred_sound.proofs.Events.{changes}
 use Rattle.cred_sound.specs.Sound.{IsSound}
 use Rattle.cred_words.specs.Lists.{Has}
-use Rattle.cred_hold.specs.Tokens.{Entry, entry}
-use Rattle.cred_tables.specs.Out.{AreHome, AreOut, hold_token, kept_tokens, tokens_in, waits_in}
+use Rattle.cred_hold.specs.Tokens.{Loan, loan}
+use Rattle.cred_tables.specs.Out.{AreHome, AreOut, hold_token, kept_tokens, tokens_in, needs_tokens}
 use Rattle.cred_tables.proofs.Outs.{IsToken, IsHeld, IsPrepared, token_is, hold_token_is, kept_tokens_are, has_first, has_last}
 
 -- the event lets go of what the label has
@@ -38,14 +38,14 @@ pub record IsSameBut (p q : Prepared) : Type 0 where
   pub base : q.base ≡ p.base
   pub slot : q.slot ≡ p.slot
 
-labels_same : (name : ℕ) (to : Changed) (p : Prepared) → (changed name to p).label ≡ p.label
+labels_same : (name : ℕ) (to : Changed) (p : Prepared) → (relabelled name to p).label ≡ p.label
 labels_same name to p = by (p.label == name)
   where
     by : (test : Bool) → (if test then record p { changed = Some to } else p).label ≡ p.label
     by true = refl
     by false = refl
 
-parts_same : (name : ℕ) (to : Changed) (p : Prepared) → IsSameBut p (changed name to p)
+parts_same : (name : ℕ) (to : Changed) (p : Prepared) → IsSameBut p (relabelled name to p)
 parts_same name to p = by (p.label == name)
   where
     by : (test : Bool) → IsSameBut p (if test then record p { changed = Some to } else p)
@@ -86,11 +86,11 @@ module _ (script : Script) (s : State) (line : ℕ) (event : Event) (label : ℕ
       by (SamePrepared same) = same_as (ap (λ ps. find (λ (p : Prepared). p.label == label) ps) same)
       by (Prepares x same un new none old free) =
           (p, ap (λ ps. find (λ (p : Prepared). p.label == label) ps) same ∙ found-first (λ (p : Prepared). p.label == label) s.prepared (x ∷ []) p is, record { base = refl; slot = refl })
-      by (Alters name to x base answer same there sealed rule) = (
-        changed name to p,
+      by (Alters name to x base answer same there sealed rule acts) = (
+        relabelled name to p,
         ap (λ ps. find (λ (p : Prepared). p.label == label) ps) same
-            ∙ find_changed (λ (p : Prepared). p.label) (changed name to) s.prepared label (λ x. labels_same name to x)
-            ∙ ap (option_map (changed name to)) is,
+            ∙ find_changed (λ (p : Prepared). p.label) (relabelled name to) s.prepared label (λ x. labels_same name to x)
+            ∙ ap (option_map (relabelled name to)) is,
         parts_same name to p,
       )
       by (Ends name place x how same at there) =
@@ -126,7 +126,7 @@ module _ (script : Script) (s : State) (line : ℕ) (event : Event) (label : ℕ
       let q = prepared_stays p is in
       let now : numbered after.creds q.0.base ≡ Some base = ap (λ n. numbered after.creds n) q.2.base ∙ number_stays p.base base sealed in
       kept_tokens_are after label q.0 base q.1 now
-      ∙ ap (λ (slot : ℕ). entry label slot None ∷ entry label base.slot (Some base.cred) ∷ []) q.2.slot
+      ∙ ap (λ (slot : ℕ). loan label slot None ∷ loan label base.slot (Some base.cred) ∷ []) q.2.slot
       ∙ sym (kept_tokens_are s label p base is sealed)
 
 -- ---- labels that an event doesn't name
@@ -143,10 +143,10 @@ module _ (script : Script) (s : State) (line : ℕ) (event : Event) where
   abbrev later : State
   later = (step script s line event).1
 
-  pub token_stays : (e : Entry) → (EndsLabel event e.label → ⊥) → IsToken s e → IsToken later e
+  pub token_stays : (e : Loan) → (EndsLabel event e.label → ⊥) → IsToken s e → IsToken later e
   token_stays e other token = by (token_is s e token)
     where
-      same : {xs ys : List Entry} → ys ≡ xs → Has xs e → Has ys e
+      same : {xs ys : List Loan} → ys ≡ xs → Has xs e → Has ys e
       same are has = subst (λ es. Has es e) (sym are) has
 
       by : IsHeld s e.label e ⊎ IsPrepared s e.label e → IsToken later e
@@ -158,12 +158,12 @@ module _ (script : Script) (s : State) (line : ℕ) (event : Event) where
           (same (kept_tokens_stay script s line event e.label other q.preparation q.base q.prepared q.sealed
           ∙ kept_tokens_are s e.label q.preparation q.base q.prepared q.sealed) (one q.is))
         where
-          one : {a b : Entry} → (a ≡ e) ⊎ (b ≡ e) → Has (a ∷ b ∷ []) e
+          one : {a b : Loan} → (a ≡ e) ⊎ (b ≡ e) → Has (a ∷ b ∷ []) e
           one (inl is) = inl is
           one (inr is) = inr (inl is)
 
   -- what is lent under labels that the event doesn't name stays so
-  pub out_stays : (out : List Entry) → AreHome event out → AreOut s out → AreOut later out
+  pub out_stays : (out : List Loan) → AreHome event out → AreOut s out → AreOut later out
   out_stays out home are k d lt =
       token_stays (get_or out k d) (λ ends. home k d lt (names_ended event (get_or out k d).label ends)) (are k d lt)
 
@@ -195,7 +195,7 @@ both_true false b is = cc
 
 -- What waits for a decision waits still, on the same tokens.
 pub record StillWaits (before after : State) (event : Event) : Type 0 where
-  pub waits : waits_in after event ≡ true
+  pub waits : needs_tokens after event ≡ true
   pub tokens : tokens_in after event ≡ tokens_in before event
 
 module _ (script : Script) (s : State) (line : ℕ) (event : Event) (sound : IsSound s) where
@@ -226,7 +226,7 @@ module _ (script : Script) (s : State) (line : ℕ) (event : Event) (sound : IsS
           (ap is_some q.1, kept_tokens_stay script s line event label other p c.0 at c.1)
 
   -- one whose labels the other event doesn't end
-  pub tokens_same : (waiting : Event) → waits_in s waiting ≡ true → ((label : ℕ) → Contains (event_labels waiting) label → EndsLabel event label → ⊥)
+  pub tokens_same : (waiting : Event) → needs_tokens s waiting ≡ true → ((label : ℕ) → Contains (event_labels waiting) label → EndsLabel event label → ⊥)
       → StillWaits s next waiting
   tokens_same (Ask label query) waits other =
       let h = hold_waits label (other label (Contains-push [] label)) waits in
@@ -245,7 +245,7 @@ module _ (script : Script) (s : State) (line : ℕ) (event : Event) (sound : IsS
   tokens_same waiting waits other = cc
 
   -- so one whose labels it doesn't name
-  pub waiting_stays : (waiting : Event) → waits_in s waiting ≡ true → All (λ label. Contains (event_labels event) label → ⊥) (event_labels waiting)
+  pub waiting_stays : (waiting : Event) → needs_tokens s waiting ≡ true → All (λ label. Contains (event_labels event) label → ⊥) (event_labels waiting)
       → StillWaits s next waiting
   waiting_stays waiting waits apart =
       tokens_same waiting waits

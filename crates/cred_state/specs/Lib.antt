@@ -1,3 +1,3 @@
 pub mod Flags
-pub mod Lending
+pub mod TokensOut
 pub mod Refusals

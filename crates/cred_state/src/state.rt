@@ -1,6 +1,6 @@
 //! The state of a run: the tasks, the open broadcasts, the open files, the holds, the prepared
-//! labels, which processes are dumpable, the master of the shared words that the credentials stand
-//! in, and a table of slots that counts the references to them.
+//! labels, which processes are dumpable, the script's files as they stand, the master of the shared
+//! words that the credentials stand in, and a table of slots that counts the references to them.
 ghost use Rattle.std.specs.Prelude.{◌≡◌, ◌||◌, ℕ, [], Some, is_some, length, IfOk, OnErr};
 ghost use Rattle.std.specs.Option.{option_map};
 ghost use Rattle.cred_event.specs.declared.event.Event.TheVariants.{Sweep};
@@ -18,17 +18,20 @@ ghost use Rattle.cred_tables.specs.Out.{AreHome, AreOut};
 mod casts;
 mod decides;
 mod enters;
+mod file_calls;
 mod files;
 mod holds;
 mod lends;
 mod overrides;
 mod prepare;
+mod raw;
 mod returns;
 mod tasks;
 mod traces;
 
+use cred_attr::FileTable;
 use cred_cast::Casts;
-use cred_declared::root_of;
+use cred_declared::{declared_files, root_of};
 use cred_event::{Answer, Event, Side};
 use cred_files::Files;
 use cred_hold::{Cells, Master, make};
@@ -52,26 +55,27 @@ pub struct State {
     holds: Holds,
     prepared: Preparing,
     dump: Dump,
+    infos: FileTable,
     master: Master,
     slots: Slots,
     alloc: Global,
 }
 
 impl Model for State {
-    ghost use Rattle.cred_tables.specs.Kept.{parts_of, state_of, IsKept, Standing};
+    ghost use Rattle.cred_tables.specs.Kept.{as_parts, state_of, IsKept, Standing};
     ghost use Rattle.cred_tables.specs.Out.{ArePut};
 
     ghost Value = { Standing };
 
     ghost view = { λ s. record {
-      state = state_of (parts_of s.tasks s.casts s.files s.holds s.prepared s.dump)
+      state = state_of (as_parts s.tasks s.casts s.files s.holds s.prepared s.dump s.infos)
           s.master.slots s.slots;
       words = record { id = s.master.id; out = s.master.entries };
       places = s.master.slots;
     } };
 
     ghost invariant = { λ s.
-        IsKept (parts_of s.tasks s.casts s.files s.holds s.prepared s.dump) s.master.slots s.slots
+        IsKept (as_parts s.tasks s.casts s.files s.holds s.prepared s.dump s.infos) s.master.slots s.slots
         × ArePut s.prepared s.master.entries s.master.slots };
 }
 
@@ -86,6 +90,7 @@ impl Drop for State {
             holds,
             prepared,
             dump,
+            infos,
             master,
             slots,
             alloc: _,
@@ -96,37 +101,39 @@ impl Drop for State {
         drop(holds);
         drop(prepared);
         drop(dump);
+        drop(infos);
         drop(master);
         drop(slots);
     }
 }
 
 impl State {
-    /// The cells of the shared words, and the state before the first event over them. Nothing is
-    /// lent.
+    /// The cells of the shared words, and the state before the script's first event over them: its
+    /// files are as it declares them. Nothing is lent.
     ///
     /// # Errors
     ///
-    /// `NoMemory` if an allocation of the cells, of the slots or of room for the flags of the
-    /// processes fails.
-    pub fn new(alloc: Global) -> Result<(Cells, State), NoMemory>
-        ensures state { IfOk result (λ made. made.1.state ≡ opening) }
+    /// `NoMemory` if an allocation of the cells, of the slots, of room for the flags of the
+    /// processes or of copies of the files fails.
+    pub fn new(alloc: Global, script: &Script) -> Result<(Cells, State), NoMemory>
+        ensures state { IfOk result (λ made. made.1.state ≡ opening script.now) }
         ensures own { IfOk result (λ made. made.1.words.id ≡ made.0) }
         ensures out { IfOk result (λ made. made.1.words.out ≡ []) }
     {
         let (cells, master) = make(alloc)?;
-        let state = State::over(alloc, master)?;
+        let state = State::over(alloc, script, master)?;
         Ok((cells, state))
     }
 
-    /// The state before the first event, over these words.
-    fn over(alloc: Global, master: Master) -> Result<State, NoMemory>
-        ensures state { IfOk result (λ state. state.state ≡ opening) }
+    /// The state before the script's first event, over these words.
+    fn over(alloc: Global, script: &Script, master: Master) -> Result<State, NoMemory>
+        ensures state { IfOk result (λ state. state.state ≡ opening script.now) }
         ensures own { IfOk result (λ state. state.words.id ≡ master.id) }
         ensures out { IfOk result (λ state. state.words.out ≡ master.entries) }
     {
         let slots = Slots::new(alloc)?;
         let dump = Dump::new(alloc)?;
+        let infos = declared_files(alloc, script)?;
         Ok(State {
             tasks: Procs::new(alloc),
             casts: Casts::new(alloc),
@@ -134,6 +141,7 @@ impl State {
             holds: Holds::new(alloc),
             prepared: Preparing::new(alloc),
             dump,
+            infos,
             master,
             slots,
             alloc,
@@ -168,7 +176,7 @@ impl State {
         ensures words { self.new.words ≡ self.old.words }
     {
         match event {
-            Event::Ask { label, query } => self.ask(cells, script, *label, *query),
+            Event::Ask { label, query } => self.ask(cells, *label, *query),
             Event::Take { label, task, side } => self.take(*label, *task, *side),
             Event::Release { label } => Ok(self.release(*label)),
             Event::Prepare { label, task, hold } => self.prepare(cells, *label, *task, *hold),
@@ -205,7 +213,7 @@ impl State {
         ensures words { self.new.words ≡ self.old.words }
     {
         match event {
-            Event::Ask { label, query } => self.ask(cells, script, *label, *query),
+            Event::Ask { label, query } => self.ask(cells, *label, *query),
             Event::Signal {
                 from,
                 hold,
@@ -218,7 +226,7 @@ impl State {
                 file,
                 want,
                 fd,
-            } => self.open(cells, script, *hold, *file, *want, *fd),
+            } => self.open(cells, *hold, *file, *want, *fd),
             Event::Take { label, task, side } => self.take(*label, *task, *side),
             Event::Release { label } => Ok(self.release(*label)),
             Event::Prepare { label, task, hold } => self.prepare(cells, *label, *task, *hold),
@@ -257,6 +265,16 @@ impl State {
                 target,
                 mode,
             } => Ok(self.trace(cells, script, *from, *hold, *to, *target, *mode)),
+            Event::Chown {
+                hold,
+                file,
+                owner,
+                group,
+            } => self.chown(cells, *hold, *file, *owner, *group),
+            Event::Chmod { hold, file, mode } => self.chmod(cells, *hold, *file, *mode),
+            Event::SetAttr { hold, file, attr } => self.set_attr(cells, *hold, *file, attr),
+            Event::Stat { hold, file } => Ok(self.stat(*hold, *file)),
+            Event::Raw { task, call } => self.raw(cells, *task, call),
         }
     }
 
@@ -274,6 +292,14 @@ impl State {
     {
         // The table is read for its invariant alone.
         let _ = self.slots.next_number();
+    }
+
+    /// The script's files as they stand, by their places.
+    #[inline(always)]
+    pub fn infos(&self) -> &FileTable
+        ensures { result.now ≡ self.now.state.infos }
+    {
+        &self.infos
     }
 
     /// The sealed credential of this number.
@@ -297,7 +323,7 @@ impl State {
         ensures cred { IfOk result (λ cred. cred ≡ cred_under self.old.state.creds found.number) }
         ensures same { self.new ≡ self.old }
     {
-        self.master.look(self.alloc, cells, found.slot)
+        self.master.read_slot(self.alloc, cells, found.slot)
     }
 
     /// The current credential of a task.

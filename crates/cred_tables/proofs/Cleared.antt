@@ -8,7 +8,7 @@ use Rattle.std.proofs.lemmas.List.FromFn.{get_or-range_with_len, length-range_wi
 use Rattle.cred_ids.specs.Limits.{SLOTS}
 use Rattle.cred_record.specs.Credential.{Credential}
 use Rattle.cred_model.proofs.Lists.{found}
-use Rattle.cred_slots.specs.Table.{Table, free, is_kept, is_live, references, references_to, slots, stands_in, swept_if_full}
+use Rattle.cred_slots.specs.Table.{Table, free_in, is_kept_in, is_live_in, references, references_to, slots, is_sealed_in, swept_table_if_full}
 use Rattle.cred_slots.proofs.Counting.{count-cons}
 use Rattle.cred_tables.specs.Kept.{AreFilled}
 use Rattle.cred_tables.proofs.Filled.{NoMore}
@@ -56,14 +56,14 @@ any_counted test (x ∷ xs) n passes some =
 -- ---- a slot that is free
 
 -- nothing that is referred to belongs to it
-pub free_clear : (t : Table) (slot : ℕ) → free t ≡ Some slot → (n : ℕ) → slice_get t.sealed n ≡ Some slot → 0 < references_to (swept_if_full t) n → ⊥
+pub free_clear : (t : Table) (slot : ℕ) → free_in t ≡ Some slot → (n : ℕ) → slice_get t.sealed n ≡ Some slot → 0 < references_to (swept_table_if_full t) n → ⊥
 free_clear t slot takes n at some =
-    let room = swept_if_full t in
-    let stands : stands_in t.sealed slot n ≡ true = ap (λ o. option_map_or (λ k. k == slot) o false) at ∙ eq-eqb slot slot refl in
-    let live : list_any (λ m. stands_in t.sealed slot m) (references room) ≡ true = any_counted (λ m. stands_in t.sealed slot m) (references room) n stands some in
+    let room = swept_table_if_full t in
+    let stands : is_sealed_in t.sealed slot n ≡ true = ap (λ o. option_map_or (λ k. k == slot) o false) at ∙ eq-eqb slot slot refl in
+    let live : list_any (λ m. is_sealed_in t.sealed slot m) (references room) ≡ true = any_counted (λ m. is_sealed_in t.sealed slot m) (references room) n stands some in
     let Any : ℕ → Type 0 = λ k. Unit {0} in
-    let not_live = (found Any (λ k. not (is_live room k)) slots slot takes (λ k d lt. tt)).1 in
-    false≢true (sym (ap (λ b. not (b || is_kept t slot)) live) ∙ not_live)
+    let not_live = (found Any (λ k. not (is_live_in room k)) slots slot takes (λ k d lt. tt)).1 in
+    false≢true (sym (ap (λ b. not (b || is_kept_in t slot)) live) ∙ not_live)
 
 range-within : (n : ℕ) → All (λ k. k < n) (range_with_len 0 n)
 range-within n k d lt =
@@ -75,6 +75,6 @@ slots-within : All (λ k. k < SLOTS) slots
 unfolding slots
 slots-within = range-within SLOTS
 
-pub free_within : (t : Table) (slot : ℕ) → free t ≡ Some slot → slot < SLOTS
+pub free_within : (t : Table) (slot : ℕ) → free_in t ≡ Some slot → slot < SLOTS
 free_within t slot takes =
-    (found (λ k. k < SLOTS) (λ k. not (is_live (swept_if_full t) k)) slots slot takes slots-within).0
+    (found (λ k. k < SLOTS) (λ k. not (is_live_in (swept_table_if_full t) k)) slots slot takes slots-within).0

@@ -15,7 +15,7 @@ use Rattle.cred_model.specs.Step.{by_exit, ends_with, outcome}
 use Rattle.cred_model.proofs.Referred.{all_survive}
 use Rattle.cred_slots.specs.Table.{Table, IsSameBag}
 use Rattle.cred_slots.proofs.Counting.{count-cons, count-append}
-use Rattle.cred_procs.specs.Tasks.{Ends, those}
+use Rattle.cred_procs.specs.Tasks.{EndsTasks, those}
 use Rattle.cred_tables.specs.Kept.{Parts, AreHeld, state_of, IsKept}
 use Rattle.cred_tables.proofs.Bags.{counts_itself}
 use Rattle.cred_tables.proofs.Filled.{filled_same, no_more_dropped}
@@ -88,7 +88,7 @@ none_pass : (ts : List Task) → filter (λ t. false) ts ≡ []
 none_pass [] = refl
 none_pass (t ∷ ts) = none_pass ts
 
-pub none_ends : (ts : List Task) → Ends (λ t. false) ts ts [] []
+pub none_ends : (ts : List Task) → EndsTasks (λ t. false) ts ts [] []
 none_ends ts = record {
   ended = sym (ap (λ (us : List Task). map (λ t. t.number) us) (none_pass ts));
   few = omega arith;
@@ -114,13 +114,13 @@ many_ended ends tasks ended these =
 
 pub ends_so : (change : Change) (tasks after : List Task) (t : Table) {r t' : Table} {m : ℕ} {ended numbers given : List ℕ} (task now : ℕ)
     → Some now ≡ option_map (λ t. t.current) (find (λ u. u.number == task) tasks)
-    → IfSome (find (λ u. u.number == task) tasks) (λ owner. Ends (ends_with change owner) tasks after ended numbers)
+    → IfSome (find (λ u. u.number == task) tasks) (λ owner. EndsTasks (ends_with change owner) tasks after ended numbers)
     → r ≡ record t { spare = m } → given ≡ numbers → IsSameBag r.held (given ++ t'.held)
     → t' ≡ record r { held = t'.held; deferred = r.deferred ++ given } → EndsWith change tasks after t t' task now ended
 ends_so change tasks after t {r} {t'} {m} {ended} {numbers} {given} task now has ends spared same held made = by (find (λ u. u.number == task) tasks) refl has ends
   where
     by : (found : Option Task) → find (λ u. u.number == task) tasks ≡ found → Some now ≡ option_map (λ t. t.current) found
-        → IfSome found (λ owner. Ends (ends_with change owner) tasks after ended numbers) → EndsWith change tasks after t t' task now ended
+        → IfSome found (λ owner. EndsTasks (ends_with change owner) tasks after ended numbers) → EndsWith change tasks after t t' task now ended
     by None at is each = cc
     by (Some owner) at is each = record {
       owner = owner;
@@ -167,7 +167,7 @@ module _ {parts : Parts} {store : List (Option Credential)} {t : Table} (is : Is
 -- so it is with what the tasks refer to that a commit ends
 pub ended-held : {parts : Parts} {store : List (Option Credential)} {t : Table} (is : IsKept parts store t)
     (change : Change) (after : List Task) (ended numbers given held : List ℕ) {now : ℕ} (found : Option Task) → Some now ≡ option_map (λ t. t.current) found
-    → IfSome found (λ owner. Ends (ends_with change owner) parts.tasks after ended numbers) → given ≡ numbers → held ≡ t.held → AreHeld given held
+    → IfSome found (λ owner. EndsTasks (ends_with change owner) parts.tasks after ended numbers) → given ≡ numbers → held ≡ t.held → AreHeld given held
 ended-held is change after ended numbers given held None has ends same is_held = cc
 ended-held is change after ended numbers given held (Some owner) has ends same is_held =
     left-held is (ends_with change owner) given held (same ∙ ends.gave_up) is_held

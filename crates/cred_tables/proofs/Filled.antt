@@ -5,7 +5,7 @@ use Rattle.std.specs.Option.{IsSome}
 use Rattle.std.proofs.lemmas.Bool.{cases_eq, ne_eqb}
 use Rattle.std.proofs.lemmas.Option.{same_Some}
 use Rattle.cred_record.specs.Credential.{Credential}
-use Rattle.cred_slots.specs.Table.{Table, IsSameBag, least_free, references_to, swept, swept_if_full}
+use Rattle.cred_slots.specs.Table.{Table, IsSameBag, least_free_in, references_to, swept_table, swept_table_if_full}
 use Rattle.cred_slots.proofs.Counting.{count-cons, count-append}
 use Rattle.cred_tables.specs.Kept.{AreFilled, Seals, SealsKept}
 
@@ -35,7 +35,7 @@ no_more_dropped t later ms drops late n some =
     omega (arith, some, held, deferred, all, each)
 
 -- a sweep lets go of them
-pub no_more_swept : (t : Table) → NoMore t (swept t)
+pub no_more_swept : (t : Table) → NoMore t (swept_table t)
 no_more_swept t n some =
     let test : ℕ → Bool = λ k. k == n in
     let all = count-append test t.held [] in
@@ -47,10 +47,10 @@ none_later ds true n = omega arith
 none_later ds false n = omega arith
 
 -- and so does the room that is made where no slot is free
-no_later : (t : Table) {ds : List ℕ} → ds ≡ (swept_if_full t).deferred → (n : ℕ) → count_by (λ k. k == n) ds ≤ count_by (λ k. k == n) t.deferred
+no_later : (t : Table) {ds : List ℕ} → ds ≡ (swept_table_if_full t).deferred → (n : ℕ) → count_by (λ k. k == n) ds ≤ count_by (λ k. k == n) t.deferred
 no_later t is n =
     subst (λ (ds : List ℕ). count_by (λ k. k == n) ds ≤ count_by (λ k. k == n) t.deferred) (sym is)
-    (none_later t.deferred (is_some (least_free t)) n)
+    (none_later t.deferred (is_some (least_free_in t)) n)
 
 -- ---- references that are added
 
@@ -82,7 +82,7 @@ no_more_counted t later m adds same has =
     no_more_added t later m adds
     (λ n. let late = ap (λ (ds : List ℕ). count_by (λ k. k == n) ds) same in omega (arith, late)) has
 
-pub no_more_roomy : (t later : Table) (m : ℕ) → IsSameBag later.held (m ∷ t.held) → later.deferred ≡ (swept_if_full t).deferred → 0 < references_to t m
+pub no_more_roomy : (t later : Table) (m : ℕ) → IsSameBag later.held (m ∷ t.held) → later.deferred ≡ (swept_table_if_full t).deferred → 0 < references_to t m
     → NoMore t later
 no_more_roomy t later m adds room has = no_more_added t later m adds (no_later t room) has
 

@@ -2,7 +2,7 @@
 use Rattle.std.proofs.Common.{◌≡◌, ℕ, Bool, false, cond, List, [], ◌∷◌, ◌++◌, find, is_some, Option, None, Some, Result, Ok, Err, OnOk, refl, sym, ap, ◌∙◌}
 use Rattle.std.specs.Option.{IsSome, option_map, option_map_or}
 use Rattle.cred_model.specs.State.{Task, ProcessFlag}
-use Rattle.cred_model.specs.Dumpable.{flag_in, is_dumpable, renewed, with_flag, without_flag}
+use Rattle.cred_model.specs.Dumpable.{flag_in, is_dumpable, renewed, with_process_flag, without_flag}
 use Rattle.cred_model.specs.Ends.{is_beside, is_task, survivors}
 use Rattle.cred_model.specs.Moves.{first_task}
 use Rattle.cred_model.proofs.Numbers.{found_number}
@@ -55,11 +55,11 @@ module _ (tasks : List Task) (task process : ℕ) {seen : Option ℕ}
 
   -- it is dumpable where its creator's process is
   pub forked_flag : (flags after : List ProcessFlag) (child : ℕ) (dumpable : Bool)
-      → dumpable ≡ is_dumpable flags process → after ≡ with_flag flags child dumpable
-      → after ≡ with_flag flags child (is_dumpable flags owner.process)
+      → dumpable ≡ is_dumpable flags process → after ≡ with_process_flag flags child dumpable
+      → after ≡ with_process_flag flags child (is_dumpable flags owner.process)
   forked_flag flags after child dumpable flag made =
       made
-      ∙ ap (with_flag flags child) (flag ∙ ap (is_dumpable flags) own)
+      ∙ ap (with_process_flag flags child) (flag ∙ ap (is_dumpable flags) own)
 
   pub renewed_flag : (flags after : List ProcessFlag) (other : Bool)
       → after ≡ renewed flags process other → after ≡ renewed flags owner.process other

@@ -4,7 +4,7 @@ use Rattle.std.specs.List.{AllPairs, list_any}
 use Rattle.std.proofs.lemmas.Bool.{cases_eq, eq-eqb}
 use Rattle.std.proofs.lemmas.Bool.Decides.{nat_tests}
 use Rattle.std.proofs.lemmas.List.Folds.{list_any-append, list_any_none}
-use Rattle.cred_slots.specs.Table.{Table, is_kept, is_live, swept_if_full, free}
+use Rattle.cred_slots.specs.Table.{Table, is_kept_in, is_live_in, swept_table_if_full, free_in}
 use Rattle.cred_model.proofs.Lists.{others_differ}
 
 -- ---- a free slot
@@ -19,14 +19,14 @@ passes test [] x found = cc
 passes test (y ∷ ys) x found = passes_at test x y (test y) (find test ys) refl found (λ there. passes test ys x there)
 
 neither : (referred kept : Bool) → not (referred || kept) ≡ true → kept ≡ false
-neither true kept free = cc
-neither false true free = cc
-neither false false free = refl
+neither true kept free_in = cc
+neither false true free_in = cc
+neither false false free_in = refl
 
 -- a free slot is kept by none
-pub free-not_kept : (t : Table) (slot : ℕ) → free t ≡ Some slot → is_kept t slot ≡ false
+pub free-not_kept : (t : Table) (slot : ℕ) → free_in t ≡ Some slot → is_kept_in t slot ≡ false
 free-not_kept t slot takes =
-    neither _ (is_kept t slot) (passes (λ place. not (is_live (swept_if_full t) place)) _ slot takes)
+    neither _ (is_kept_in t slot) (passes (λ place. not (is_live_in (swept_table_if_full t) place)) _ slot takes)
 
 -- ---- one slot more
 

@@ -19,30 +19,30 @@ use Rattle.cred_model.proofs.Referred.{EachRef, each_ref}
 use Rattle.cred_sound.specs.Ledger.{IsClear}
 use Rattle.cred_sound.specs.Sound.{IsSound}
 use Rattle.cred_words.specs.Lists.{Has}
-use Rattle.cred_hold.specs.Tokens.{Entry, entry, IsAlone}
-use Rattle.cred_slots.specs.Table.{Table, is_kept, references_to}
+use Rattle.cred_hold.specs.Tokens.{Loan, loan, IsAlone}
+use Rattle.cred_slots.specs.Table.{Table, is_kept_in, references_to}
 use Rattle.cred_slots.specs.Table as table
 use Rattle.cred_slots.proofs.Tables.{held_is_referred}
 use Rattle.cred_slots.proofs.Counting.{count-append}
 use Rattle.cred_tables.specs.Kept.{Parts, state_of, creds_in, no_credential, IsKept, IsInUse}
-use Rattle.cred_tables.specs.Out.{AreOut, cleared, hold_token, kept_tokens, tokens_in, waits_in}
+use Rattle.cred_tables.specs.Out.{AreOut, cleared, hold_token, kept_tokens, tokens_in, needs_tokens}
 use Rattle.cred_tables.proofs.Bags.{bag-at, count-at}
 use Rattle.cred_tables.proofs.Cleared.{count_found, filled_spare, free_clear}
 use Rattle.cred_tables.proofs.Keeps.{free-not_kept, among-at}
 use Rattle.cred_tables.proofs.Stored.{slots-creds_in}
 
 -- the entry is that of a token of its label
-abbrev pub IsToken : State → Entry → Type 0
+abbrev pub IsToken : State → Loan → Type 0
 IsToken s e = Has (hold_token s e.label ++ kept_tokens s e.label) e
 
 -- an entry that is lent is one
-pub out_has : (s : State) (out : List Entry) (e : Entry) → AreOut s out → Has out e → IsToken s e
+pub out_has : (s : State) (out : List Loan) (e : Loan) → AreOut s out → Has out e → IsToken s e
 out_has s [] e each has = absurd has
 out_has s (x ∷ out) e each (inl is) = subst (λ x. IsToken s x) is (All-head (λ x. IsToken s x) x out each)
 out_has s (x ∷ out) e each (inr has) = out_has s out e (All-tail (λ x. IsToken s x) x out each) has
 
 -- and nothing is lent but such
-pub has_out : (s : State) (out : List Entry) → ((e : Entry) → Has out e → IsToken s e) → AreOut s out
+pub has_out : (s : State) (out : List Loan) → ((e : Loan) → Has out e → IsToken s e) → AreOut s out
 has_out s [] each = All-nil (λ x. IsToken s x)
 has_out s (x ∷ out) each =
     All-cons (λ x. IsToken s x) x out (each x (inl refl)) (has_out s out (λ e has. each e (inr has)))
@@ -68,44 +68,44 @@ has_last (y ∷ xs) ys x has = inr (has_last xs ys x has)
 -- ---- what a token is
 
 -- the token of a hold
-pub record IsHeld (s : State) (label : ℕ) (e : Entry) : Type 0 where
+pub record IsHeld (s : State) (label : ℕ) (e : Loan) : Type 0 where
   pub credential : Numbered
   pub held : held_by s label ≡ Some credential
-  pub is : entry label credential.slot (Some credential.cred) ≡ e
+  pub is : loan label credential.slot (Some credential.cred) ≡ e
 
 -- one of the two of what is prepared
-pub record IsPrepared (s : State) (label : ℕ) (e : Entry) : Type 0 where
+pub record IsPrepared (s : State) (label : ℕ) (e : Loan) : Type 0 where
   pub preparation : Prepared
   pub base : Numbered
   pub prepared : prepared_of s label ≡ Some preparation
   pub sealed : numbered s.creds preparation.base ≡ Some base
-  pub is : (entry label preparation.slot None ≡ e) ⊎ (entry label base.slot (Some base.cred) ≡ e)
+  pub is : (loan label preparation.slot None ≡ e) ⊎ (loan label base.slot (Some base.cred) ≡ e)
 
 module _ (s : State) (label : ℕ) where
-  abbrev of_held : Option Numbered → List Entry
-  of_held o = option_map_or (λ (held : Numbered). entry label held.slot (Some held.cred) ∷ []) o []
+  abbrev of_held : Option Numbered → List Loan
+  of_held o = option_map_or (λ (held : Numbered). loan label held.slot (Some held.cred) ∷ []) o []
 
-  abbrev of_base : Prepared → Option Numbered → List Entry
+  abbrev of_base : Prepared → Option Numbered → List Loan
   of_base p o =
-      option_map_or (λ (base : Numbered). entry label p.slot None ∷ entry label base.slot (Some base.cred) ∷ []) o []
+      option_map_or (λ (base : Numbered). loan label p.slot None ∷ loan label base.slot (Some base.cred) ∷ []) o []
 
-  abbrev of_prepared : List SealedCred → Option Prepared → List Entry
+  abbrev of_prepared : List SealedCred → Option Prepared → List Loan
   of_prepared creds o = option_map_or (λ (p : Prepared). of_base p (numbered creds p.base)) o []
 
-  pub hold_token_is : (c : Numbered) → held_by s label ≡ Some c → hold_token s label ≡ entry label c.slot (Some c.cred) ∷ []
+  pub hold_token_is : (c : Numbered) → held_by s label ≡ Some c → hold_token s label ≡ loan label c.slot (Some c.cred) ∷ []
   hold_token_is c is = ap (λ o. of_held o) is
 
   pub no_hold_token : held_by s label ≡ None → hold_token s label ≡ []
   no_hold_token is = ap (λ o. of_held o) is
 
   pub kept_tokens_are : (p : Prepared) (base : Numbered) → prepared_of s label ≡ Some p → numbered s.creds p.base ≡ Some base
-      → kept_tokens s label ≡ entry label p.slot None ∷ entry label base.slot (Some base.cred) ∷ []
+      → kept_tokens s label ≡ loan label p.slot None ∷ loan label base.slot (Some base.cred) ∷ []
   kept_tokens_are p base is sealed = ap (λ o. of_prepared s.creds o) is ∙ ap (λ o. of_base p o) sealed
 
   pub no_kept_tokens : prepared_of s label ≡ None → kept_tokens s label ≡ []
   no_kept_tokens is = ap (λ o. of_prepared s.creds o) is
 
-  pub held_token : (e : Entry) → Has (hold_token s label) e → IsHeld s label e
+  pub held_token : (e : Loan) → Has (hold_token s label) e → IsHeld s label e
   held_token e has = by (held_by s label) refl has
     where
       by : (o : Option Numbered) → held_by s label ≡ o → Has (of_held o) e → IsHeld s label e
@@ -113,7 +113,7 @@ module _ (s : State) (label : ℕ) where
       by (Some c) at (inl is) = record { credential = c; held = at; is = is }
       by (Some c) at (inr gone) = absurd gone
 
-  pub kept_token : (e : Entry) → Has (kept_tokens s label) e → IsPrepared s label e
+  pub kept_token : (e : Loan) → Has (kept_tokens s label) e → IsPrepared s label e
   kept_token e has = by (prepared_of s label) refl has
     where
       of : (p : Prepared) → prepared_of s label ≡ Some p → (o : Option Numbered) → numbered s.creds p.base ≡ o → Has (of_base p o) e → IsPrepared s label e
@@ -128,7 +128,7 @@ module _ (s : State) (label : ℕ) where
       by None at has = absurd has
       by (Some p) at has = of p at (numbered s.creds p.base) refl has
 
-pub token_is : (s : State) (e : Entry) → IsToken s e → IsHeld s e.label e ⊎ IsPrepared s e.label e
+pub token_is : (s : State) (e : Loan) → IsToken s e → IsHeld s e.label e ⊎ IsPrepared s e.label e
 token_is s e has = by (has_either (hold_token s e.label) (kept_tokens s e.label) e has)
   where
     by : Has (hold_token s e.label) e ⊎ Has (kept_tokens s e.label) e → IsHeld s e.label e ⊎ IsPrepared s e.label e
@@ -150,6 +150,7 @@ module _ (a b : State) (like : IsLike a b) where
     prepared = refl;
     deferred = refl;
     dumpable = refl;
+    infos = refl;
     slots = like.slots;
     creds = like.creds;
   }
@@ -191,7 +192,7 @@ module _ (a b : State) (like : IsLike a b) where
   hold_of_like : (label : ℕ) → hold_of a label ≡ hold_of b label
   hold_of_like label = ap (λ (hs : List Hold). find (λ (h : Hold). h.label == label) hs) like.holds
 
-  pub waits_like : (event : Event) → waits_in a event ≡ waits_in b event
+  pub waits_like : (event : Event) → needs_tokens a event ≡ needs_tokens b event
   waits_like (Ask label query) = ap is_some (hold_of_like label)
   waits_like (OpenFile hold file want fd) = ap is_some (hold_of_like hold)
   waits_like (Signal from hold to target) = λ k. is_some (hold_of_like hold k) && is_some (hold_of_like target k)
@@ -199,7 +200,7 @@ module _ (a b : State) (like : IsLike a b) where
   waits_like event = refl
 
   -- what is lent of the one is lent of the other
-  pub out_like : (out : List Entry) → AreOut b out → AreOut a out
+  pub out_like : (out : List Loan) → AreOut b out → AreOut a out
   out_like out each k d lt =
       let label = (get_or out k d).label in
       subst (λ es. Has es (get_or out k d)) (λ i. sym (hold_like label) i ++ sym (kept_like label) i) (each k d lt)
@@ -277,20 +278,20 @@ module _ (s : State) (sound : IsSound s) (label : ℕ) (p : Prepared) (is : prep
       sym (named other q at) ∙ ap (λ (r : Prepared). r.label) is_one ∙ named label p is
 
   -- so a token on it is the label's
-  pub token_there : (e : Entry) → IsToken s e → e.slot ≡ p.slot → e.label ≡ label
+  pub token_there : (e : Loan) → IsToken s e → e.slot ≡ p.slot → e.label ≡ label
   token_there e token same = by (token_is s e token)
     where
       by : IsHeld s e.label e ⊎ IsPrepared s e.label e → e.label ≡ label
-      by (inl h) = absurd (held_elsewhere s p.slot kept_clear e.label h.credential h.held (ap (λ (x : Entry). x.slot) h.is ∙ same))
+      by (inl h) = absurd (held_elsewhere s p.slot kept_clear e.label h.credential h.held (ap (λ (x : Loan). x.slot) h.is ∙ same))
       by (inr q) = of q.is
         where
-          of : (entry e.label q.preparation.slot None ≡ e) ⊎ (entry e.label q.base.slot (Some q.base.cred) ≡ e) → e.label ≡ label
-          of (inl own) = kept_own e.label q.preparation q.prepared (ap (λ (x : Entry). x.slot) own ∙ same)
+          of : (loan e.label q.preparation.slot None ≡ e) ⊎ (loan e.label q.base.slot (Some q.base.cred) ≡ e) → e.label ≡ label
+          of (inl own) = kept_own e.label q.preparation q.prepared (ap (λ (x : Loan). x.slot) own ∙ same)
           of (inr base) =
-              absurd (base_elsewhere s p.slot kept_clear e.label q.preparation q.base q.prepared q.sealed (ap (λ (x : Entry). x.slot) base ∙ same))
+              absurd (base_elsewhere s p.slot kept_clear e.label q.preparation q.base q.prepared q.sealed (ap (λ (x : Loan). x.slot) base ∙ same))
 
   -- where nothing is lent under the label, nothing is lent on its slot
-  pub kept_alone : (out : List Entry) → AreOut s out → All (λ e. e.label ≢ label) out → IsAlone out p.slot
+  pub kept_alone : (out : List Loan) → AreOut s out → All (λ e. e.label ≢ label) out → IsAlone out p.slot
   kept_alone [] are home = tt
   kept_alone (e ∷ out) are home = (
     λ same. All-head (λ e. e.label ≢ label) e out home (token_there e (All-head (λ x. IsToken s x) e out are) same),
@@ -311,6 +312,7 @@ module _ (s : State) (sound : IsSound s) (label : ℕ) (p : Prepared) (is : prep
     prepared = refl;
     deferred = refl;
     dumpable = refl;
+    infos = refl;
     slots = map_same (λ (x : SealedCred). x.slot) (λ x. cond (x.slot == p.slot) (record { cred = no_credential; slot = x.slot }) x) s.creds
         (λ x. slot_stays x (x.slot == p.slot));
     creds = λ k d lt. under (get_or (refs s) k d) (kept_clear k d lt) (slice_get s.creds (get_or (refs s) k d)) refl;
@@ -335,7 +337,7 @@ module _ (s : State) (sound : IsSound s) (label : ℕ) (p : Prepared) (is : prep
 
 -- ---- what comes back is the label's
 
-module _ (s : State) (sound : IsSound s) (out : List Entry) (are : AreOut s out) (label slot : ℕ) where
+module _ (s : State) (sound : IsSound s) (out : List Loan) (are : AreOut s out) (label slot : ℕ) where
   never_both : (c : Numbered) (p : Prepared) → held_by s label ≡ Some c → prepared_of s label ≡ Some p → ⊥
   never_both c p held prepared = by (hold_of s label) refl held
     where
@@ -350,25 +352,25 @@ module _ (s : State) (sound : IsSound s) (out : List Entry) (are : AreOut s out)
       by (Some h) there held = let both = sym none ∙ there in cc
 
   -- a hold's token, where the label holds something
-  pub hold_out : (c : Numbered) (cred : Credential) → held_by s label ≡ Some c → Has out (entry label slot (Some cred))
+  pub hold_out : (c : Numbered) (cred : Credential) → held_by s label ≡ Some c → Has out (loan label slot (Some cred))
       → (c.slot ≡ slot) × (c.cred ≡ cred)
-  hold_out c cred held has = by (token_is s (entry label slot (Some cred)) (out_has s out (entry label slot (Some cred)) are has))
+  hold_out c cred held has = by (token_is s (loan label slot (Some cred)) (out_has s out (loan label slot (Some cred)) are has))
     where
-      by : IsHeld s label (entry label slot (Some cred)) ⊎ IsPrepared s label (entry label slot (Some cred)) → (c.slot ≡ slot) × (c.cred ≡ cred)
+      by : IsHeld s label (loan label slot (Some cred)) ⊎ IsPrepared s label (loan label slot (Some cred)) → (c.slot ≡ slot) × (c.cred ≡ cred)
       by (inl h) =
           let same : c ≡ h.credential = same_Some _ _ (sym held ∙ h.held) in
           let at = h.is in (
-            ap (λ (x : Numbered). x.slot) same ∙ ap (λ (x : Entry). x.slot) at,
-            ap (λ (x : Numbered). x.cred) same ∙ same_Some _ _ (ap (λ (x : Entry). x.held) at),
+            ap (λ (x : Numbered). x.slot) same ∙ ap (λ (x : Loan). x.slot) at,
+            ap (λ (x : Numbered). x.cred) same ∙ same_Some _ _ (ap (λ (x : Loan). x.held) at),
           )
       by (inr q) = absurd (never_both c q.preparation held q.prepared)
 
   -- a base's, where the label prepares something
   pub base_out : (p : Prepared) (base : Numbered) (cred : Credential) → prepared_of s label ≡ Some p → numbered s.creds p.base ≡ Some base
-      → Has out (entry label slot (Some cred)) → (base.slot ≡ slot) × (base.cred ≡ cred)
-  base_out p base cred prepared sealed has = by (token_is s (entry label slot (Some cred)) (out_has s out (entry label slot (Some cred)) are has))
+      → Has out (loan label slot (Some cred)) → (base.slot ≡ slot) × (base.cred ≡ cred)
+  base_out p base cred prepared sealed has = by (token_is s (loan label slot (Some cred)) (out_has s out (loan label slot (Some cred)) are has))
     where
-      by : IsHeld s label (entry label slot (Some cred)) ⊎ IsPrepared s label (entry label slot (Some cred)) → (base.slot ≡ slot) × (base.cred ≡ cred)
+      by : IsHeld s label (loan label slot (Some cred)) ⊎ IsPrepared s label (loan label slot (Some cred)) → (base.slot ≡ slot) × (base.cred ≡ cred)
       by (inl h) = absurd (never_both h.credential p h.held prepared)
       by (inr q) = of q.is
         where
@@ -378,44 +380,44 @@ module _ (s : State) (sound : IsSound s) (out : List Entry) (are : AreOut s out)
           one : q.base ≡ base
           one = same_Some _ _ (sym q.sealed ∙ ap (λ (r : Prepared). numbered s.creds r.base) same ∙ sealed)
 
-          of : (entry label q.preparation.slot None ≡ entry label slot (Some cred)) ⊎ (entry label q.base.slot (Some q.base.cred) ≡ entry label slot (Some cred))
+          of : (loan label q.preparation.slot None ≡ loan label slot (Some cred)) ⊎ (loan label q.base.slot (Some q.base.cred) ≡ loan label slot (Some cred))
               → (base.slot ≡ slot) × (base.cred ≡ cred)
-          of (inl at) = let no = ap (λ (x : Entry). x.held) at in cc
+          of (inl at) = let no = ap (λ (x : Loan). x.held) at in cc
           of (inr at) = (
-            ap (λ (x : Numbered). x.slot) (sym one) ∙ ap (λ (x : Entry). x.slot) at,
-            ap (λ (x : Numbered). x.cred) (sym one) ∙ same_Some _ _ (ap (λ (x : Entry). x.held) at),
+            ap (λ (x : Numbered). x.slot) (sym one) ∙ ap (λ (x : Loan). x.slot) at,
+            ap (λ (x : Numbered). x.cred) (sym one) ∙ same_Some _ _ (ap (λ (x : Loan). x.held) at),
           )
 
   -- a writer's
-  pub writer_out : (p : Prepared) → prepared_of s label ≡ Some p → Has out (entry label slot None) → p.slot ≡ slot
-  writer_out p prepared has = by (token_is s (entry label slot None) (out_has s out (entry label slot None) are has))
+  pub writer_out : (p : Prepared) → prepared_of s label ≡ Some p → Has out (loan label slot None) → p.slot ≡ slot
+  writer_out p prepared has = by (token_is s (loan label slot None) (out_has s out (loan label slot None) are has))
     where
-      by : IsHeld s label (entry label slot None) ⊎ IsPrepared s label (entry label slot None) → p.slot ≡ slot
-      by (inl h) = let no = ap (λ (x : Entry). x.held) h.is in cc
+      by : IsHeld s label (loan label slot None) ⊎ IsPrepared s label (loan label slot None) → p.slot ≡ slot
+      by (inl h) = let no = ap (λ (x : Loan). x.held) h.is in cc
       by (inr q) = of q.is
         where
           same : q.preparation ≡ p
           same = same_Some _ _ (sym q.prepared ∙ prepared)
 
-          of : (entry label q.preparation.slot None ≡ entry label slot None) ⊎ (entry label q.base.slot (Some q.base.cred) ≡ entry label slot None) → p.slot ≡ slot
-          of (inl at) = ap (λ (r : Prepared). r.slot) (sym same) ∙ ap (λ (x : Entry). x.slot) at
-          of (inr at) = let no = ap (λ (x : Entry). x.held) at in cc
+          of : (loan label q.preparation.slot None ≡ loan label slot None) ⊎ (loan label q.base.slot (Some q.base.cred) ≡ loan label slot None) → p.slot ≡ slot
+          of (inl at) = ap (λ (r : Prepared). r.slot) (sym same) ∙ ap (λ (x : Loan). x.slot) at
+          of (inr at) = let no = ap (λ (x : Loan). x.held) at in cc
 
   -- its slot, held or based on, is kept by no label
-  pub hold_apart : (cred : Credential) → Has out (entry label slot (Some cred)) → All (λ (p : Prepared). slot ≢ p.slot) s.prepared
-  hold_apart cred has = by (token_is s (entry label slot (Some cred)) (out_has s out (entry label slot (Some cred)) are has))
+  pub hold_apart : (cred : Credential) → Has out (loan label slot (Some cred)) → All (λ (p : Prepared). slot ≢ p.slot) s.prepared
+  hold_apart cred has = by (token_is s (loan label slot (Some cred)) (out_has s out (loan label slot (Some cred)) are has))
     where
       to : {n m : ℕ} → n ≡ m → All (λ (p : Prepared). n ≢ p.slot) s.prepared → All (λ (p : Prepared). m ≢ p.slot) s.prepared
       to same = subst (λ n. All (λ (p : Prepared). n ≢ p.slot) s.prepared) same
 
-      by : IsHeld s label (entry label slot (Some cred)) ⊎ IsPrepared s label (entry label slot (Some cred)) → All (λ (p : Prepared). slot ≢ p.slot) s.prepared
-      by (inl h) = to (ap (λ (x : Entry). x.slot) h.is) (held_apart s sound label h.credential h.held)
+      by : IsHeld s label (loan label slot (Some cred)) ⊎ IsPrepared s label (loan label slot (Some cred)) → All (λ (p : Prepared). slot ≢ p.slot) s.prepared
+      by (inl h) = to (ap (λ (x : Loan). x.slot) h.is) (held_apart s sound label h.credential h.held)
       by (inr q) = of q.is
         where
-          of : (entry label q.preparation.slot None ≡ entry label slot (Some cred)) ⊎ (entry label q.base.slot (Some q.base.cred) ≡ entry label slot (Some cred))
+          of : (loan label q.preparation.slot None ≡ loan label slot (Some cred)) ⊎ (loan label q.base.slot (Some q.base.cred) ≡ loan label slot (Some cred))
               → All (λ (p : Prepared). slot ≢ p.slot) s.prepared
-          of (inl at) = let no = ap (λ (x : Entry). x.held) at in cc
-          of (inr at) = to (ap (λ (x : Entry). x.slot) at) (base_apart s sound label q.preparation q.base q.prepared q.sealed)
+          of (inl at) = let no = ap (λ (x : Loan). x.held) at in cc
+          of (inr at) = to (ap (λ (x : Loan). x.slot) at) (base_apart s sound label q.preparation q.base q.prepared q.sealed)
 
 -- ---- a slot that is free
 
@@ -428,13 +430,13 @@ module _ {parts : Parts} {store : List (Option Credential)} {t : Table} (is : Is
   abbrev kept_state : State
   kept_state = state_of parts store t
 
-  module _ (slot : ℕ) (takes : table.free t ≡ Some slot) where
+  module _ (slot : ℕ) (takes : table.free_in t ≡ Some slot) where
     -- what stands there isn't in use
     unused : (n : ℕ) (c : Numbered) → IsInUse kept_state n → numbered kept_state.creds n ≡ Some c → c.slot ≢ slot
     unused n c used num same =
         let at : slice_get t.sealed n ≡ Some c.slot = at_slot store t.sealed n _ (numbered_is kept_state.creds n c num).1 in
         let some = bag-at n is.counted.counts used in
-        free_clear t slot takes n (at ∙ ap Some same) (held_is_referred (table.swept_if_full t) n some)
+        free_clear t slot takes n (at ∙ ap Some same) (held_is_referred (table.swept_table_if_full t) n some)
 
     each_used : EachRef (λ k. IsInUse kept_state k) (swept kept_state)
     each_used =
@@ -460,15 +462,15 @@ module _ {parts : Parts} {store : List (Option Credential)} {t : Table} (is : Is
         let kept_slots = map (λ (q : Prepared). q.slot) parts.prepared in
         let there : slice_get kept_slots k ≡ Some p.slot
         = slice_get-map (λ (q : Prepared). q.slot) parts.prepared k ∙ ap (option_map (λ (q : Prepared). q.slot)) (slice_get-get_or parts.prepared k d lt) in
-        let kept : is_kept t p.slot ≡ true = is.counted.keeps p.slot ∙ among-at kept_slots k p.slot there in
-        let free : is_kept t slot ≡ false = free-not_kept t slot takes in
-        false≢true (sym free ∙ sym (ap (is_kept t) same) ∙ kept)
+        let kept : is_kept_in t p.slot ≡ true = is.counted.keeps p.slot ∙ among-at kept_slots k p.slot there in
+        let free : is_kept_in t slot ≡ false = free-not_kept t slot takes in
+        false≢true (sym free ∙ sym (ap (is_kept_in t) same) ∙ kept)
 
     free_kept : (label : ℕ) (p : Prepared) → prepared_of kept_state label ≡ Some p → p.slot ≢ slot
     free_kept label p there = (found (λ (q : Prepared). q.slot ≢ slot) (λ (q : Prepared). q.label == label) parts.prepared p there free_apart).0
 
     -- so no token is out on it
-    pub free_alone : (out : List Entry) → AreOut kept_state out → IsAlone out slot
+    pub free_alone : (out : List Loan) → AreOut kept_state out → IsAlone out slot
     free_alone [] are = tt
     free_alone (e ∷ out) are = (
       by (token_is kept_state e (All-head (λ x. IsToken kept_state x) e out are)),
@@ -476,12 +478,12 @@ module _ {parts : Parts} {store : List (Option Credential)} {t : Table} (is : Is
     )
       where
         by : IsHeld kept_state e.label e ⊎ IsPrepared kept_state e.label e → e.slot ≢ slot
-        by (inl h) same = free_held e.label h.credential h.held (ap (λ (x : Entry). x.slot) h.is ∙ same)
+        by (inl h) same = free_held e.label h.credential h.held (ap (λ (x : Loan). x.slot) h.is ∙ same)
         by (inr q) same = of q.is
           where
-            of : (entry e.label q.preparation.slot None ≡ e) ⊎ (entry e.label q.base.slot (Some q.base.cred) ≡ e) → ⊥
-            of (inl own) = free_kept e.label q.preparation q.prepared (ap (λ (x : Entry). x.slot) own ∙ same)
-            of (inr base) = free_base e.label q.preparation q.base q.prepared q.sealed (ap (λ (x : Entry). x.slot) base ∙ same)
+            of : (loan e.label q.preparation.slot None ≡ e) ⊎ (loan e.label q.base.slot (Some q.base.cred) ≡ e) → ⊥
+            of (inl own) = free_kept e.label q.preparation q.prepared (ap (λ (x : Loan). x.slot) own ∙ same)
+            of (inr base) = free_base e.label q.preparation q.base q.prepared q.sealed (ap (λ (x : Loan). x.slot) base ∙ same)
 
   -- ---- a slot that is kept, whatever is in its words
 

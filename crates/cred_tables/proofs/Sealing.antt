@@ -9,7 +9,7 @@ use Rattle.cred_model.specs.Slots as model
 use Rattle.cred_model.specs.Slots.{in_use, kept}
 use Rattle.cred_model.specs.Moves.{in_slot, table_full}
 use Rattle.cred_model.proofs.Numbers.{current_is}
-use Rattle.cred_slots.specs.Table.{Table, IsSameBag, IsAlone, is_kept, stands_in}
+use Rattle.cred_slots.specs.Table.{Table, IsSameBag, IsOnlyUser, is_kept_in, is_sealed_in}
 use Rattle.cred_slots.proofs.Counting.{count-cons, count-append}
 use Rattle.cred_slots.specs.Table as table
 use Rattle.cred_slots.proofs.Tables.{held_is_referred}
@@ -37,8 +37,8 @@ seals_spare {after = after} {number = number} {slot = slot} is seals =
       kept = s.kept;
     }
 
-pub none_spare : (t : Table) {r : Table} {m : ℕ} → r ≡ record t { spare = m } → table.free r ≡ None → table.free t ≡ None
-none_spare t is none = subst (λ (x : Table). table.free x ≡ None) is none
+pub none_spare : (t : Table) {r : Table} {m : ℕ} → r ≡ record t { spare = m } → table.free_in r ≡ None → table.free_in t ≡ None
+none_spare t is none = subst (λ (x : Table). table.free_in x ≡ None) is none
 
 pub referred_to : (t r : Table) (m n : ℕ) → r ≡ record t { spare = m } → 0 < count_by (λ k. k == n) t.held → 0 < table.references_to r n
 referred_to t r m n is some = subst (λ (x : Table). 0 < table.references_to x n) (sym is) (held_is_referred t n some)
@@ -58,16 +58,16 @@ finds_full s r does full makes =
 module _ {parts : Parts} {store : List (Option Credential)} {t : Table} (is : IsKept parts store t) where
   -- the state with the room that the table makes
   abbrev pub roomy : State
-  roomy = state_of parts store (table.swept_if_full t)
+  roomy = state_of parts store (table.swept_table_if_full t)
 
-  pub in_free : (does : State → ℕ → Answer × State) (slot : ℕ) → table.free t ≡ Some slot
+  pub in_free : (does : State → ℕ → Answer × State) (slot : ℕ) → table.free_in t ≡ Some slot
       → in_slot (state_of parts store t) table_full does ≡ does roomy slot
   in_free does slot takes =
       let s = state_of parts store t in
       takes_slot s roomy does slot (sym (free-same s t (is_table is)) ∙ takes) (room-same s t (is_table is))
 
   -- the same, whatever is done where no slot is free
-  pub in_free_or : (full : State → Answer × State) (does : State → ℕ → Answer × State) (slot : ℕ) → table.free t ≡ Some slot
+  pub in_free_or : (full : State → Answer × State) (does : State → ℕ → Answer × State) (slot : ℕ) → table.free_in t ≡ Some slot
       → in_slot (state_of parts store t) full does ≡ does roomy slot
   in_free_or full does slot takes =
       let s = state_of parts store t in
@@ -75,14 +75,14 @@ module _ {parts : Parts} {store : List (Option Credential)} {t : Table} (is : Is
       ∙ ap (λ (x : State). does x slot) (room-same s t (is_table is))
 
   -- where no slot is free, a sweep was made
-  pub in_none_or : (full : State → Answer × State) (does : State → ℕ → Answer × State) → table.free t ≡ None
-      → in_slot (state_of parts store t) full does ≡ full (state_of parts store (table.swept t))
+  pub in_none_or : (full : State → Answer × State) (does : State → ℕ → Answer × State) → table.free_in t ≡ None
+      → in_slot (state_of parts store t) full does ≡ full (state_of parts store (table.swept_table t))
   in_none_or full does none =
       let s = state_of parts store t in
       ap (λ o. option_map_or (does (model.swept_if_full s)) o (full (model.swept_if_full s))) (sym (free-same s t (is_table is)) ∙ none)
       ∙ ap full (room-same s t (is_table is) ∙ ap (λ (x : Table). state_of parts store x) (full_swept t none))
 
-  pub in_none : (does : State → ℕ → Answer × State) (after : Table) → table.free t ≡ None
+  pub in_none : (does : State → ℕ → Answer × State) (after : Table) → table.free_in t ≡ None
       → roomy ≡ state_of parts store after
       → in_slot (state_of parts store t) table_full does ≡ (TableFull, state_of parts store after)
   in_none does after none makes =
@@ -106,14 +106,14 @@ used_is_referred {t = t} is number used = held_is_referred t number (bag-at numb
 
 -- the room that was made is that of the table without the spare
 pub roomy_spare : (parts : Parts) (store : List (Option Credential)) (t r after : Table) (m : ℕ)
-    → r ≡ record t { spare = m } → after ≡ table.swept_if_full r
-    → state_of parts store (table.swept_if_full t) ≡ state_of parts store after
+    → r ≡ record t { spare = m } → after ≡ table.swept_table_if_full r
+    → state_of parts store (table.swept_table_if_full t) ≡ state_of parts store after
 roomy_spare parts store t r after m is made =
-    sym (ap (λ (x : Table). state_of parts store x) (subst (λ (x : Table). after ≡ table.swept_if_full x) is made))
+    sym (ap (λ (x : Table). state_of parts store x) (subst (λ (x : Table). after ≡ table.swept_table_if_full x) is made))
 
 -- the same slots are kept
-pub keeps_same : (t after : Table) (slots : List ℕ) → ((slot : ℕ) → is_kept t slot ≡ is_among slots slot) → after.kept ≡ t.kept
-    → (slot : ℕ) → is_kept after slot ≡ is_among slots slot
+pub keeps_same : (t after : Table) (slots : List ℕ) → ((slot : ℕ) → is_kept_in t slot ≡ is_among slots slot) → after.kept ≡ t.kept
+    → (slot : ℕ) → is_kept_in after slot ≡ is_among slots slot
 keeps_same t after slots keeps same slot = ap (λ ks. slice_index_or ks slot false) same ∙ keeps slot
 
 -- the state over a later table
@@ -144,7 +144,7 @@ drops held made = record {
 -- Parts that refer to one number less are kept once it is given up.
 pub kept_less : {parts left : Parts} {store : List (Option Credential)} {t later : Table} {n : ℕ} → IsKept parts store t → Drops t later n
     → IsSameBag (in_use (state_of parts store t)) (n ∷ in_use (state_of left store later))
-    → ((slot : ℕ) → is_kept later slot ≡ is_among (kept (state_of left store later)) slot) → IsKept left store later
+    → ((slot : ℕ) → is_kept_in later slot ≡ is_among (kept (state_of left store later)) slot) → IsKept left store later
 kept_less {t = t} {later = later} {n = n} is less bag keeps = record {
   counted = record { counts = bag-less is.counted.counts less.held bag; keeps = keeps };
   filled = filled_same less.sealed (no_more_dropped t later (n ∷ []) less.held less.deferred) is.filled;
@@ -170,7 +170,7 @@ kept_more {t = t} {later = later} {n = n} is spared adds made bag slots has =
     }
 
 -- What was given up is still referred to, and nothing else is.
-pub alone_later : {before after : Table} {number slot n : ℕ} → Drops before after n → IsAlone before number slot → IsAlone after number slot
+pub alone_later : {before after : Table} {number slot n : ℕ} → Drops before after n → IsOnlyUser before number slot → IsOnlyUser after number slot
 alone_later {before = before} {after = after} {slot = slot} {n = n} late alone = record {
   only = λ other stands some.
       let test : ℕ → Bool = λ m. m == other in
@@ -179,5 +179,5 @@ alone_later {before = before} {after = after} {slot = slot} {n = n} late alone =
       let one = count-cons test n [] in
       let all = count-append test after.held after.deferred in
       let each = count-append test before.held before.deferred in
-      alone.only other (ap (λ (ss : List ℕ). stands_in ss slot other) (sym late.sealed) ∙ stands) (omega (arith, some, held, deferred, one, all, each));
+      alone.only other (ap (λ (ss : List ℕ). is_sealed_in ss slot other) (sym late.sealed) ∙ stands) (omega (arith, some, held, deferred, one, all, each));
 }

@@ -10,9 +10,9 @@ use Rattle.cred_model.specs.State.{State, SealedCred}
 use Rattle.cred_model.specs.Slots.{in_use, refs}
 use Rattle.cred_model.specs.Like.{IsLike, IsOutcomeLike}
 use Rattle.cred_model.proofs.Lists.{slice_get-left}
-use Rattle.cred_slots.specs.Table.{Table, IsAlone, stands_in, references_to}
+use Rattle.cred_slots.specs.Table.{Table, IsOnlyUser, is_sealed_in, references_to}
 use Rattle.cred_slots.proofs.Counting.{count-append}
-use Rattle.cred_tables.specs.Kept.{Parts, parts_of, placed, creds_in, state_of, IsKept}
+use Rattle.cred_tables.specs.Kept.{Parts, as_parts, stored_at, creds_in, state_of, IsKept}
 use Rattle.cred_tables.proofs.Bags.{count-at}
 use Rattle.cred_tables.proofs.Free.{IsTable}
 
@@ -38,7 +38,7 @@ is_table {store = store} {t = t} is = record { counted = is.counted; slots = slo
 
 -- ---- a credential is put in its place
 
-placed_some : (store : List (Option Credential)) (slot : ℕ) (c : Credential) → slot < length store → placed (slice_set store slot (Some c)) slot ≡ c
+placed_some : (store : List (Option Credential)) (slot : ℕ) (c : Credential) → slot < length store → stored_at (slice_set store slot (Some c)) slot ≡ c
 placed_some store slot c lt = rw (get_or-set_same store slot (Some c) None lt) refl
 
 -- Under a number that stands in another slot is what was there.
@@ -52,7 +52,7 @@ module _ (store : List (Option Credential)) (slot : ℕ) (c : Credential) (withi
   same_at [] (suc n) other = refl
   same_at (s ∷ ss) zero other =
       let ne : s ≢ slot = λ same. other (ap Some same) in
-      ap (λ (o : Option Credential). Some (record { cred = option_map_or (λ (x : Credential). x) o (placed [] 0); slot = s }))
+      ap (λ (o : Option Credential). Some (record { cred = option_map_or (λ (x : Credential). x) o (stored_at [] 0); slot = s }))
       (get_or-set_other store slot s (Some c) None ne)
   same_at (s ∷ ss) (suc n) other = same_at ss n other
 
@@ -70,13 +70,13 @@ refs-counted {a = a} {t = t} is k d lt =
 
 -- the parts of a state
 abbrev pub parts_in : State → Parts
-parts_in s = parts_of s.tasks s.casts s.files s.holds s.prepared s.dumpable
+parts_in s = as_parts s.tasks s.casts s.files s.holds s.prepared s.dumpable s.infos
 
 -- The state in which the credential is put in the slot's place is like the one in which it is
 -- sealed, since nothing else that stood there is referred to any more.
 pub stored_like : {parts : Parts} (store : List (Option Credential)) (t : Table) (before : List ℕ) (c : Credential) (slot : ℕ) (made : State)
     → IsKept parts (slice_set store slot (Some c)) t → t.sealed ≡ before ++ slot ∷ [] → slot < length store
-    → IsAlone t (length before) slot
+    → IsOnlyUser t (length before) slot
     → parts ≡ parts_in made → t.deferred ≡ made.deferred
     → creds_in store before ++ record { cred = c; slot = slot } ∷ [] ≡ made.creds
     → IsLike (state_of parts (slice_set store slot (Some c)) t) made
@@ -87,7 +87,7 @@ stored_like {parts = parts} store t before c slot made is sealed within alone sa
     = λ n some at.
     let lt = slice_get_within before n slot at in
     let place : slice_get t.sealed n ≡ Some slot = ap (λ ss. slice_get ss n) sealed ∙ slice_get-left before (slot ∷ []) n lt ∙ at in
-    let stands : stands_in t.sealed slot n ≡ true = ap (λ o. option_map_or (λ place. place == slot) o false) place ∙ eq-eqb slot slot refl in
+    let stands : is_sealed_in t.sealed slot n ≡ true = ap (λ o. option_map_or (λ place. place == slot) o false) place ∙ eq-eqb slot slot refl in
     let is_new = alone.only n stands some in
     omega (arith, is_new, lt) in
     record {
@@ -98,6 +98,7 @@ stored_like {parts = parts} store t before c slot made is sealed within alone sa
       prepared = ap (λ (p : Parts). p.prepared) same;
       deferred = same_deferred;
       dumpable = ap (λ (p : Parts). p.dumpable) same;
+      infos = ap (λ (p : Parts). p.infos) same;
       slots = slots-creds_in put t.sealed ∙ sealed
           ∙ sym (ap (λ (cs : List SealedCred). map (λ sealed. sealed.slot) cs) (sym creds) ∙ slots-push before);
       creds = λ k d lt.
@@ -120,7 +121,7 @@ module _ (store : List (Option Credential)) (slot : ℕ) (v : Option Credential)
   other_at [] n other = refl
   other_at (s ∷ ss) zero other =
       let ne : s ≢ slot = λ same. other (ap Some same) in
-      ap (λ (o : Option Credential). Some (record { cred = option_map_or (λ (x : Credential). x) o (placed [] 0); slot = s }))
+      ap (λ (o : Option Credential). Some (record { cred = option_map_or (λ (x : Credential). x) o (stored_at [] 0); slot = s }))
       (get_or-set_other store slot s v None ne)
   other_at (s ∷ ss) (suc n) other = other_at ss n other
 
@@ -135,6 +136,7 @@ spare_like {parts = parts} store t slot v is none = record {
   prepared = refl;
   deferred = refl;
   dumpable = refl;
+  infos = refl;
   slots = slots-creds_in (slice_set store slot v) t.sealed ∙ sym (slots-creds_in store t.sealed);
   creds = λ k d lt.
       let n : ℕ = get_or (refs (state_of parts store t)) k d in

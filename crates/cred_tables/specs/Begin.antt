@@ -43,7 +43,7 @@ at_abort Full s = swept s
 -- and the table of its slots
 abbrev pub table_at : AbortCause → Table → Table
 table_at Perm t = t
-table_at Full t = table.swept t
+table_at Full t = table.swept_table t
 
 -- the broadcast of a task's call, in which the other threads of its process wait
 abbrev pub cast_begun : ℕ → ℕ → IdCall → Task → List Task → Broadcast

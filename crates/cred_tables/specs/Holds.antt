@@ -3,19 +3,19 @@ use Rattle.std.specs.Prelude.{◌≡◌, ℕ, ◌==◌, List, map, position, rem
 use Rattle.std.specs.declared.option.Option.{Option}
 use Rattle.cred_model.specs.State.{Hold}
 
-abbrev pub hold_of : ℕ × ℕ → Hold
-hold_of entry = record { label = entry.0; number = entry.1 }
+abbrev pub hold_entry : ℕ × ℕ → Hold
+hold_entry entry = record { label = entry.0; number = entry.1 }
 
 abbrev pub holds_of : List (ℕ × ℕ) → List Hold
-holds_of entries = map hold_of entries
+holds_of entries = map hold_entry entries
 
 -- where a label stands among the holds
-abbrev pub place_of : List Hold → ℕ → Option ℕ
-place_of holds label = position (λ h. h.label == label) holds
+abbrev pub hold_place : List Hold → ℕ → Option ℕ
+hold_place holds label = position (λ h. h.label == label) holds
 
 -- The label let go of this number, and the other holds stay in their order.
 pub record Releases (before after : List Hold) (label number : ℕ) : Type 0 where
   pub place : ℕ
-  pub found : place_of before label ≡ Some place
+  pub found : hold_place before label ≡ Some place
   pub held : slice_get before place ≡ Some (record { label = label; number = number })
   pub left : after ≡ remove before place

@@ -1,6 +1,6 @@
 -- How the state of a run is kept: the tasks, the open broadcasts, the open files, the holds, the
--- prepared labels and the processes that are dumpable as they are, the credentials in the shared
--- words of their slots, and a table of slots that counts references.
+-- prepared labels, the processes that are dumpable and the declared files as they are, the
+-- credentials in the shared words of their slots, and a table of slots that counts references.
 use Rattle.std.specs.Prelude.{◌≡◌, ℕ, ◌<◌, ◌≤◌, ◌==◌, List, ◌∷◌, [], ◌++◌, count_by, length, map}
 use Rattle.std.specs.Prelude.{slice_get, slice_index_or, slice_set, false, Some, None}
 use Rattle.std.specs.declared.option.Option.{Option}
@@ -9,14 +9,16 @@ use Rattle.std.specs.Option.{IsSome, option_map_or}
 use Rattle.cred_ids.specs.Limits.{SLOTS}
 use Rattle.atomic_table.specs.Seated.{TableId}
 use Rattle.cred_record.specs.Credential.{Credential, first_credential}
+use Rattle.cred_record.specs.File.{File}
 use Rattle.cred_model.specs.State.{State, Task, Broadcast, OpenFile, Hold, Prepared, SealedCred}
 use Rattle.cred_model.specs.State.{Numbered, ProcessFlag}
 use Rattle.cred_event.specs.declared.event.Change.{Change}
 use Rattle.cred_event.specs.declared.event.Change.TheVariants.{Exec}
 use Rattle.cred_model.specs.Casts.{dropped}
 use Rattle.cred_model.specs.Slots.{in_use, kept, refs}
-use Rattle.cred_hold.specs.Tokens.{Entry}
-use Rattle.cred_slots.specs.Table.{Table, IsSameBag, IsAlone, is_kept, swept_if_full, free}
+use Rattle.cred_hold.specs.Tokens.{Loan}
+use Rattle.cred_slots.specs.Table.{Table, IsSameBag, IsOnlyUser, is_kept_in, swept_table_if_full}
+use Rattle.cred_slots.specs.Table.{free_in}
 use Rattle.cred_slots.specs.Table.{references_to}
 use Rattle.cred_tables.specs.declared.table.Numbered as table
 
@@ -25,12 +27,12 @@ unfoldable pub no_credential : Credential
 no_credential = first_credential 0 0 0 0
 
 -- the credential in a slot's place
-abbrev pub placed : List (Option Credential) → ℕ → Credential
-placed store slot = option_map_or (λ cred. cred) (slice_index_or store slot None) no_credential
+abbrev pub stored_at : List (Option Credential) → ℕ → Credential
+stored_at store slot = option_map_or (λ cred. cred) (slice_index_or store slot None) no_credential
 
 -- what stands under each sealed number, where these are their slots
 abbrev pub creds_in : List (Option Credential) → List ℕ → List SealedCred
-creds_in store slots = map (λ slot. record { cred = placed store slot; slot = slot }) slots
+creds_in store slots = map (λ slot. record { cred = stored_at store slot; slot = slot }) slots
 
 -- a sealed credential by its number and its slot alone, where it doesn't matter which one it is
 abbrev pub numbered_in : ℕ → ℕ → Numbered
@@ -51,8 +53,8 @@ pub record AreFilled (store : List (Option Credential)) (t : Table) : Type 0 whe
   pub each : (n slot : ℕ) → slice_get t.sealed n ≡ Some slot → 0 < references_to t n
       → IsSome (slice_index_or store slot None)
 
--- What refers to credentials: a list for each kind of thing that does; and the open broadcasts and
--- the flags of the processes, which refer to none.
+-- What refers to credentials: a list for each kind of thing that does; and the open broadcasts, the
+-- flags of the processes and the declared files as they stand, which refer to none.
 pub record Parts : Type 0 where
   pub tasks : List Task
   pub casts : List Broadcast
@@ -60,16 +62,18 @@ pub record Parts : Type 0 where
   pub holds : List Hold
   pub prepared : List Prepared
   pub dumpable : List ProcessFlag
+  pub infos : List File
 
-abbrev pub parts_of : List Task → List Broadcast → List OpenFile → List Hold → List Prepared
-    → List ProcessFlag → Parts
-parts_of tasks casts files holds prepared dumpable = record {
+abbrev pub as_parts : List Task → List Broadcast → List OpenFile → List Hold → List Prepared
+    → List ProcessFlag → List File → Parts
+as_parts tasks casts files holds prepared dumpable infos = record {
   tasks = tasks;
   casts = casts;
   files = files;
   holds = holds;
   prepared = prepared;
   dumpable = dumpable;
+  infos = infos;
 }
 
 -- the broadcasts that a commit of this change leaves open: an execve drops that of its process
@@ -81,7 +85,7 @@ casts_left change process casts = casts
 -- the shared words that credentials stand in: the identity of the cells, and what is lent of them
 pub record Words : Type 0 where
   pub id : TableId
-  pub out : List Entry
+  pub out : List Loan
 
 -- a state, the shared words, and for each slot the credential that stands in its words, if one does
 pub record Standing : Type 0 where
@@ -105,6 +109,7 @@ state_of parts store table = record {
   prepared = parts.prepared;
   deferred = table.deferred;
   dumpable = parts.dumpable;
+  infos = parts.infos;
   creds = creds_in store table.sealed;
 }
 
@@ -120,7 +125,7 @@ AreHeld numbers held =
 -- The table counts just these references, and keeps just these slots.
 pub record IsCounted (in_use kept : List ℕ) (table : Table) : Type 0 where
   pub counts : IsSameBag table.held in_use
-  pub keeps : (slot : ℕ) → is_kept table slot ≡ list_any (λ kept. kept == slot) kept
+  pub keeps : (slot : ℕ) → is_kept_in table slot ≡ list_any (λ kept. kept == slot) kept
 
 -- The table counts what the parts refer to and keep, and each credential that is referred to is in
 -- its slot's place.
@@ -133,20 +138,20 @@ pub record IsKept (parts : Parts) (store : List (Option Credential)) (table : Ta
 -- needed, and the same slots are kept as before. Nothing else that stands in the slot is referred
 -- to.
 pub record Seals (before after : Table) (number slot : ℕ) : Type 0 where
-  pub takes : free before ≡ Some slot
+  pub takes : free_in before ≡ Some slot
   pub in_table : slot < SLOTS
-  pub alone : IsAlone after number slot
+  pub alone : IsOnlyUser after number slot
   pub counted : number ≡ length before.sealed
   pub held : IsSameBag after.held (number ∷ before.held)
   pub sealed : after.sealed ≡ before.sealed ++ slot ∷ []
-  pub deferred : after.deferred ≡ (swept_if_full before).deferred
+  pub deferred : after.deferred ≡ (swept_table_if_full before).deferred
   pub kept : after.kept ≡ before.kept
 
 -- The next number was sealed in a slot that was kept for it, and one reference to its base was
 -- given up. Nothing else that stands in the slot is referred to.
 pub record SealsKept (before after : Table) (number base slot : ℕ) : Type 0 where
   pub in_table : slot < SLOTS
-  pub alone : IsAlone after number slot
+  pub alone : IsOnlyUser after number slot
   pub counted : number ≡ length before.sealed
   pub held : IsSameBag (base ∷ after.held) (number ∷ before.held)
   pub sealed : after.sealed ≡ before.sealed ++ slot ∷ []

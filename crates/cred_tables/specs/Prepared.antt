@@ -22,8 +22,8 @@ abbrev pub all_prepared : List (ℕ × Preparation) → List Prepared
 all_prepared entries = map (λ entry. prepared_as entry.0 entry.1) entries
 
 -- where a label stands among those that are prepared
-abbrev pub place_of : List Prepared → ℕ → Option ℕ
-place_of prepared label = position (λ p. p.label == label) prepared
+abbrev pub prepared_place : List Prepared → ℕ → Option ℕ
+prepared_place prepared label = position (λ p. p.label == label) prepared
 
 -- what the base of a label has become, if the label is prepared and was changed
 abbrev pub changed_of : List Prepared → ℕ → Option Changed
@@ -43,12 +43,12 @@ pub record IsReady (prepared : List Prepared) (label task base : ℕ) (change : 
 -- This label gave up what it prepared, and the others stay in their order.
 pub record GivesUp (before after : List Prepared) (p : Prepared) : Type 0 where
   pub place : ℕ
-  pub found : place_of before p.label ≡ Some place
+  pub found : prepared_place before p.label ≡ Some place
   pub there : slice_get before place ≡ Some p
   pub left : after ≡ remove before place
 
 -- This label gave up what it prepared on this base, and the slot that it kept.
-pub record Ends (before after : List Prepared) (label base slot : ℕ) : Type 0 where
+pub record EndsLabel (before after : List Prepared) (label base slot : ℕ) : Type 0 where
   pub task : ℕ
   pub changed : Option Changed
   pub gives :
@@ -57,7 +57,7 @@ pub record Ends (before after : List Prepared) (label base slot : ℕ) : Type 0 
 
 -- This label gave up what it prepared on this base, which was changed last so, and the slot that it
 -- kept.
-pub record Finishes
+pub record GivesUpChanged
     (before after : List Prepared) (label base slot : ℕ) (last : Changed)
     : Type 0 where
   pub task : ℕ

@@ -55,7 +55,7 @@ pub fn spawn_in(tasks: &mut Procs, casts: &mut Casts, task: u32, child: u32) -> 
     ensures no_casts { OnErr result (casts.new ≡ casts.old) }
 {
     tasks.spawn(task, child)?;
-    if let Err(err) = casts.created(task, child) {
+    if let Err(err) = casts.join(task, child) {
         tasks.remove(child);
         return Err(err);
     }

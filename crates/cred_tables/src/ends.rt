@@ -2,7 +2,7 @@
 ghost use Rattle.std.specs.Prelude.{◌≡◌, IfOk, IfSome, OnErr};
 ghost use Rattle.std.specs.Option.{IsSome};
 ghost use Rattle.cred_model.specs.Step as model;
-ghost use Rattle.cred_procs.specs.Tasks.{Ends, task_in};
+ghost use Rattle.cred_procs.specs.Tasks.{EndsTasks, task_in};
 ghost use Rattle.cred_tables.specs.Kept.{casts_left};
 
 use cred_cast::Casts;
@@ -26,7 +26,7 @@ pub fn end_with(
 ) -> Result<Ended, NoMemory>
     requires { IsSome (task_in tasks.old task) }
     ensures ended { IfOk result (λ ended. IfSome (task_in tasks.old task) (λ owner.
-        Ends (model.ends_with change owner) tasks.old tasks.new ended.tasks ended.numbers)) }
+        EndsTasks (model.ends_with change owner) tasks.old tasks.new ended.tasks ended.numbers)) }
     ensures err { OnErr result (tasks.new ≡ tasks.old) }
 {
     match change {

@@ -3,7 +3,7 @@ ghost use Rattle.std.specs.Prelude.{◌≡◌, ◌<◌, ◌++◌, ◌∷◌, [],
 ghost use Rattle.std.specs.Prelude.{length, if◌then◌else◌, IfOk, OnOk, OnErr};
 ghost use Rattle.std.specs.Option.{IsSome};
 ghost use Rattle.cred_ids.specs.Limits.{TASKS};
-ghost use Rattle.cred_model.specs.Dumpable.{flag_in, is_dumpable, renewed, with_flag};
+ghost use Rattle.cred_model.specs.Dumpable.{flag_in, is_dumpable, renewed, with_process_flag};
 ghost use Rattle.cred_model.specs.Dumpable.{without_flag};
 ghost use Rattle.cred_model.specs.Ends.{is_beside, is_task, left_by, survivors};
 ghost use Rattle.cred_model.specs.Moves.{first_task};
@@ -31,7 +31,7 @@ fn begin_process(
     requires room { length tasks.old < TASKS }
     requires unused { flag_in dump.old process ≡ None }
     ensures tasks { OnOk result (tasks.new ≡ tasks.old ++ first_task task process number ∷ []) }
-    ensures flags { OnOk result (dump.new ≡ with_flag dump.old process dumpable) }
+    ensures flags { OnOk result (dump.new ≡ with_process_flag dump.old process dumpable) }
     ensures no_tasks { OnErr result (tasks.new ≡ tasks.old) }
     ensures no_flags { OnErr result (dump.new ≡ dump.old) }
 {
@@ -61,7 +61,8 @@ pub fn start_in(
     requires own { is_some (flag_in dump.old process) ≡ has_process tasks.old process }
     ensures tasks { OnOk result (tasks.new ≡ tasks.old ++ first_task task process number ∷ []) }
     ensures flags { OnOk result (dump.new
-        ≡ (if has_process tasks.old process then dump.old else with_flag dump.old process true)) }
+        ≡ (if has_process tasks.old process then dump.old
+        else with_process_flag dump.old process true)) }
     ensures no_tasks { OnErr result (tasks.new ≡ tasks.old) }
     ensures no_flags { OnErr result (dump.new ≡ dump.old) }
 {
@@ -89,7 +90,7 @@ pub fn fork_in(
     requires unused { flag_in dump.old process ≡ None }
     ensures tasks { OnOk result (tasks.new ≡ forked tasks.old task child process) }
     ensures flags { OnOk result ((owner : Task) → task_in tasks.old task ≡ Some owner
-        → dump.new ≡ with_flag dump.old process (is_dumpable dump.old owner.process)) }
+        → dump.new ≡ with_process_flag dump.old process (is_dumpable dump.old owner.process)) }
     ensures no_tasks { OnErr result (tasks.new ≡ tasks.old) }
     ensures no_flags { OnErr result (dump.new ≡ dump.old) }
 {

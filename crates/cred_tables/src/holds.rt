@@ -2,7 +2,7 @@
 ghost use Rattle.std.specs.Prelude.{◌≡◌, ◌==◌, [], ◌∷◌, ◌++◌, find, length, None, MatchOption};
 ghost use Rattle.std.specs.Prelude.{OnOk, OnErr};
 ghost use Rattle.std.specs.Option.{option_map};
-ghost use Rattle.cred_tables.specs.Holds.{place_of, Releases};
+ghost use Rattle.cred_tables.specs.Holds.{hold_place, Releases};
 
 use crate::labelled::Labelled;
 use cred_ids::NoMemory;
@@ -69,7 +69,7 @@ impl Holds {
     #[inline(always)]
     pub fn release(&mut self, label: u32) -> Option<u64>
         ensures { MatchOption result
-            ((place_of self.old label ≡ None) × (self.new ≡ self.old))
+            ((hold_place self.old label ≡ None) × (self.new ≡ self.old))
             (λ number. Releases self.old self.new label number) }
     {
         self.numbers.remove(label)

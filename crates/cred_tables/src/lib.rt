@@ -17,6 +17,6 @@ pub use casts::{begin_in, spawn_in};
 pub use ends::{committed_by, drop_cast, end_with};
 pub use flags::{exit_in, fork_in, renew_in, start_in};
 pub use holds::Holds;
-pub use prepared::{Changed, Ended, Preparation, Preparing, Ready};
+pub use prepared::{Changed, GivenUp, Preparation, Preparing, Ready};
 pub use seal::{drop_all, seal_kept, seal_next, sweep_at};
 pub use table::{Numbered, sealed_at};

@@ -4,8 +4,9 @@ ghost use Rattle.std.specs.Prelude.{MatchOption, OnOk, OnErr};
 ghost use Rattle.std.specs.Option.{option_and_then, option_map};
 ghost use Rattle.cred_model.specs.Moves.{with_change};
 ghost use Rattle.cred_model.specs.Step as model;
-ghost use Rattle.cred_tables.specs.Prepared.{prepared_as, place_of, changed_of, IsReady, Ends};
-ghost use Rattle.cred_tables.specs.Prepared.{Finishes};
+ghost use Rattle.cred_tables.specs.Prepared.{prepared_as, prepared_place, changed_of, IsReady};
+ghost use Rattle.cred_tables.specs.Prepared.{EndsLabel};
+ghost use Rattle.cred_tables.specs.Prepared.{GivesUpChanged};
 
 use crate::labelled::Labelled;
 use cred_event::Change;
@@ -51,7 +52,7 @@ pub struct Ready {
 
 /// The number of the credential that a label was based on, and the slot that was kept for it.
 #[derive(Clone, Copy)]
-pub struct Ended {
+pub struct GivenUp {
     pub base: u64,
     pub slot: u32,
 }
@@ -166,24 +167,24 @@ impl Preparing {
 
     /// A label gives up what it prepared. `None` where it isn't prepared; then nothing changes.
     #[inline(always)]
-    pub fn give_up(&mut self, label: u32) -> Option<Ended>
+    pub fn give_up(&mut self, label: u32) -> Option<GivenUp>
         ensures { MatchOption result
-            ((place_of self.old label ≡ None) × (self.new ≡ self.old))
-            (λ ended. Ends self.old self.new label ended.base ended.slot) }
+            ((prepared_place self.old label ≡ None) × (self.new ≡ self.old))
+            (λ ended. EndsLabel self.old self.new label ended.base ended.slot) }
     {
         let Preparation { base, slot, .. } = self.entries.remove(label)?;
-        Some(Ended { base, slot })
+        Some(GivenUp { base, slot })
     }
 
     /// A label that was changed is done: it gives up its base and its slot, and what it prepared.
     #[inline(always)]
-    pub fn finish(&mut self, label: u32) -> (Ended, Changed)
+    pub fn finish(&mut self, label: u32) -> (GivenUp, Changed)
         requires { IsSome (changed_of self.old label) }
-        ensures { Finishes self.old self.new label result.0.base result.0.slot result.1 }
+        ensures { GivesUpChanged self.old self.new label result.0.base result.0.slot result.1 }
     {
         // Both are there: the label was changed.
         let preparation = self.entries.remove(label).unwrap();
-        let ended = Ended {
+        let ended = GivenUp {
             base: preparation.base,
             slot: preparation.slot,
         };

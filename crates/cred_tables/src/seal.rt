@@ -1,10 +1,10 @@
 //! Taking a slot for a new credential, and giving up references.
 ghost use Rattle.std.specs.Prelude.{◌≡◌, ◌<◌, ◌==◌, ◌++◌, IsTrue, Some, count_by};
-ghost use Rattle.cred_slots.specs.Table.{IsSameBag, is_kept, free};
+ghost use Rattle.cred_slots.specs.Table.{IsSameBag, is_kept_in, free_in};
 ghost use Rattle.cred_tables.specs.Begin.{table_at};
 ghost use Rattle.cred_tables.specs.Kept.{AreHeld, Seals, SealsKept};
 
-use crate::prepared::Ended;
+use crate::prepared::GivenUp;
 use cred_event::AbortCause;
 use cred_slots::Slots;
 
@@ -12,7 +12,7 @@ use cred_slots::Slots;
 /// gives the number.
 #[inline(always)]
 pub fn seal_next(slots: &mut Slots, slot: u32) -> u64
-    requires free { free slots.old ≡ Some slot }
+    requires free { free_in slots.old ≡ Some slot }
     requires spare { 0 < slots.old.spare }
     ensures { Seals slots.old slots.new result slot }
 {
@@ -22,8 +22,8 @@ pub fn seal_next(slots: &mut Slots, slot: u32) -> u64
 
 /// Seals under the next number what stands in the slot that was kept for it, and gives up the
 /// reference to its base. Returns the number.
-pub fn seal_kept(slots: &mut Slots, kept: Ended) -> u64
-    requires slot { IsTrue (is_kept slots.old kept.slot) }
+pub fn seal_kept(slots: &mut Slots, kept: GivenUp) -> u64
+    requires slot { IsTrue (is_kept_in slots.old kept.slot) }
     requires spare { 0 < slots.old.spare }
     requires base { 0 < count_by (λ n. n == kept.base) slots.old.held }
     ensures { SealsKept slots.old slots.new result kept.base kept.slot }

@@ -11,7 +11,7 @@ use Rattle.cred_turn.specs.declared.view.Lent.{Lent}
 use Rattle.cred_turn.specs.declared.view.View.{View}
 use Rattle.cred_turn.specs.declared.view.View.TheVariants.{Roll, Pass, Spent}
 use Rattle.cred_turn.specs.Rows.{fresh, home_row, lent_row, HasRow, row_of, with_row}
-use Rattle.cred_turn.specs.Rule.{lent, passes, IsOfRow, Apart}
+use Rattle.cred_turn.specs.Rule.{lent_pass, passes, IsOfRow, LanesApart}
 
 module _ {A : Type 0} where
   pub all_snoc : (P : A → Type 0) (xs : List A) (y : A) → AllByRecursion P xs → P y → AllByRecursion P (xs ++ y ∷ [])
@@ -43,7 +43,7 @@ passes-snoc (Spent ∷ vs) p = passes-snoc vs p
 abbrev pub Other : Lent → Lent → Type 0
 Other p q = q.lane ≢ p.lane
 
-pub apart_snoc : (ps : List Lent) (p : Lent) → Apart ps → AllByRecursion (Other p) ps → Apart (ps ++ p ∷ [])
+pub apart_snoc : (ps : List Lent) (p : Lent) → LanesApart ps → AllByRecursion (Other p) ps → LanesApart (ps ++ p ∷ [])
 apart_snoc [] p h i = (tt, tt)
 apart_snoc (q ∷ ps) p h i = (all_snoc (Other q) ps p h.0 (λ e. i.0 (sym e)), apart_snoc ps p h.1 i.1)
 
@@ -57,11 +57,11 @@ spent_all P (Pass q ∷ vs) (suc j) p e h = let r = spent_all P vs j p e h.1 in 
 spent_all P (Spent ∷ vs) zero p e h = absurd (cc)
 spent_all P (Spent ∷ vs) (suc j) p e h = spent_all P vs j p e h
 
-pub spent_apart : (vs : List View) (j : ℕ) (p : Lent) → get_elem? vs j ≡ some (Pass p) → Apart (passes vs) → Apart (p ∷ passes (set vs j Spent))
+pub spent_apart : (vs : List View) (j : ℕ) (p : Lent) → get_elem? vs j ≡ some (Pass p) → LanesApart (passes vs) → LanesApart (p ∷ passes (set vs j Spent))
 spent_apart [] j p e h = absurd (cc)
 spent_apart (Roll rows kept ∷ vs) zero p e h = absurd (cc)
 spent_apart (Roll rows kept ∷ vs) (suc j) p e h = spent_apart vs j p e h
-spent_apart (Pass q ∷ vs) zero p e h = let same : q ≡ p = cc in subst (λ r. Apart (r ∷ passes vs)) same h
+spent_apart (Pass q ∷ vs) zero p e h = let same : q ≡ p = cc in subst (λ r. LanesApart (r ∷ passes vs)) same h
 spent_apart (Pass q ∷ vs) (suc j) p e h =
     let r = spent_apart vs j p e h.1 in
     let s = spent_all (Other q) vs j p e h.0 in
@@ -83,7 +83,7 @@ row_stays rows lane x p here h other =
     ((old.0, omega (arith, old.1, length-set rows (lane - 1) x)), get_or-set_other rows (lane - 1) (p.lane - 1) x (home_row fresh) n ∙ h.1)
 
 -- and a row that is lent is its pass's
-pub row_is_lent : (rows : List Row) (lane : ℕ) (n : Numbers) → HasRow rows lane → IsOfRow (with_row rows lane (lent_row n)) (lent lane n)
+pub row_is_lent : (rows : List Row) (lane : ℕ) (n : Numbers) → HasRow rows lane → IsOfRow (with_row rows lane (lent_row n)) (lent_pass lane n)
 row_is_lent rows lane n here =
     let a = here.0 in
     let b = here.1 in

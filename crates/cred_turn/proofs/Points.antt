@@ -7,8 +7,8 @@ use Rattle.cred_turn.specs.declared.view.Row.{Row}
 use Rattle.cred_turn.specs.declared.view.Lent.{Lent}
 use Rattle.cred_turn.specs.declared.view.View.{View}
 use Rattle.cred_turn.specs.declared.view.View.TheVariants.{Roll, Pass, Spent}
-use Rattle.cred_turn.specs.Points.{pass_in, HasPass, HasPoints, RuleHasPoints}
-use Rattle.cred_turn.specs.Rule.{passes, aside, IsNoRoll, IsOfRow, Apart, Keeps}
+use Rattle.cred_turn.specs.Points.{pass_in, HasPass, PassHasPoints, PassRuleHasPoints}
+use Rattle.cred_turn.specs.Rule.{passes, pass_aside, IsNoRoll, IsOfRow, LanesApart, KeepsPasses}
 
 no_roll_at : (vs : List View) (i : ℕ) (r : List Row) (k : Option Lent) → AllByRecursion IsNoRoll vs → slice_get vs i ≡ Some (Roll r k) → ⊥
 no_roll_at [] i r k h at = absurd (cc)
@@ -35,7 +35,7 @@ pass_at P (Spent ∷ vs) zero p at h = let same : Spent ≡ Pass p = same_Some _
 pass_at P (Spent ∷ vs) (suc i) p at h = pass_at P vs i p at h
 
 -- two places with passes of one lane are one place
-one_place : (vs : List View) (i j : ℕ) (p q : Lent) → slice_get vs i ≡ Some (Pass p) → slice_get vs j ≡ Some (Pass q) → p.lane ≡ q.lane → Apart (passes vs) → i ≡ j
+one_place : (vs : List View) (i j : ℕ) (p q : Lent) → slice_get vs i ≡ Some (Pass p) → slice_get vs j ≡ Some (Pass q) → p.lane ≡ q.lane → LanesApart (passes vs) → i ≡ j
 one_place [] i j p q at at' same a = absurd (cc)
 one_place (v ∷ vs) zero zero p q at at' same a = refl
 one_place (Roll r k ∷ vs) zero (suc j) p q at at' same a = let whole : Roll r k ≡ Pass p = same_Some _ _ at in absurd (cc)
@@ -66,19 +66,19 @@ view_at (u ∷ vs) zero v h at = subst IsNoRoll (same_Some _ _ at) h.0
 view_at (u ∷ vs) (suc i) v h at = view_at vs i v h.1 at
 
 -- where the roll keeps a pass aside, it stands in the roll's place
-aside_is : (kept : Option Lent) (p : Lent) → kept ≡ Some p → aside kept ≡ Pass p
-aside_is kept p e = ap aside e
+aside_is : (kept : Option Lent) (p : Lent) → kept ≡ Some p → pass_aside kept ≡ Pass p
+aside_is kept p e = ap pass_aside e
 
-stands : (rows : List Row) (kept : Option Lent) (others : List View) (i : ℕ) (p : Lent) → AllByRecursion IsNoRoll others → HasPass (Roll rows kept ∷ others) i p → slice_get (aside kept ∷ others) i ≡ Some (Pass p)
+stands : (rows : List Row) (kept : Option Lent) (others : List View) (i : ℕ) (p : Lent) → AllByRecursion IsNoRoll others → HasPass (Roll rows kept ∷ others) i p → slice_get (pass_aside kept ∷ others) i ≡ Some (Pass p)
 stands rows kept others zero p h (v, at, has) =
     let is : Roll rows kept ≡ v = same_Some _ _ at in
     ap Some (aside_is kept p (ap pass_in is ∙ has))
 stands rows kept others (suc i) p h (v, at, has) = at ∙ ap Some (is_pass v p (view_at others i v h at) has)
 
-has_points : (words : List ℕ) (rows : List Row) (kept : Option Lent) (others : List View) → Keeps words (Roll rows kept ∷ others) rows kept others → HasPoints words (Roll rows kept ∷ others)
+has_points : (words : List ℕ) (rows : List Row) (kept : Option Lent) (others : List View) → KeepsPasses words (Roll rows kept ∷ others) rows kept others → PassHasPoints words (Roll rows kept ∷ others)
 has_points words rows kept others k =
     let row : (i : ℕ) (p : Lent) → HasPass (Roll rows kept ∷ others) i p → IsOfRow rows p =
-    λ i p has. pass_at (IsOfRow rows) (aside kept ∷ others) i p (stands rows kept others i p k.one_roll has) k.of_rows in
+    λ i p has. pass_at (IsOfRow rows) (pass_aside kept ∷ others) i p (stands rows kept others i p k.one_roll has) k.of_rows in
     record {
       word = k.word;
       rows = rows;
@@ -88,10 +88,10 @@ has_points words rows kept others k =
         has_row = λ i p has. (row i p has).0;
         same_numbers = λ i p has. (row i p has).1;
         apart = λ i j p q has has' same.
-            one_place (aside kept ∷ others) i j p q (stands rows kept others i p k.one_roll has) (stands rows kept others j q k.one_roll has') same k.apart;
+            one_place (pass_aside kept ∷ others) i j p q (stands rows kept others i p k.one_roll has) (stands rows kept others j q k.one_roll has') same k.apart;
       };
     }
 
-pub rule_has_points : RuleHasPoints
+pub rule_has_points : PassRuleHasPoints
 rule_has_points words views (rows, kept, others, k) =
-    subst (HasPoints words) (sym k.views_are) (has_points words rows kept others (subst (λ (vs : List View). Keeps words vs rows kept others) k.views_are k))
+    subst (PassHasPoints words) (sym k.views_are) (has_points words rows kept others (subst (λ (vs : List View). KeepsPasses words vs rows kept others) k.views_are k))

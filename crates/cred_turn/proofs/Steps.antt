@@ -11,8 +11,8 @@ use Rattle.cred_turn.specs.declared.view.Lent.{Lent}
 use Rattle.cred_turn.specs.declared.view.View.{View}
 use Rattle.cred_turn.specs.declared.view.View.TheVariants.{Roll, Pass, Spent}
 use Rattle.cred_turn.specs.Rows.{home_row, lent_row, HasRow, row_of, with_row}
-use Rattle.cred_turn.specs.Rule.{lent, passes, IsNoRoll, IsOfRow, Apart, Keeps, PassRuleHolds}
-use Rattle.cred_turn.specs.Rule.{opened, lending, pass_of, returned, Learned}
+use Rattle.cred_turn.specs.Rule.{lent_pass, passes, IsNoRoll, IsOfRow, LanesApart, KeepsPasses, PassRuleHolds}
+use Rattle.cred_turn.specs.Rule.{first_roll, after_lending_pass, pass_of, after_return_of_pass, LearnedPass}
 use Rattle.cred_turn.proofs.Lists.{all_snoc, all_set, all_then, all_both, passes-snoc, Other, apart_snoc, spent_all, spent_apart, home_is_nobodys, row_stays, row_is_lent}
 
 abbrev pub Held : Type 0
@@ -23,26 +23,26 @@ Kept s = PassRuleHolds s.words s.views
 
 -- The rule holds when the table is made
 
-pub opens : (lanes : ℕ) → PassRuleHolds (0 ∷ []) (opened lanes ∷ [])
+pub opens : (lanes : ℕ) → PassRuleHolds (0 ∷ []) (first_roll lanes ∷ [])
 opens lanes = (_, None, [], record { word = refl; views_are = refl; one_roll = tt; of_rows = tt; apart = tt })
 
 -- The parts of the rule at a seat that has the roll's view
-others_kept : (words : List ℕ) (views : List View) (rows : List Row) (kept : Option Lent) → get_elem? views 0 ≡ some (Roll rows kept) → PassRuleHolds words views → (others : List View) × Keeps words views rows kept others
+others_kept : (words : List ℕ) (views : List View) (rows : List Row) (kept : Option Lent) → get_elem? views 0 ≡ some (Roll rows kept) → PassRuleHolds words views → (others : List View) × KeepsPasses words views rows kept others
 others_kept words views rows kept at (rows', kept', others, k) =
     let whole : Roll rows' kept' ≡ Roll rows kept = some-injective _ _ (ap (λ (vs : List View). get_elem? vs 0) (sym k.views_are) ∙ at) in
     let same : rows' ≡ rows = cc in
     let aside' : kept' ≡ kept = cc in
-    (others, subst (λ (x : List Row × Option Lent). Keeps words views x.0 x.1 others) (λ i. (same i, aside' i)) k)
+    (others, subst (λ (x : List Row × Option Lent). KeepsPasses words views x.0 x.1 others) (λ i. (same i, aside' i)) k)
 
 -- 1. Lend a pass
 
 pub lends : (rows : List Row) (lane : ℕ) (n : Numbers) → HasRow rows lane → (row_of rows lane).lent ≡ false
-    → Splits {S = Unit {0}} Kept 0 (Roll rows None) (lending lane n (Roll rows None)) (pass_of lane n)
+    → Splits {S = Unit {0}} Kept 0 (Roll rows None) (after_lending_pass lane n (Roll rows None)) (pass_of lane n)
 lends rows lane n here home s h at =
     let f = others_kept s.words s.views rows None at h in
     let k = f.1 in
     let now : List Row = with_row rows lane (lent_row n) in
-    let p : Lent = lent lane n in
+    let p : Lent = lent_pass lane n in
     let others : AllByRecursion (Other p) (passes f.0) = all_then (IsOfRow rows) (Other p) (passes f.0) (λ q. home_is_nobodys rows lane q home) k.of_rows in
     let old : AllByRecursion (IsOfRow now) (passes f.0) =
     all_both (IsOfRow rows) (Other p) (IsOfRow now) (passes f.0) (λ q. row_stays rows lane (lent_row n) q here) k.of_rows others in (
@@ -54,13 +54,13 @@ lends rows lane n here home s h at =
         views_are = ap (λ (vs : List View). slice_set vs 0 (Roll now None) ++ Pass p ∷ []) k.views_are;
         one_roll = all_snoc IsNoRoll f.0 (Pass p) k.one_roll tt;
         of_rows = subst (AllByRecursion (IsOfRow now)) (sym (passes-snoc f.0 p)) (all_snoc (IsOfRow now) (passes f.0) p old (row_is_lent rows lane n here));
-        apart = subst Apart (sym (passes-snoc f.0 p)) (apart_snoc (passes f.0) p k.apart others);
+        apart = subst LanesApart (sym (passes-snoc f.0 p)) (apart_snoc (passes f.0) p k.apart others);
       },
     )
 
 -- 2. Return a pass
 
-pub returns : (rows : List Row) (other : ℕ) (p : Lent) → Joins {S = Unit {0}} Kept 0 (Roll rows None) other (Pass p) (returned (Roll rows None) (Pass p)) Spent
+pub returns : (rows : List Row) (other : ℕ) (p : Lent) → Joins {S = Unit {0}} Kept 0 (Roll rows None) other (Pass p) (after_return_of_pass (Roll rows None) (Pass p)) Spent
 returns rows zero p s h at apart there = absurd (apart refl)
 returns rows (suc j) p s h at apart there =
     let f = others_kept s.words s.views rows None at h in
@@ -80,7 +80,7 @@ returns rows (suc j) p s h at apart there =
 
 -- 3. The load after a return
 
-pub learns : (rows : List Row) (p : Lent) (slots : ℕ) → Allows {S = Unit {0}} Kept slots 0 (Roll rows (Some p), []) 0 (λ n. n) (λ _ w. Learned (Roll rows (Some p)) w.0 × (w.1 ≡ []))
+pub learns : (rows : List Row) (p : Lent) (slots : ℕ) → Allows {S = Unit {0}} Kept slots 0 (Roll rows (Some p), []) 0 (λ n. n) (λ _ w. LearnedPass (Roll rows (Some p)) w.0 × (w.1 ≡ []))
 learns rows p slots s h homes at range =
     let f = others_kept s.words s.views rows (Some p) at h in
     let k = f.1 in

@@ -32,7 +32,7 @@ pub record OfRows (views : List View) (rows : List Row) : Type 0 where
   pub apart :
       (i j : ℕ) (p q : Lent) → HasPass views i p → HasPass views j q → p.lane ≡ q.lane → i ≡ j
 
-pub record HasPoints (words : List ℕ) (views : List View) : Type 0 where
+pub record PassHasPoints (words : List ℕ) (views : List View) : Type 0 where
   pub word : words ≡ 0 ∷ []
   pub rows : List Row
   pub kept : Option Lent
@@ -40,6 +40,6 @@ pub record HasPoints (words : List ℕ) (views : List View) : Type 0 where
   pub of_rows : OfRows views rows
 
 -- where the rule holds, so do the points
-abbrev pub RuleHasPoints : Type 0
-RuleHasPoints =
-    (words : List ℕ) (views : List View) → PassRuleHolds words views → HasPoints words views
+abbrev pub PassRuleHasPoints : Type 0
+PassRuleHasPoints =
+    (words : List ℕ) (views : List View) → PassRuleHolds words views → PassHasPoints words views

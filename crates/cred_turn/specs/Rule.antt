@@ -8,8 +8,8 @@ use Rattle.cred_turn.specs.declared.view.Lent.{Lent}
 use Rattle.cred_turn.specs.declared.view.View.{View}
 use Rattle.cred_turn.specs.declared.view.View.TheVariants.{Roll, Pass, Spent}
 
-abbrev pub lent : ℕ → Numbers → Lent
-lent lane numbers = record { lane = lane; numbers = numbers }
+abbrev pub lent_pass : ℕ → Numbers → Lent
+lent_pass lane numbers = record { lane = lane; numbers = numbers }
 
 -- the passes among the views
 abbrev pub passes : List View → List Lent
@@ -19,9 +19,9 @@ passes (Pass p ∷ vs) = p ∷ passes vs
 passes (Spent ∷ vs) = passes vs
 
 -- the pass kept aside, as a view
-abbrev pub aside : Option Lent → View
-aside None = Spent
-aside (Some p) = Pass p
+abbrev pub pass_aside : Option Lent → View
+pass_aside None = Spent
+pass_aside (Some p) = Pass p
 
 -- the view is not the roll's
 abbrev pub IsNoRoll : View → Type 0
@@ -34,33 +34,33 @@ abbrev pub IsOfRow : List Row → Lent → Type 0
 IsOfRow rows p = HasRow rows p.lane × (row_of rows p.lane ≡ lent_row p.numbers)
 
 -- no two have one lane
-abbrev pub Apart : List Lent → Type 0
-Apart [] = ⊤
-Apart (p ∷ ps) = AllByRecursion (λ q. q.lane ≢ p.lane) ps × Apart ps
+abbrev pub LanesApart : List Lent → Type 0
+LanesApart [] = ⊤
+LanesApart (p ∷ ps) = AllByRecursion (λ q. q.lane ≢ p.lane) ps × LanesApart ps
 
 -- the rule, with the rows, the pass kept aside and the other views. The one word is 0; the roll's
 -- view is the first, and no other is a roll's; each pass that is out, and the one kept aside, is of
 -- a row that is lent and has its numbers, and no two of them have one lane
-pub record Keeps
+pub record KeepsPasses
     (words : List ℕ) (views : List View)
     (rows : List Row) (kept : Option Lent) (others : List View) : Type 0 where
   pub word : words ≡ 0 ∷ []
   pub views_are : views ≡ Roll rows kept ∷ others
   pub one_roll : AllByRecursion IsNoRoll others
-  pub of_rows : AllByRecursion (IsOfRow rows) (passes (aside kept ∷ others))
-  pub apart : Apart (passes (aside kept ∷ others))
+  pub of_rows : AllByRecursion (IsOfRow rows) (passes (pass_aside kept ∷ others))
+  pub apart : LanesApart (passes (pass_aside kept ∷ others))
 
 -- the rule: there are rows, a pass kept aside or none, and other views with which it holds
 abbrev pub PassRuleHolds : List ℕ → List View → Type 0
 PassRuleHolds words views =
     (rows : List Row) × (kept : Option Lent) × (others : List View) ×
-    Keeps words views rows kept others
+    KeepsPasses words views rows kept others
 
 -- ---- the steps
 
 -- the roll's first view: no row is lent
-abbrev pub opened : ℕ → View
-opened lanes = Roll (replicate lanes (home_row fresh)) None
+abbrev pub first_roll : ℕ → View
+first_roll lanes = Roll (replicate lanes (home_row fresh)) None
 
 -- the rows of the roll's view
 abbrev pub rows_of : View → List Row
@@ -70,36 +70,36 @@ rows_of Spent = []
 
 -- what a pass's view carries
 abbrev pub lent_of : View → Lent
-lent_of (Roll rows kept) = lent 0 fresh
+lent_of (Roll rows kept) = lent_pass 0 fresh
 lent_of (Pass p) = p
-lent_of Spent = lent 0 fresh
+lent_of Spent = lent_pass 0 fresh
 
 -- the views after a loan: the roll's, and the new one
-abbrev pub lending : ℕ → Numbers → View → View
-lending lane numbers (Roll rows kept) = Roll (with_row rows lane (lent_row numbers)) kept
-lending lane numbers (Pass p) = Pass p
-lending lane numbers Spent = Spent
+abbrev pub after_lending_pass : ℕ → Numbers → View → View
+after_lending_pass lane numbers (Roll rows kept) = Roll (with_row rows lane (lent_row numbers)) kept
+after_lending_pass lane numbers (Pass p) = Pass p
+after_lending_pass lane numbers Spent = Spent
 
 abbrev pub pass_of : ℕ → Numbers → View
-pass_of lane numbers = Pass (lent lane numbers)
+pass_of lane numbers = Pass (lent_pass lane numbers)
 
 -- the pass of a view, if it has one
-abbrev pub some_lent : View → Option Lent
-some_lent (Roll rows kept) = None
-some_lent (Pass p) = Some p
-some_lent Spent = None
+abbrev pub pass_in_view : View → Option Lent
+pass_in_view (Roll rows kept) = None
+pass_in_view (Pass p) = Some p
+pass_in_view Spent = None
 
 -- the roll's view after a return: the pass is kept aside
-abbrev pub returned : View → View → View
-returned (Roll rows kept) w = Roll rows (some_lent w)
-returned (Pass p) w = Pass p
-returned Spent w = Spent
+abbrev pub after_return_of_pass : View → View → View
+after_return_of_pass (Roll rows kept) w = Roll rows (pass_in_view w)
+after_return_of_pass (Pass p) w = Pass p
+after_return_of_pass Spent w = Spent
 
 -- what the load after a return reports: the pass kept aside is of a row that is lent and has its
 -- numbers. It is taken away, and the row is not lent
-abbrev pub Learned : View → View → Type 0
-Learned (Roll rows (Some p)) w =
+abbrev pub LearnedPass : View → View → Type 0
+LearnedPass (Roll rows (Some p)) w =
     IsOfRow rows p × (w ≡ Roll (with_row rows p.lane (home_row p.numbers)) None)
-Learned (Roll rows None) w = w ≡ Roll rows None
-Learned (Pass p) w = w ≡ Pass p
-Learned Spent w = w ≡ Spent
+LearnedPass (Roll rows None) w = w ≡ Roll rows None
+LearnedPass (Pass p) w = w ≡ Pass p
+LearnedPass Spent w = w ≡ Spent

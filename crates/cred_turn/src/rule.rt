@@ -7,11 +7,11 @@ use std::marker::{Brand, PhantomData};
 pub struct PassRule;
 
 impl TableRule<(), View, u32> for PassRule {
-    ghost use Rattle.cred_turn.specs.Rule.{PassRuleHolds, opened};
+    ghost use Rattle.cred_turn.specs.Rule.{PassRuleHolds, first_roll};
 
     ghost holds = { λ _ s. PassRuleHolds s.words s.views };
 
-    ghost first = { opened };
+    ghost first = { first_roll };
 }
 
 /// What one call lends. Each call picks it, since a step sees its view and no argument.
@@ -36,9 +36,9 @@ impl Order for Brand {
 pub struct Lends<O>(PhantomData<O>);
 
 impl<O: Order> Split<View> for Lends<O> {
-    ghost use Rattle.cred_turn.specs.Rule.{lending, pass_of};
+    ghost use Rattle.cred_turn.specs.Rule.{after_lending_pass, pass_of};
 
-    ghost left = { lending O.lane O.numbers };
+    ghost left = { after_lending_pass O.lane O.numbers };
 
     ghost right = { λ _. pass_of O.lane O.numbers };
 }
@@ -47,10 +47,10 @@ impl<O: Order> Split<View> for Lends<O> {
 pub struct Returns;
 
 impl Join<View> for Returns {
-    ghost use Rattle.cred_turn.specs.Rule.{returned};
+    ghost use Rattle.cred_turn.specs.Rule.{after_return_of_pass};
     ghost use Rattle.cred_turn.specs.declared.view.View.TheVariants.{Spent};
 
-    ghost both = { returned };
+    ghost both = { after_return_of_pass };
 
     ghost spent = { Spent };
 }
@@ -60,7 +60,7 @@ pub struct Learns;
 
 impl Play<(), View> for Learns {
     ghost use Rattle.std.specs.Prelude.{◌≡◌};
-    ghost use Rattle.cred_turn.specs.Rule.{Learned};
+    ghost use Rattle.cred_turn.specs.Rule.{LearnedPass};
 
-    ghost then = { λ _ v _ w. Learned v.0 w.0 × (w.1 ≡ v.1) };
+    ghost then = { λ _ v _ w. LearnedPass v.0 w.0 × (w.1 ≡ v.1) };
 }

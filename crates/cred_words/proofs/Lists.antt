@@ -12,13 +12,13 @@ use mathlib.Core.Option.{some}
 use mathlib.Core.Logic.{dite}
 use native.Mathlib.Decide.{ℕ_discrete}
 use lib.ListN.{get_elem?}
-use Rattle.cred_words.specs.Size.{width, count, total, place}
+use Rattle.cred_words.specs.Size.{width, count, total, word_place}
 use Rattle.cred_words.specs.declared.view.Slot.{Slot}
 use Rattle.cred_words.specs.declared.view.Token.{Token}
 use Rattle.cred_words.specs.declared.view.View.{View}
 use Rattle.cred_words.specs.declared.view.View.TheVariants.{Master, Lent, Spent}
 use Rattle.cred_words.specs.Lists.{Has, IsTaken}
-use Rattle.cred_words.specs.Words.{out_of, Apart, AllApart, OwnTickets, Stands, without, words_at}
+use Rattle.cred_words.specs.Words.{tokens_out_of, Apart, AllApart, OwnTickets, WordsStand, without_ticket, words_at}
 
 module _ {A : Type 0} where
   pub all_snoc : (P : A → Type 0) (xs : List A) (y : A) → AllByRecursion P xs → P y → AllByRecursion P (xs ++ y ∷ [])
@@ -68,7 +68,7 @@ words_at-get (y ∷ slots) (suc s) x e = words_at-get slots s x e
 abbrev pub Ticket : Token → Token → Type 0
 Ticket t u = u.ticket ≢ t.ticket
 
-pub out_of-snoc : (vs : List View) (t : Token) → out_of (vs ++ Lent t ∷ []) ≡ out_of vs ++ t ∷ []
+pub out_of-snoc : (vs : List View) (t : Token) → tokens_out_of (vs ++ Lent t ∷ []) ≡ tokens_out_of vs ++ t ∷ []
 out_of-snoc [] t = refl
 out_of-snoc (Master d ∷ vs) t = out_of-snoc vs t
 out_of-snoc (Lent q ∷ vs) t = ap (λ ts. q ∷ ts) (out_of-snoc vs t)
@@ -79,7 +79,7 @@ own_snoc [] t h i = (tt, tt)
 own_snoc (q ∷ ts) t h i = (all_snoc (Ticket q) ts t h.0 (λ e. i.0 (sym e)), own_snoc ts t h.1 i.1)
 
 -- what holds of each token that is out holds of the one at j
-pub one_of : (P : Token → Type 0) (vs : List View) (j : ℕ) (t : Token) → get_elem? vs j ≡ some (Lent t) → AllByRecursion P (out_of vs) → P t
+pub one_of : (P : Token → Type 0) (vs : List View) (j : ℕ) (t : Token) → get_elem? vs j ≡ some (Lent t) → AllByRecursion P (tokens_out_of vs) → P t
 one_of P [] j t e h = absurd (cc)
 one_of P (Master d ∷ vs) zero t e h = absurd (cc)
 one_of P (Master d ∷ vs) (suc j) t e h = one_of P vs j t e h
@@ -89,7 +89,7 @@ one_of P (Spent ∷ vs) zero t e h = absurd (cc)
 one_of P (Spent ∷ vs) (suc j) t e h = one_of P vs j t e h
 
 -- the token at j is spent
-pub spent_all : (P : Token → Type 0) (vs : List View) (j : ℕ) → AllByRecursion P (out_of vs) → AllByRecursion P (out_of (set vs j Spent))
+pub spent_all : (P : Token → Type 0) (vs : List View) (j : ℕ) → AllByRecursion P (tokens_out_of vs) → AllByRecursion P (tokens_out_of (set vs j Spent))
 spent_all P [] j h = h
 spent_all P (Master d ∷ vs) zero h = h
 spent_all P (Master d ∷ vs) (suc j) h = spent_all P vs j h
@@ -98,11 +98,11 @@ spent_all P (Lent q ∷ vs) (suc j) h = (h.0, spent_all P vs j h.1)
 spent_all P (Spent ∷ vs) zero h = h
 spent_all P (Spent ∷ vs) (suc j) h = spent_all P vs j h
 
-pub spent_own : (vs : List View) (j : ℕ) (t : Token) → get_elem? vs j ≡ some (Lent t) → OwnTickets (out_of vs) → OwnTickets (t ∷ out_of (set vs j Spent))
+pub spent_own : (vs : List View) (j : ℕ) (t : Token) → get_elem? vs j ≡ some (Lent t) → OwnTickets (tokens_out_of vs) → OwnTickets (t ∷ tokens_out_of (set vs j Spent))
 spent_own [] j t e h = absurd (cc)
 spent_own (Master d ∷ vs) zero t e h = absurd (cc)
 spent_own (Master d ∷ vs) (suc j) t e h = spent_own vs j t e h
-spent_own (Lent q ∷ vs) zero t e h = let same : q ≡ t = cc in subst (λ u. OwnTickets (u ∷ out_of vs)) same h
+spent_own (Lent q ∷ vs) zero t e h = let same : q ≡ t = cc in subst (λ u. OwnTickets (u ∷ tokens_out_of vs)) same h
 spent_own (Lent q ∷ vs) (suc j) t e h =
     let r = spent_own vs j t e h.1 in
     let n = one_of (Ticket q) vs j t e h.0 in
@@ -111,27 +111,27 @@ spent_own (Spent ∷ vs) zero t e h = absurd (cc)
 spent_own (Spent ∷ vs) (suc j) t e h = spent_own vs j t e h
 
 -- the token at j is exchanged
-pub swap_all : (P Q : Token → Type 0) (vs : List View) (j : ℕ) (t u : Token) → get_elem? vs j ≡ some (Lent t) → OwnTickets (out_of vs) → ((q : Token) → q.ticket ≢ t.ticket → P q → Q q) → Q u → AllByRecursion P (out_of vs) → AllByRecursion Q (out_of (set vs j (Lent u)))
+pub swap_all : (P Q : Token → Type 0) (vs : List View) (j : ℕ) (t u : Token) → get_elem? vs j ≡ some (Lent t) → OwnTickets (tokens_out_of vs) → ((q : Token) → q.ticket ≢ t.ticket → P q → Q q) → Q u → AllByRecursion P (tokens_out_of vs) → AllByRecursion Q (tokens_out_of (set vs j (Lent u)))
 swap_all P Q [] j t u e o f here h = absurd (cc)
 swap_all P Q (Master d ∷ vs) zero t u e o f here h = absurd (cc)
 swap_all P Q (Master d ∷ vs) (suc j) t u e o f here h = swap_all P Q vs j t u e o f here h
 swap_all P Q (Lent q ∷ vs) zero t u e o f here h =
     let same : t ≡ q = cc in
-    (here, all_both (Ticket q) P Q (out_of vs) (λ p n. f p (λ e. n (e ∙ ap (λ (z : Token). z.ticket) same))) o.0 h.1)
+    (here, all_both (Ticket q) P Q (tokens_out_of vs) (λ p n. f p (λ e. n (e ∙ ap (λ (z : Token). z.ticket) same))) o.0 h.1)
 swap_all P Q (Lent q ∷ vs) (suc j) t u e o f here h =
     let n = one_of (Ticket q) vs j t e o.0 in
     (f q (λ same. n (sym same)) h.0, swap_all P Q vs j t u e o.1 f here h.1)
 swap_all P Q (Spent ∷ vs) zero t u e o f here h = absurd (cc)
 swap_all P Q (Spent ∷ vs) (suc j) t u e o f here h = swap_all P Q vs j t u e o f here h
 
-pub swap_own : (vs : List View) (j : ℕ) (t u : Token) → get_elem? vs j ≡ some (Lent t) → u.ticket ≡ t.ticket → OwnTickets (out_of vs) → OwnTickets (out_of (set vs j (Lent u)))
+pub swap_own : (vs : List View) (j : ℕ) (t u : Token) → get_elem? vs j ≡ some (Lent t) → u.ticket ≡ t.ticket → OwnTickets (tokens_out_of vs) → OwnTickets (tokens_out_of (set vs j (Lent u)))
 swap_own [] j t u e s o = absurd (cc)
 swap_own (Master d ∷ vs) zero t u e s o = absurd (cc)
 swap_own (Master d ∷ vs) (suc j) t u e s o = swap_own vs j t u e s o
 swap_own (Lent q ∷ vs) zero t u e s o =
     let same : t ≡ q = cc in
     let k : u.ticket ≡ q.ticket = s ∙ ap (λ (z : Token). z.ticket) same in
-    (subst (λ (n : ℕ). AllByRecursion (λ p. p.ticket ≢ n) (out_of vs)) (sym k) o.0, o.1)
+    (subst (λ (n : ℕ). AllByRecursion (λ p. p.ticket ≢ n) (tokens_out_of vs)) (sym k) o.0, o.1)
 swap_own (Lent q ∷ vs) (suc j) t u e s o =
     let n = one_of (Ticket q) vs j t e o.0 in
     (swap_all (Ticket q) (Ticket q) vs j t u e o.1 (λ p _ h. h) (λ same. n (sym s ∙ same)) o.0, swap_own vs j t u e s o.1)
@@ -170,73 +170,73 @@ pick P false x y f g = g refl
 differs : (a b : ℕ) → (a == b) ≡ false → a ≢ b
 differs a b h e = true≢false (sym (eq-eqb a b e) ∙ h)
 
-pub without_all : (P : Token → Type 0) (k : ℕ) (es : List Token) → AllByRecursion P es → AllByRecursion P (without k es)
+pub without_all : (P : Token → Type 0) (k : ℕ) (es : List Token) → AllByRecursion P es → AllByRecursion P (without_ticket k es)
 without_all P k [] h = tt
-without_all P k (e ∷ es) h = pick (AllByRecursion P) (e.ticket == k) es (e ∷ without k es) (λ _. h.1) (λ _. (h.0, without_all P k es h.1))
+without_all P k (e ∷ es) h = pick (AllByRecursion P) (e.ticket == k) es (e ∷ without_ticket k es) (λ _. h.1) (λ _. (h.0, without_all P k es h.1))
 
-pub without_apart : (k : ℕ) (es : List Token) → AllApart es → AllApart (without k es)
+pub without_apart : (k : ℕ) (es : List Token) → AllApart es → AllApart (without_ticket k es)
 without_apart k [] h = tt
-without_apart k (e ∷ es) h = pick AllApart (e.ticket == k) es (e ∷ without k es) (λ _. h.1) (λ _. (without_all (Apart e) k es h.0, without_apart k es h.1))
+without_apart k (e ∷ es) h = pick AllApart (e.ticket == k) es (e ∷ without_ticket k es) (λ _. h.1) (λ _. (without_all (Apart e) k es h.0, without_apart k es h.1))
 
-pub has_without : (k : ℕ) (es : List Token) (x : Token) → Has es x → x.ticket ≢ k → Has (without k es) x
+pub has_without : (k : ℕ) (es : List Token) (x : Token) → Has es x → x.ticket ≢ k → Has (without_ticket k es) x
 has_without k [] x m n = m
 has_without k (e ∷ es) x m n =
     ⊎_elim
-    (λ (p : e ≡ x). pick (λ l. Has l x) (e.ticket == k) es (e ∷ without k es) (λ b. absurd (n (ap (λ (z : Token). z.ticket) (sym p) ∙ eqb-true e.ticket k b))) (λ _. inl p))
-    (λ p. pick (λ l. Has l x) (e.ticket == k) es (e ∷ without k es) (λ _. p) (λ _. inr (has_without k es x p n)))
+    (λ (p : e ≡ x). pick (λ l. Has l x) (e.ticket == k) es (e ∷ without_ticket k es) (λ b. absurd (n (ap (λ (z : Token). z.ticket) (sym p) ∙ eqb-true e.ticket k b))) (λ _. inl p))
+    (λ p. pick (λ l. Has l x) (e.ticket == k) es (e ∷ without_ticket k es) (λ _. p) (λ _. inr (has_without k es x p n)))
     m
 
 -- an entry is what its ticket strikes out
-pub without-taken : (es : List Token) (x : Token) → AllApart es → Has es x → IsTaken es x (without x.ticket es)
+pub without-taken : (es : List Token) (x : Token) → AllApart es → Has es x → IsTaken es x (without_ticket x.ticket es)
 without-taken [] x a m = absurd m
 without-taken (e ∷ es) x a m =
     ⊎_elim
-    (λ (p : e ≡ x). pick (λ l. IsTaken (e ∷ es) x l) (e.ticket == x.ticket) es (e ∷ without x.ticket es) (λ _. ([], es, ap (λ z. z ∷ es) p, refl)) (λ b. absurd (differs e.ticket x.ticket b (ap (λ (z : Token). z.ticket) p))))
+    (λ (p : e ≡ x). pick (λ l. IsTaken (e ∷ es) x l) (e.ticket == x.ticket) es (e ∷ without_ticket x.ticket es) (λ _. ([], es, ap (λ z. z ∷ es) p, refl)) (λ b. absurd (differs e.ticket x.ticket b (ap (λ (z : Token). z.ticket) p))))
     (λ p.
     let ex = has_all (Apart e) es x a.0 p in
     let r = without-taken es x a.1 p in
-    pick (λ l. IsTaken (e ∷ es) x l) (e.ticket == x.ticket) es (e ∷ without x.ticket es) (λ b. absurd (ex.tickets (sym (eqb-true e.ticket x.ticket b)))) (λ _. (e ∷ r.0, r.1, ap (λ l. e ∷ l) r.2, ap (λ l. e ∷ l) r.3)))
+    pick (λ l. IsTaken (e ∷ es) x l) (e.ticket == x.ticket) es (e ∷ without_ticket x.ticket es) (λ b. absurd (ex.tickets (sym (eqb-true e.ticket x.ticket b)))) (λ _. (e ∷ r.0, r.1, ap (λ l. e ∷ l) r.2, ap (λ l. e ∷ l) r.3)))
     m
 
 -- all other entries are apart from one that is taken away
-pub without_others : (es : List Token) (x : Token) → AllApart es → Has es x → AllByRecursion (Apart x) (without x.ticket es)
+pub without_others : (es : List Token) (x : Token) → AllApart es → Has es x → AllByRecursion (Apart x) (without_ticket x.ticket es)
 without_others [] x a m = tt
 without_others (e ∷ es) x a m =
     ⊎_elim
-    (λ (p : e ≡ x). pick (AllByRecursion (Apart x)) (e.ticket == x.ticket) es (e ∷ without x.ticket es) (λ _. subst (λ z. AllByRecursion (Apart z) es) p a.0) (λ b. absurd (differs e.ticket x.ticket b (ap (λ (z : Token). z.ticket) p))))
+    (λ (p : e ≡ x). pick (AllByRecursion (Apart x)) (e.ticket == x.ticket) es (e ∷ without_ticket x.ticket es) (λ _. subst (λ z. AllByRecursion (Apart z) es) p a.0) (λ b. absurd (differs e.ticket x.ticket b (ap (λ (z : Token). z.ticket) p))))
     (λ p.
     let ex = has_all (Apart e) es x a.0 p in
-    pick (AllByRecursion (Apart x)) (e.ticket == x.ticket) es (e ∷ without x.ticket es) (λ b. absurd (ex.tickets (sym (eqb-true e.ticket x.ticket b)))) (λ _. (apart_sym e x ex, without_others es x a.1 p)))
+    pick (AllByRecursion (Apart x)) (e.ticket == x.ticket) es (e ∷ without_ticket x.ticket es) (λ b. absurd (ex.tickets (sym (eqb-true e.ticket x.ticket b)))) (λ _. (apart_sym e x ex, without_others es x a.1 p)))
     m
 
 -- what holds of the others, and of the one that is taken away, holds of all
-pub all_with : (P : Token → Type 0) (k : ℕ) (es : List Token) → ((e : Token) → Has es e → e.ticket ≡ k → P e) → AllByRecursion P (without k es) → AllByRecursion P es
+pub all_with : (P : Token → Type 0) (k : ℕ) (es : List Token) → ((e : Token) → Has es e → e.ticket ≡ k → P e) → AllByRecursion P (without_ticket k es) → AllByRecursion P es
 all_with P k [] f h = tt
 all_with P k (e ∷ es) f h =
-    pick (λ l. AllByRecursion P l → AllByRecursion P (e ∷ es)) (e.ticket == k) es (e ∷ without k es) (λ b r. (f e (inl refl) (eqb-true e.ticket k b), r)) (λ _ r. (r.0, all_with P k es (λ x m. f x (inr m)) r.1)) h
+    pick (λ l. AllByRecursion P l → AllByRecursion P (e ∷ es)) (e.ticket == k) es (e ∷ without_ticket k es) (λ b r. (f e (inl refl) (eqb-true e.ticket k b), r)) (λ _ r. (r.0, all_with P k es (λ x m. f x (inr m)) r.1)) h
 
 -- Words by slot
 
-pub same_slot : (s t i j : ℕ) → i < width → j < width → place s i ≡ place t j → s ≡ t
+pub same_slot : (s t i j : ℕ) → i < width → j < width → word_place s i ≡ word_place t j → s ≡ t
 same_slot s t i j a b e =
     let x : s * width + i ≡ t * width + j = omega arith in
     sym (div-mul-add s width i a) ∙ ap (λ (n : ℕ). n / width) x ∙ div-mul-add t width j b
 
-pub same_word : (s i j : ℕ) → i < width → j < width → place s i ≡ place s j → i ≡ j
+pub same_word : (s i j : ℕ) → i < width → j < width → word_place s i ≡ word_place s j → i ≡ j
 same_word s i j a b e = omega arith
 
-pub place_within : (s i : ℕ) → s < count → i < width → place s i < total
+pub place_within : (s i : ℕ) → s < count → i < width → word_place s i < total
 place_within s i a b = let h = mul-add-lt s width i count a b in omega (arith, mul_comm width count)
 
-pub stands_other : (words : List ℕ) (s t i n : ℕ) (ws : List ℕ) → s ≢ t → i < width → Stands words t ws → Stands (set words (place s i) n) t ws
+pub stands_other : (words : List ℕ) (s t i n : ℕ) (ws : List ℕ) → s ≢ t → i < width → WordsStand words t ws → WordsStand (set words (word_place s i) n) t ws
 stands_other words s t i n ws apart small h =
     record {
       within = h.within;
       wide = h.wide;
-      each = λ j b. get_or-set_other words (place s i) (place t j) n 0 (λ e. apart (sym (same_slot t s j i b small e))) ∙ h.each j b;
+      each = λ j b. get_or-set_other words (word_place s i) (word_place t j) n 0 (λ e. apart (sym (same_slot t s j i b small e))) ∙ h.each j b;
     }
 
-pub stands_here : (words : List ℕ) (s i n : ℕ) (ws : List ℕ) → length words ≡ total → i < width → Stands words s ws → Stands (set words (place s i) n) s (set ws i n)
+pub stands_here : (words : List ℕ) (s i n : ℕ) (ws : List ℕ) → length words ≡ total → i < width → WordsStand words s ws → WordsStand (set words (word_place s i) n) s (set ws i n)
 stands_here words s i n ws size small h =
     let far = place_within s i h.within small in
     let wide = h.wide in
@@ -246,7 +246,7 @@ stands_here words s i n ws size small h =
       each = λ j b.
           dite (ℕ_discrete j i)
           (λ (e : j ≡ i).
-          let P : ℕ → Type 0 = λ k. slice_index (set words (place s i) n) (place s k) ≡ slice_index (set ws i n) k in
-          subst P (sym e) (get_or-set_same words (place s i) n 0 (omega arith) ∙ sym (get_or-set_same ws i n 0 (omega arith))))
-          (λ (ne : j ≢ i). get_or-set_other words (place s i) (place s j) n 0 (λ e. ne (same_word s j i b small e)) ∙ h.each j b ∙ sym (get_or-set_other ws i j n 0 ne));
+          let P : ℕ → Type 0 = λ k. slice_index (set words (word_place s i) n) (word_place s k) ≡ slice_index (set ws i n) k in
+          subst P (sym e) (get_or-set_same words (word_place s i) n 0 (omega arith) ∙ sym (get_or-set_same ws i n 0 (omega arith))))
+          (λ (ne : j ≢ i). get_or-set_other words (word_place s i) (word_place s j) n 0 (λ e. ne (same_word s j i b small e)) ∙ h.each j b ∙ sym (get_or-set_other ws i j n 0 ne));
     }

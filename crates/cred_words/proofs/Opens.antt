@@ -5,9 +5,9 @@ use Rattle.std.proofs.lemmas.Option.{same_Some}
 use Rattle.std.proofs.lemmas.List.{length-replicate, get_or-replicate}
 use Rattle.cred_ids.specs.Limits.{SLOTS}
 use Rattle.cred_record.specs.declared.layout.TheConstants.{WORDS}
-use Rattle.cred_words.specs.Size.{width, count, total, place}
+use Rattle.cred_words.specs.Size.{width, count, total, word_place}
 use Rattle.cred_words.specs.declared.view.Slot.{Slot}
-use Rattle.cred_words.specs.Words.{slot_of, Stands, WordRuleHolds, opened}
+use Rattle.cred_words.specs.Words.{slot_of, WordsStand, WordRuleHolds, first_master}
 use Rattle.cred_words.proofs.Lists.{place_within}
 
 pub width_is : width ≡ WORDS
@@ -30,7 +30,7 @@ get_replicate (suc n) (suc k) x y e = let r = get_replicate n k x y e in let b =
 blank : ℕ → Slot
 blank n = slot_of (replicate n 0) false
 
-pub opens : WordRuleHolds (replicate total 0) (opened ∷ [])
+pub opens : WordRuleHolds (replicate total 0) (first_master ∷ [])
 opens = (
   replicate count (slot_of (replicate width 0) false),
   0,
@@ -50,11 +50,11 @@ opens = (
     fit = tt;
     masters = λ s x g w.
         let r = get_replicate count s (slot_of (replicate width 0) false) x g in
-        subst (λ (y : Slot). Stands (replicate total 0) s y.words) r.1
+        subst (λ (y : Slot). WordsStand (replicate total 0) s y.words) r.1
         record {
           within = r.0;
           wide = length-replicate width 0;
-          each = λ i b. get_or-replicate total (place s i) 0 0 (place_within s i r.0 b) ∙ sym (get_or-replicate width i 0 0 b);
+          each = λ i b. get_or-replicate total (word_place s i) 0 0 (place_within s i r.0 b) ∙ sym (get_or-replicate width i 0 0 b);
         };
     stand = tt;
     sealed = λ s x g b. absurd (true≢false (sym b ∙ ap (λ (y : Slot). y.sealed) (sym (get_replicate count s (slot_of (replicate width 0) false) x g).1)));

@@ -5,11 +5,11 @@ use Rattle.std.specs.List.{AllByRecursion}
 use Rattle.std.proofs.lemmas.Option.{same_Some}
 use mathlib.Core.Logic.{dite}
 use native.Mathlib.Decide.{ℕ_discrete}
-use Rattle.cred_record.specs.Words.{credential_of}
+use Rattle.cred_record.specs.Words.{credential_in}
 use Rattle.cred_record.proofs.WordLemmas.{words-are}
 use Rattle.cred_words.specs.Lists.{Has}
 use Rattle.cred_words.specs.Points.{tokens_of, AreDistinct, OneMaster, HaveEntries, FitSlots, SealedAreCredentials, HasPoints, RuleHasPoints}
-use Rattle.cred_words.specs.Words.{slot_of, ledger, entry_of, out_of, aside, IsNoMaster, Apart, AllApart, OwnTickets, Stands, FitsAs, EntryFits, NoWriterOn, Keeps}
+use Rattle.cred_words.specs.Words.{slot_of, ledger_with, as_entry, tokens_out_of, token_aside, IsNoMaster, Apart, AllApart, OwnTickets, WordsStand, FitsAs, EntryFits, NoWriterOn, KeepsWords}
 use Rattle.cred_words.specs.declared.view.Slot.{Slot}
 use Rattle.cred_words.specs.declared.view.Token.{Token}
 use Rattle.cred_words.specs.declared.view.Ledger.{Ledger}
@@ -50,10 +50,10 @@ no-master-at (Lent t ∷ vs) zero e h at = let same : Lent t ≡ Master e = same
 no-master-at (Spent ∷ vs) zero e h at = let same : Spent ≡ Master e = same_Some _ _ at in absurd (cc)
 no-master-at (v ∷ vs) (suc i) e h at = no-master-at vs i e h.1 at
 
-hold-words : (t : Token) → t.writes ≡ false → (entry_of t).words ≡ t.words
+hold-words : (t : Token) → t.writes ≡ false → (as_entry t).words ≡ t.words
 hold-words t hold = ap (λ (b : Bool). if b then [] else t.words) hold
 
-same-out : (o : Option Token) (d : Ledger) (others : List View) → out_of (aside o ∷ Master d ∷ others) ≡ out_of (aside o ∷ others)
+same-out : (o : Option Token) (d : Ledger) (others : List View) → tokens_out_of (token_aside o ∷ Master d ∷ others) ≡ tokens_out_of (token_aside o ∷ others)
 same-out None d others = refl
 same-out (Some t) d others = refl
 
@@ -62,7 +62,7 @@ no_other d others h zero e at = let same : Master d ≡ Master e = same_Some _ _
 no_other d others h (suc i) e at = absurd (no-master-at others i e h at)
 
 abbrev K : List ℕ → List View → Ledger → Type 0
-K words others d = Keeps words (Master d ∷ others) d.slots d.next d.entries d.kept others
+K words others d = KeepsWords words (Master d ∷ others) d.slots d.next d.entries d.kept others
 
 one-master : (words : List ℕ) (others : List View) (d : Ledger) → K words others d → OneMaster (Master d ∷ others) d
 one-master words others d k = record {
@@ -72,14 +72,14 @@ one-master words others d k = record {
   below = λ e m. has_all (λ e. e.ticket < d.next) d.entries e k.below_next m;
 }
 
-mine : (words : List ℕ) (others : List View) (d : Ledger) → (t : Token) → Has (tokens_of d (Master d ∷ others)) t → Has (out_of (aside d.kept ∷ others)) t
+mine : (words : List ℕ) (others : List View) (d : Ledger) → (t : Token) → Has (tokens_of d (Master d ∷ others)) t → Has (tokens_out_of (token_aside d.kept ∷ others)) t
 mine words others d t m = subst (λ ts. Has ts t) (same-out d.kept d others) m
 
 have-entries : (words : List ℕ) (others : List View) (d : Ledger) → K words others d → HaveEntries (Master d ∷ others) d
 have-entries words others d k = record {
   has = λ t m. (
-    entry_of t,
-    has_all (λ u. Has d.entries (entry_of u)) (out_of (aside d.kept ∷ others)) t k.has_entry (mine words others d t m),
+    as_entry t,
+    has_all (λ u. Has d.entries (as_entry u)) (tokens_out_of (token_aside d.kept ∷ others)) t k.has_entry (mine words others d t m),
     record { ticket = refl; label = refl; slot = refl; kind = refl; words = hold-words t },
   );
   one = λ t e f m n a b. same_ticket d.entries e f k.apart m n (b.ticket ∙ sym a.ticket);
@@ -114,7 +114,7 @@ sealed-are : (words : List ℕ) (others : List View) (d : Ledger) → K words ot
 sealed-are words others d k s x at seal =
     let free = none_writes d.slots s x d.entries at seal k.fit in
     let h = words-are x.words (k.sealed s x at seal) in
-    (credential_of x.words, h.0, subst (Stands words s) h.1 (k.masters s x at free))
+    (credential_in x.words, h.0, subst (WordsStand words s) h.1 (k.masters s x at free))
 
 has-points : (words : List ℕ) (others : List View) (d : Ledger) → K words others d → HasPoints words (Master d ∷ others) d
 has-points words others d k = record {
@@ -123,11 +123,11 @@ has-points words others d k = record {
   have_entries = have-entries words others d k;
   fit_slots = fit-slots words others d k;
   master_stands = λ s x at n. k.masters s x at (all-from (NoWriterOn s) d.entries n);
-  tokens_stand = λ t m. has_all (λ u. Stands words u.slot u.words) (out_of (aside d.kept ∷ others)) t k.stand (mine words others d t m);
+  tokens_stand = λ t m. has_all (λ u. WordsStand words u.slot u.words) (tokens_out_of (token_aside d.kept ∷ others)) t k.stand (mine words others d t m);
   sealed_are = sealed-are words others d k;
 }
 
 pub rule_has_points : RuleHasPoints
 rule_has_points words views (slots, next, entries, kept, others, k) =
-    let d : Ledger = ledger slots next entries kept in
-    (d, subst (λ (vs : List View). HasPoints words vs d) (sym k.views_are) (has-points words others d (subst (λ (vs : List View). Keeps words vs slots next entries kept others) k.views_are k)))
+    let d : Ledger = ledger_with slots next entries kept in
+    (d, subst (λ (vs : List View). HasPoints words vs d) (sym k.views_are) (has-points words others d (subst (λ (vs : List View). KeepsWords words vs slots next entries kept others) k.views_are k)))

@@ -5,7 +5,7 @@ use Rattle.std.specs.Prelude.{slice_index}
 use Rattle.cred_record.specs.Credential.{Credential}
 use Rattle.cred_record.specs.Words.{IsCredential, words_of}
 use Rattle.cred_words.specs.Lists.{Has}
-use Rattle.cred_words.specs.Words.{out_of, aside, Stands, WordRuleHolds}
+use Rattle.cred_words.specs.Words.{tokens_out_of, token_aside, WordsStand, WordRuleHolds}
 use Rattle.cred_words.specs.declared.view.Slot.{Slot}
 use Rattle.cred_words.specs.declared.view.Token.{Token}
 use Rattle.cred_words.specs.declared.view.Ledger.{Ledger}
@@ -14,7 +14,7 @@ use Rattle.cred_words.specs.declared.view.View.TheVariants.{Master}
 
 -- the holds' and writers' views, and the view kept aside
 abbrev pub tokens_of : Ledger → List View → List Token
-tokens_of d views = out_of (aside d.kept ∷ views)
+tokens_of d views = tokens_out_of (token_aside d.kept ∷ views)
 
 -- no two elements have one ticket
 abbrev pub AreDistinct : List Token → Type 0
@@ -65,18 +65,18 @@ IsUnwritten d s = (e : Token) → Has d.entries e → e.writes ≡ true → e.sl
 -- 4. a slot without a writer's entry has the master's words
 abbrev pub MasterStands : List ℕ → Ledger → Type 0
 MasterStands words d =
-    (s : ℕ) (x : Slot) → slice_get d.slots s ≡ Some x → IsUnwritten d s → Stands words s x.words
+    (s : ℕ) (x : Slot) → slice_get d.slots s ≡ Some x → IsUnwritten d s → WordsStand words s x.words
 
 -- 5. the slot of each token has the token's words
 abbrev pub TokensStand : List ℕ → List View → Ledger → Type 0
 TokensStand words views d =
-    (t : Token) → Has (tokens_of d views) t → Stands words t.slot t.words
+    (t : Token) → Has (tokens_of d views) t → WordsStand words t.slot t.words
 
 -- 6. the words of a sealed slot are a credential's
 abbrev pub SealedAreCredentials : List ℕ → Ledger → Type 0
 SealedAreCredentials words d =
     (s : ℕ) (x : Slot) → slice_get d.slots s ≡ Some x → x.sealed ≡ true →
-    (c : Credential) × IsCredential c × Stands words s (words_of c)
+    (c : Credential) × IsCredential c × WordsStand words s (words_of c)
 
 pub record HasPoints (words : List ℕ) (views : List View) (d : Ledger) : Type 0 where
   pub guide : slice_index words 0 ≡ 0

@@ -7,7 +7,7 @@ use Rattle.cred_words.specs.declared.view.Token.{Token}
 use Rattle.cred_words.specs.declared.view.Ledger.{Ledger}
 
 -- the master: its table and its ledger
-pub record Mastered : Type 0 where
+pub record MasteredWords : Type 0 where
   pub id : TableId
   pub ledger : Ledger
 
@@ -17,9 +17,9 @@ pub record Lending : Type 0 where
   pub token : Token
 
 -- the slot is sealed
-abbrev pub IsSealed : Ledger → ℕ → Type 0
-IsSealed d slot = (x : Slot) × (slice_get d.slots slot ≡ Some x) × (x.sealed ≡ true)
+abbrev pub IsSealedSlot : Ledger → ℕ → Type 0
+IsSealedSlot d slot = (x : Slot) × (slice_get d.slots slot ≡ Some x) × (x.sealed ≡ true)
 
 -- no token is out on the slot
-abbrev pub IsAlone : Ledger → ℕ → Type 0
-IsAlone d slot = AllByRecursion (λ e. e.slot ≢ slot) d.entries
+abbrev pub NoTokenIsOn : Ledger → ℕ → Type 0
+NoTokenIsOn d slot = AllByRecursion (λ e. e.slot ≢ slot) d.entries

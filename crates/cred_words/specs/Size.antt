@@ -16,5 +16,5 @@ abbrev pub total : ℕ
 total = 1 + count * width
 
 -- where the word i of a slot stands
-abbrev pub place : ℕ → ℕ → ℕ
-place slot i = 1 + (slot * width + i)
+abbrev pub word_place : ℕ → ℕ → ℕ
+word_place slot i = 1 + (slot * width + i)

@@ -4,7 +4,7 @@ use Rattle.std.specs.Prelude.{None, Bool, true, false, ◌&&◌, ◌==◌, if◌
 use Rattle.std.specs.Prelude.{slice_get, slice_set, slice_index, ⊤}
 use Rattle.std.specs.List.{AllByRecursion}
 use Rattle.cred_words.specs.Lists.{Has, IsTaken}
-use Rattle.cred_words.specs.Size.{width, count, total, place}
+use Rattle.cred_words.specs.Size.{width, count, total, word_place}
 use Rattle.cred_record.specs.Words.{are_words}
 use Rattle.cred_words.specs.declared.view.Slot.{Slot}
 use Rattle.cred_words.specs.declared.view.Token.{Token}
@@ -17,8 +17,8 @@ abbrev pub slot_of : List ℕ → Bool → Slot
 slot_of ws sealed = record { words = ws; sealed = sealed }
 
 -- a ledger of these parts
-abbrev pub ledger : List Slot → ℕ → List Token → Option Token → Ledger
-ledger slots next entries kept = record {
+abbrev pub ledger_with : List Slot → ℕ → List Token → Option Token → Ledger
+ledger_with slots next entries kept = record {
   slots = slots;
   next = next;
   entries = entries;
@@ -26,7 +26,7 @@ ledger slots next entries kept = record {
 }
 
 -- a token of these parts
-abbrev pub token : ℕ → ℕ → ℕ → Bool → List ℕ → Token
+abbrev pub token : (ticket label slot : ℕ) → Bool → List ℕ → Token
 token ticket label slot writes ws = record {
   ticket = ticket;
   label = label;
@@ -36,24 +36,24 @@ token ticket label slot writes ws = record {
 }
 
 -- the entry of a token: a hold's has its words, a writer's none
-abbrev pub entry_of : Token → Token
-entry_of t = token t.ticket t.label t.slot t.writes (if t.writes then [] else t.words)
+abbrev pub as_entry : Token → Token
+as_entry t = token t.ticket t.label t.slot t.writes (if t.writes then [] else t.words)
 
 -- the token with these words
 abbrev pub put_words : Token → List ℕ → Token
 put_words t ws = token t.ticket t.label t.slot t.writes ws
 
 -- the tokens that are out
-abbrev pub out_of : List View → List Token
-out_of [] = []
-out_of (Master d ∷ vs) = out_of vs
-out_of (Lent t ∷ vs) = t ∷ out_of vs
-out_of (Spent ∷ vs) = out_of vs
+abbrev pub tokens_out_of : List View → List Token
+tokens_out_of [] = []
+tokens_out_of (Master d ∷ vs) = tokens_out_of vs
+tokens_out_of (Lent t ∷ vs) = t ∷ tokens_out_of vs
+tokens_out_of (Spent ∷ vs) = tokens_out_of vs
 
 -- the view kept aside, as a view
-abbrev pub aside : Option Token → View
-aside None = Spent
-aside (Some t) = Lent t
+abbrev pub token_aside : Option Token → View
+token_aside None = Spent
+token_aside (Some t) = Lent t
 
 -- the view is not the master's
 abbrev pub IsNoMaster : View → Type 0
@@ -78,10 +78,10 @@ OwnTickets [] = ⊤
 OwnTickets (t ∷ ts) = AllByRecursion (λ u. u.ticket ≢ t.ticket) ts × OwnTickets ts
 
 -- the slot has these numbers as its words
-pub record Stands (words : List ℕ) (slot : ℕ) (ws : List ℕ) : Type 0 where
+pub record WordsStand (words : List ℕ) (slot : ℕ) (ws : List ℕ) : Type 0 where
   pub within : slot < count
   pub wide : length ws ≡ width
-  pub each : (i : ℕ) → i < width → slice_index words (place slot i) ≡ slice_index ws i
+  pub each : (i : ℕ) → i < width → slice_index words (word_place slot i) ≡ slice_index ws i
 
 abbrev pub FitsAs : Bool → List Slot → Token → Type 0
 FitsAs true slots e = (ws : List ℕ) × (slice_get slots e.slot ≡ Some (slot_of ws false))
@@ -99,24 +99,26 @@ NoWriterOn slot e = e.writes ≡ true → e.slot ≢ slot
 -- first, and no other is a master's; tickets are below the next one; each token that is out has
 -- its entry, and a ticket of its own; entries are apart, and fit their slots; a slot with no writer
 -- has the master's words, and that of a token the token's; a sealed slot's words are a credential's
-pub record Keeps
+pub record KeepsWords
     (words : List ℕ) (views : List View)
     (slots : List Slot) (next : ℕ) (entries : List Token) (kept : Option Token)
     (others : List View) : Type 0 where
   pub guide : slice_index words 0 ≡ 0
   pub size : length words ≡ total
   pub slot_count : length slots ≡ count
-  pub views_are : views ≡ Master (ledger slots next entries kept) ∷ others
+  pub views_are : views ≡ Master (ledger_with slots next entries kept) ∷ others
   pub one_master : AllByRecursion IsNoMaster others
   pub below_next : AllByRecursion (λ e. e.ticket < next) entries
-  pub has_entry : AllByRecursion (λ t. Has entries (entry_of t)) (out_of (aside kept ∷ others))
-  pub own_tickets : OwnTickets (out_of (aside kept ∷ others))
+  pub has_entry : AllByRecursion (λ t. Has entries (as_entry t))
+      (tokens_out_of (token_aside kept ∷ others))
+  pub own_tickets : OwnTickets (tokens_out_of (token_aside kept ∷ others))
   pub apart : AllApart entries
   pub fit : AllByRecursion (EntryFits slots) entries
   pub masters :
       (s : ℕ) (x : Slot) → slice_get slots s ≡ Some x → AllByRecursion (NoWriterOn s) entries →
-      Stands words s x.words
-  pub stand : AllByRecursion (λ t. Stands words t.slot t.words) (out_of (aside kept ∷ others))
+      WordsStand words s x.words
+  pub stand : AllByRecursion (λ t. WordsStand words t.slot t.words)
+      (tokens_out_of (token_aside kept ∷ others))
   pub sealed :
       (s : ℕ) (x : Slot) → slice_get slots s ≡ Some x → x.sealed ≡ true → are_words x.words ≡ true
 
@@ -124,19 +126,19 @@ pub record Keeps
 abbrev pub WordRuleHolds : List ℕ → List View → Type 0
 WordRuleHolds words views =
     (slots : List Slot) × (next : ℕ) × (entries : List Token) × (kept : Option Token) ×
-    (others : List View) × Keeps words views slots next entries kept others
+    (others : List View) × KeepsWords words views slots next entries kept others
 
 -- ---- the steps
 
 -- the master's first view: no slot is sealed, and nothing is lent
-abbrev pub opened : View
-opened = Master (ledger (replicate count (slot_of (replicate width 0) false)) 0 [] None)
+abbrev pub first_master : View
+first_master = Master (ledger_with (replicate count (slot_of (replicate width 0) false)) 0 [] None)
 
 -- the ledger of the master's view
 abbrev pub ledger_of : View → Ledger
 ledger_of (Master d) = d
-ledger_of (Lent t) = ledger [] 0 [] None
-ledger_of Spent = ledger [] 0 [] None
+ledger_of (Lent t) = ledger_with [] 0 [] None
+ledger_of Spent = ledger_with [] 0 [] None
 
 -- what a view without a token is read as
 abbrev pub no_token : Token
@@ -166,34 +168,34 @@ slots_after slots slot false = slots
 -- the ledger after a loan
 abbrev pub after_lend : Ledger → ℕ → ℕ → Bool → Ledger
 after_lend d label slot writes =
-    ledger (slots_after d.slots slot writes) (d.next + 1)
-    (entry_of (lent_token d label slot writes) ∷ d.entries) d.kept
+    ledger_with (slots_after d.slots slot writes) (d.next + 1)
+    (as_entry (lent_token d label slot writes) ∷ d.entries) d.kept
 
 -- the views after a loan: the master's, and the new one
-abbrev pub lending : ℕ → ℕ → Bool → View → View
-lending label slot writes (Master d) = Master (after_lend d label slot writes)
-lending label slot writes (Lent t) = Lent t
-lending label slot writes Spent = Spent
+abbrev pub after_lending_token : ℕ → ℕ → Bool → View → View
+after_lending_token label slot writes (Master d) = Master (after_lend d label slot writes)
+after_lending_token label slot writes (Lent t) = Lent t
+after_lending_token label slot writes Spent = Spent
 
 abbrev pub lends : ℕ → ℕ → Bool → View → View
 lends label slot writes v = Lent (lent_token (ledger_of v) label slot writes)
 
 -- the token of a view, if it has one
-abbrev pub some_lent : View → Option Token
-some_lent (Master d) = None
-some_lent (Lent t) = Some t
-some_lent Spent = None
+abbrev pub token_in_view : View → Option Token
+token_in_view (Master d) = None
+token_in_view (Lent t) = Some t
+token_in_view Spent = None
 
 -- the master's view after a return: the token is kept aside
-abbrev pub returned : View → View → View
-returned (Master d) w = Master (ledger d.slots d.next d.entries (some_lent w))
-returned (Lent t) w = Lent t
-returned Spent w = Spent
+abbrev pub after_return_of_token : View → View → View
+after_return_of_token (Master d) w = Master (ledger_with d.slots d.next d.entries (token_in_view w))
+after_return_of_token (Lent t) w = Lent t
+after_return_of_token Spent w = Spent
 
 -- the entries less the first one with the ticket
-abbrev pub without : ℕ → List Token → List Token
-without ticket [] = []
-without ticket (e ∷ es) = if e.ticket == ticket then es else (e ∷ without ticket es)
+abbrev pub without_ticket : ℕ → List Token → List Token
+without_ticket ticket [] = []
+without_ticket ticket (e ∷ es) = if e.ticket == ticket then es else (e ∷ without_ticket ticket es)
 
 -- the slots after the load that follows a return: a writer's has the writer's words, and is sealed
 -- where they are a credential's and one was put
@@ -205,31 +207,32 @@ slots_back slots t put false = slots
 -- the ledger after that load
 abbrev pub after_back : Ledger → Token → Bool → Ledger
 after_back d t put =
-    ledger (slots_back d.slots t put t.writes) d.next (without t.ticket d.entries) None
+    ledger_with (slots_back d.slots t put t.writes) d.next (without_ticket t.ticket d.entries) None
 
 -- what the load after a return reports
 abbrev pub LearnedAs : Ledger → Bool → Option Token → View → Type 0
 LearnedAs d put None w = w ≡ Master d
 LearnedAs d put (Some t) w =
-    IsTaken d.entries (entry_of t) (without t.ticket d.entries) × EntryFits d.slots (entry_of t) ×
+    IsTaken d.entries (as_entry t) (without_ticket t.ticket d.entries)
+    × EntryFits d.slots (as_entry t) ×
     (w ≡ Master (after_back d t put))
 
-abbrev pub Learned : Bool → View → View → Type 0
-Learned put (Master d) w = LearnedAs d put d.kept w
-Learned put (Lent t) w = w ≡ Lent t
-Learned put Spent w = w ≡ Spent
+abbrev pub LearnedToken : Bool → View → View → Type 0
+LearnedToken put (Master d) w = LearnedAs d put d.kept w
+LearnedToken put (Lent t) w = w ≡ Lent t
+LearnedToken put Spent w = w ≡ Spent
 
 -- what the load of a word reports
 abbrev pub ReadAt : ℕ → View → ℕ → Type 0
 ReadAt word (Master d) n = ⊤
 ReadAt word (Lent t) n =
-    (i : ℕ) → i < width → word ≡ place t.slot i → n ≡ slice_index t.words i
+    (i : ℕ) → i < width → word ≡ word_place t.slot i → n ≡ slice_index t.words i
 ReadAt word Spent n = ⊤
 
 -- what the store of a word does
 abbrev pub PutAt : ℕ → ℕ → View → View → Type 0
 PutAt word n (Master d) w = ⊤
 PutAt word n (Lent t) w =
-    (i : ℕ) → i < width → word ≡ place t.slot i →
+    (i : ℕ) → i < width → word ≡ word_place t.slot i →
     w ≡ Lent (put_words t (slice_set t.words i n))
 PutAt word n Spent w = ⊤

@@ -2,12 +2,14 @@
 ghost use Rattle.std.specs.Prelude.{◌≡◌, ◌<◌, [], None, Some, true, false, IfOk, IfSome, IsSome};
 ghost use Rattle.std.specs.Prelude.{replicate, slice_index, slice_set};
 ghost use Rattle.cred_words.specs.Lists.{IsTaken};
-ghost use Rattle.cred_words.specs.Size.{width, count, total, place};
-ghost use Rattle.cred_words.specs.Words.{ledger, ledger_of, opened, lent_token, after_lend};
-ghost use Rattle.cred_words.specs.Words.{after_back, put_words, EntryFits, entry_of, without};
+ghost use Rattle.cred_words.specs.Size.{width, count, total, word_place};
+ghost use Rattle.cred_words.specs.Words.{ledger_with, ledger_of, first_master, lent_token};
+ghost use Rattle.cred_words.specs.Words.{after_lend};
+ghost use Rattle.cred_words.specs.Words.{after_back, put_words, EntryFits, as_entry};
+ghost use Rattle.cred_words.specs.Words.{without_ticket};
 ghost use Rattle.cred_words.specs.Words.{token_of};
 ghost use Rattle.cred_words.specs.declared.view.View.TheVariants.{Lent};
-ghost use Rattle.cred_words.specs.Seen.{IsSealed, IsAlone};
+ghost use Rattle.cred_words.specs.Seen.{IsSealedSlot, NoTokenIsOn};
 
 use crate::rule::{Learns, LendsHold, LendsWriter, Order, Puts, Reads, Returns, Words};
 use crate::view::View;
@@ -47,9 +49,9 @@ pub struct Master {
 
 impl Model for Master {
     ghost use Rattle.std.specs.Prelude.{◌≡◌, [], length};
-    ghost use Rattle.cred_words.specs.Seen.{Mastered};
+    ghost use Rattle.cred_words.specs.Seen.{MasteredWords};
 
-    ghost Value = { Mastered };
+    ghost Value = { MasteredWords };
 
     ghost use Rattle.cred_words.specs.Size.{count};
     ghost use Rattle.cred_words.specs.Words.{ledger_of};
@@ -111,7 +113,7 @@ impl Model for Writer {
 /// Where the word `i` of a slot stands.
 fn place_of(slot: u32, i: usize) -> usize
     requires { (slot < count) × (i < width) }
-    ensures value { result ≡ place slot i }
+    ensures value { result ≡ word_place slot i }
     ensures within { result < total }
 {
     1 + (slot as usize * WORDS + i)
@@ -138,7 +140,7 @@ impl Cells {
     ///
     /// `AllocError` if the allocation of the table fails.
     pub fn make(alloc: Global) -> Result<(Cells, Master), AllocError>
-        ensures { IfOk result (λ r. (r.1.id ≡ r.0) × (r.1.ledger ≡ ledger_of opened)) }
+        ensures { IfOk result (λ r. (r.1.id ≡ r.0) × (r.1.ledger ≡ ledger_of first_master)) }
     {
         let words = zeros(alloc, word_count())?;
         let (table, seat) = Table::of_words(alloc, words.as_slice(), &())?;
@@ -150,7 +152,7 @@ impl Master {
     /// Lends a hold on a sealed slot. The new token and its entry have the slot's words.
     pub fn lend_hold(&mut self, cells: &Cells, label: u32, slot: u32) -> Hold
         requires own { self.old.id ≡ cells.now }
-        requires sealed { IsSealed self.old.ledger slot }
+        requires sealed { IsSealedSlot self.old.ledger slot }
         ensures hold { (result.id ≡ self.old.id)
             × (result.token ≡ lent_token self.old.ledger label slot false) }
         ensures master { (self.new.id ≡ self.old.id)
@@ -163,7 +165,7 @@ impl Master {
     fn lend_hold_as<O: Order>(&mut self, cells: &Cells, label: u32, slot: u32) -> Hold
         requires order { (label ≡ O.label) × (slot ≡ O.slot) }
         requires own { self.old.id ≡ cells.now }
-        requires sealed { IsSealed self.old.ledger O.slot }
+        requires sealed { IsSealedSlot self.old.ledger O.slot }
         ensures hold { (result.id ≡ self.old.id)
             × (result.token ≡ lent_token self.old.ledger O.label O.slot false) }
         ensures master { (self.new.id ≡ self.old.id)
@@ -181,7 +183,7 @@ impl Master {
     pub fn lend_writer(&mut self, cells: &Cells, label: u32, slot: u32) -> Writer
         requires own { self.old.id ≡ cells.now }
         requires within { slot < count }
-        requires alone { IsAlone self.old.ledger slot }
+        requires alone { NoTokenIsOn self.old.ledger slot }
         ensures writer { (result.id ≡ self.old.id)
             × (result.token ≡ lent_token self.old.ledger label slot true) }
         ensures master { (self.new.id ≡ self.old.id)
@@ -195,7 +197,7 @@ impl Master {
         requires order { (label ≡ O.label) × (slot ≡ O.slot) }
         requires own { self.old.id ≡ cells.now }
         requires within { O.slot < count }
-        requires alone { IsAlone self.old.ledger O.slot }
+        requires alone { NoTokenIsOn self.old.ledger O.slot }
         ensures writer { (result.id ≡ self.old.id)
             × (result.token ≡ lent_token self.old.ledger O.label O.slot true) }
         ensures master { (self.new.id ≡ self.old.id)
@@ -213,7 +215,7 @@ impl Master {
         requires own { (self.old.id ≡ cells.now) × (hold.id ≡ cells.now) }
         requires empty { self.old.ledger.kept ≡ None }
         ensures { (self.new.id ≡ self.old.id)
-            × (self.new.ledger ≡ ledger self.old.ledger.slots self.old.ledger.next
+            × (self.new.ledger ≡ ledger_with self.old.ledger.slots self.old.ledger.next
             self.old.ledger.entries (Some hold.token)) }
     {
         let Hold { seat } = hold;
@@ -226,7 +228,7 @@ impl Master {
         requires own { (self.old.id ≡ cells.now) × (writer.id ≡ cells.now) }
         requires empty { self.old.ledger.kept ≡ None }
         ensures { (self.new.id ≡ self.old.id)
-            × (self.new.ledger ≡ ledger self.old.ledger.slots self.old.ledger.next
+            × (self.new.ledger ≡ ledger_with self.old.ledger.slots self.old.ledger.next
             self.old.ledger.entries (Some writer.token)) }
     {
         let Writer { seat } = writer;
@@ -243,8 +245,9 @@ impl Master {
         requires own { self.old.id ≡ cells.now }
         requires returned { IsSome self.old.ledger.kept }
         ensures entry { IfSome self.old.ledger.kept (λ t.
-            IsTaken self.old.ledger.entries (entry_of t) (without t.ticket self.old.ledger.entries)
-            × EntryFits self.old.ledger.slots (entry_of t)) }
+            IsTaken self.old.ledger.entries (as_entry t)
+            (without_ticket t.ticket self.old.ledger.entries)
+            × EntryFits self.old.ledger.slots (as_entry t)) }
         ensures master { (self.new.id ≡ self.old.id)
             × IfSome self.old.ledger.kept
             (λ t. self.new.ledger ≡ after_back self.old.ledger t put) }
@@ -258,8 +261,9 @@ impl Master {
         requires own { self.old.id ≡ cells.now }
         requires returned { IsSome self.old.ledger.kept }
         ensures entry { IfSome self.old.ledger.kept (λ t.
-            IsTaken self.old.ledger.entries (entry_of t) (without t.ticket self.old.ledger.entries)
-            × EntryFits self.old.ledger.slots (entry_of t)) }
+            IsTaken self.old.ledger.entries (as_entry t)
+            (without_ticket t.ticket self.old.ledger.entries)
+            × EntryFits self.old.ledger.slots (as_entry t)) }
         ensures master { (self.new.id ≡ self.old.id)
             × IfSome self.old.ledger.kept
             (λ t. self.new.ledger ≡ after_back self.old.ledger t O.put) }
@@ -271,7 +275,7 @@ impl Master {
 }
 
 /// Loads the word `i` of the slot of a token, by the token's seat.
-fn load_word(cells: &Cells, seat: &mut Seat<(), View>, slot: u32, i: usize) -> u64
+fn load_from(cells: &Cells, seat: &mut Seat<(), View>, slot: u32, i: usize) -> u64
     requires own { seat.old.table_id ≡ cells.now }
     requires lent { seat.old.me ≡ (Lent (token_of seat.old.me.0), []) }
     requires slot { (slot ≡ (token_of seat.old.me.0).slot) × (slot < count) }
@@ -284,29 +288,29 @@ fn load_word(cells: &Cells, seat: &mut Seat<(), View>, slot: u32, i: usize) -> u
 }
 
 /// Reads the word `i` of the slot that is held. It waits for nobody.
-pub fn read_word(cells: &Cells, hold: &mut Hold, slot: u32, i: usize) -> u64
+pub fn load_word(cells: &Cells, hold: &mut Hold, slot: u32, i: usize) -> u64
     requires own { hold.old.id ≡ cells.now }
     requires slot { slot ≡ hold.old.token.slot }
     requires within { i < width }
     ensures value { result ≡ slice_index hold.old.token.words i }
     ensures same { hold.new ≡ hold.old }
 {
-    load_word(cells, &mut hold.seat, slot, i)
+    load_from(cells, &mut hold.seat, slot, i)
 }
 
 /// Reads the word `i` of the slot that is written. It waits for nobody.
-pub fn see_word(cells: &Cells, writer: &mut Writer, slot: u32, i: usize) -> u64
+pub fn load_own_word(cells: &Cells, writer: &mut Writer, slot: u32, i: usize) -> u64
     requires own { writer.old.id ≡ cells.now }
     requires slot { slot ≡ writer.old.token.slot }
     requires within { i < width }
     ensures value { result ≡ slice_index writer.old.token.words i }
     ensures same { writer.new ≡ writer.old }
 {
-    load_word(cells, &mut writer.seat, slot, i)
+    load_from(cells, &mut writer.seat, slot, i)
 }
 
 /// Puts the word `i` of the slot that is written. It waits for nobody.
-pub fn put_word(cells: &Cells, writer: &mut Writer, slot: u32, i: usize, word: u64)
+pub fn store_word(cells: &Cells, writer: &mut Writer, slot: u32, i: usize, word: u64)
     requires own { writer.old.id ≡ cells.now }
     requires slot { slot ≡ writer.old.token.slot }
     requires within { i < width }
@@ -329,7 +333,7 @@ pub fn settle_word(cells: &Cells, writer: &mut Writer, slot: u32, i: usize, word
         × (writer.new.token
         ≡ put_words writer.old.token (slice_set writer.old.token.words i word)) }
 {
-    if see_word(cells, writer, slot, i) != word {
-        put_word(cells, writer, slot, i, word);
+    if load_own_word(cells, writer, slot, i) != word {
+        store_word(cells, writer, slot, i, word);
     }
 }

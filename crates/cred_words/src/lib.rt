@@ -8,4 +8,4 @@ pub mod laws;
 mod rule;
 pub mod view;
 
-pub use cells::{Cells, Hold, Master, Writer, put_word, read_word, see_word, settle_word};
+pub use cells::{Cells, Hold, Master, Writer, load_own_word, load_word, settle_word, store_word};

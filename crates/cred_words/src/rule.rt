@@ -7,11 +7,11 @@ use std::marker::{Brand, PhantomData};
 pub struct Words;
 
 impl TableRule<(), View, ()> for Words {
-    ghost use Rattle.cred_words.specs.Words.{WordRuleHolds, opened};
+    ghost use Rattle.cred_words.specs.Words.{WordRuleHolds, first_master};
 
     ghost holds = { λ _ s. WordRuleHolds s.words s.views };
 
-    ghost first = { λ _. opened };
+    ghost first = { λ _. first_master };
 }
 
 /// What one call lends, or whether the writer that came back has put. Each call picks it, since a
@@ -41,9 +41,9 @@ pub struct LendsHold<O>(PhantomData<O>);
 
 impl<O: Order> Split<View> for LendsHold<O> {
     ghost use Rattle.std.specs.Prelude.{false};
-    ghost use Rattle.cred_words.specs.Words.{lending, lends};
+    ghost use Rattle.cred_words.specs.Words.{after_lending_token, lends};
 
-    ghost left = { lending O.label O.slot false };
+    ghost left = { after_lending_token O.label O.slot false };
 
     ghost right = { lends O.label O.slot false };
 }
@@ -53,9 +53,9 @@ pub struct LendsWriter<O>(PhantomData<O>);
 
 impl<O: Order> Split<View> for LendsWriter<O> {
     ghost use Rattle.std.specs.Prelude.{true};
-    ghost use Rattle.cred_words.specs.Words.{lending, lends};
+    ghost use Rattle.cred_words.specs.Words.{after_lending_token, lends};
 
-    ghost left = { lending O.label O.slot true };
+    ghost left = { after_lending_token O.label O.slot true };
 
     ghost right = { lends O.label O.slot true };
 }
@@ -64,10 +64,10 @@ impl<O: Order> Split<View> for LendsWriter<O> {
 pub struct Returns;
 
 impl Join<View> for Returns {
-    ghost use Rattle.cred_words.specs.Words.{returned};
+    ghost use Rattle.cred_words.specs.Words.{after_return_of_token};
     ghost use Rattle.cred_words.specs.declared.view.View.TheVariants.{Spent};
 
-    ghost both = { returned };
+    ghost both = { after_return_of_token };
 
     ghost spent = { Spent };
 }
@@ -77,9 +77,9 @@ pub struct Learns<O>(PhantomData<O>);
 
 impl<O: Order> Play<(), View> for Learns<O> {
     ghost use Rattle.std.specs.Prelude.{◌≡◌};
-    ghost use Rattle.cred_words.specs.Words.{Learned};
+    ghost use Rattle.cred_words.specs.Words.{LearnedToken};
 
-    ghost then = { λ _ v _ w. Learned O.put v.0 w.0 × (w.1 ≡ v.1) };
+    ghost then = { λ _ v _ w. LearnedToken O.put v.0 w.0 × (w.1 ≡ v.1) };
 }
 
 /// Reads a word of a slot that is held.

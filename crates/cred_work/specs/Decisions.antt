@@ -16,11 +16,11 @@ use Rattle.cred_work.specs.declared.lent.Lent.{Lent}
 use Rattle.cred_work.specs.declared.lent.Lent.TheVariants.{Asking, Opening, Signalling, Altering}
 
 -- the event for which it is lent
-abbrev pub event_of : Lent → Event
-event_of (Asking hold query told) = Ask hold.label query
-event_of (Opening hold file want fd may) = OpenFile hold.label file want fd
-event_of (Signalling from hold to target may) = Signal from hold.label to target.label
-event_of (Altering base writer change made) = Alter base.label change
+abbrev pub work_event : Lent → Event
+work_event (Asking hold query told) = Ask hold.label query
+work_event (Opening hold file want fd may) = OpenFile hold.label file want fd
+work_event (Signalling from hold to target may) = Signal from hold.label to target.label
+work_event (Altering base writer change made) = Alter base.label change
 
 -- the tokens are of these cells, and the two of a change have one label
 abbrev pub AreOf : TableId → Lent → Type 0
@@ -31,11 +31,12 @@ AreOf cells (Altering base writer change made) =
     (base.id ≡ cells) × (writer.id ≡ cells) × (writer.label ≡ base.label)
 
 -- the same with no decision, and before anything was put
-abbrev pub bare : Lent → Lent
-bare (Asking hold query told) = Asking hold query None
-bare (Opening hold file want fd may) = Opening hold file want fd None
-bare (Signalling from hold to target may) = Signalling from hold to target None
-bare (Altering base writer change made) = Altering base (record writer { put = None }) change None
+abbrev pub undecided : Lent → Lent
+undecided (Asking hold query told) = Asking hold query None
+undecided (Opening hold file want fd may) = Opening hold file want fd None
+undecided (Signalling from hold to target may) = Signalling from hold to target None
+undecided (Altering base writer change made) =
+    Altering base (record writer { put = None }) change None
 
 -- it is decided
 abbrev pub is_decided : Lent → Bool

@@ -46,6 +46,6 @@ no_hold = record {
 }
 
 -- what is lent for a work, for which something always is
-abbrev pub some_lent : Option Lent → Lent
-some_lent (Some lent) = lent
-some_lent None = Asking no_hold Ids None
+abbrev pub lent_or_none : Option Lent → Lent
+lent_or_none (Some lent) = lent
+lent_or_none None = Asking no_hold Ids None

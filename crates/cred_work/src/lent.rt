@@ -1,7 +1,8 @@
 //! What is lent for an event, and what was decided on it.
 ghost use Rattle.std.specs.Prelude.{◌≡◌, true, OnOk, OnErr};
 ghost use Rattle.std.specs.Option.{option_map};
-ghost use Rattle.cred_work.specs.Decisions.{bare, event_of, is_decided, AreOf, IsPut, IsRight};
+ghost use Rattle.cred_work.specs.Decisions.{undecided, work_event, is_decided, AreOf, IsPut};
+ghost use Rattle.cred_work.specs.Decisions.{IsRight};
 ghost use Rattle.cred_work.specs.Decisions.{PutStays};
 
 use crate::changes::alter_boxed;
@@ -53,7 +54,7 @@ pub enum Lent {
 impl Lent {
     /// The event for which it is lent.
     pub fn event(&self) -> Event
-        ensures { result ≡ event_of self.now }
+        ensures { result ≡ work_event self.now }
     {
         match self {
             Lent::Asking { hold, query, .. } => Event::Ask {
@@ -115,7 +116,7 @@ impl Lent {
             self.new) }
         ensures put { OnOk result (IsPut self.new) }
         ensures refused { OnOk result (PutStays self.old self.new) }
-        ensures stays { bare self.new ≡ bare self.old }
+        ensures stays { undecided self.new ≡ undecided self.old }
         ensures same { OnErr result (self.new ≡ self.old) }
     {
         match self {

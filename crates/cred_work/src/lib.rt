@@ -17,7 +17,7 @@ mod work;
 
 pub use changes::alter;
 pub use lent::Lent;
-pub use made::{BoxedMade, unboxed};
+pub use made::{BoxedMade, unbox};
 pub use performing::perform;
 pub use questions::{decide, may_open};
 pub use signals::decide_signal;

@@ -62,7 +62,7 @@ impl BoxedMade {
 }
 
 /// What was decided of a change, out of its memory.
-pub fn unboxed(made: Result<BoxedMade, Answer>) -> Result<Made, Answer>
+pub fn unbox(made: Result<BoxedMade, Answer>) -> Result<Made, Answer>
     ensures { result ≡ made }
 {
     match made {

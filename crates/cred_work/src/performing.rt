@@ -1,7 +1,7 @@
 //! A work is decided.
 ghost use Rattle.std.specs.Prelude.{◌≡◌, OnOk, OnErr};
 ghost use Rattle.cred_work.specs.Decisions.{AreOf, PutStays};
-ghost use Rattle.cred_work.specs.Works.{Stays, IsDecided};
+ghost use Rattle.cred_work.specs.DecidedWorks.{Stays, IsDecided};
 
 use crate::work::{Parts, Work};
 use cred_hold::Cells;

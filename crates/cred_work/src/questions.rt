@@ -65,7 +65,7 @@ pub fn decide(
             let [_, _, _, _, amb] = read_caps(cells, hold);
             return Ok(flag(amb, n));
         }
-        Query::Check { want, .. } => return checked(alloc, cells, hold, file, want),
+        Query::Check { want, .. } => return check(alloc, cells, hold, file, want),
         Query::Groups | Query::Bits => return on_whole(alloc, cells, hold, query, file),
     };
     Ok(Answer::Told(told))
@@ -92,7 +92,7 @@ fn on_whole(
 
 /// The answer to the check of a file, by the parts of the credential that the check asks of.
 #[inline(always)]
-fn checked(
+fn check(
     alloc: Global,
     cells: &Cells,
     hold: &mut Hold,

@@ -128,7 +128,7 @@ impl Model for Work {
       line = w.parts.value.line;
       file = w.parts.value.file;
       chain = w.parts.value.chain;
-      lent = spec.some_lent w.parts.value.lent;
+      lent = spec.lent_or_none w.parts.value.lent;
     } };
 
     ghost use Rattle.std.specs.Prelude.{IsSome};

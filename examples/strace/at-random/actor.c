@@ -65,6 +65,21 @@ static void id_call(void) {
   }
 }
 
+// The same by system calls of the one thread, as no libc spreads them.
+static void raw_call(void) {
+  gid_t groups[4] = {id() & 0xffff, 1000, 5, 100};
+  switch (pick(8)) {
+    case 0: syscall(SYS_setuid, id()); break;
+    case 1: syscall(SYS_setgid, id()); break;
+    case 2: syscall(SYS_setreuid, id(), id()); break;
+    case 3: syscall(SYS_setregid, id(), id()); break;
+    case 4: syscall(SYS_setresuid, id(), id(), id()); break;
+    case 5: syscall(SYS_setresgid, id(), id(), id()); break;
+    case 6: syscall(SYS_setgroups, pick(5), groups); break;
+    default: syscall(SYS_setresuid, -1, id(), -1);
+  }
+}
+
 // Changes that can be taken back.
 static void gentle_call(void) {
   switch (pick(6)) {
@@ -107,7 +122,9 @@ static void sets(void) {
 
 static void option(void) {
   unsigned cap = pick(43);
-  switch (pick(12)) {
+  switch (pick(14)) {
+    case 12: prctl(PR_GET_DUMPABLE); break;
+    case 13: prctl(PR_SET_DUMPABLE, pick(3)); break;
     case 0: prctl(PR_SET_KEEPCAPS, pick(3)); break;
     case 1: prctl(PR_GET_KEEPCAPS); break;
     case 2: prctl(PR_CAPBSET_READ, cap); break;
@@ -155,6 +172,15 @@ static void signalled(void) {
   else if (!pick(10)) kill(target, 0);
 }
 
+// Looks into another task.
+static void look(void) {
+  char name[32], target[64];
+  pid_t other = child > 0 && pick(2) ? child : getppid();
+  snprintf(name, sizeof name, "/proc/%d/exe", other);
+  if (pick(2)) (void)!readlink(name, target, sizeof target);
+  else syscall(SYS_kcmp, getpid(), other, 1 /* KCMP_VM */, 0, 0);
+}
+
 // A filter that refuses setfsuid(2) and prctl(2)'s kin a little: by EPERM.
 static void filter(void) {
   struct sock_filter code[] = {
@@ -169,7 +195,8 @@ static void filter(void) {
 
 // What each thread may do alone.
 static void own_step(void) {
-  switch (pick(8)) {
+  switch (pick(9)) {
+    case 8: if (!pick(4)) raw_call(); break;
     case 0: setfsuid(id()); break;
     case 1: setfsgid(id()); break;
     case 2: case 3: sets(); break;
@@ -196,7 +223,7 @@ static void threads(void) {
     uintptr_t seed = 1 + pick(1u << 30);
     if (pthread_create(&all[i], NULL, thread, (void *)seed)) count = i;
   }
-  for (unsigned calls = pick(3); calls; calls--) id_call();
+  for (unsigned calls = pick(3); calls; calls--) pick(6) ? id_call() : raw_call();
   for (unsigned i = 0; i < count; i++) pthread_join(all[i], NULL);
 }
 
@@ -240,7 +267,8 @@ static void step(unsigned left) {
   else if (which < 48) option();
   else if (which < 58) question();
   else if (which < 65) of_file();
-  else if (which < 70) signalled();
+  else if (which < 68) signalled();
+  else if (which < 70) look();
   else if (which < 78) forked(left);
   else if (which < 82) threads();
   else if (which < 90) execute(left);

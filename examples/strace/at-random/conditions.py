@@ -6,7 +6,7 @@ import re
 from collections.abc import Callable
 from pathlib import Path
 
-from strace import rows
+from strace import filerows, rows
 
 # What is told of a difference: the call, the kernel's answer, the report's, the script's line.
 DIFFERENCE = re.compile(
@@ -54,6 +54,19 @@ CONDITIONS: dict[str, Condition] = {
     rows.SET_ID: since_is(r"exec ", RAISE),
     rows.PLAIN_FILE: since_is(r"exec ", r"setfsgid", RAISE),
     rows.TRACED: lambda found, log, since, user: user,
+    rows.CREATOR: has(SPACE),
+    rows.OUTER: has(SPACE),
+    rows.LOOKS: lambda *_: False,
+    rows.EXECVE_FLAG: since_is(r"dumped|ptrace|exec ", r"execve"),
+    filerows.KEEPS: since_is(r"chown \S+ -1 -1"),
+    filerows.ENOUGH: lambda found, log, since, user: " chown " in found["text"],
+    filerows.TAKES: since_is(r"chown"),
+    filerows.STAYS: since_is(r"chown"),
+    filerows.ALONE: has(SPACE),
+    filerows.NO_ATTRIBUTE: lambda found, log, since, user: "EINVAL" in found["call"] or (
+        found["kernel"] == "einval" and " setattr " in found["text"]),
+    filerows.OTHER_ATTRIBUTE: lambda found, log, since, user: found["kernel"] == "einval",
+    filerows.AS_WRITTEN: since_is(r"setattr", SPACE),
 }
 
 

@@ -100,36 +100,66 @@ static void child_namespace(void) {
 // A mount namespace in which `jail` is seen at `again` too, perhaps without its set-id bits.
 static void mounts(void) {
   if (unshare(CLONE_NEWNS)) return;
-  mount(NULL, "/", NULL, MS_REC | MS_PRIVATE, NULL);
+  static const unsigned long seen[] = {MS_PRIVATE, MS_PRIVATE, MS_SLAVE, MS_SHARED};
+  mount(NULL, "/", NULL, MS_REC | seen[pick(4)], NULL);
   if (mount("jail", "again", NULL, MS_BIND, NULL)) return;
   static const unsigned long flags[] = {0, MS_NOSUID, MS_NOEXEC};
   unsigned which = pick(3);
   if (which) mount(NULL, "again", NULL, MS_REMOUNT | MS_BIND | flags[which], NULL);
 }
 
-// A change of a program's file; mostly the file isn't executed again.
-static void change(void) {
-  char name[32];
-  snprintf(name, sizeof name, "tool%u", pick(FILES));
-  switch (pick(7)) {
-    case 5: unlink("link"); (void)!symlink("jail", "link"); break;
-    case 6: close(open(name, O_RDWR)); break;
-    case 0: chmod(name, 0755 | pick(8) << 9); break;
-    case 1: (void)!chown(name, pick(2) ? 1000 : 0, pick(2) ? 1000 : 0); break;
-    case 2: removexattr(name, "security.capability"); break;
-    case 3: (void)!fchmodat(AT_FDCWD, name, 04755, 0); break;
-    default: rename(name, "gone");
+// The attribute of a program: of one capability, or bytes that are none.
+static void set_attribute(const char *name) {
+  unsigned char bytes[20] = {pick(2), 0, 0, pick(8) ? 2 : 7, pick(256), pick(256), 0, 0, pick(4)};
+  setxattr(name, "security.capability", bytes, pick(8) ? 20 : 8, 0);
+}
+
+// The owner, perhaps that of a link itself or by a descriptor.
+static void set_owner(const char *name) {
+  static const int owners[] = {0, 1000, 1001, -1};
+  int owner = owners[pick(4)], group = owners[pick(4)], file;
+  switch (pick(4)) {
+    case 0: (void)!lchown(name, owner, group); break;
+    case 1:
+      file = open(name, O_RDONLY);
+      (void)!fchown(file, owner, group);
+      close(file);
+      break;
+    default: (void)!chown(name, owner, group);
   }
 }
 
+// A change of a program's file, by one of its names.
+static void change(void) {
+  static const char *const ways[] = {"tool%u", "./tool%u", "to-tool%u", "link/tool%u", "note%u"};
+  char name[32], more[32], bytes[24];
+  struct stat status;
+  snprintf(name, sizeof name, ways[pick(5)], pick(FILES));
+  snprintf(more, sizeof more, "more%u", pick(100));
+  switch (pick(12)) {
+    case 0: case 1: chmod(name, 0755 | pick(8) << 9); break;
+    case 2: case 3: set_owner(name); break;
+    case 4: removexattr(name, "security.capability"); break;
+    case 5: set_attribute(name); break;
+    case 6: (void)!fchmodat(AT_FDCWD, name, pick(2) ? 04755 : 02644, 0); break;
+    case 7: if (!pick(3)) unlink("link"), (void)!symlink("jail", "link"); break;
+    case 8: if (!pick(3)) close(open(name, O_RDWR)); break;
+    case 9: if (link(name, more) == 0 && pick(2)) chmod(more, 04755); break;
+    case 10: if (!pick(3)) rename(name, "gone"); break;
+    default: break;
+  }
+  stat(name, &status);
+  getxattr(name, "security.capability", bytes, sizeof bytes);
+}
+
 void rare_step(void) {
-  switch (pick(13)) {
+  switch (pick(15)) {
     case 0: new_user_namespace(); break;
     case 1: case 2: child_namespace(); break;
     case 3: if (chroot("jail") == 0 && pick(2)) (void)!chdir("/"); break;
     case 4: (void)!chdir(pick(2) ? "jail" : ".."); break;
     case 5: case 6: mounts(); break;
-    case 7: if (!pick(3)) change(); break;
+    case 7: case 13: case 14: change(); break;
     case 8: unshare(CLONE_NEWPID); break;
     case 10: (void)!fchdir(open(pick(2) ? "jail" : "/", O_RDONLY | O_DIRECTORY)); break;
     case 9: unshare(CLONE_FS | CLONE_FILES); break;

@@ -11,6 +11,7 @@ syntax match credtraceEvent /\%(^ *\|^\d\+ \)\zs\%(init\|take\|takereal\|takefil
 syntax match credtraceEvent /\%(^ *\|^\d\+ \)\zs\%(prepare\|change\|commit\|abort\)\>/
 syntax match credtraceEvent /\%(^ *\|^\d\+ \)\zs\%(override\|revert\|begin\|act\|sweep\)\>/
 syntax match credtraceEvent /^\d\+ \zs\%(signal\|ptrace\|dumpable\|dumped\|open\|close\|spawn\|fork\|exit\)\>/
+syntax match credtraceEvent /^\d\+ \zs\%(chown\|chmod\|setattr\|clearattr\|stat\|raw\)\>/
 syntax match credtraceTask /\<t\d\+\>/ nextgroup=credtraceCall skipwhite
 syntax match credtraceLabel /\<h\d\+\>/ nextgroup=credtraceCall skipwhite
 syntax match credtraceOther /\<[pfnk]\d\+\>/
@@ -21,7 +22,10 @@ syntax match credtraceCall contained /\<set\%(gid\|egid\|regid\|resgid\)\>/
 syntax match credtraceCall contained /\<\%(setgroups\|setfsuid\|setfsgid\|capset\|capdrop\)\>/
 syntax match credtraceCall contained /\<\%(ambraise\|amblower\|ambclear\|securebits\|keepcaps\)\>/
 syntax match credtraceCall contained /\<\%(nonewprivs\|exec\|access\|open\|close\|fcap\|signal\)\>/
-syntax match credtraceCall contained /\<\%(ptrace\|dumpable\|dumped\)\>/
+syntax match credtraceCall contained /\<\%(ptrace\|dumpable\|dumped\|capsetraw\)\>/
+syntax match credtraceCall contained /\<\%(chown\|chmod\|setattr\|clearattr\|stat\)\>/
+" Behind `raw` stands a call.
+syntax match credtraceCall contained /\<raw\>/ nextgroup=credtraceCall skipwhite
 syntax match credtraceCall contained /\<\%(spawn\|fork\|exit\|ids\|caps\|groups\|bits\)\>/
 syntax match credtraceCall contained /\<\%(capable\|bset\|ambis\|check\)\>/
 syntax match credtraceCap /\<CAP_[A-Z_]\+\>/

@@ -113,7 +113,7 @@ def count(name: str, teller: Teller, found: Sum, samples: bool) -> None:
 def keep(name: str, teller: Teller, decision: Decision, found: Sum) -> None:
     """Keeps an answer of its kind, to be read."""
     words, told = decision.words, decision.told
-    call = words[2:3] if words[0] in ("begin", "change", "ask") else (decision.change or [])[:1]
+    call = words[2:3] if words[0] in ("begin", "change", "ask", "raw") else (decision.change or [])[:1]
     kept = found.samples.setdefault((words[0], *call, told[0]), [])
     if len(kept) < KEPT:
         kept.append([f"{name}:", *teller.told([decision])])

@@ -1,20 +1,22 @@
 //! Works that go out, and that come back decided.
-ghost use Rattle.std.specs.Prelude.{◌≡◌, ◌<◌, length, set, true, is_some, None, IfOk, IfErr};
+ghost use Rattle.std.specs.Prelude.{◌≡◌, ◌≢◌, ◌<◌, length, set, true, is_some, None, IfOk, IfErr};
 ghost use Rattle.std.specs.Prelude.{IfNone, IfSome, OnOk, OnErr};
+ghost use Rattle.std.specs.Option.{option_map};
 ghost use Rattle.cred_model.specs.Course as course_model;
 ghost use Rattle.cred_model.specs.Journal as model;
 ghost use Rattle.cred_model.specs.Journal.{replay};
 ghost use Rattle.cred_model.specs.Named.{event_files};
-ghost use Rattle.cred_model.specs.Script.{chain_of, info_of};
+ghost use Rattle.cred_model.specs.Script.{chain_of};
+ghost use Rattle.cred_model.specs.State.{info_of};
 ghost use Rattle.cred_script.specs.Lines.{line_at};
 ghost use Rattle.cred_cursor.specs.Cursor.{IsOfLine, MovesOnTo};
-ghost use Rattle.cred_work.specs.Decisions.{bare, event_of, AreOf};
-ghost use Rattle.cred_work.specs.Works.{IsDecided};
-ghost use Rattle.cred_tables.specs.Out.{AreHome, tokens_in, waits_in};
-ghost use Rattle.cred_state.specs.Lending.{entries_of, is_decided};
-ghost use Rattle.cred_book.specs.Book.{answer_of};
+ghost use Rattle.cred_work.specs.Decisions.{undecided, work_event, AreOf};
+ghost use Rattle.cred_work.specs.DecidedWorks.{IsDecided};
+ghost use Rattle.cred_tables.specs.Out.{AreHome, tokens_in, needs_tokens};
+ghost use Rattle.cred_state.specs.TokensOut.{entries_of, needs_decision};
+ghost use Rattle.cred_book.specs.Book.{answer_of, infos_in};
 ghost use Rattle.cred_book.specs.Counts.{HasEntered};
-ghost use Rattle.cred_book.specs.Cursor.{Finishes, Stands, left};
+ghost use Rattle.cred_book.specs.Cursor.{Finishes, BookStands, steps_left};
 ghost use Rattle.cred_book.specs.Works.{IsChainFor, IsEntered, IsHanded, IsLanes, IsWorkOf};
 ghost use Rattle.cred_book.specs.Works.{with_out};
 ghost use Rattle.cred_book.specs.declared.step.Step.TheVariants.{More};
@@ -39,17 +41,19 @@ impl Book {
     /// Want of memory, with the work, which is still out: the book is as it was.
     pub fn finish(&mut self, cells: &Cells, lane: u32, work: Work) -> Result<Step, Unfinished>
         requires own { self.old.words.id ≡ cells.now }
-        requires stands { Stands self.old }
+        requires stands { BookStands self.old }
         requires lanes { IsLanes self.old lane work }
         requires decided { IsDecided work }
         ensures script { self.new.script ≡ self.old.script }
         ensures cells { self.new.words.id ≡ self.old.words.id }
-        ensures stands { Stands self.new }
+        ensures stands { BookStands self.new }
         ensures more { IfOk result (λ step. step ≡ More) }
         ensures made { OnOk result (Finishes self.old self.new lane work
             (model.next self.old.script self.old.journal lane)) }
-        ensures falls { OnOk result (left self.new < left self.old) }
+        ensures falls { OnOk result (steps_left self.new < steps_left self.old) }
         ensures counts { OnOk result (HasEntered self.old self.new lane 1) }
+        // Only the setup changes files.
+        ensures files { lane ≢ 0 → infos_in self.new ≡ infos_in self.old }
         ensures err { IfErr result (λ unfinished. (unfinished.work ≡ work)
             × (self.new ≡ self.old)) }
     {
@@ -118,7 +122,7 @@ impl Book {
     /// execve is decided by any. `None` where the event waits for no decision.
     fn deciding_ns(&mut self, cells: &Cells, event: &Event) -> Option<u32>
         requires own { self.old.words.id ≡ cells.now }
-        ensures decided { is_some result ≡ is_decided event.now }
+        ensures decided { is_some result ≡ needs_decision event.now }
         ensures chain { IfSome result (λ ns.
             IsChainFor self.old event.now (chain_of self.old.script ns)) }
         ensures same { self.new ≡ self.old }
@@ -126,23 +130,32 @@ impl Book {
         self.state.deciding_ns(cells, event)
     }
 
-    /// Copies of the file that the event names, if it names one, and of the root ids of the
-    /// namespace and of its ancestors.
+    /// Copies of the file that the event names, if it names one, as it stands, and of the root ids
+    /// of the namespace and of its ancestors.
     ///
     /// # Errors
     ///
     /// `NoMemory` if an allocation of one of them fails.
     fn copies(&self, event: &Event, ns: u32) -> Result<(Option<FileInfo>, IdList), NoMemory>
         ensures file { IfOk result (λ made.
-            made.0 ≡ info_of self.now.script (event_files event.now)) }
+            made.0 ≡ info_of (infos_in self.now) (event_files event.now)) }
         ensures chain { IfOk result (λ made. made.1 ≡ chain_of self.now.script ns) }
     {
         let chain = IdList::of(self.alloc, declared_chain(&self.script, ns))?;
-        let file = match event_file(&self.script, event) {
+        let file = match self.named_file(event) {
             Some(file) => Some(copy_file(file)?),
             None => None,
         };
         Ok((file, chain))
+    }
+
+    /// The file that the event names, as it stands. `None` where it names none.
+    #[inline(always)]
+    fn named_file(&self, event: &Event) -> Option<&FileInfo>
+        ensures { option_map (λ file. file.now) result
+            ≡ info_of (infos_in self.now) (event_files event.now) }
+    {
+        event_file(self.state.infos(), event)
     }
 
     /// Lends what the event of the lane's line is decided on, which is then out. `None` where it
@@ -152,9 +165,9 @@ impl Book {
         requires home { AreHome event.now self.old.words.out }
         requires place { lane < length self.old.outs }
         ensures waits { is_some result
-            ≡ waits_in (replay self.old.script self.old.journal) event.now }
-        ensures of { IfSome result (λ lent. AreOf cells.now lent × (event_of lent ≡ event.now)) }
-        ensures bare { IfSome result (λ lent. bare lent ≡ lent) }
+            ≡ needs_tokens (replay self.old.script self.old.journal) event.now }
+        ensures of { IfSome result (λ lent. AreOf cells.now lent × (work_event lent ≡ event.now)) }
+        ensures bare { IfSome result (λ lent. undecided lent ≡ lent) }
         ensures tokens { IfSome result (λ lent. entries_of lent
             ≡ tokens_in (replay self.old.script self.old.journal) event.now) }
         ensures lent { IfSome result (λ lent. self.new ≡ with_out self.old lane line lent) }
@@ -179,7 +192,7 @@ impl Book {
         work: Work,
     ) -> Result<Option<Course>, Unfinished>
         requires own { self.old.words.id ≡ cells.now }
-        requires of { IsWorkOf self.old.script cells.now work }
+        requires of { IsWorkOf self.old.script (infos_in self.old) cells.now work }
         requires decided { IsDecided work }
         requires line { IsOfLine self.old.script course }
         requires number { course.line ≡ work.line }
@@ -188,7 +201,7 @@ impl Book {
         ensures passes { IfOk result (λ cursor. IfSome (line_at self.old.script course.line)
             (λ line. MovesOnTo self.old.script lane
             (course_model.after line.content course
-            (answer_of self.old course.line (event_of work.lent))) cursor)) }
+            (answer_of self.old course.line (work_event work.lent))) cursor)) }
         ensures err { IfErr result (λ unfinished. (unfinished.work ≡ work)
             × (self.new ≡ self.old)) }
     {

@@ -2,7 +2,7 @@
 use cred_copies::{copy_answer, copy_event};
 use cred_event::{Answer, Entry, Event, Told};
 use cred_ids::Id;
-use cred_record::{IdCall, IdList};
+use cred_record::{Attr, IdCall, IdList};
 use cred_report::Text;
 use std::alloc::Global;
 use std::mem::size_of;
@@ -51,6 +51,32 @@ fn copied_event(alloc: Global) -> Result<String, Fail> {
     Ok(text?)
 }
 
+/// The bytes that the event gives a file, where it gives any.
+fn bytes_of(event: &Event) -> Option<&[u8]> {
+    match event {
+        Event::SetAttr {
+            attr: Some(attr),
+            ..
+        } => Some(attr.items()),
+        _ => None,
+    }
+}
+
+/// The bytes of the copy of an event that gives some to a file.
+fn copied_bytes(alloc: Global) -> Result<Vec<u8>, Fail> {
+    let event = Event::SetAttr {
+        hold: 1,
+        file: 0,
+        attr: Some(Attr::of(alloc, &[1, 0, 255])?),
+    };
+    let copied = copy_event(&event);
+    drop(event);
+    let copied = copied?;
+    let bytes = bytes_of(&copied).unwrap_or(&[]).to_vec(alloc);
+    drop(copied);
+    Ok(bytes?)
+}
+
 /// What the copy of an answer is that holds the list.
 fn copied_answer(alloc: Global) -> Result<String, Fail> {
     let answer = Answer::Told(Told::Groups(list(alloc)?));
@@ -66,8 +92,10 @@ fn copied_answer(alloc: Global) -> Result<String, Fail> {
 fn a_copy_has_its_list(rt: HostRuntime) -> Result<(), Fail> {
     let event = copied_event(rt.alloc())?;
     let answer = copied_answer(rt.alloc())?;
+    let bytes = copied_bytes(rt.alloc())?;
     assert!(rt; event.as_str() == "Some(SetGroups(IdList { ids: [Id(30), Id(10), Id(20)] }))");
     assert!(rt; answer.as_str() == "Some(IdList { ids: [Id(30), Id(10), Id(20)] })");
+    assert!(rt; bytes.as_slice() == [1, 0, 255].as_slice());
     Ok(())
 }
 

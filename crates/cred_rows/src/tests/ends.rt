@@ -25,9 +25,9 @@ impl Write for FullDisk {
     }
 }
 
-/// A report, an empty one, both verdicts, a summary, the line of an attribute, the reason why
-/// bytes are none, and the usage line.
-const TEXTS: [(&[&str], &str); 9] = [
+/// A report, an empty one, both verdicts, a summary, the line of an attribute, of a text and of a
+/// record, the reason why a word is none, and the usage line.
+const TEXTS: [(&[&str], &str); 13] = [
     (&["run"], SCRIPT),
     (&["run"], ""),
     (&["lanes"], SCRIPT),
@@ -36,6 +36,10 @@ const TEXTS: [(&[&str], &str); 9] = [
     (&["gen", "1"], ""),
     (&["decode", "0100000200200000000000000000000000000000"], ""),
     (&["decode", "0100"], ""),
+    (&["encode", "cap_net_raw=ep"], ""),
+    (&["encode", "cap_net_raw"], ""),
+    (&["capdata", "3003981900000000000400000004000000000000"], ""),
+    (&["capdata", "0000000000000000"], ""),
     (&["frob"], ""),
 ];
 

@@ -81,7 +81,7 @@ type Asked = (
     Status,
 );
 
-const ASKED: [Asked; 10] = [
+const ASKED: [Asked; 14] = [
     (&["run"], true, &[SCRIPT], REPORT, Status::Done),
     (&["lanes"], true, &[SCRIPT], REPORT, Status::Done),
     (&["run"], true, &[SERVICE], SERVICE_REPORT, Status::Done),
@@ -122,10 +122,39 @@ const ASKED: [Asked; 10] = [
         Status::Bad,
     ),
     (
+        &["encode", "cap_net_raw=ep"],
+        false,
+        &[SCRIPT],
+        "0100000200200000000000000000000000000000\n",
+        Status::Done,
+    ),
+    (
+        &["encode", "cap_chown=p cap_chown=e"],
+        false,
+        &[SCRIPT],
+        "bad flags\n",
+        Status::Bad,
+    ),
+    (
+        &["capdata", "3003981900000000000400000004000000000000"],
+        false,
+        &[SCRIPT],
+        "version 1 target 0 perm 400 inh 0 eff 400 v3 \
+         2205082000000000000400000004000000000000000000000000000000000000\n",
+        Status::Done,
+    ),
+    (
+        &["capdata", "0000000000000000"],
+        false,
+        &[SCRIPT],
+        "bad version 0\n",
+        Status::Bad,
+    ),
+    (
         &["frob"],
         false,
         &[SCRIPT],
-        "usage: credtrace run|lanes|audit|gen N|decode HEX\n",
+        "usage: credtrace run|lanes|audit|gen N|decode HEX|encode TEXT|capdata HEX\n",
         Status::Usage,
     ),
 ];

@@ -1,5 +1,5 @@
 //! What the lines of a script hold, and their lanes.
-use cred_event::{Content, Event};
+use cred_event::{Content, Event, FileCall};
 use cred_grammar::{line_count, read};
 use cred_ids::NoMemory;
 use cred_script::Script;
@@ -17,7 +17,7 @@ pub(crate) fn script_of(alloc: Global, text: &str) -> Result<Script, Fail> {
 /// A script, and what each of its lines holds, as `text_of` says it, with its lane before it.
 type Row = (&'static str, &'static [&'static str]);
 
-const ROWS: [Row; 30] = [
+const ROWS: [Row; 34] = [
     (
         "init t1 p2 5 6 n0\n#\nt3 setresuid 1 -1 2\nt4 ids\ntakereal h5 t6\nask h7 caps\n",
         &[
@@ -66,6 +66,48 @@ const ROWS: [Row; 30] = [
         &["0 One(Alter 4 SetFs(Group, Set(Id(5))))"],
     ),
     ("commit h6", &["0 One(Commit 6)"]),
+    (
+        "t1 dumpable 2\nt2 dumped\nt3 ptrace fs t4\nt5 ptrace real t6\n",
+        &[
+            "0 One(Dumpable 1 2)",
+            "0 One(Dumped 2)",
+            "0 Ptrace 3 4 Fs",
+            "0 Ptrace 5 6 Real",
+        ],
+    ),
+    (
+        "t1 raw setgroups 30 10",
+        &["0 One(Raw 1 SetGroups(IdList { ids: [Id(30), Id(10)] }))"],
+    ),
+    (
+        // A record of version 3 about its own task.
+        "t1 capsetraw 2205082001000000000400000004000003000000000000000000000000000000",
+        &[
+            "0 Change 1 Adjust(Capset { perm: CapSet { bits: Bits(1024) }, \
+             inh: CapSet { bits: Bits(3) }, eff: CapSet { bits: Bits(1024) } })",
+        ],
+    ),
+    (
+        // One of version 1 about the caller.
+        "t7 capsetraw 0x3003981900000000000400000004000000000080",
+        &[
+            "0 Change 7 Adjust(Capset { perm: CapSet { bits: Bits(1024) }, \
+             inh: CapSet { bits: Bits(2147483648) }, eff: CapSet { bits: Bits(1024) } })",
+        ],
+    ),
+    (
+        // A file, and lines that change it or ask how it stands.
+        "file a reg 1 2 4750\nt3 chown a -1 5\nt4 chmod a 2755\nt5 setattr a 0x00fF\n\
+         t6 clearattr a\nt7 stat a\n",
+        &[
+            "0 Nothing",
+            "0 OnFile 3 Chown 0 Keep Set(Id(5))",
+            "0 OnFile 4 Chmod 0 1517",
+            "0 OnFile 5 SetAttr 0 Some(Bytes { items: [0, 255] })",
+            "0 OnFile 6 SetAttr 0 None",
+            "0 OnFile 7 Stat 0",
+        ],
+    ),
     ("abort h7", &["0 One(Abort 7)"]),
     (
         // Two files, and lines that name them.
@@ -184,9 +226,31 @@ fn event_text(alloc: Global, event: &Event) -> Result<String, NoMemory> {
         } => format!(in alloc; "Fork {task} {child} {process}"),
         Event::Exit { task } => format!(in alloc; "Exit {task}"),
         Event::Sweep => format!(in alloc; "Sweep"),
+        _ => return other_event_text(alloc, event),
+    };
+    Ok(text?)
+}
+
+/// The same of the other events that a line holds.
+fn other_event_text(alloc: Global, event: &Event) -> Result<String, NoMemory> {
+    let text = match event {
         Event::Dumpable { task, value } => format!(in alloc; "Dumpable {task} {value}"),
         Event::Dumped { task } => format!(in alloc; "Dumped {task}"),
+        Event::Raw { task, call } => format!(in alloc; "Raw {task} {call:?}"),
         _ => format!(in alloc; "another event"),
+    };
+    Ok(text?)
+}
+
+/// The name of a call on a file, and what it has.
+fn file_call_text(alloc: Global, call: &FileCall) -> Result<String, NoMemory> {
+    let text = match call {
+        FileCall::Chown { file, owner, group } => {
+            format!(in alloc; "Chown {file} {owner:?} {group:?}")
+        }
+        FileCall::Chmod { file, mode } => format!(in alloc; "Chmod {file} {mode}"),
+        FileCall::SetAttr { file, attr } => format!(in alloc; "SetAttr {file} {attr:?}"),
+        FileCall::Stat { file } => format!(in alloc; "Stat {file}"),
     };
     Ok(text?)
 }
@@ -214,6 +278,12 @@ fn text_of(alloc: Global, content: &Content) -> Result<String, NoMemory> {
         Content::Ptrace { task, to, mode } => format!(in alloc; "Ptrace {task} {to} {mode:?}"),
         Content::Change { task, change } => format!(in alloc; "Change {task} {change:?}"),
         Content::Access { task, file, want } => format!(in alloc; "Access {task} {file} {want:?}"),
+        Content::OnFile { task, call } => {
+            let call = file_call_text(alloc, call)?;
+            let text = format!(in alloc; "OnFile {task} {call}");
+            drop(call);
+            text
+        }
     };
     Ok(text?)
 }

@@ -13,7 +13,7 @@ fn script(alloc: Global) -> Result<Script, &'static str> {
 }
 
 /// Each event once, and each answer.
-static TEXTS: [&str; 75] = [
+static TEXTS: [&str; 92] = [
     "1 init t1 p1 0 0 n0 -> ok c0 s0\n",
     "4294967295 init t4294967295 p0 4294967294 0 n3 -> exists t4294967295\n",
     "1 init t1 p1 0 0 n0 -> busy 3\n",
@@ -89,10 +89,27 @@ static TEXTS: [&str; 75] = [
     "15 fork t1 t2 p2 -> exists p2\n",
     "16 exit t1 -> ok\n",
     "17 sweep -> ok\n",
+    "18 chown h1 svc 0 -1 -> ok\n",
+    "18 chown h1 svc -1 4294967294 -> eperm\n",
+    "18 chown h1 log -1 -1 -> no hold h1\n",
+    "18 chmod h1 svc 7777 -> ok\n",
+    "18 chmod h1 svc 0000 -> eperm\n",
+    "18 setattr h1 svc 0100000200200000000000000000000000000000 -> ok\n",
+    "18 setattr h1 svc 00ff -> einval\n",
+    "18 clearattr h1 log -> eperm\n",
+    "18 clearattr h1 log -> ok\n",
+    "18 stat h1 log -> ok 0 4294967294 0644 0\n",
+    "18 stat h1 svc -> ok 1000 50 4755 1\n",
+    "18 stat h1 svc -> no hold h1\n",
+    "19 raw t1 setresuid 5 -1 5 -> ok c9 s9\n",
+    "19 raw t1 setgroups 30 10 20 -> eperm\n",
+    "19 raw t1 seteuid -1 -> einval\n",
+    "19 raw t1 setgid 7 -> busy 12\n",
+    "19 raw t1 setuid 7 -> overridden 2\n",
 ];
 
 /// Texts that are those of no entry.
-static NONE: [&str; 40] = [
+static NONE: [&str; 52] = [
     "",
     "\n",
     "17 sweep -> ok",
@@ -133,6 +150,18 @@ static NONE: [&str; 40] = [
     "12 begin t1 setresuid -1 -1 -1 -> eperm\n",
     "12 begin t1 setgroups 30 10 20 -> einval\n",
     "13 act 12 -> aborted t2 late\n",
+    "18 chown h1 svc -1 -1 -> eperm\n",
+    "18 chown h1 ghost 0 0 -> ok\n",
+    "18 chmod h1 svc 755 -> ok\n",
+    "18 chmod h1 svc 0788 -> ok\n",
+    "18 setattr h1 svc 0x00ff -> einval\n",
+    "18 setattr h1 svc 00FF -> einval\n",
+    "18 setattr h1 svc -> ok\n",
+    "18 clearattr h1 svc -> einval\n",
+    "18 stat h1 svc -> ok 0 0 644 0\n",
+    "18 stat h1 svc -> ok 0 0 0644\n",
+    "19 raw t1 setuid 7 -> ok c9 s9 left 0\n",
+    "19 raw t1 capset 0 0 0 -> ok c9 s9\n",
 ];
 
 /// What an answer means that begins with `ok`.
@@ -163,44 +192,59 @@ static ANSWERS: [(&str, Meant); 3] = [
 /// The calls that set ids, and whether some caller is answered `ok`, `eperm` and `einval` for these
 /// arguments (setuid(2), seteuid(2), setreuid(2), setresuid(2), setgroups(2)).
 static ID_CALLS: [(&str, [bool; 3]); 17] = [
-    ("begin t1 setuid 5", [true, true, false]),
-    ("begin t1 setuid -1", [false, false, true]),
-    ("begin t1 seteuid 5", [true, true, false]),
-    ("begin t1 seteuid -1", [false, false, true]),
-    ("begin t1 setreuid -1 5", [true, true, false]),
-    ("begin t1 setreuid -1 -1", [true, false, false]),
-    ("begin t1 setresuid -1 -1 5", [true, true, false]),
-    ("begin t1 setresuid -1 -1 -1", [true, false, false]),
-    ("begin t1 setgid 5", [true, true, false]),
-    ("begin t1 setgid -1", [false, false, true]),
-    ("begin t1 setegid 5", [true, true, false]),
-    ("begin t1 setegid -1", [false, false, true]),
-    ("begin t1 setregid 5 -1", [true, true, false]),
-    ("begin t1 setregid -1 -1", [true, false, false]),
-    ("begin t1 setresgid 5 -1 -1", [true, true, false]),
-    ("begin t1 setresgid -1 -1 -1", [true, false, false]),
-    ("begin t1 setgroups 7 7", [true, true, false]),
+    ("setuid 5", [true, true, false]),
+    ("setuid -1", [false, false, true]),
+    ("seteuid 5", [true, true, false]),
+    ("seteuid -1", [false, false, true]),
+    ("setreuid -1 5", [true, true, false]),
+    ("setreuid -1 -1", [true, false, false]),
+    ("setresuid -1 -1 5", [true, true, false]),
+    ("setresuid -1 -1 -1", [true, false, false]),
+    ("setgid 5", [true, true, false]),
+    ("setgid -1", [false, false, true]),
+    ("setegid 5", [true, true, false]),
+    ("setegid -1", [false, false, true]),
+    ("setregid 5 -1", [true, true, false]),
+    ("setregid -1 -1", [true, false, false]),
+    ("setresgid 5 -1 -1", [true, true, false]),
+    ("setresgid -1 -1 -1", [true, false, false]),
+    ("setgroups 7 7", [true, true, false]),
 ];
 
 /// The same of changes of sets and securebits (capset(2), prctl(2), capabilities(7)).
 static CHANGES: [(&str, [bool; 3]); 17] = [
-    ("change h2 capset 400 400 400", [true, true, false]),
-    ("change h2 capset 0 0 0", [true, false, false]),
-    ("change h2 capset 400 0 1ffffffffff", [false, true, false]),
-    ("change h2 capdrop 40", [true, true, false]),
-    ("change h2 capdrop 41", [false, true, true]),
-    ("change h2 ambraise 40", [true, true, false]),
-    ("change h2 ambraise 41", [false, false, true]),
-    ("change h2 amblower 40", [true, false, false]),
-    ("change h2 amblower 41", [false, false, true]),
-    ("change h2 ambclear", [true, false, false]),
-    ("change h2 securebits 255", [true, true, false]),
-    ("change h2 securebits 256", [false, true, false]),
-    ("change h2 keepcaps 0", [true, true, false]),
-    ("change h2 keepcaps 2", [false, false, true]),
-    ("change h2 nonewprivs 1", [true, false, false]),
-    ("change h2 nonewprivs 0", [false, false, true]),
-    ("change h2 setfsuid 5", [false, false, false]),
+    ("capset 400 400 400", [true, true, false]),
+    ("capset 0 0 0", [true, false, false]),
+    ("capset 400 0 1ffffffffff", [false, true, false]),
+    ("capdrop 40", [true, true, false]),
+    ("capdrop 41", [false, true, true]),
+    ("ambraise 40", [true, true, false]),
+    ("ambraise 41", [false, false, true]),
+    ("amblower 40", [true, false, false]),
+    ("amblower 41", [false, false, true]),
+    ("ambclear", [true, false, false]),
+    ("securebits 255", [true, true, false]),
+    ("securebits 256", [false, true, false]),
+    ("keepcaps 0", [true, true, false]),
+    ("keepcaps 2", [false, false, true]),
+    ("nonewprivs 1", [true, false, false]),
+    ("nonewprivs 0", [false, false, true]),
+    ("setfsuid 5", [false, false, false]),
+];
+
+/// The same of calls on files (chown(2), chmod(2), setxattr(2), stat(2)).
+static FILE_CALLS: [(&str, [bool; 3]); 8] = [
+    ("chown h1 svc 5 -1", [true, true, false]),
+    ("chown h1 svc -1 5", [true, true, false]),
+    ("chown h1 svc -1 -1", [true, false, false]),
+    ("chmod h1 svc 4755", [true, true, false]),
+    ("clearattr h1 svc", [true, true, false]),
+    (
+        "setattr h1 svc 010000010000000000000000",
+        [true, true, false],
+    ),
+    ("setattr h1 svc 0100", [false, true, true]),
+    ("stat h1 svc", [false, false, false]),
 ];
 
 /// What comes of a text that is read and printed again.
@@ -256,9 +300,14 @@ fn first_answer(alloc: Global, script: &Script) -> Result<Option<&'static str>, 
     Ok(None)
 }
 
-/// Whether the event may be given the answer.
-fn fits(alloc: Global, script: &Script, event: &str, answer: &str) -> Result<bool, NoMemory> {
-    let text = format!(in alloc; "7 {event} -> {answer}\n")?;
+/// Whether the event, by its first words and the others, may be given the answer.
+fn fits(
+    alloc: Global,
+    script: &Script,
+    (start, event): (&str, &str),
+    answer: &str,
+) -> Result<bool, NoMemory> {
+    let text = format!(in alloc; "7 {start}{event} -> {answer}\n")?;
     let entry = read(alloc, script, text.as_bytes());
     drop(text);
     let entry = entry?;
@@ -268,16 +317,16 @@ fn fits(alloc: Global, script: &Script, event: &str, answer: &str) -> Result<boo
 }
 
 /// The first of these events that is given an answer which it may not have, or not given one that
-/// it may. `done` is the one of the call that is made.
+/// it may. All begin with these words, and `done` is the answer of a call that is made.
 fn first_misfit(
     alloc: Global,
     script: &Script,
+    (start, done): (&str, &str),
     events: &[(&'static str, [bool; 3])],
-    done: &str,
 ) -> Result<Option<&'static str>, NoMemory> {
     for (event, answered) in events {
         for (answer, want) in [done, "eperm", "einval"].iter().zip(answered) {
-            if fits(alloc, script, event, answer)? != *want {
+            if fits(alloc, script, (start, event), answer)? != *want {
                 return Ok(Some(*event));
             }
         }
@@ -294,8 +343,11 @@ fn first_misread(alloc: Global, script: &Script) -> Result<Option<&'static str>,
 
 /// The first event whose answers are others than its call may be given.
 fn first_misanswered(alloc: Global, script: &Script) -> Result<Option<&'static str>, NoMemory> {
-    let begun = first_misfit(alloc, script, &ID_CALLS, "ok c2 s2 left 0")?;
-    Ok(begun.or(first_misfit(alloc, script, &CHANGES, "ok")?))
+    let begun = first_misfit(alloc, script, ("begin t1 ", "ok c2 s2 left 0"), &ID_CALLS)?;
+    let raw = first_misfit(alloc, script, ("raw t1 ", "ok c2 s2"), &ID_CALLS)?;
+    let changed = first_misfit(alloc, script, ("change h2 ", "ok"), &CHANGES)?;
+    let on_file = first_misfit(alloc, script, ("", "ok"), &FILE_CALLS)?;
+    Ok(begun.or(raw).or(changed).or(on_file))
 }
 
 #[test]

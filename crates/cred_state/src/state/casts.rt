@@ -69,7 +69,7 @@ impl State {
             Ok(now) => now,
             Err(answer) => return Ok(answer),
         };
-        let mut parts = self.look_parts(cells, now);
+        let mut parts = self.read_parts(cells, now);
         let old = parts;
         match apply_parts(self.alloc, &mut parts, call) {
             Ok(groups) => {
@@ -84,7 +84,7 @@ impl State {
 
     /// What an id call looks at of the credential that was found. Something refers to it.
     #[inline(always)]
-    pub(super) fn look_parts(&mut self, cells: &Cells, found: Numbered) -> Parts
+    pub(super) fn read_parts(&mut self, cells: &Cells, found: Numbered) -> Parts
         requires own { self.old.words.id ≡ cells.now }
         requires found { numbered self.old.state.creds found.number
             ≡ Some (seen_in self.old.state.creds found) }
@@ -93,7 +93,7 @@ impl State {
             (result ≡ parts_of c) × AreValidSets c.perm c.inh c.eff c.amb }
         ensures same { self.new ≡ self.old }
     {
-        self.master.look_parts(cells, found.slot)
+        self.master.read_parts(cells, found.slot)
     }
 
     /// The call of a task that may make it, which gives the task's current credential these parts,
@@ -166,7 +166,7 @@ impl State {
         let Some(next) = self.next_in(number) else {
             return Ok(Answer::NoBroadcast(number));
         };
-        let mut parts = self.look_parts(cells, next.now);
+        let mut parts = self.read_parts(cells, next.now);
         let own = parts;
         match self.follow(next.cast, &mut parts) {
             Ok(groups) => {
@@ -240,7 +240,7 @@ impl State {
             .set_like(cells, next.now.slot, slot, parts, groups);
         self.tasks.set_current_at(next.place, new);
         self.slots.drop_later(next.now.number);
-        let left = self.casts.acted_at(next.cast, next.task);
+        let left = self.casts.act_at(next.cast, next.task);
         Ok(Answer::Acted {
             task: next.task,
             cred: new,

@@ -24,7 +24,6 @@ impl State {
     pub(crate) fn ask(
         &mut self,
         cells: &Cells,
-        script: &Script,
         label: u32,
         query: Query,
     ) -> Result<Answer, NoMemory>
@@ -33,8 +32,7 @@ impl State {
         requires home { AreHome (Event.Ask label query) self.old.words.out }
         requires sound { IsSound self.old.state }
         ensures ok { IfOk result (λ answer.
-            Gives self.old.state (by_ask script.now self.old.state label query) answer
-            self.new.state) }
+            Gives self.old.state (by_ask self.old.state label query) answer self.new.state) }
         ensures same { self.new ≡ self.old }
     {
         let Some(found) = self.held(label) else {
@@ -46,9 +44,9 @@ impl State {
             cells,
             &mut hold,
             query,
-            asked_file(script, query),
+            asked_file(self.infos(), query),
         );
-        self.give_back(cells, hold);
+        self.take_hold_back(cells, hold);
         told
     }
 
@@ -70,17 +68,17 @@ impl State {
         ensures same { self.new ≡ self.old }
     {
         let Some(own) = self.held(hold) else {
-            return self.signalled(from, hold, to, target, false);
+            return self.enter_signal(from, hold, to, target, false);
         };
         let Some(other) = self.held(target) else {
-            return self.signalled(from, hold, to, target, false);
+            return self.enter_signal(from, hold, to, target, false);
         };
         let mut sender = self.lend_found(cells, hold, own);
         let mut receiver = self.lend_found(cells, target, other);
         let may = decide_signal(cells, &mut sender, &mut receiver);
-        self.give_back(cells, receiver);
-        self.give_back(cells, sender);
-        self.signalled(from, hold, to, target, may)
+        self.take_hold_back(cells, receiver);
+        self.take_hold_back(cells, sender);
+        self.enter_signal(from, hold, to, target, may)
     }
 
     /// Opens a file (open(2)). Whether it may be opened so is decided on the hold that is lent for
@@ -93,7 +91,6 @@ impl State {
     pub(crate) fn open(
         &mut self,
         cells: &Cells,
-        script: &Script,
         label: u32,
         file: u32,
         want: Want,
@@ -104,7 +101,7 @@ impl State {
         requires home { AreHome (Event.OpenFile label file want fd) self.old.words.out }
         requires sound { IsSound self.old.state }
         ensures ok { IfOk result (λ answer.
-            Gives self.old.state (by_open script.now self.old.state label file want fd) answer
+            Gives self.old.state (by_open self.old.state label file want fd) answer
             self.new.state) }
         ensures err { OnErr result (self.new ≡ self.old) }
         ensures words { self.new.words ≡ self.old.words }
@@ -113,8 +110,8 @@ impl State {
             return Ok(Answer::NoHold(label));
         };
         let mut hold = self.lend_found(cells, label, found);
-        let may = may_open(self.alloc, cells, &mut hold, script.file(file), want);
-        self.give_back(cells, hold);
+        let may = may_open(self.alloc, cells, &mut hold, self.infos().file(file), want);
+        self.take_hold_back(cells, hold);
         self.open_as(label, file, fd, may?)
     }
 
@@ -145,7 +142,7 @@ impl State {
         let Some((mut base, mut writer)) = self.lend_kept(cells, label) else {
             return Ok(Answer::NoPrepared(label));
         };
-        let file = executed_file(script, change);
+        let file = executed_file(self.infos(), change);
         let chain = chain_of(script, ns);
         match alter(
             self.alloc,
@@ -156,10 +153,10 @@ impl State {
             chain,
             &mut writer,
         ) {
-            Ok(made) => Ok(self.altered(cells, base, writer, change, made)),
+            Ok(made) => Ok(self.enter_alter(cells, base, writer, change, made)),
             Err(NoMemory) => {
                 self.put_earlier(cells, label, writer);
-                self.give_back(cells, base);
+                self.take_hold_back(cells, base);
                 Err(NoMemory)
             }
         }

@@ -7,9 +7,8 @@ ghost use Rattle.cred_model.specs.Answers.{checked, reply};
 ghost use Rattle.cred_model.specs.Change as model;
 ghost use Rattle.cred_model.specs.Script.{Script as Declared};
 ghost use Rattle.cred_model.specs.Like.{Gives, GivesLike};
-ghost use Rattle.cred_model.specs.Script.{info_of};
 ghost use Rattle.cred_model.specs.Slots.{kept};
-ghost use Rattle.cred_model.specs.State.{held_by};
+ghost use Rattle.cred_model.specs.State.{held_by, info_of};
 ghost use Rattle.cred_model.specs.Named.{event_files, query_files};
 ghost use Rattle.cred_model.specs.Step.{by_alter, by_ask, by_open, by_signal, done};
 ghost use Rattle.cred_record.specs.Credential.{Credential};
@@ -17,11 +16,11 @@ ghost use Rattle.cred_record.specs.declared.want.Want.{Want as Wanted};
 ghost use Rattle.cred_rules.specs.Access.{may_signal};
 ghost use Rattle.cred_sound.specs.Sound.{IsSound};
 ghost use Rattle.cred_words.specs.Lists.{IsTaken};
-ghost use Rattle.cred_hold.specs.Tokens.{entry};
-ghost use Rattle.cred_work.specs.Decisions.{event_of, AreOf, IsPut, IsRight};
+ghost use Rattle.cred_hold.specs.Tokens.{loan};
+ghost use Rattle.cred_work.specs.Decisions.{work_event, AreOf, IsPut, IsRight};
 ghost use Rattle.cred_tables.specs.Out.{AreBack, AreOut};
-ghost use Rattle.cred_state.specs.Lending.{entries_of, held_entry, AreApart, AreTaken, IsChain};
-ghost use Rattle.cred_state.specs.Lending.{IsBase, IsMadeOf, IsMadePut};
+ghost use Rattle.cred_state.specs.TokensOut.{entries_of, hold_loan, HoldsApart, AreTaken, IsChain};
+ghost use Rattle.cred_state.specs.TokensOut.{IsBase, IsMadeOf, IsMadePut};
 
 use crate::state::State;
 use cred_decide::Made;
@@ -29,7 +28,7 @@ use cred_event::{Answer, Change};
 use cred_hold::{Cells, Hold, Writer};
 use cred_ids::NoMemory;
 use cred_tables::Changed;
-use cred_work::{Lent, unboxed};
+use cred_work::{Lent, unbox};
 
 impl State {
     /// Enters an event as it was decided, and takes back what was lent for it. A change that is
@@ -48,9 +47,9 @@ impl State {
         requires out { AreOut self.old.state self.old.words.out }
         ensures ok { (script : Declared) (line : ℕ) (chain : List ℕ)
             → IsChain script lent chain
-            → IsRight (info_of script (event_files (event_of lent))) chain lent
+            → IsRight (info_of self.old.state.infos (event_files (work_event lent))) chain lent
             → IfOk result (λ answer.
-            GivesLike self.old.state (done script self.old.state line (event_of lent)) answer
+            GivesLike self.old.state (done script self.old.state line (work_event lent)) answer
             self.new.state) }
         ensures back { OnOk result (AreBack (entries_of lent) self.old.words self.new.words) }
         ensures taken { OnOk result
@@ -61,8 +60,8 @@ impl State {
             Lent::Asking { hold, query, told } => match told {
                 Some(told) => {
                     let label = hold.label();
-                    self.give_back(cells, hold);
-                    Ok(self.asked(label, told))
+                    self.take_hold_back(cells, hold);
+                    Ok(self.enter_ask(label, told))
                 }
                 None => Err(Lent::Asking {
                     hold,
@@ -76,7 +75,7 @@ impl State {
                 want,
                 fd,
                 may,
-            } => match self.opened(cells, hold, file, fd, may) {
+            } => match self.enter_open(cells, hold, file, fd, may) {
                 Ok(answer) => Ok(answer),
                 Err(hold) => Err(Lent::Opening {
                     hold,
@@ -96,9 +95,9 @@ impl State {
                 Some(may) => {
                     let own = hold.label();
                     let other = target.label();
-                    self.give_back(cells, target);
-                    self.give_back(cells, hold);
-                    Ok(self.signalled(from, own, to, other, may))
+                    self.take_hold_back(cells, target);
+                    self.take_hold_back(cells, hold);
+                    Ok(self.enter_signal(from, own, to, other, may))
                 }
                 None => Err(Lent::Signalling {
                     from,
@@ -115,8 +114,8 @@ impl State {
                 made,
             } => match made {
                 Some(made) => {
-                    let made = unboxed(made);
-                    Ok(self.altered(cells, base, writer, change, made))
+                    let made = unbox(made);
+                    Ok(self.enter_alter(cells, base, writer, change, made))
                 }
                 None => Err(Lent::Altering {
                     base,
@@ -132,7 +131,7 @@ impl State {
     /// refused. Both tokens come back.
     // No call, since what it takes or gives is large, and would be moved.
     #[inline(always)]
-    pub(super) fn altered(
+    pub(super) fn enter_alter(
         &mut self,
         cells: &Cells,
         base: Hold,
@@ -147,22 +146,22 @@ impl State {
         requires sound { IsSound self.old.state }
         requires out { AreOut self.old.state self.old.words.out }
         ensures made { (script : Declared) (chain : List ℕ)
-            → IsMadeOf script chain base.cred change made
+            → IsMadeOf script self.old.state.infos chain base.cred change made
             → GivesLike self.old.state (by_alter script self.old.state base.label change) result
             self.new.state }
-        ensures taken { AreTaken (entry writer.label writer.slot None ∷ held_entry base ∷ [])
+        ensures taken { AreTaken (loan writer.label writer.slot None ∷ hold_loan base ∷ [])
             self.old.words.out self.new.words.out }
         ensures id { self.new.words.id ≡ self.old.words.id }
     {
-        let answer = self.changed(cells, base.label(), change, writer, made);
-        self.give_back(cells, base);
+        let answer = self.enter_change(cells, base.label(), change, writer, made);
+        self.take_hold_back(cells, base);
         answer
     }
 
     /// The same, while the base is still lent.
     // No call, since what it takes or gives is large, and would be moved.
     #[inline(always)]
-    fn changed(
+    fn enter_change(
         &mut self,
         cells: &Cells,
         label: u32,
@@ -176,11 +175,11 @@ impl State {
         requires sound { IsSound self.old.state }
         requires out { AreOut self.old.state self.old.words.out }
         ensures made { (script : Declared) (chain : List ℕ) (base : Credential)
-            → IsMadeOf script chain base change made
+            → IsMadeOf script self.old.state.infos chain base change made
             → IsBase self.old.state label base
             → GivesLike self.old.state (by_alter script self.old.state label change) result
             self.new.state }
-        ensures taken { IsTaken self.old.words.out (entry writer.label writer.slot None)
+        ensures taken { IsTaken self.old.words.out (loan writer.label writer.slot None)
             self.new.words.out }
         ensures id { self.new.words.id ≡ self.old.words.id }
         ensures kept { kept self.new.state ≡ kept self.old.state }
@@ -213,7 +212,7 @@ impl State {
     ///
     /// The hold, which is still lent, where nothing was decided, or where there is no memory for
     /// the file. The state is as it was.
-    fn opened(
+    fn enter_open(
         &mut self,
         cells: &Cells,
         hold: Hold,
@@ -222,14 +221,14 @@ impl State {
         may: Option<bool>,
     ) -> Result<Answer, Hold>
         requires own { (self.old.words.id ≡ cells.now) × (hold.id ≡ cells.now) }
-        requires apart { AreApart (kept self.old.state) self.old.words.out }
-        ensures ok { IfOk result (λ answer. (script : Declared) (want : Wanted)
+        requires apart { HoldsApart (kept self.old.state) self.old.words.out }
+        ensures ok { IfOk result (λ answer. (want : Wanted)
             → IfSome may (λ may. IfSome (held_by self.old.state hold.label) (λ held.
-            checked held.cred (info_of script (file ∷ [])) want
+            checked held.cred (info_of self.old.state.infos (file ∷ [])) want
             ≡ (if may then Done else Eacces)))
-            → Gives self.old.state (by_open script self.old.state hold.label file want fd) answer
+            → Gives self.old.state (by_open self.old.state hold.label file want fd) answer
             self.new.state) }
-        ensures taken { OnOk result (IsTaken self.old.words.out (held_entry hold)
+        ensures taken { OnOk result (IsTaken self.old.words.out (hold_loan hold)
             self.new.words.out) }
         ensures id { self.new.words.id ≡ self.old.words.id }
         ensures err { IfErr result (λ left. (self.new ≡ self.old) × (left ≡ hold)) }
@@ -239,7 +238,7 @@ impl State {
         };
         match self.open_as(hold.label(), file, fd, may) {
             Ok(answer) => {
-                self.give_back(cells, hold);
+                self.take_hold_back(cells, hold);
                 Ok(answer)
             }
             Err(NoMemory) => Err(hold),
@@ -247,12 +246,11 @@ impl State {
     }
 
     /// What a question is answered, where this was told of the credential that its label holds.
-    pub(crate) fn asked(&self, label: u32, told: Answer) -> Answer
-        ensures { (script : Declared) (query : Asked)
+    pub(crate) fn enter_ask(&self, label: u32, told: Answer) -> Answer
+        ensures { (query : Asked)
             → IfSome (held_by self.now.state label) (λ held.
-            told ≡ reply (info_of script (query_files query)) held.cred query)
-            → Gives self.now.state (by_ask script self.now.state label query) result
-            self.now.state }
+            told ≡ reply (info_of self.now.state.infos (query_files query)) held.cred query)
+            → Gives self.now.state (by_ask self.now.state label query) result self.now.state }
     {
         let Some(_) = self.held(label) else {
             return Answer::NoHold(label);
@@ -262,7 +260,14 @@ impl State {
 
     /// May a task signal another (kill(2)), where one label holds the sender's credential and
     /// another the target's? `may` says whether it may where they are of two processes.
-    pub(crate) fn signalled(&self, from: u32, hold: u32, to: u32, target: u32, may: bool) -> Answer
+    pub(crate) fn enter_signal(
+        &self,
+        from: u32,
+        hold: u32,
+        to: u32,
+        target: u32,
+        may: bool,
+    ) -> Answer
         ensures { IfSome (held_by self.now.state hold) (λ own.
             IfSome (held_by self.now.state target) (λ other.
             may ≡ may_signal own.cred other.cred false))
@@ -302,11 +307,11 @@ impl State {
         fd: u32,
         may: bool,
     ) -> Result<Answer, NoMemory>
-        ensures ok { IfOk result (λ answer. (script : Declared) (want : Wanted)
+        ensures ok { IfOk result (λ answer. (want : Wanted)
             → IfSome (held_by self.old.state label) (λ held.
-            checked held.cred (info_of script (file ∷ [])) want
+            checked held.cred (info_of self.old.state.infos (file ∷ [])) want
             ≡ (if may then Done else Eacces))
-            → Gives self.old.state (by_open script self.old.state label file want fd) answer
+            → Gives self.old.state (by_open self.old.state label file want fd) answer
             self.new.state) }
         ensures kept { kept self.new.state ≡ kept self.old.state }
         ensures words { (self.new.words ≡ self.old.words) × (self.new.places ≡ self.old.places) }

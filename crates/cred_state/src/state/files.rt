@@ -6,12 +6,11 @@ ghost use Rattle.std.specs.Option.{option_map};
 ghost use Rattle.cred_ids.specs.Limits.{OPEN_FILES};
 ghost use Rattle.cred_record.specs.declared.want.Want.{Want as Wanted};
 ghost use Rattle.cred_model.specs.Answers.{checked};
-ghost use Rattle.cred_model.specs.Script.{info_of, Script as Declared};
-ghost use Rattle.cred_model.specs.State.{held_by, open_of, opener_of};
+ghost use Rattle.cred_model.specs.State.{held_by, info_of, open_of, opener_of};
 ghost use Rattle.cred_model.specs.Like.{Gives};
 ghost use Rattle.cred_model.specs.Step.{by_close, by_open, by_take_file};
 ghost use Rattle.cred_tables.specs.Kept.{seen_in, IsInUse};
-ghost use Rattle.cred_state.specs.Lending.{MayOpen};
+ghost use Rattle.cred_state.specs.TokensOut.{MayOpen};
 
 use crate::state::State;
 use cred_event::{Answer, Counted, Named};
@@ -25,11 +24,11 @@ impl State {
     pub(crate) fn may_open(&self, label: u32, fd: u32, may: bool) -> Result<u64, Answer>
         ensures { MatchResult result
             (λ opener. MayOpen self.now.state label fd opener may)
-            (λ answer. (script : Declared) (file : ℕ) (want : Wanted)
+            (λ answer. (file : ℕ) (want : Wanted)
             → IfSome (held_by self.now.state label) (λ held.
-            checked held.cred (info_of script (file ∷ [])) want
+            checked held.cred (info_of self.now.state.infos (file ∷ [])) want
             ≡ (if may then Done else Eacces))
-            → Gives self.now.state (by_open script self.now.state label file want fd) answer
+            → Gives self.now.state (by_open self.now.state label file want fd) answer
             self.now.state) }
     {
         let Some(found) = self.held(label) else {

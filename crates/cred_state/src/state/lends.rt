@@ -3,12 +3,12 @@ ghost use Rattle.std.specs.Prelude.{◌≡◌, ◌∷◌, [], is_some, None, IfS
 ghost use Rattle.std.specs.Option.{option_and_then, option_map};
 ghost use Rattle.cred_model.specs.State.{hold_of, numbered, prepared_of};
 ghost use Rattle.cred_sound.specs.Sound.{IsSound};
-ghost use Rattle.cred_work.specs.Decisions.{bare, event_of, AreOf};
+ghost use Rattle.cred_work.specs.Decisions.{undecided, work_event, AreOf};
 ghost use Rattle.cred_tables.specs.Kept.{cred_under, seen_in, IsInUse};
-ghost use Rattle.cred_tables.specs.Out.{AreHome, AreOut, hold_token, tokens_in, waits_in};
-ghost use Rattle.cred_state.specs.Lending.{entries_of, held_entry, with_hold, with_kept};
-ghost use Rattle.cred_state.specs.Lending.{is_decided, with_lent, IsHome, IsKeptBy, IsNs};
-ghost use Rattle.cred_state.specs.Lending.{IsStanding};
+ghost use Rattle.cred_tables.specs.Out.{AreHome, AreOut, hold_token, tokens_in, needs_tokens};
+ghost use Rattle.cred_state.specs.TokensOut.{entries_of, hold_loan, with_hold, with_kept};
+ghost use Rattle.cred_state.specs.TokensOut.{needs_decision, with_lent, IsHome, IsKeptBy, IsNs};
+ghost use Rattle.cred_state.specs.TokensOut.{IsStanding};
 
 use crate::state::State;
 use cred_event::{Change, Event};
@@ -30,11 +30,11 @@ impl State {
         requires sound { IsSound self.old.state }
         requires out { AreOut self.old.state self.old.words.out }
         requires home { AreHome event.now self.old.words.out }
-        ensures waits { is_some result ≡ waits_in self.old.state event.now }
-        ensures of { IfSome result (λ lent. AreOf cells.now lent × (event_of lent ≡ event.now)) }
+        ensures waits { is_some result ≡ needs_tokens self.old.state event.now }
+        ensures of { IfSome result (λ lent. AreOf cells.now lent × (work_event lent ≡ event.now)) }
         ensures tokens { IfSome result (λ lent. entries_of lent
             ≡ tokens_in self.old.state event.now) }
-        ensures bare { IfSome result (λ lent. bare lent ≡ lent) }
+        ensures bare { IfSome result (λ lent. undecided lent ≡ lent) }
         ensures lent { IfSome result (λ lent. self.new ≡ with_lent self.old lent) }
         ensures none { IfNone result (self.new ≡ self.old) }
     {
@@ -94,14 +94,14 @@ impl State {
         ensures same { self.new ≡ self.old }
     {
         let base = self.base(label)?;
-        Some(self.look_ns(cells, base))
+        Some(self.read_ns(cells, base))
     }
 
     /// The user namespace whose root ids an event is decided by: for a change that of `change_ns`,
     /// and for others none that a script declares. `None` where it isn't decided on credentials.
     pub fn deciding_ns(&mut self, cells: &Cells, event: &Event) -> Option<u32>
         requires own { self.old.words.id ≡ cells.now }
-        ensures decided { is_some result ≡ is_decided event.now }
+        ensures decided { is_some result ≡ needs_decision event.now }
         ensures ns { IfSome result (IsNs self.old.state event.now) }
         ensures same { self.new ≡ self.old }
     {
@@ -126,7 +126,7 @@ impl State {
     }
 
     /// The user namespace of the credential that was found. Something refers to it.
-    pub(super) fn look_ns(&mut self, cells: &Cells, found: Numbered) -> u32
+    pub(super) fn read_ns(&mut self, cells: &Cells, found: Numbered) -> u32
         requires own { self.old.words.id ≡ cells.now }
         requires found { numbered self.old.state.creds found.number
             ≡ Some (seen_in self.old.state.creds found) }
@@ -134,7 +134,7 @@ impl State {
         ensures ns { result ≡ (cred_under self.old.state.creds found.number).ns }
         ensures same { self.new ≡ self.old }
     {
-        self.master.look_ns(cells, found.slot)
+        self.master.read_ns(cells, found.slot)
     }
 
     /// Lends what the label holds. `None` where it holds nothing.
@@ -144,7 +144,7 @@ impl State {
         ensures waits { is_some result ≡ is_some (hold_of self.old.state label) }
         ensures of { IfSome result (λ hold. (hold.id ≡ cells.now) × (hold.label ≡ label)) }
         ensures tokens { IfSome result (λ hold.
-            held_entry hold ∷ [] ≡ hold_token self.old.state label) }
+            hold_loan hold ∷ [] ≡ hold_token self.old.state label) }
         ensures lent { IfSome result (λ hold. self.new ≡ with_hold self.old hold) }
         ensures standing { IfSome result (λ _. IsStanding self.old) }
         ensures none { IfNone result (self.new ≡ self.old) }

@@ -20,7 +20,7 @@ use cred_event::{Answer, Change, Counted, Named};
 use cred_hold::Cells;
 use cred_ids::{NoMemory, limits};
 use cred_tables::{
-    Ended, Numbered, Preparation, Ready, committed_by, drop_all, drop_cast, end_with, seal_kept,
+    GivenUp, Numbered, Preparation, Ready, committed_by, drop_all, drop_cast, end_with, seal_kept,
 };
 
 impl State {
@@ -203,7 +203,7 @@ impl State {
         ensures made { Gives self.old.state (by_abort self.old.state label) result self.new.state }
         ensures words { self.new.words ≡ self.old.words }
     {
-        let Some(Ended { base, slot }) = self.prepared.give_up(label) else {
+        let Some(GivenUp { base, slot }) = self.prepared.give_up(label) else {
             return Answer::NoPrepared(label);
         };
         self.slots.give_up(slot);

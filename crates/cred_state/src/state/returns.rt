@@ -6,10 +6,10 @@ ghost use Rattle.cred_model.specs.Slots.{kept};
 ghost use Rattle.cred_sound.specs.Ledger.{ledger};
 ghost use Rattle.cred_sound.specs.Sound.{IsSound};
 ghost use Rattle.cred_words.specs.Lists.{IsTaken};
-ghost use Rattle.cred_hold.specs.Tokens.{entry};
+ghost use Rattle.cred_hold.specs.Tokens.{loan};
 ghost use Rattle.cred_tables.specs.Kept.{creds_in};
 ghost use Rattle.cred_tables.specs.Out.{AreOut};
-ghost use Rattle.cred_state.specs.Lending.{earlier_of, AreApart};
+ghost use Rattle.cred_state.specs.TokensOut.{earlier_of, HoldsApart};
 
 use crate::state::State;
 use cred_hold::{Cells, Hold, Writer, put, unput};
@@ -17,14 +17,14 @@ use cred_tables::{Changed, Preparation};
 
 impl State {
     /// Takes back a hold.
-    pub(crate) fn give_back(&mut self, cells: &Cells, hold: Hold)
+    pub(crate) fn take_hold_back(&mut self, cells: &Cells, hold: Hold)
         requires own { (self.old.words.id ≡ cells.now) × (hold.id ≡ cells.now) }
-        requires apart { AreApart (kept self.old.state) self.old.words.out }
+        requires apart { HoldsApart (kept self.old.state) self.old.words.out }
         ensures state { self.new.state ≡ self.old.state }
         ensures places { self.new.places ≡ self.old.places }
         ensures id { self.new.words.id ≡ self.old.words.id }
         ensures taken { IsTaken self.old.words.out
-            (entry hold.label hold.slot (Some hold.cred)) self.new.words.out }
+            (loan hold.label hold.slot (Some hold.cred)) self.new.words.out }
     {
         self.master.give_back(cells, hold);
     }
@@ -41,7 +41,7 @@ impl State {
         requires out { AreOut self.old.state self.old.words.out }
         ensures like { IsLike self.new.state (altered self.old.state label to) }
         ensures id { self.new.words.id ≡ self.old.words.id }
-        ensures taken { IsTaken self.old.words.out (entry writer.label writer.slot None)
+        ensures taken { IsTaken self.old.words.out (loan writer.label writer.slot None)
             self.new.words.out }
     {
         self.prepared.change(label, to);
@@ -62,7 +62,7 @@ impl State {
         ensures places { self.new.places
             ≡ slice_set self.old.places writer.slot (earlier_of self.old.state label) }
         ensures id { self.new.words.id ≡ self.old.words.id }
-        ensures taken { IsTaken self.old.words.out (entry writer.label writer.slot None)
+        ensures taken { IsTaken self.old.words.out (loan writer.label writer.slot None)
             self.new.words.out }
     {
         let mut writer = writer;

@@ -13,7 +13,7 @@ ghost use Rattle.cred_procs.specs.Tasks.{has_process};
 ghost use Rattle.cred_sound.specs.Sound.{IsSound};
 ghost use Rattle.cred_tables.specs.Kept.{seen_in};
 ghost use Rattle.cred_tables.specs.Out.{AreOut};
-ghost use Rattle.cred_state.specs.Refusals.{by_creating, IsUnused, MayCreate};
+ghost use Rattle.cred_state.specs.Refusals.{by_creating, IsUnusedProcess, MayCreate};
 
 use crate::state::State;
 use cred_event::{Answer, Counted, Named};
@@ -164,7 +164,7 @@ impl State {
     fn may_create(&self, task: u32, child: u32, process: Option<u32>) -> Result<Numbered, Answer>
         ensures { MatchResult result
             (λ now. MayCreate self.now.state task child (seen_in self.now.state.creds now)
-            × IsUnused self.now.state process)
+            × IsUnusedProcess self.now.state process)
             (λ answer. Gives self.now.state (by_creating self.now.state task child process) answer
             self.now.state) }
     {
@@ -197,7 +197,7 @@ impl State {
 
     /// The number of the process that is to be new, if a task is of it.
     fn in_use(&self, process: Option<u32>) -> Option<u32>
-        ensures { MatchOption result (IsUnused self.now.state process) (λ number.
+        ensures { MatchOption result (IsUnusedProcess self.now.state process) (λ number.
             (process ≡ Some number) × (has_process self.now.state.tasks number ≡ true)) }
     {
         let number = process?;

@@ -76,8 +76,8 @@ impl State {
             return Answer::NoHold(target);
         };
         let dumpable = self.dump.is_dumpable(receiver);
-        let asker = self.look_seen(cells, own);
-        let seen = self.look_seen(cells, other);
+        let asker = self.read_seen(cells, own);
+        let seen = self.read_seen(cells, other);
         let reach = script.reaches(asker.ns, seen.ns);
         if may_trace_by(&asker, &seen, sender == receiver, reach, dumpable, mode) {
             Answer::Done
@@ -87,7 +87,7 @@ impl State {
     }
 
     /// What that check looks at of the credential that was found. Something refers to it.
-    fn look_seen(&mut self, cells: &Cells, found: Numbered) -> Seen
+    fn read_seen(&mut self, cells: &Cells, found: Numbered) -> Seen
         requires own { self.old.words.id ≡ cells.now }
         requires found { numbered self.old.state.creds found.number
             ≡ Some (seen_in self.old.state.creds found) }
@@ -95,8 +95,8 @@ impl State {
         ensures seen { IsSeen result (cred_under self.old.state.creds found.number) }
         ensures same { self.new ≡ self.old }
     {
-        let parts = self.look_parts(cells, found);
-        let ns = self.look_ns(cells, found);
+        let parts = self.read_parts(cells, found);
+        let ns = self.read_ns(cells, found);
         Seen {
             uid: parts.uid,
             gid: parts.gid,
@@ -121,7 +121,7 @@ impl State {
         let Some(now) = self.current(task) else {
             return false;
         };
-        let old = self.look_parts(cells, now);
+        let old = self.read_parts(cells, now);
         differs_by(&old.uid, &old.gid, &uid, &gid)
     }
 

@@ -3,7 +3,7 @@
 ghost use Rattle.std.specs.Prelude.{◌≡◌, ◌<◌, ℕ, [], None, OnOk};
 ghost use Rattle.cred_book.specs.Book.{out_of};
 ghost use Rattle.cred_book.specs.Counts.{IsOutNow};
-ghost use Rattle.cred_book.specs.Cursor.{Stands, left};
+ghost use Rattle.cred_book.specs.Cursor.{BookStands, steps_left};
 ghost use Rattle.cred_book.specs.Works.{IsLanes};
 
 use cred_book::{Book, Step};
@@ -23,7 +23,7 @@ pub(crate) trait Walk {
     /// What kept the walk from its end.
     fn walk(&mut self, alloc: Global, cells: &Cells, book: &mut Book) -> Result<(), Fail>
         requires own { book.old.words.id ≡ cells.now }
-        requires stands { Stands book.old }
+        requires stands { BookStands book.old }
         requires home { (lane : ℕ) → out_of book.old lane ≡ None };
 }
 
@@ -50,7 +50,7 @@ pub(crate) fn walk_in_book<W: Walk>(alloc: Global, text: &str, walk: &mut W) -> 
 /// Want of memory, or a lane whose line is the least one left and which makes no step.
 pub(crate) fn run_whole(alloc: Global, cells: &Cells, book: &mut Book) -> Result<(), Fail>
     requires own { book.old.words.id ≡ cells.now }
-    requires stands { Stands book.old }
+    requires stands { BookStands book.old }
     requires home { (lane : ℕ) → out_of book.old lane ≡ None }
     ensures cells { book.new.words.id ≡ book.old.words.id }
     ensures out { OnOk result (book.new.words.out ≡ []) }
@@ -64,12 +64,12 @@ pub(crate) fn run_whole(alloc: Global, cells: &Cells, book: &mut Book) -> Result
 /// Makes the next event of the lane.
 fn make_next(alloc: Global, cells: &Cells, book: &mut Book, lane: u32) -> Result<(), Fail>
     requires own { book.old.words.id ≡ cells.now }
-    requires stands { Stands book.old }
+    requires stands { BookStands book.old }
     requires home { (lane : ℕ) → out_of book.old lane ≡ None }
     ensures cells { book.new.words.id ≡ book.old.words.id }
-    ensures stands { Stands book.new }
+    ensures stands { BookStands book.new }
     ensures home { OnOk result ((lane : ℕ) → out_of book.new lane ≡ None) }
-    ensures falls { OnOk result (left book.new < left book.old) }
+    ensures falls { OnOk result (steps_left book.new < steps_left book.old) }
 {
     match book.next(cells, lane)? {
         Step::More => Ok(()),
@@ -87,12 +87,12 @@ fn decide_and_enter(
     work: Work,
 ) -> Result<(), NoMemory>
     requires own { book.old.words.id ≡ cells.now }
-    requires stands { Stands book.old }
+    requires stands { BookStands book.old }
     requires lanes { IsLanes book.old lane work }
     ensures cells { book.new.words.id ≡ book.old.words.id }
-    ensures stands { Stands book.new }
+    ensures stands { BookStands book.new }
     ensures outs { OnOk result (IsOutNow book.old book.new lane None) }
-    ensures falls { OnOk result (left book.new < left book.old) }
+    ensures falls { OnOk result (steps_left book.new < steps_left book.old) }
 {
     let mut work = work;
     let Ok(()) = perform(alloc, cells, &mut work) else {

@@ -43,9 +43,10 @@ enum Reached {
     BusyFork,
     BusyExit,
     BusyBegin,
+    BusyRaw,
 }
 
-const ALL: [Reached; 17] = [
+const ALL: [Reached; 18] = [
     Reached::Aborted,
     Reached::EndedByExec,
     Reached::WaitingExit,
@@ -63,6 +64,7 @@ const ALL: [Reached; 17] = [
     Reached::BusyFork,
     Reached::BusyExit,
     Reached::BusyBegin,
+    Reached::BusyRaw,
 ];
 
 /// What an entry reaches where the lists are so.
@@ -104,6 +106,7 @@ fn busy_at(event: &Event) -> Option<Reached> {
         Event::Fork { .. } => Some(Reached::BusyFork),
         Event::Exit { .. } => Some(Reached::BusyExit),
         Event::Begin { .. } => Some(Reached::BusyBegin),
+        Event::Raw { .. } => Some(Reached::BusyRaw),
         _ => None,
     }
 }

@@ -1,16 +1,14 @@
 //! What no script reaches of an event's refusals, or none without lanes, by the book's own call:
 //! behind each of them all is answered as in a book that had none.
-ghost use Rattle.std.specs.Prelude.{◌≡◌, [], ◌<◌, length, IfOk};
-ghost use Rattle.cred_model.specs.Named.{IsEventOf};
+mod calls;
+
+ghost use Rattle.std.specs.Prelude.{◌≡◌, []};
 
 use crate::tests::books::{Walk, run_whole, walk_in_book};
+use crate::tests::refused::calls::{CAST, Call, event_of, line_of};
 use cred_book::Book;
-use cred_event::{Event, Side};
 use cred_hold::Cells;
-use cred_ids::{Arg, Id};
-use cred_record::{IdCall, Want};
 use cred_report::{Text, print};
-use cred_script::Script;
 use std::alloc::Global;
 use std::test::Fail;
 
@@ -20,53 +18,11 @@ const SCRIPT: &str = "file a reg 0 0 0600\n\
     init t1 p1 0 0 n0\ninit t2 p1 0 0 n0\ninit t3 p2 0 0 n0\ninit t4 p2 0 0 n0\ninit t5 p3 0 0 n0\n\
     take h1 t1\ntake h3 t3\nt5 open a r f1\nbegin t1 setgid 7\n";
 
-/// An event, by what it names; `Begin` with its line.
-#[derive(Clone, Copy)]
-enum Call {
-    Init {
-        task: u32,
-        process: u32,
-    },
-    Take {
-        label: u32,
-        task: u32,
-    },
-    Release {
-        label: u32,
-    },
-    Signal {
-        from: u32,
-        hold: u32,
-        to: u32,
-        target: u32,
-    },
-    Open {
-        hold: u32,
-        fd: u32,
-    },
-    Begin {
-        line: u32,
-        task: u32,
-    },
-    Act,
-    Sweep,
-}
-
-/// To be read.
-const READ: Want = Want {
-    r: true,
-    w: false,
-    x: false,
-};
-
-/// The line that began the call which is open.
-const CAST: u32 = 10;
-
 /// An event that is refused, whether all slots are live then, and the text of its entry.
 type Row = (Call, bool, &'static str);
 
 /// No task 8 or 9 and no label 8 or 9 is there. What is asked first is told.
-const ROWS: [Row; 9] = [
+const ROWS: [Row; 15] = [
     (
         Call::Init {
             task: 6,
@@ -144,6 +100,36 @@ const ROWS: [Row; 9] = [
         false,
         "11 open h9 a r f1 -> no hold h9\n",
     ),
+    (
+        Call::Raw { task: 2 },
+        false,
+        "11 raw t2 setgid 7 -> busy 10\n",
+    ),
+    (
+        Call::Raw { task: 3 },
+        true,
+        "11 raw t3 setgid 7 -> table full\n",
+    ),
+    (
+        Call::Chown { hold: 9 },
+        false,
+        "11 chown h9 a 0 -1 -> no hold h9\n",
+    ),
+    (
+        Call::Chmod { hold: 9 },
+        false,
+        "11 chmod h9 a 4755 -> no hold h9\n",
+    ),
+    (
+        Call::ClearAttr { hold: 9 },
+        false,
+        "11 clearattr h9 a -> no hold h9\n",
+    ),
+    (
+        Call::Stat { hold: 9 },
+        false,
+        "11 stat h9 a -> no hold h9\n",
+    ),
 ];
 
 /// What has made the sweep that a slot is looked for by, where that is refused.
@@ -175,70 +161,6 @@ const NEXT: [Call; 9] = [
     },
     Call::Sweep,
 ];
-
-fn line_of(call: Call) -> u32 {
-    match call {
-        Call::Begin { line, .. } => line,
-        _ => 11,
-    }
-}
-
-/// The place of the script's first file.
-fn first_file(script: &Script) -> Result<u32, Fail>
-    ensures { IfOk result (λ place. place < length script.now.files) }
-{
-    match script.file(0) {
-        Some(_) => Ok(0),
-        None => Err(Fail::from("a file")),
-    }
-}
-
-/// The event in a script, whose first file is opened.
-fn event_of(script: &Script, call: Call) -> Result<Event, Fail>
-    ensures { IfOk result
-        (IsEventOf (length script.now.files) script.now.namespaces) }
-{
-    let root = Id::new(0).ok_or("root")?;
-    let file = first_file(script)?;
-    Ok(match call {
-        Call::Init { task, process } => Event::Init {
-            task,
-            process,
-            user: root,
-            group: root,
-            ns: 0,
-        },
-        Call::Take { label, task } => Event::Take {
-            label,
-            task,
-            side: Side::Subjective,
-        },
-        Call::Release { label } => Event::Release { label },
-        Call::Signal {
-            from,
-            hold,
-            to,
-            target,
-        } => Event::Signal {
-            from,
-            hold,
-            to,
-            target,
-        },
-        Call::Open { hold, fd } => Event::OpenFile {
-            hold,
-            file,
-            want: READ,
-            fd,
-        },
-        Call::Begin { task, .. } => Event::Begin {
-            task,
-            call: IdCall::SetGid(Arg::of(7)),
-        },
-        Call::Act => Event::Act { cast: CAST },
-        Call::Sweep => Event::Sweep,
-    })
-}
 
 /// The text of the entry that an event gets.
 fn entered(alloc: Global, cells: &Cells, book: &mut Book, call: Call) -> Result<Text, Fail>

@@ -7,7 +7,7 @@ use Rattle.cred_args.proofs.parsing.parse.Goals as goal
 pub returns-in-Ok : goal.returns-in-Ok
 returns-in-Ok c =
     let plain : list_all is_plain (map string_bytes c.args.words.now) ≡ true = sym c.are_plain.ensures ∙ c.if-not-are_plain.false in
-    c.found.ensures ∙ as_found (map string_bytes c.args.words.now) c.in-Ok.matches plain c.in-Ok.ensures
+    c.positionals_of.ensures ∙ as_found (map string_bytes c.args.words.now) c.in-Ok.matches plain c.in-Ok.ensures
 
 pub returns : goal.returns
 returns c =

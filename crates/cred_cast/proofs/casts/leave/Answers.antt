@@ -3,7 +3,7 @@ use Rattle.std.specs.List.{filter}
 use Rattle.std.proofs.lemmas.Fn.{filter_same}
 use Rattle.std.proofs.lemmas.List.{drop_all, take_all}
 use Rattle.std.proofs.lemmas.List.Edits.{map_over_more}
-use Rattle.cred_model.specs.Casts.{is_open, without}
+use Rattle.cred_model.specs.Casts.{is_open, without_waiter}
 use Rattle.cred_cast.proofs.casts.leave.Goals as goal
 
 -- what was written over a whole list
@@ -16,13 +16,13 @@ written now before n same is =
 
 pub loop-cast-preserved : goal.loop-cast-preserved
 loop-cast-preserved c =
-    rw (c.leave.ensures ∙ ap (without c.args.task) (sym c.cast-item.is))
-    (map_over_more (without c.args.task) c.deref_mut-cast-items.result.now c.loop-cast.cast-items c.loop-cast.cast-index c.cast-item.result
+    rw (c.leave.ensures ∙ ap (without_waiter c.args.task) (sym c.cast-item.is))
+    (map_over_more (without_waiter c.args.task) c.deref_mut-cast-items.result.now c.loop-cast.cast-items c.loop-cast.cast-index c.cast-item.result
     c.loop-cast-test.true c.loop-cast.invariant c.cast-item.is)
 
 pub returns : goal.returns
 returns c =
-    let f = without c.args.task in
+    let f = without_waiter c.args.task in
     let before = c.deref_mut-cast-items.result.now in
     let i = c.loop-cast.cast-index in
     let each : c.loop-cast.cast-items ≡ map f c.args.casts.now.items

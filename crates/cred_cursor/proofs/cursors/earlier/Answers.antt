@@ -1,5 +1,5 @@
 use Rattle.std.proofs.Common.{arith, sym, ◌∙◌, subst}
-use Rattle.cred_cursor.specs.Cursors.{IsNoLater, cursor_of}
+use Rattle.cred_cursor.specs.LaneCursors.{IsNoLater, cursor_of}
 use Rattle.cred_cursor.proofs.Least.{first_earlier, second_earlier, no_later_by, nothing_later}
 use Rattle.cred_cursor.proofs.cursors.earlier.Goals as goal
 

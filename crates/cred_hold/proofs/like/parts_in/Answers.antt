@@ -1,5 +1,5 @@
 use Rattle.std.proofs.Common.{ℕ, ◌%◌, ◌^◌, slice_index, sym, ap, ◌∙◌, arith}
-use Rattle.cred_record.specs.Words.{credential_of}
+use Rattle.cred_record.specs.Words.{credential_in}
 use Rattle.cred_record.specs.declared.layout.TheConstants.{PERMITTED, EFFECTIVE, AMBIENT, FLAGS, ROOT}
 use Rattle.cred_record.proofs.WordLemmas.{word-facts}
 use Rattle.cred_words.proofs.Opens.{width_is}
@@ -11,68 +11,68 @@ gather-requires c =
     let w = width_is in
     (omega arith, (c.requires.own, (c.requires.slot, (length-known _ c.requires.known ∙ sym width_is, omega arith))))
 
-pub read_word-requires-clause-within : goal.read_word-requires-clause-within
-read_word-requires-clause-within c = let w = width_is in omega arith
+pub load_word-requires-clause-within : goal.load_word-requires-clause-within
+load_word-requires-clause-within c = let w = width_is in omega arith
 
 pub known-perm-requires : goal.known-perm-requires
 known-perm-requires c =
-    let at = c.read_word.ensures.value ∙ ap (λ h. slice_index h.token.words PERMITTED) c.gather.ensures.same in
+    let at = c.load_word.ensures.value ∙ ap (λ h. slice_index h.token.words PERMITTED) c.gather.ensures.same in
     let fact = (word-facts _ c.requires.known).perm in
     omega arith
 
-pub read_word-requires-2-clause-within : goal.read_word-requires-2-clause-within
-read_word-requires-2-clause-within c = let w = width_is in omega arith
+pub load_word-requires-2-clause-within : goal.load_word-requires-2-clause-within
+load_word-requires-2-clause-within c = let w = width_is in omega arith
 
 pub known-eff-requires : goal.known-eff-requires
 known-eff-requires c =
-    let same = c.read_word.ensures.same ∙ c.gather.ensures.same in
-    let at = c.read_word-2.ensures.value ∙ ap (λ h. slice_index h.token.words EFFECTIVE) same in
+    let same = c.load_word.ensures.same ∙ c.gather.ensures.same in
+    let at = c.load_word-2.ensures.value ∙ ap (λ h. slice_index h.token.words EFFECTIVE) same in
     let fact = (word-facts _ c.requires.known).eff in
     omega arith
 
-pub read_word-requires-3-clause-within : goal.read_word-requires-3-clause-within
-read_word-requires-3-clause-within c = let w = width_is in omega arith
+pub load_word-requires-3-clause-within : goal.load_word-requires-3-clause-within
+load_word-requires-3-clause-within c = let w = width_is in omega arith
 
 pub known-amb-requires : goal.known-amb-requires
 known-amb-requires c =
-    let same = c.read_word-2.ensures.same ∙ c.read_word.ensures.same ∙ c.gather.ensures.same in
-    let at = c.read_word-3.ensures.value ∙ ap (λ h. slice_index h.token.words AMBIENT) same in
+    let same = c.load_word-2.ensures.same ∙ c.load_word.ensures.same ∙ c.gather.ensures.same in
+    let at = c.load_word-3.ensures.value ∙ ap (λ h. slice_index h.token.words AMBIENT) same in
     let fact = (word-facts _ c.requires.known).amb in
     omega arith
 
-pub read_word-requires-4-clause-within : goal.read_word-requires-4-clause-within
-read_word-requires-4-clause-within c = let w = width_is in omega arith
+pub load_word-requires-4-clause-within : goal.load_word-requires-4-clause-within
+load_word-requires-4-clause-within c = let w = width_is in omega arith
 
-pub read_word-requires-5-clause-within : goal.read_word-requires-5-clause-within
-read_word-requires-5-clause-within c = let w = width_is in omega arith
+pub load_word-requires-5-clause-within : goal.load_word-requires-5-clause-within
+load_word-requires-5-clause-within c = let w = width_is in omega arith
 
-pub overflow_cast-read_word : goal.overflow_cast-read_word
-overflow_cast-read_word c =
-    let same = c.read_word-4.ensures.same ∙ c.read_word-3.ensures.same ∙ c.read_word-2.ensures.same ∙ c.read_word.ensures.same ∙ c.gather.ensures.same in
-    let at = c.read_word-5.ensures.value ∙ ap (λ h. slice_index h.token.words ROOT) same in
+pub overflow_cast-load_word : goal.overflow_cast-load_word
+overflow_cast-load_word c =
+    let same = c.load_word-4.ensures.same ∙ c.load_word-3.ensures.same ∙ c.load_word-2.ensures.same ∙ c.load_word.ensures.same ∙ c.gather.ensures.same in
+    let at = c.load_word-5.ensures.value ∙ ap (λ h. slice_index h.token.words ROOT) same in
     let fact = (word-facts _ c.requires.known).root in
     omega arith
 
 pub known-root-requires : goal.known-root-requires
 known-root-requires c =
-    let same = c.read_word-4.ensures.same ∙ c.read_word-3.ensures.same ∙ c.read_word-2.ensures.same ∙ c.read_word.ensures.same ∙ c.gather.ensures.same in
-    let at = c.read_word-5.ensures.value ∙ ap (λ h. slice_index h.token.words ROOT) same in
+    let same = c.load_word-4.ensures.same ∙ c.load_word-3.ensures.same ∙ c.load_word-2.ensures.same ∙ c.load_word.ensures.same ∙ c.gather.ensures.same in
+    let at = c.load_word-5.ensures.value ∙ ap (λ h. slice_index h.token.words ROOT) same in
     let fact = (word-facts _ c.requires.known).root in
     omega arith
 
 pub returns-clause-parts : goal.returns-clause-parts
-unfolding credential_of
+unfolding credential_in
 returns-clause-parts c =
     let one = c.gather.ensures.same in
-    let two = c.read_word.ensures.same ∙ one in
-    let three = c.read_word-2.ensures.same ∙ two in
-    let four = c.read_word-3.ensures.same ∙ three in
-    let five = c.read_word-4.ensures.same ∙ four in
+    let two = c.load_word.ensures.same ∙ one in
+    let three = c.load_word-2.ensures.same ∙ two in
+    let four = c.load_word-3.ensures.same ∙ three in
+    let five = c.load_word-4.ensures.same ∙ four in
     let ids = c.known_ids-uid.ensures c.args.hold.now.token.words c.requires.known c.gather.ensures.words in
-    let perm = c.known-perm.ensures ∙ c.read_word.ensures.value ∙ ap (λ h. slice_index h.token.words PERMITTED) one in
-    let eff = c.known-eff.ensures ∙ c.read_word-2.ensures.value ∙ ap (λ h. slice_index h.token.words EFFECTIVE) two in
-    let amb = c.known-amb.ensures ∙ c.read_word-3.ensures.value ∙ ap (λ h. slice_index h.token.words AMBIENT) three in
-    let flags = c.read_word-4.ensures.value ∙ ap (λ h. slice_index h.token.words FLAGS) four in
+    let perm = c.known-perm.ensures ∙ c.load_word.ensures.value ∙ ap (λ h. slice_index h.token.words PERMITTED) one in
+    let eff = c.known-eff.ensures ∙ c.load_word-2.ensures.value ∙ ap (λ h. slice_index h.token.words EFFECTIVE) two in
+    let amb = c.known-amb.ensures ∙ c.load_word-3.ensures.value ∙ ap (λ h. slice_index h.token.words AMBIENT) three in
+    let flags = c.load_word-4.ensures.value ∙ ap (λ h. slice_index h.token.words FLAGS) four in
     let bits = c.secure_bits-bits.ensures ∙ ap (λ (x : ℕ). x % 2 ^ 8) flags in
-    let root = c.known-root.ensures ∙ c.read_word-5.ensures.value ∙ ap (λ h. slice_index h.token.words ROOT) five in
+    let root = c.known-root.ensures ∙ c.load_word-5.ensures.value ∙ ap (λ h. slice_index h.token.words ROOT) five in
     λ k. record { uid = ids.0 k; gid = ids.1 k; perm = perm k; eff = eff k; amb = amb k; bits = bits k; root = root k }

@@ -1,5 +1,5 @@
 use Rattle.std.proofs.Common.{Some, sym, ap, ◌∙◌}
-use Rattle.cred_record.specs.Words.{are_words, credential_of}
+use Rattle.cred_record.specs.Words.{are_words, credential_in}
 use Rattle.cred_record.proofs.WordLemmas.{words-are, words-again, words-test}
 use Rattle.cred_words.specs.Words.{words_at}
 use Rattle.cred_hold.proofs.like.put_like.Goals as goal
@@ -7,12 +7,12 @@ use Rattle.cred_hold.proofs.like.put_like.Goals as goal
 pub scatter_from-requires-clause-made : goal.scatter_from-requires-clause-made
 scatter_from-requires-clause-made c =
     let ws = words_at c.args.master.now.ledger.slots c.args.from in
-    c.are_parts.ensures (credential_of ws) (words-are ws c.requires.held).0 c.requires.valid
+    c.are_parts.ensures (credential_in ws) (words-are ws c.requires.held).0 c.requires.valid
 
 pub invariant_of-writer : goal.invariant_of-writer
 invariant_of-writer c =
     let ws = words_at c.args.master.now.ledger.slots c.args.from in
-    let made = c.are_parts.ensures (credential_of ws) (words-are ws c.requires.held).0 c.requires.valid in
+    let made = c.are_parts.ensures (credential_in ws) (words-are ws c.requires.held).0 c.requires.valid in
     let i = c.writer.invariant in
     let t = c.scatter_from.ensures.words.1 in
     let test = ap (λ t. are_words t.words) t ∙ words-test _ made in
@@ -21,7 +21,7 @@ invariant_of-writer c =
 pub returns-clause-put : goal.returns-clause-put
 returns-clause-put c =
     let ws = words_at c.args.master.now.ledger.slots c.args.from in
-    let made = c.are_parts.ensures (credential_of ws) (words-are ws c.requires.held).0 c.requires.valid in
+    let made = c.are_parts.ensures (credential_in ws) (words-are ws c.requires.held).0 c.requires.valid in
     let e = c.scatter_from.ensures.words in
     let v = c.writer.view_is in
     let again = words-again _ made in
@@ -29,5 +29,5 @@ returns-clause-put c =
       id = (e.0 ∙ ap (λ w. w.id) v) k;
       label = (ap (λ t. t.label) e.1 ∙ ap (λ w. w.label) v) k;
       slot = (ap (λ t. t.slot) e.1 ∙ ap (λ w. w.slot) v) k;
-      put = Some ((ap (λ t. credential_of t.words) e.1 ∙ again) k);
+      put = Some ((ap (λ t. credential_in t.words) e.1 ∙ again) k);
     }

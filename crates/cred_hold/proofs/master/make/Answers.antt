@@ -3,7 +3,7 @@ use Rattle.std.proofs.lemmas.List.{length-replicate}
 use Rattle.cred_words.specs.Size.{count}
 use Rattle.cred_words.specs.declared.view.Ledger.{Ledger}
 use Rattle.cred_words.proofs.Opens.{count_is}
-use Rattle.cred_hold.specs.Tokens.{AreSlots, none_sealed, entry_seen, slot_seen}
+use Rattle.cred_hold.specs.Tokens.{AreSlots, none_sealed, loan_seen, slot_seen}
 use Rattle.cred_hold.proofs.Slots.{map-replicate}
 use Rattle.cred_hold.proofs.Whole.{slots_none}
 use Rattle.cred_hold.proofs.master.make.Goals as goal
@@ -21,6 +21,6 @@ unfolding none_sealed
 returns c =
     let e = c.in_ok-cells.ensures in (
       e.0,
-      ap (λ (d : Ledger). map entry_seen d.entries) e.1,
+      ap (λ (d : Ledger). map loan_seen d.entries) e.1,
       ap (λ (d : Ledger). map slot_seen d.slots) e.1 ∙ map-replicate slot_seen count _ ∙ ap (λ n. replicate n None) count_is,
     )

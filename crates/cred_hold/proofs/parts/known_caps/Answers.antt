@@ -1,6 +1,6 @@
 use Rattle.std.proofs.Common.{◌∷◌, [], ◌∙◌, arith}
 use Rattle.cred_record.specs.declared.layout.TheConstants.{PERMITTED}
-use Rattle.cred_record.specs.Words.{credential_of}
+use Rattle.cred_record.specs.Words.{credential_in}
 use Rattle.cred_record.proofs.WordLemmas.{word-facts}
 use Rattle.cred_hold.proofs.Slots.{part-at}
 use Rattle.cred_hold.proofs.parts.known_caps.Goals as goal
@@ -41,7 +41,7 @@ known-requires-5 c =
     omega arith
 
 pub returns : goal.returns
-unfolding credential_of
+unfolding credential_in
 returns c ws is part =
     let perm_is = c.known.ensures ∙ part-at ws c.args.words 5 PERMITTED 0 part (omega arith) in
     let inh_is = c.known-2.ensures ∙ part-at ws c.args.words 5 PERMITTED 1 part (omega arith) in

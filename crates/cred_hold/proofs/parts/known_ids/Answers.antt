@@ -1,6 +1,6 @@
 use Rattle.std.proofs.Common.{◌∙◌, arith}
 use Rattle.cred_record.specs.declared.layout.TheConstants.{USER}
-use Rattle.cred_record.specs.Words.{are_ids, ids_of, credential_of}
+use Rattle.cred_record.specs.Words.{are_ids, ids_of, credential_in}
 use Rattle.cred_record.proofs.WordLemmas.{word-facts}
 use Rattle.cred_hold.proofs.Slots.{part-at}
 use Rattle.cred_hold.proofs.parts.known_ids.Goals as goal
@@ -22,7 +22,7 @@ known_ids_in-gid-requires c =
     ((λ k. are_ids (ids_of (one k) (other k))) ∙ (word-facts ws c.requires.1).gid)
 
 pub returns : goal.returns
-unfolding credential_of
+unfolding credential_in
 returns c ws is part =
     let user = part-at ws c.args.words 4 USER 0 part (omega arith) in
     let saved_user = part-at ws c.args.words 4 USER 1 part (omega arith) in

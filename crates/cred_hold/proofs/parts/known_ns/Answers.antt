@@ -1,6 +1,6 @@
 use Rattle.std.proofs.Common.{arith}
 use Rattle.cred_record.specs.declared.layout.TheConstants.{NAMESPACE}
-use Rattle.cred_record.specs.Words.{credential_of}
+use Rattle.cred_record.specs.Words.{credential_in}
 use Rattle.cred_record.proofs.WordLemmas.{word-facts}
 use Rattle.cred_hold.proofs.Slots.{part-at}
 use Rattle.cred_hold.proofs.parts.known_ns.Goals as goal
@@ -13,5 +13,5 @@ overflow_cast-result c =
     omega arith
 
 pub returns : goal.returns
-unfolding credential_of
+unfolding credential_in
 returns c ws is part = part-at ws c.args.words 1 NAMESPACE 0 part (omega arith)

@@ -1,5 +1,5 @@
 use Rattle.std.proofs.Common.{Some, sym, ap, ◌∙◌}
-use Rattle.cred_record.specs.Words.{are_words, credential_of}
+use Rattle.cred_record.specs.Words.{are_words, credential_in}
 use Rattle.cred_record.proofs.WordLemmas.{words-again, words-test}
 use Rattle.cred_hold.proofs.tokens.put.Goals as goal
 
@@ -19,5 +19,5 @@ returns c =
       id = (e.0 ∙ ap (λ w. w.id) v) k;
       label = (ap (λ t. t.label) e.1 ∙ ap (λ w. w.label) v) k;
       slot = (ap (λ t. t.slot) e.1 ∙ ap (λ w. w.slot) v) k;
-      put = Some ((ap (λ t. credential_of t.words) e.1 ∙ again) k);
+      put = Some ((ap (λ t. credential_in t.words) e.1 ∙ again) k);
     }

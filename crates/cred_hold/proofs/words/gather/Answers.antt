@@ -14,9 +14,9 @@ loop-i-preserved g c =
     let within = c.requires.within in
     let rest = length-drop c.args.first ws in
     let all : length (take g.row.N (drop c.args.first ws)) ≡ g.row.N = length-take-le g.row.N (drop c.args.first ws) (omega arith) in
-    let same = c.read_word.ensures.same ∙ i.0 in
+    let same = c.load_word.ensures.same ∙ i.0 in
     let is =
-    c.read_word.ensures.value ∙ ap (λ h. slice_index h.token.words (c.args.first + n)) i.0 ∙
+    c.load_word.ensures.value ∙ ap (λ h. slice_index h.token.words (c.args.first + n)) i.0 ∙
     sym (get_or-drop c.args.first ws n 0) ∙ sym (get_or-take g.row.N (drop c.args.first ws) n 0 below) in
     (same, length-set _ _ _ ∙ i.1, filled _ _ n _ (omega arith) (omega arith) i.2 is)
 

@@ -11,8 +11,8 @@ use Rattle.cred_words.proofs.Opens.{width_is}
 use Rattle.cred_hold.proofs.Whole.{length-known}
 use Rattle.cred_hold.proofs.words.groups_of.Goals as goal
 
-pub read_word-word-requires-clause-within : goal.read_word-word-requires-clause-within
-read_word-word-requires-clause-within c =
+pub load_word-word-requires-clause-within : goal.load_word-word-requires-clause-within
+load_word-word-requires-clause-within c =
     let few = groups-few c.args.hold.now.token.words c.requires.known in
     let count = c.requires.count in
     let below = c.loop-place-test.true in
@@ -26,7 +26,7 @@ known_group-requires c =
     let n = c.loop-place.place in
     let count = c.requires.count in
     let below = c.loop-place-test.true in
-    let word = c.read_word-word.ensures.value ∙ ap (λ h. slice_index h.token.words (GROUPS + n / 2)) i.0 in
+    let word = c.load_word-word.ensures.value ∙ ap (λ h. slice_index h.token.words (GROUPS + n / 2)) i.0 in
     let at = group-at ws n c.requires.known (omega arith) in
     (subst IsId (sym (ap (λ (x : ℕ). half x n) word ∙ half-at ws n)) at)
 
@@ -42,13 +42,13 @@ loop-place-preserved c =
     let wide = length-known ws c.requires.known in
     let rest = length-drop GROUPS ws in
     let long = length-unpaired (drop GROUPS ws) in
-    let word = c.read_word-word.ensures.value ∙ ap (λ h. slice_index h.token.words (GROUPS + n / 2)) i.0 in
+    let word = c.load_word-word.ensures.value ∙ ap (λ h. slice_index h.token.words (GROUPS + n / 2)) i.0 in
     let items =
     c.in_ok-push.ensures.items ∙
     ap (λ xs. xs ++ c.known_group.result ∷ []) i.1 ∙
     ap (λ x. take n ns ++ x ∷ []) (c.known_group.ensures ∙ ap (λ (x : ℕ). half x n) word ∙ half-at ws n) ∙
     sym (take_more ns n 0 (omega arith)) in
-    (c.read_word-word.ensures.same ∙ i.0, items)
+    (c.load_word-word.ensures.same ∙ i.0, items)
 
 pub from_sorted-requires : goal.from_sorted-requires
 from_sorted-requires c =

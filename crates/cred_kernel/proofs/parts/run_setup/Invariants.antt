@@ -1,5 +1,5 @@
 use Rattle.std.proofs.Common.{◌≡◌}
-use Rattle.cred_book.specs.Cursor.{Stands, left}
+use Rattle.cred_book.specs.Cursor.{BookStands, steps_left}
 use Rattle.cred_kernel.proofs.Setup.{IsHome}
 use Rattle.cred_kernel.proofs.parts.run_setup.Given as goal
 
@@ -7,9 +7,9 @@ abbrev pub invariant-setup : goal.invariant-setup
 invariant-setup l = record {
   script : l.book.script ≡ l.initial.book.script;
   cells : l.book.words.id ≡ l.initial.book.words.id;
-  stands : Stands l.book;
+  stands : BookStands l.book;
   home : IsHome l.book;
 }
 
 abbrev pub decreases-setup : goal.decreases-setup
-decreases-setup l = left l.book
+decreases-setup l = steps_left l.book

@@ -2,7 +2,7 @@ use Rattle.std.proofs.Common.{◌≡◌, ℕ, ◌+◌, ◌<◌, length, ◌∙�
 use Rattle.cred_turn.specs.declared.numbers.Numbers.{Numbers}
 use Rattle.cred_turn.specs.Rows.{lent_row}
 use Rattle.cred_kernel.specs.Locks.{numbers_in}
-use Rattle.cred_kernel.proofs.Lending.{home_after, lent_more, turns_more}
+use Rattle.cred_kernel.proofs.FirstLoans.{home_after, lent_more, turns_more}
 use Rattle.cred_kernel.proofs.passes.lend_all.Goals as goal
 
 pub lanes-preserved : goal.lanes-preserved

@@ -41,13 +41,13 @@ pub step-requires-clause-out : goal.step-requires-clause-out
 step-requires-clause-out c =
     let none = ap (λ (w : Words). w.out) c.events.invariant.1 ∙ c.requires.out in
     let s = c.events.state.state in
-    subst (λ (es : List lent.Entry). AreOut s es) (sym none) (All-nil (λ (e : lent.Entry). IsToken s e))
+    subst (λ (es : List lent.Loan). AreOut s es) (sym none) (All-nil (λ (e : lent.Loan). IsToken s e))
 
 pub step-requires-clause-home : goal.step-requires-clause-home
 step-requires-clause-home c =
     let none = ap (λ (w : Words). w.out) c.events.invariant.1 ∙ c.requires.out in
     let labels = event_labels c.in-Some-2.event in
-    subst (λ (es : List lent.Entry). AreHome c.in-Some-2.event es) (sym none) (All-nil (λ (e : lent.Entry). Contains labels e.label → ⊥))
+    subst (λ (es : List lent.Loan). AreHome c.in-Some-2.event es) (sym none) (All-nil (λ (e : lent.Loan). Contains labels e.label → ⊥))
 
 pub events-smaller : goal.events-smaller
 events-smaller c =

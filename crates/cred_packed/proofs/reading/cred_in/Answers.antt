@@ -1,6 +1,6 @@
 use Rattle.std.proofs.Common.{◌==◌, ◌/◌, ◌^◌, slice_index}
 use Rattle.std.proofs.lemmas.Option.{same_Some}
-use Rattle.cred_record.specs.Words.{credential_of}
+use Rattle.cred_record.specs.Words.{credential_in}
 use Rattle.cred_record.specs.declared.layout.TheConstants.{FLAGS}
 use Rattle.cred_record.proofs.WordLemmas.{head-facts, none-is, last_bit}
 use Rattle.cred_packed.proofs.reading.cred_in.Goals as goal
@@ -18,7 +18,7 @@ pub returns-in_err-root_in-clause-none : goal.returns-in_err-root_in-clause-none
 returns-in_err-root_in-clause-none c = none-is _ c.args.head.now (λ is. c.in_err-root_in.ensures (head-facts c.args.head.now is).root)
 
 pub returns-clause-some : goal.returns-clause-some
-unfolding credential_of
+unfolding credential_in
 returns-clause-some c k =
     let sets = c.in_ok-sets.ensures.some in
     record {

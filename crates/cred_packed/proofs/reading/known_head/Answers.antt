@@ -1,6 +1,6 @@
 use Rattle.std.proofs.Common.{◌==◌, ◌/◌, ◌^◌, slice_index, sym, ◌∙◌, arith}
 use Rattle.cred_caps.specs.Caps.{meet}
-use Rattle.cred_record.specs.Words.{credential_of}
+use Rattle.cred_record.specs.Words.{credential_in}
 use Rattle.cred_record.specs.declared.layout.TheConstants.{FLAGS, NAMESPACE}
 use Rattle.cred_record.proofs.WordLemmas.{head-facts, last_bit}
 use Rattle.cred_packed.proofs.reading.known_head.Goals as goal
@@ -49,7 +49,7 @@ invariant_of-result c =
     }
 
 pub returns : goal.returns
-unfolding credential_of
+unfolding credential_in
 returns c k = record {
   uid = c.known_ids_in.ensures k;
   gid = c.known_ids_in-2.ensures k;

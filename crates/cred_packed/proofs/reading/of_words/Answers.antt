@@ -1,6 +1,6 @@
 use Rattle.std.proofs.Common.{List, ℕ, Some, sym, ap, ◌∙◌, subst}
 use Rattle.std.specs.Cmp.Lexicographic.{same_text, other_text}
-use Rattle.cred_record.specs.Words.{IsCredential, credential_of, words_of}
+use Rattle.cred_record.specs.Words.{IsCredential, credential_in, words_of}
 use Rattle.cred_record.proofs.WordLemmas.{spelled}
 use Rattle.cred_record.proofs.Halves.{joined, head-is}
 use Rattle.cred_packed.proofs.reading.of_words.Goals as goal
@@ -12,7 +12,7 @@ returns-in_default-clause-each_value c d is same =
 
 pub returns-in_default-cred_in-clause-each_value : goal.returns-in_default-cred_in-clause-each_value
 returns-in_default-cred_in-clause-each_value c d is same =
-    let head = subst (λ (ws : List ℕ). IsCredential (credential_of ws)) (sym c.head_of.ensures) (head-is c.args.words.now (spelled _ d is same).0) in
+    let head = subst (λ (ws : List ℕ). IsCredential (credential_in ws)) (sym c.head_of.ensures) (head-is c.args.words.now (spelled _ d is same).0) in
     absurd (c.in_default-cred_in.ensures.none head)
 
 pub returns-then-eq-clause-value : goal.returns-then-eq-clause-value

@@ -1,7 +1,7 @@
 use Rattle.std.proofs.Common.{◌≡◌, ◌++◌, map, take, drop}
-use Rattle.cred_model.specs.Casts.{without}
+use Rattle.cred_model.specs.Casts.{without_waiter}
 use Rattle.cred_plain.proofs.casts.leave.Given as goal
 
 abbrev pub invariant-loop-cast : goal.invariant-loop-cast
 invariant-loop-cast l =
-    l.cast-items ≡ map (without l.task) (take l.cast-index l.initial.cast-items) ++ drop l.cast-index l.initial.cast-items
+    l.cast-items ≡ map (without_waiter l.task) (take l.cast-index l.initial.cast-items) ++ drop l.cast-index l.initial.cast-items

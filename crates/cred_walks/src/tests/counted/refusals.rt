@@ -38,7 +38,12 @@ impl Lists {
         match event {
             Event::Take { label, task, .. } => self.no_task(*task).or(self.has_label(*label)),
             Event::TakeFile { label, fd } => self.ebadf(*fd).or(self.has_label(*label)),
-            Event::Release { label } | Event::Ask { label, .. } => self.no_hold(*label),
+            Event::Release { label: hold }
+            | Event::Ask { label: hold, .. }
+            | Event::Chown { hold, .. }
+            | Event::Chmod { hold, .. }
+            | Event::SetAttr { hold, .. }
+            | Event::Stat { hold, .. } => self.no_hold(*hold),
             Event::Signal {
                 from,
                 hold,
@@ -82,6 +87,10 @@ impl Lists {
                 .no_task(*task)
                 .or(self.open_beside(*task))
                 .or(exists(self.is_open(line), Named::Broadcast, line))
+                .or(self.overridden(*task)),
+            Event::Raw { task, .. } => self
+                .no_task(*task)
+                .or(self.open_beside(*task))
                 .or(self.overridden(*task)),
             Event::Act { cast } => unless(self.is_open(*cast), Due::NoBroadcast(*cast)),
             Event::Spawn { task, child } => self

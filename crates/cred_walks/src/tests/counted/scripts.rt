@@ -38,7 +38,7 @@ const SETUP_LINES: u32 = 8;
 // for a line that began a broadcast.
 
 /// New threads, ends and steps of threads.
-const THREADS: [&str; 24] = [
+const THREADS: [&str; 26] = [
     "tT spawn tT",
     "tT spawn tT",
     "tT spawn tT",
@@ -55,6 +55,8 @@ const THREADS: [&str; 24] = [
     "act L",
     "tT setgid I",
     "tT setreuid I -1",
+    "tT raw setgid I",
+    "tT raw setresuid I I I",
     "tT exec prog",
     "tT exec su",
     "tT capset 0 0 0",
@@ -94,7 +96,7 @@ const CHANGES: [&str; 24] = [
 ];
 
 /// Overrides, beside broadcasts. Task 2 comes to have as many as it may.
-const OVERRIDES: [&str; 24] = [
+const OVERRIDES: [&str; 25] = [
     "take h1 tT",
     "take hH tT",
     "override t2 h1",
@@ -113,6 +115,7 @@ const OVERRIDES: [&str; 24] = [
     "begin tT setgid I",
     "act L",
     "tT setuid I",
+    "tT raw setuid I",
     "commit hH",
     "tT exit",
     "tT spawn tT",
@@ -121,8 +124,8 @@ const OVERRIDES: [&str; 24] = [
     "sweep",
 ];
 
-/// Open files and questions, beside threads.
-const FILES: [&str; 24] = [
+/// Open files, questions and calls on files, beside threads.
+const FILES: [&str; 28] = [
     "tT open shut r fF",
     "tT open prog rx fF",
     "tT close fF",
@@ -146,12 +149,17 @@ const FILES: [&str; 24] = [
     "tT exit",
     "tT check prog x",
     "tT capable 21",
+    "tT chown su I -1",
+    "tT chmod su 4755",
+    "tT clearattr su",
+    "tT stat su",
     "sweep",
 ];
 
 /// Calls that seal many credentials, without a sweep, until slots are taken again.
-const LONG: [&str; 8] = [
+const LONG: [&str; 9] = [
     "t1 setgid 0",
+    "t1 raw setgid 0",
     "t2 setgroups 2",
     "tT setgid 0",
     "tT setgid 5",

@@ -15,6 +15,7 @@ impl Lists {
         match event {
             Event::Init { task, process, .. } => self.inits(*task, *process, answer),
             Event::Begin { task, .. } => Ok(is_rule(answer) || self.begins(line, *task, answer)?),
+            Event::Raw { task, .. } => Ok(is_rule(answer) || self.acts_alone(*task, answer)?),
             Event::Act { cast } => self.acts(*cast, answer),
             _ => self.on_tasks(event, answer),
         }
@@ -63,6 +64,16 @@ impl Lists {
             })?;
         }
         Ok(is_new && others.len() as u64 == u64::from(*left))
+    }
+
+    /// One thread has a new credential, and no other waits.
+    fn acts_alone(&mut self, task: u32, answer: &Answer) -> Result<bool, NoMemory> {
+        let Some((cred, slot)) = sealed(answer) else {
+            return self.is_full(answer);
+        };
+        let is_new = self.is_new(cred, slot)?;
+        self.replace(task, cred)?;
+        Ok(is_new)
     }
 
     /// The least task that waits in a broadcast.

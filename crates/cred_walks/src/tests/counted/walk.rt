@@ -55,7 +55,12 @@ impl Lists {
     /// Makes an event that the lists don't refuse.
     fn made(&mut self, event: &Event, line: u32, answer: &Answer) -> Result<bool, NoMemory> {
         match event {
-            Event::Ask { .. } | Event::Signal { .. } => {
+            Event::Ask { .. }
+            | Event::Signal { .. }
+            | Event::Chown { .. }
+            | Event::Chmod { .. }
+            | Event::SetAttr { .. }
+            | Event::Stat { .. } => {
                 Ok(is_rule(answer) || matches!(answer, Answer::Done | Answer::Told(_)))
             }
             Event::Take { .. }

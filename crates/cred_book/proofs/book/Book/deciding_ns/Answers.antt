@@ -2,7 +2,7 @@ use Rattle.std.proofs.Common.{ℕ, subst}
 use Rattle.std.specs.Option.{IfSome}
 use Rattle.cred_model.specs.Script.{chain_of}
 use Rattle.cred_model.specs.Journal.{replay}
-use Rattle.cred_state.specs.Lending.{IsNs}
+use Rattle.cred_state.specs.TokensOut.{IsNs}
 use Rattle.cred_book.specs.Book.{Recorded}
 use Rattle.cred_book.specs.Works.{IsChainFor}
 use Rattle.cred_book.proofs.Handed.{ns_chain, some_each}

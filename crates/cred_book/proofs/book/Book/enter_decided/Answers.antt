@@ -1,5 +1,6 @@
 use Rattle.std.proofs.Common.{◌≡◌, ℕ, List, [], ◌∷◌, ◌++◌, sym, ap, ◌∙◌, subst}
 use Rattle.std.specs.Option.{IfSome}
+use Rattle.cred_record.specs.File.{File}
 use Rattle.cred_event.specs.declared.answer.Answer.{Answer}
 use Rattle.cred_event.specs.declared.entry.Entry.{Entry}
 use Rattle.cred_event.specs.declared.event.Event.{Event}
@@ -9,15 +10,15 @@ use Rattle.cred_model.specs.Like.{GivesLike}
 use Rattle.cred_model.specs.Step.{done}
 use Rattle.cred_script.specs.Lines.{line_at}
 use Rattle.cred_cursor.specs.Cursor.{MovesOnTo}
-use Rattle.cred_work.specs.Decisions.{IsRight, event_of}
+use Rattle.cred_work.specs.Decisions.{IsRight, work_event}
 use Rattle.cred_model.specs.Named.{event_files}
-use Rattle.cred_model.specs.Script.{info_of}
+use Rattle.cred_model.specs.State.{info_of}
 use Rattle.cred_work.specs.declared.lent.Lent.{Lent}
 use Rattle.cred_work.specs.Work.{Work}
 use Rattle.cred_tables.specs.Out.{AreBack}
 use Rattle.cred_tables.proofs.Outs.{out_like}
-use Rattle.cred_state.specs.Lending.{AreTaken, IsChain, entries_of}
-use Rattle.cred_book.specs.Book.{Recorded, answer_of}
+use Rattle.cred_state.specs.TokensOut.{AreTaken, IsChain, entries_of}
+use Rattle.cred_book.specs.Book.{Recorded, answer_of, infos_in}
 use Rattle.cred_book.proofs.Entered.{enters, follows_sound, out_left, replays}
 use Rattle.cred_book.proofs.Finished.{left_there, lent_waits}
 use Rattle.cred_book.proofs.book.Book.enter_decided.Goals as goal
@@ -36,16 +37,19 @@ invariant_of-self-in-Ok-enter c =
     let w : Work = c.args.work in
     let apart = c.apart-asked.ensures in
     let line : c.line-line.result ≡ w.line = c.line-line.ensures ∙ ap (λ (x : Work). x.line) (sym apart) in
-    let entered : c.event-event.result ≡ event_of w.lent = c.event-event.ensures ∙ ap (λ (x : Work). event_of x.lent) (sym apart) in
+    let entered : c.event-event.result ≡ work_event w.lent = c.event-event.ensures ∙ ap (λ (x : Work). work_event x.lent) (sym apart) in
     let lent : c.apart-asked.result.1 ≡ w.lent = ap (λ (x : Work). x.lent) (sym apart) in
     let taken : AreTaken (entries_of w.lent) b.state.words.out c.enter.new.self.words.out
     = subst (λ (l : Lent). AreTaken (entries_of l) b.state.words.out c.enter.new.self.words.out) lent c.in-Ok-enter.ensures.taken in
-    let its : event_of c.apart-asked.result.1 ≡ event_of w.lent = ap event_of lent in
+    let its : work_event c.apart-asked.result.1 ≡ work_event w.lent = ap work_event lent in
     let chain = subst (λ (l : Lent). IsChain b.script l w.chain) (sym lent) (subst (λ (r : Recorded). IsChain r.script w.lent w.chain) (sym c.self.view_is) c.requires.of.chain) in
-    let right = subst (λ (l : Lent). IsRight (info_of b.script (event_files (event_of l))) w.chain l) (sym lent)
-    (subst (λ f. IsRight f w.chain w.lent)
-    (c.requires.of.file ∙ ap (λ (r : Recorded). info_of r.script (event_files (event_of w.lent))) (sym c.self.view_is)) c.requires.decided.right) in
-    let ok : GivesLike b.state.state (done b.script b.state.state w.line (event_of w.lent)) c.in-Ok-enter.answer c.enter.new.self.state
+    let file : w.file ≡ info_of b.state.state.infos (event_files (work_event w.lent))
+    = c.requires.of.file
+    ∙ ap (λ (r : Recorded). info_of (infos_in r) (event_files (work_event w.lent))) (sym c.self.view_is)
+    ∙ ap (λ (is : List File). info_of is (event_files (work_event w.lent))) (sym c.self.invariant.0.0.infos) in
+    let right = subst (λ (l : Lent). IsRight (info_of b.state.state.infos (event_files (work_event l))) w.chain l) (sym lent)
+    (subst (λ f. IsRight f w.chain w.lent) file c.requires.decided.right) in
+    let ok : GivesLike b.state.state (done b.script b.state.state w.line (work_event w.lent)) c.in-Ok-enter.answer c.enter.new.self.state
     = subst (λ (e : Event). GivesLike b.state.state (done b.script b.state.state w.line e) c.in-Ok-enter.answer c.enter.new.self.state) its
     (c.in-Ok-enter.ensures.ok b.script w.line w.chain chain right) in
     let entry : ℕ → Event → Answer → Entry = λ line event answer. record { line = line; event = event; answer = answer } in
@@ -53,9 +57,9 @@ invariant_of-self-in-Ok-enter c =
     ∙ ap (λ (js : List Entry). js ++ entry c.line-line.result c.event-event.result c.in-Ok-enter.answer ∷ []) c.reserve.ensures.items
     ∙ ap (λ (n : ℕ). b.journal.items ++ entry n c.event-event.result c.in-Ok-enter.answer ∷ []) line
     ∙ ap (λ (e : Event). b.journal.items ++ entry w.line e c.in-Ok-enter.answer ∷ []) entered in (
-      enters b.script b.state.state c.enter.new.self.state b.journal.items c.push_reserved.new.self.items (entry w.line (event_of w.lent) c.in-Ok-enter.answer)
+      enters b.script b.state.state c.enter.new.self.state b.journal.items c.push_reserved.new.self.items (entry w.line (work_event w.lent) c.in-Ok-enter.answer)
           c.self.invariant.0 ok longer,
-      out_left b.script b.journal.items c.push_reserved.new.self.items (entry w.line (event_of w.lent) c.in-Ok-enter.answer) b.state.words.out
+      out_left b.script b.journal.items c.push_reserved.new.self.items (entry w.line (work_event w.lent) c.in-Ok-enter.answer) b.state.words.out
           c.enter.new.self.words.out (lent_waits w.lent)
           (left_there (entries_of w.lent) b.state.words.out c.enter.new.self.words.out taken) c.self.invariant.1 longer,
     )
@@ -66,18 +70,21 @@ returns-in-Ok-enter-clause-entered c =
     let w : Work = c.args.work in
     let apart = c.apart-asked.ensures in
     let line : c.line-line.result ≡ w.line = c.line-line.ensures ∙ ap (λ (x : Work). x.line) (sym apart) in
-    let entered : c.event-event.result ≡ event_of w.lent = c.event-event.ensures ∙ ap (λ (x : Work). event_of x.lent) (sym apart) in
+    let entered : c.event-event.result ≡ work_event w.lent = c.event-event.ensures ∙ ap (λ (x : Work). work_event x.lent) (sym apart) in
     let lent : c.apart-asked.result.1 ≡ w.lent = ap (λ (x : Work). x.lent) (sym apart) in
     let taken : AreTaken (entries_of w.lent) b.state.words.out c.enter.new.self.words.out
     = subst (λ (l : Lent). AreTaken (entries_of l) b.state.words.out c.enter.new.self.words.out) lent c.in-Ok-enter.ensures.taken in
     let back : AreBack (entries_of w.lent) b.state.words c.enter.new.self.words
     = subst (λ (l : Lent). AreBack (entries_of l) b.state.words c.enter.new.self.words) lent c.in-Ok-enter.ensures.back in
-    let its : event_of c.apart-asked.result.1 ≡ event_of w.lent = ap event_of lent in
+    let its : work_event c.apart-asked.result.1 ≡ work_event w.lent = ap work_event lent in
     let chain = subst (λ (l : Lent). IsChain b.script l w.chain) (sym lent) (subst (λ (r : Recorded). IsChain r.script w.lent w.chain) (sym c.self.view_is) c.requires.of.chain) in
-    let right = subst (λ (l : Lent). IsRight (info_of b.script (event_files (event_of l))) w.chain l) (sym lent)
-    (subst (λ f. IsRight f w.chain w.lent)
-    (c.requires.of.file ∙ ap (λ (r : Recorded). info_of r.script (event_files (event_of w.lent))) (sym c.self.view_is)) c.requires.decided.right) in
-    let ok : GivesLike b.state.state (done b.script b.state.state w.line (event_of w.lent)) c.in-Ok-enter.answer c.enter.new.self.state
+    let file : w.file ≡ info_of b.state.state.infos (event_files (work_event w.lent))
+    = c.requires.of.file
+    ∙ ap (λ (r : Recorded). info_of (infos_in r) (event_files (work_event w.lent))) (sym c.self.view_is)
+    ∙ ap (λ (is : List File). info_of is (event_files (work_event w.lent))) (sym c.self.invariant.0.0.infos) in
+    let right = subst (λ (l : Lent). IsRight (info_of b.state.state.infos (event_files (work_event l))) w.chain l) (sym lent)
+    (subst (λ f. IsRight f w.chain w.lent) file c.requires.decided.right) in
+    let ok : GivesLike b.state.state (done b.script b.state.state w.line (work_event w.lent)) c.in-Ok-enter.answer c.enter.new.self.state
     = subst (λ (e : Event). GivesLike b.state.state (done b.script b.state.state w.line e) c.in-Ok-enter.answer c.enter.new.self.state) its
     (c.in-Ok-enter.ensures.ok b.script w.line w.chain chain right) in
     let entry : ℕ → Event → Answer → Entry = λ line event answer. record { line = line; event = event; answer = answer } in
@@ -85,8 +92,8 @@ returns-in-Ok-enter-clause-entered c =
     ∙ ap (λ (js : List Entry). js ++ entry c.line-line.result c.event-event.result c.in-Ok-enter.answer ∷ []) c.reserve.ensures.items
     ∙ ap (λ (n : ℕ). b.journal.items ++ entry n c.event-event.result c.in-Ok-enter.answer ∷ []) line
     ∙ ap (λ (e : Event). b.journal.items ++ entry w.line e c.in-Ok-enter.answer ∷ []) entered in
-    let made = replays b.script b.state.state c.enter.new.self.state b.journal.items (entry w.line (event_of w.lent) c.in-Ok-enter.answer) c.self.invariant.0 ok in
-    let grown = longer ∙ ap (λ (answer : Answer). b.journal.items ++ entry w.line (event_of w.lent) answer ∷ []) (sym made.answers) in
+    let made = replays b.script b.state.state c.enter.new.self.state b.journal.items (entry w.line (work_event w.lent) c.in-Ok-enter.answer) c.self.invariant.0 ok in
+    let grown = longer ∙ ap (λ (answer : Answer). b.journal.items ++ entry w.line (work_event w.lent) answer ∷ []) (sym made.answers) in
     rw (← c.self.view_is)
     (record {
       same = λ k. record {
@@ -107,15 +114,18 @@ returns-in-Ok-enter-clause-passes c =
     let w : Work = c.args.work in
     let apart = c.apart-asked.ensures in
     let lent : c.apart-asked.result.1 ≡ w.lent = ap (λ (x : Work). x.lent) (sym apart) in
-    let its : event_of c.apart-asked.result.1 ≡ event_of w.lent = ap event_of lent in
+    let its : work_event c.apart-asked.result.1 ≡ work_event w.lent = ap work_event lent in
     let chain = subst (λ (l : Lent). IsChain b.script l w.chain) (sym lent) (subst (λ (r : Recorded). IsChain r.script w.lent w.chain) (sym c.self.view_is) c.requires.of.chain) in
-    let right = subst (λ (l : Lent). IsRight (info_of b.script (event_files (event_of l))) w.chain l) (sym lent)
-    (subst (λ f. IsRight f w.chain w.lent)
-    (c.requires.of.file ∙ ap (λ (r : Recorded). info_of r.script (event_files (event_of w.lent))) (sym c.self.view_is)) c.requires.decided.right) in
-    let ok : GivesLike b.state.state (done b.script b.state.state w.line (event_of w.lent)) c.in-Ok-enter.answer c.enter.new.self.state
+    let file : w.file ≡ info_of b.state.state.infos (event_files (work_event w.lent))
+    = c.requires.of.file
+    ∙ ap (λ (r : Recorded). info_of (infos_in r) (event_files (work_event w.lent))) (sym c.self.view_is)
+    ∙ ap (λ (is : List File). info_of is (event_files (work_event w.lent))) (sym c.self.invariant.0.0.infos) in
+    let right = subst (λ (l : Lent). IsRight (info_of b.state.state.infos (event_files (work_event l))) w.chain l) (sym lent)
+    (subst (λ f. IsRight f w.chain w.lent) file c.requires.decided.right) in
+    let ok : GivesLike b.state.state (done b.script b.state.state w.line (work_event w.lent)) c.in-Ok-enter.answer c.enter.new.self.state
     = subst (λ (e : Event). GivesLike b.state.state (done b.script b.state.state w.line e) c.in-Ok-enter.answer c.enter.new.self.state) its
     (c.in-Ok-enter.ensures.ok b.script w.line w.chain chain right) in
-    let entry : Entry = record { line = w.line; event = (event_of w.lent); answer = c.in-Ok-enter.answer } in
+    let entry : Entry = record { line = w.line; event = (work_event w.lent); answer = c.in-Ok-enter.answer } in
     let made = replays b.script b.state.state c.enter.new.self.state b.journal.items entry c.self.invariant.0 ok in
     let book : Recorded = record {
       script = b.script;
@@ -125,12 +135,12 @@ returns-in-Ok-enter-clause-passes c =
       outs = b.outs.items;
       words = b.state.words;
     } in
-    let answer : c.in-Ok-enter.answer ≡ answer_of book c.args.course.line (event_of w.lent)
-    = sym made.answers ∙ ap (λ (n : ℕ). answer_of book n (event_of w.lent)) (sym c.requires.number) in
+    let answer : c.in-Ok-enter.answer ≡ answer_of book c.args.course.line (work_event w.lent)
+    = sym made.answers ∙ ap (λ (n : ℕ). answer_of book n (work_event w.lent)) (sym c.requires.number) in
     let passes = subst
     (λ (a : Answer). IfSome (line_at b.script c.args.course.line) (λ line. MovesOnTo b.script c.args.lane (model.after line.content c.args.course a) c.cursor_after-cursor.result))
     answer c.cursor_after-cursor.ensures in
     subst
     (λ (r : Recorded). IfSome (line_at r.script c.args.course.line)
-    (λ line. MovesOnTo r.script c.args.lane (model.after line.content c.args.course (answer_of r c.args.course.line (event_of w.lent))) c.cursor_after-cursor.result))
+    (λ line. MovesOnTo r.script c.args.lane (model.after line.content c.args.course (answer_of r c.args.course.line (work_event w.lent))) c.cursor_after-cursor.result))
     c.self.view_is passes

@@ -2,10 +2,10 @@ use Rattle.std.proofs.Common.{◌≡◌, ◌<◌, length, get_or, Option, Some, 
 use Rattle.cred_ids.specs.Limits.{LINE_LIMIT}
 use Rattle.cred_model.specs.Course.{Course}
 use Rattle.cred_model.specs.Journal.{replay}
-use Rattle.cred_cursor.specs.Cursors.{due_of}
+use Rattle.cred_cursor.specs.LaneCursors.{due_of}
 use Rattle.cred_cursor.proofs.Turns.{lane_has_place}
 use Rattle.cred_tables.specs.Out.{AreOut}
-use Rattle.cred_work.specs.Decisions.{event_of}
+use Rattle.cred_work.specs.Decisions.{work_event}
 use Rattle.cred_book.specs.Book.{Recorded}
 use Rattle.cred_book.specs.Cursor.{moved_on}
 use Rattle.cred_book.proofs.Cursors.{due_counts, due_found, due_goes_on, due_of_line, lane_has_out}
@@ -58,7 +58,7 @@ move_on-requires c =
     let here : due_of book.cursors c.args.lane ≡ Some course
     = due_found _ book c.args.lane _ _ c.self.view_is c.due.ensures c.in-Some.is in
     let may = due_counts book c.args.lane course c.requires.stands here in
-    let same : c.take_home.new.self ≡ at_home (back_in book c.args.work.line (event_of c.args.work.lent) c.enter_decided.new.self.words) c.args.lane
+    let same : c.take_home.new.self ≡ at_home (back_in book c.args.work.line (work_event c.args.work.lent) c.enter_decided.new.self.words) c.args.lane
     = c.take_home.ensures ∙ ap (λ (b : Recorded). at_home b c.args.lane) c.in_ok-cursor.ensures.entered.same in
     record {
       cursors = subst (λ (b : Recorded). c.args.lane < length b.cursors) (sym same) (lane_has_place book.cursors c.args.lane course here);
@@ -92,5 +92,6 @@ returns c =
       made = m.made;
       falls = m.falls;
       counts = m.counts;
+      files = m.files;
       err = tt;
     }

@@ -7,8 +7,8 @@ use Rattle.cred_work.specs.declared.lent.Lent.{Lent}
 use Rattle.cred_tables.specs.Kept.{Standing}
 use Rattle.cred_tables.specs.Out.{AreHome, AreOut, tokens_in}
 use Rattle.cred_tables.proofs.Outs.{out_like, tokens_like}
-use Rattle.cred_state.specs.Lending.{entries_of, with_lent}
-use Rattle.cred_state.proofs.Lending.{like_lent}
+use Rattle.cred_state.specs.TokensOut.{entries_of, with_lent}
+use Rattle.cred_state.proofs.TokensOut.{like_lent}
 use Rattle.cred_book.specs.Book.{Recorded}
 use Rattle.cred_book.proofs.Entered.{follows_sound}
 use Rattle.cred_book.proofs.Lent.{out_lent, words_lent}

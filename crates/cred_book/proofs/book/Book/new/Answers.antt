@@ -10,7 +10,7 @@ use Rattle.cred_book.proofs.book.Book.new.Goals as goal
 
 pub invariant_of-book : goal.invariant_of-book
 invariant_of-book c = (
-  rw (c.in-Ok.ensures.state, c.in-Ok.ensures.journal) (like_self opening, λ k lt. absurd (omega arith)),
+  rw (c.in-Ok.ensures.state, c.in-Ok.ensures.journal) (like_self (opening c.args.script), λ k lt. absurd (omega arith)),
   subst (AreOut (replay c.args.script c.in-Ok.begun.journal.items)) (sym c.in-Ok.ensures.lent)
       (has_out (replay c.args.script c.in-Ok.begun.journal.items) [] (λ e has. absurd has)),
 )
@@ -46,6 +46,7 @@ returns-clause-stands c =
       places = c.in-Ok.ensures.places;
       few = c.in-Ok.ensures.few;
       setup = c.in-Ok.ensures.setup;
+      fixed = c.in-Ok.ensures.fixed;
       named = c.in-Ok.ensures.named;
       outs = c.in-Ok.ensures.outs;
       lent = c.in-Ok.ensures.lent;

@@ -9,12 +9,12 @@ use Rattle.cred_model.specs.Journal.{replay}
 use Rattle.cred_model.specs.Named.{IsEventOf}
 use Rattle.cred_script.specs.Lines.{line_at}
 use Rattle.cred_cursor.specs.Cursor.{IsOfLine, MovesOnTo}
-use Rattle.cred_cursor.specs.Cursors.{due_of}
+use Rattle.cred_cursor.specs.LaneCursors.{due_of}
 use Rattle.cred_cursor.proofs.Turns.{lane_has_place}
 use Rattle.cred_work.specs.Work.{Work}
 use Rattle.cred_tables.specs.Kept.{Words}
-use Rattle.cred_tables.specs.Out.{AreHome, waits_in}
-use Rattle.cred_book.specs.Book.{Recorded, answer_of, with_event}
+use Rattle.cred_tables.specs.Out.{AreHome, needs_tokens}
+use Rattle.cred_book.specs.Book.{Recorded, answer_of, infos_in, with_event}
 use Rattle.cred_book.specs.Cursor.{moved_on}
 use Rattle.cred_book.specs.Works.{GoesOut, IsHanded, with_work}
 use Rattle.cred_book.proofs.Cursors.{due_counts, due_found, due_goes_on, due_makes, due_of_line, lane_has_out, none_counted, none_made}
@@ -36,6 +36,7 @@ returns-in_default c =
       made = none_made book c.args.lane c.requires.stands none;
       falls = λ more. cc;
       counts = none_counted book c.args.lane c.requires.stands none;
+      files = λ other. refl;
       err = tt;
     }
 
@@ -100,6 +101,7 @@ returns-in-Some-3 c =
       made = r.made;
       falls = λ more. cc;
       counts = r.counts;
+      files = λ other. ap infos_in goes.lent;
       err = tt;
     }
 
@@ -193,7 +195,7 @@ returns c =
     = sym (c.move_on.ensures ∙ ap (λ (b : Recorded). moved_on b lane c.line-line.result to) c.in_ok-cursor.ensures.entered
     ∙ ap (λ n. moved_on (with_event c.hand_out.new.self course.line event) lane n to) c.line-line.ensures.value
     ∙ ap (λ (b : Recorded). moved_on (with_event b course.line event) lane course.line to) none) in
-    let free : waits_in (replay book.script book.journal) event ≡ false
+    let free : needs_tokens (replay book.script book.journal) event ≡ false
     = back.0 in
     let goes : GoesOn book lane course event to = record {
       stands = c.requires.stands;
@@ -212,5 +214,6 @@ returns c =
       made = m.made;
       falls = λ more. m.falls;
       counts = m.counts;
+      files = m.files;
       err = tt;
     }

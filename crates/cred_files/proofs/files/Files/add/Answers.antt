@@ -2,14 +2,14 @@ use Rattle.std.proofs.Common.{◌<◌, ◌∙◌, is_some, length}
 use Rattle.cred_ids.specs.Limits.{OPEN_FILES}
 use Rattle.indexmap.proofs.CallerLemmas.{insert_entry-new}
 use Rattle.cred_files.specs.declared.file.File.{File}
-use Rattle.cred_files.specs.Open.{files_of}
+use Rattle.cred_files.specs.Open.{open_files}
 use Rattle.cred_files.proofs.Kept.{is_new, opened, still_open}
 use Rattle.cred_files.proofs.files.Files.add.Goals as goal
 
 pub invariant_of-self-2 : goal.invariant_of-self-2
 invariant_of-self-2 c =
     let es = c.self.inside.files.entries in
-    let room : length (files_of es) < OPEN_FILES = rw (← c.self.view_is) at c.requires.room in
+    let room : length (open_files es) < OPEN_FILES = rw (← c.self.view_is) at c.requires.room in
     still_open es c.insert.new.self.entries (is_some c.in_ok-insert.field-0) room c.insert.ensures.unique c.in_ok-insert.ensures.len
 
 pub returns-clause-ok : goal.returns-clause-ok

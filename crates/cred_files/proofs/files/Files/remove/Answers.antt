@@ -1,5 +1,5 @@
 use Rattle.std.proofs.Common.{◌∙◌, sym, ap, arith}
-use Rattle.cred_files.specs.Open.{files_of}
+use Rattle.cred_files.specs.Open.{open_files}
 use Rattle.cred_files.proofs.Kept.{are_open, closed, not_open, length-files_of}
 use Rattle.cred_files.proofs.files.Files.remove.Goals as goal
 
@@ -20,4 +20,4 @@ returns-in_err-shift_remove c =
     let es = c.self.inside.files.entries in
     let none = sym c.shift_remove.ensures.value ∙ c.in_err-shift_remove.was in
     rw (c.from_residual.ensures, ← c.self.view_is)
-    (not_open c.args.fd es none, ap files_of c.in_err-shift_remove.ensures.unchanged)
+    (not_open c.args.fd es none, ap open_files c.in_err-shift_remove.ensures.unchanged)

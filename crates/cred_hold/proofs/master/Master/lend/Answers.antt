@@ -1,6 +1,6 @@
 use Rattle.std.proofs.Common.{Some, length, sym, ap, ◌∙◌, subst}
 use Rattle.std.specs.Prelude.{slice_get}
-use Rattle.cred_record.specs.Words.{are_words, credential_of}
+use Rattle.cred_record.specs.Words.{are_words, credential_in}
 use Rattle.cred_words.specs.declared.view.Ledger.{Ledger}
 use Rattle.cred_words.proofs.Lists.{words_at-get}
 use Rattle.cred_hold.specs.Tokens.{AreSlots}
@@ -34,4 +34,4 @@ returns-clause-cred c =
     let s = c.requires.sealed in
     let x = sealed-seen c.self.inside.inner.ledger.slots c.args.slot s.0 (ap (λ m. slice_get m.slots c.args.slot) c.self.view_is ∙ s.1) in
     let words = ap (λ t. t.words) e.1 ∙ words_at-get c.self.inside.inner.ledger.slots c.args.slot x.0 x.1 in
-    s.1 ∙ ap (λ d. Some (Some d)) (sym x.3 ∙ ap credential_of (sym words))
+    s.1 ∙ ap (λ d. Some (Some d)) (sym x.3 ∙ ap credential_in (sym words))

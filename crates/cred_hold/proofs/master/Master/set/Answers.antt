@@ -1,7 +1,7 @@
 use Rattle.std.proofs.Common.{List, None, set, ap, ◌∙◌, subst}
 use Rattle.std.proofs.lemmas.List.{set-set}
 use Rattle.cred_words.specs.Lists.{IsTaken}
-use Rattle.cred_hold.specs.Tokens.{Entry, Written, entry}
+use Rattle.cred_hold.specs.Tokens.{Loan, Written, loan}
 use Rattle.cred_hold.proofs.Within.{taken_alone}
 use Rattle.cred_hold.proofs.master.Master.set.Goals as goal
 
@@ -12,8 +12,8 @@ returns-clause-made c =
     let slot = ap (λ (w : Written). w.slot) c.put.ensures ∙ lent.writer.2 in
     let put = ap (λ (w : Written). w.put) c.put.ensures in
     let back = c.take_back.ensures in
-    let P : List Entry × Entry → Type 0 = λ x. IsTaken x.0 x.1 c.take_back.new.self.entries in
-    let taken = subst P (λ k. (lent.entries k, entry (label k) (slot k) None)) back.entry in
-    let entries = taken_alone (entry 0 c.args.slot None) c.args.self.now.entries _ c.requires.alone taken in
+    let P : List Loan × Loan → Type 0 = λ x. IsTaken x.0 x.1 c.take_back.new.self.entries in
+    let taken = subst P (λ k. (lent.entries k, loan (label k) (slot k) None)) back.entry in
+    let entries = taken_alone (loan 0 c.args.slot None) c.args.self.now.entries _ c.requires.alone taken in
     let slots = back.slots ∙ (λ k. set (lent.slots k) (slot k) (put k)) ∙ set-set _ _ _ _ in
     λ k. record { id = (back.same ∙ lent.same) k; entries = entries k; slots = slots k }

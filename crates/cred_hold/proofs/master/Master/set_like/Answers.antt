@@ -4,7 +4,7 @@ use Rattle.std.proofs.lemmas.List.{set-set}
 use Rattle.cred_record.specs.Credential.{Credential}
 use Rattle.cred_words.specs.Lists.{IsTaken}
 use Rattle.cred_words.proofs.Lists.{get_set_else}
-use Rattle.cred_hold.specs.Tokens.{Entry, Mastered, Written, entry}
+use Rattle.cred_hold.specs.Tokens.{Loan, Mastered, Written, loan}
 use Rattle.cred_hold.proofs.Within.{taken_alone}
 use Rattle.cred_hold.proofs.master.Master.set_like.Goals as goal
 
@@ -42,10 +42,10 @@ returns-clause-made c d at =
     let slot = ap (λ (w : Written). w.slot) putting ∙ lent.writer.2 in
     let put = ap (λ (w : Written). w.put) putting in
     let back = c.take_back.ensures in
-    let P : List Entry × Entry → Type 0 = λ x. IsTaken x.0 x.1 c.take_back.new.self.entries in
+    let P : List Loan × Loan → Type 0 = λ x. IsTaken x.0 x.1 c.take_back.new.self.entries in
     let out = ap (λ (m : Mastered). m.entries) same ∙ lent.entries in
     let slots_are = ap (λ (m : Mastered). m.slots) same ∙ lent.slots in
-    let taken = subst P (λ k. (out k, entry (label k) (slot k) None)) back.entry in
-    let entries = taken_alone (entry 0 c.args.slot None) c.args.self.now.entries _ c.requires.alone taken in
+    let taken = subst P (λ k. (out k, loan (label k) (slot k) None)) back.entry in
+    let entries = taken_alone (loan 0 c.args.slot None) c.args.self.now.entries _ c.requires.alone taken in
     let slots = back.slots ∙ (λ k. set (slots_are k) (slot k) (put k)) ∙ set-set _ _ _ _ in
     λ k. record { id = (back.same ∙ ap (λ (m : Mastered). m.id) same ∙ lent.same) k; entries = entries k; slots = slots k }

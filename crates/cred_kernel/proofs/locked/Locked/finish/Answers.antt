@@ -3,15 +3,15 @@ use Rattle.cred_turn.specs.declared.numbers.Numbers.{Numbers}
 use Rattle.cred_turn.specs.Seen.{pass}
 use Rattle.cred_book.specs.Book.{Recorded}
 use Rattle.cred_book.specs.declared.step.Unfinished.{Unfinished}
-use Rattle.cred_kernel.specs.Advances.{finished}
+use Rattle.cred_kernel.specs.Advances.{after_finish}
 use Rattle.cred_kernel.specs.Locks.{numbers_in}
-use Rattle.cred_kernel.proofs.Relending.{locked_after}
+use Rattle.cred_kernel.proofs.LaterLoans.{locked_after}
 use Rattle.cred_kernel.proofs.Returned.{decided_few, entered_few, its_numbers, is_back}
 use Rattle.cred_kernel.proofs.Stepping.{err_same, moved_back, IsMoved}
 use Rattle.cred_kernel.proofs.locked.Locked.finish.Goals as goal
 
-pub finished-turn-inside-requires-clause-entered : goal.finished-turn-inside-requires-clause-entered
-finished-turn-inside-requires-clause-entered g c =
+pub after_finish-turn-inside-requires-clause-entered : goal.after_finish-turn-inside-requires-clause-entered
+after_finish-turn-inside-requires-clause-entered g c =
     let book : Recorded = c.self.inside.book in
     let lane = c.turn.inside.lane in
     let back : c.in-Some.pass ≡ pass g.K.Name.roll lane c.turn.inside.numbers
@@ -23,8 +23,8 @@ finished-turn-inside-requires-clause-entered g c =
     let room : c.count-entries.result < 2 ^ 63 = c.count-entries.ensures.room in
     omega (arith, few, all, room)
 
-pub finished-turn-inside-requires-clause-decided : goal.finished-turn-inside-requires-clause-decided
-finished-turn-inside-requires-clause-decided g c =
+pub after_finish-turn-inside-requires-clause-decided : goal.after_finish-turn-inside-requires-clause-decided
+after_finish-turn-inside-requires-clause-decided g c =
     let book : Recorded = c.self.inside.book in
     let lane = c.turn.inside.lane in
     let back : c.in-Some.pass ≡ pass g.K.Name.roll lane c.turn.inside.numbers
@@ -42,7 +42,7 @@ invariant_of-self g c =
     let after : Recorded = c.finish-step.new.self in
     let lane = c.turn.inside.lane in
     let numbers : Numbers = c.turn.inside.numbers in
-    let now : Numbers = c.finished-turn-inside.result in
+    let now : Numbers = c.after_finish-turn-inside.result in
     let step = c.finish-step.result in
     let back : c.in-Some.pass ≡ pass g.K.Name.roll lane numbers
     = is_back c.take.result c.in-Some.pass _ c.in-Some.is (c.take.ensures.value ∙ c.turn.invariant.pass_is) in
@@ -51,7 +51,7 @@ invariant_of-self g c =
     c.take-2.ensures.lane c.take-2.ensures.was in
     let same = err_same (λ (u : Unfinished). u.work ≡ c.args.work) book after step c.finish-step.ensures.err in
     let moved : IsMoved book after lane now
-    = subst (λ (n : Numbers). IsMoved book after lane n) (sym (c.finished-turn-inside.ensures ∙ ap (λ (e : ℕ). finished numbers e step) c.ended.ensures))
+    = subst (λ (n : Numbers). IsMoved book after lane n) (sym (c.after_finish-turn-inside.ensures ∙ ap (λ (e : ℕ). after_finish numbers e step) c.ended.ensures))
     (moved_back book after lane numbers step was c.finish-step.ensures.counts same) in
     locked_after g.K.Name.script g.K.Name.roll g.K.Name.cells book after c.self.inside.roll c.take-2.new.self c.lend.new.self c.in-Some.pass lane numbers now
     c.self.invariant moved c.finish-step.ensures.script c.finish-step.ensures.cells c.finish-step.ensures.stands back

@@ -5,16 +5,16 @@ use Rattle.cred_model.specs.Journal.{next}
 use Rattle.cred_turn.specs.declared.numbers.Numbers.{Numbers}
 use Rattle.cred_turn.specs.Seen.{pass}
 use Rattle.cred_book.specs.Book.{Recorded}
-use Rattle.cred_kernel.specs.Advances.{Advanced, stepped}
+use Rattle.cred_kernel.specs.Advances.{Advanced, after_step}
 use Rattle.cred_kernel.specs.Locks.{numbers_in}
 use Rattle.cred_kernel.specs.Turns.{Seen}
-use Rattle.cred_kernel.proofs.Relending.{locked_after}
+use Rattle.cred_kernel.proofs.LaterLoans.{locked_after}
 use Rattle.cred_kernel.proofs.Returned.{entered_few, its_numbers, is_back}
 use Rattle.cred_kernel.proofs.Stepping.{advanced, moved, seen, IsMoved}
 use Rattle.cred_kernel.proofs.locked.Locked.step.Goals as goal
 
-pub stepped-turn-inside-requires : goal.stepped-turn-inside-requires
-stepped-turn-inside-requires g c =
+pub after_step-turn-inside-requires : goal.after_step-turn-inside-requires
+after_step-turn-inside-requires g c =
     let book : Recorded = c.self.inside.book in
     let lane = c.turn.inside.lane in
     let back : c.in-Some.pass ≡ pass g.K.Name.roll lane c.turn.inside.numbers
@@ -32,7 +32,7 @@ invariant_of-self g c =
     let after : Recorded = c.next-step.new.self in
     let lane = c.turn.inside.lane in
     let numbers : Numbers = c.turn.inside.numbers in
-    let now : Numbers = c.stepped-turn-inside.result in
+    let now : Numbers = c.after_step-turn-inside.result in
     let step = c.next-step.result in
     let back : c.in-Some.pass ≡ pass g.K.Name.roll lane numbers
     = is_back c.take.result c.in-Some.pass _ c.in-Some.is (c.take.ensures.value ∙ c.turn.invariant.pass_is) in
@@ -41,7 +41,7 @@ invariant_of-self g c =
     c.take-2.ensures.lane c.take-2.ensures.was in
     let home = ap (λ (t : Seen). t.numbers.out) c.turn.view_is ∙ c.requires.out in
     let its : IsMoved book after lane now
-    = subst (λ (n : Numbers). IsMoved book after lane n) (sym (c.stepped-turn-inside.ensures ∙ ap (λ (e : ℕ). stepped numbers e step) c.ended.ensures))
+    = subst (λ (n : Numbers). IsMoved book after lane n) (sym (c.after_step-turn-inside.ensures ∙ ap (λ (e : ℕ). after_step numbers e step) c.ended.ensures))
     (moved book after lane numbers (next book.script book.journal lane) step was home c.next-step.ensures.script
     c.next-step.ensures.made c.next-step.ensures.counts c.next-step.ensures.err) in
     locked_after g.K.Name.script g.K.Name.roll g.K.Name.cells book after c.self.inside.roll c.take-2.new.self c.lend.new.self c.in-Some.pass lane numbers now
@@ -54,7 +54,7 @@ returns-clause-step g c =
     let after : Recorded = c.next-step.new.self in
     let lane = c.turn.inside.lane in
     let numbers : Numbers = c.turn.inside.numbers in
-    let now : Numbers = c.stepped-turn-inside.result in
+    let now : Numbers = c.after_step-turn-inside.result in
     let step = c.next-step.result in
     let script = g.K.Name.script in
     let cells = g.K.Name.cells in
@@ -70,4 +70,4 @@ returns-clause-step g c =
     subst (λ (t : Seen). IfOk step (Advanced script cells t (seen lane now))) c.turn.view_is
     (subst (λ (s : Script). IfOk step (Advanced s cells (seen lane numbers) (seen lane now))) c.self.invariant.script_is
     (subst (λ (n : Numbers). IfOk step (Advanced book.script cells (seen lane numbers) (seen lane n)))
-    (sym (c.stepped-turn-inside.ensures ∙ ap (λ (e : ℕ). stepped numbers e step) c.ended.ensures)) made))
+    (sym (c.after_step-turn-inside.ensures ∙ ap (λ (e : ℕ). after_step numbers e step) c.ended.ensures)) made))

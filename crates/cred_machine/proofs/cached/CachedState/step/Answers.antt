@@ -1,8 +1,10 @@
 use Rattle.std.proofs.Common.{◌≡◌, false, length, sym, subst, ◌∙◌}
-use Rattle.cred_machine.specs.Kept.{KeepsReferred, may_have_swept}
-use Rattle.cred_machine.proofs.Forgetting.{gives_like, stays_kept}
-use Rattle.cred_machine.proofs.Keeping.{Keeps}
-use Rattle.cred_machine.proofs.Keeps.{keeps}
+use Rattle.cred_event.specs.declared.answer.Answer.{Answer}
+use Rattle.cred_model.specs.State.{State}
+use Rattle.cred_machine.specs.Kept.{KeepsReferred, may_let_go}
+use Rattle.cred_machine.proofs.Forgetting.{gives_like, still_referred}
+use Rattle.cred_machine.proofs.KeptByEvents.{Keeps}
+use Rattle.cred_machine.proofs.NothingIsLost.{counted, keeps}
 use Rattle.cred_machine.specs.Slots.{takes_slot}
 use Rattle.cred_machine.proofs.Live.{known_kept, known_like, known_still}
 use Rattle.cred_machine.proofs.cached.CachedState.step.Goals as goal
@@ -18,10 +20,12 @@ pub forget_if-requires : goal.forget_if-requires
 forget_if-requires c = λ unswept.
     let s = c.self.inside.state in
     let t = c.make.new.self in
-    let test : may_have_swept (length s.deferred) c.in_ok-answer.answer (length t.deferred) ≡ false
-    = rw (← c.given_up-before.ensures, ← c.given_up.ensures) (sym c.may_have_swept-swept.ensures ∙ unswept) in
-    stays_kept s t c.in_ok-answer.answer
-    (subst (Keeps s) c.in_ok-answer.ensures.ok (keeps c.args.script.now s c.args.line c.args.event.now (rw (← c.self.view_is) at c.requires.sound)))
+    let event = c.args.event.now in
+    let test : may_let_go event (length s.deferred) c.in_ok-answer.answer (length t.deferred) ≡ false
+    = rw (← c.given_up-before.ensures, ← c.given_up.ensures) (sym c.may_let_go-swept.ensures ∙ unswept) in
+    still_referred s t event c.in_ok-answer.answer
+    (subst (λ (made : Answer × State). Keeps s (counted event made)) c.in_ok-answer.ensures.ok
+    (keeps c.args.script.now s c.args.line event (rw (← c.self.view_is) at c.requires.sound)))
     test c.self.invariant.kept
 
 pub invariant_of-self-2 : goal.invariant_of-self-2

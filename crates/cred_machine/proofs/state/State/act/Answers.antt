@@ -130,16 +130,16 @@ set_current_at-requires c =
     (stands_still s c.in-Some-get.current.number c.in-Ok.cred c.in-Some-slot.slot sound
     c.args.room.swept after leads task c.in-Some-place.task_at c.in-Some-place.ensures.place)
 
-pub acted-requires-clause-casts : goal.acted-requires-clause-casts
-acted-requires-clause-casts c =
+pub act-requires-clause-casts : goal.act-requires-clause-casts
+act-requires-clause-casts c =
     let s = seen_state c.self.inside in
     let sound = rw (← c.self.view_is) at c.requires.sound in
     let leads = c.self-2.view_is ∙ (rw (← c.self.view_is) at c.in_ok-cred.ensures.ok) in
     casts_still s c.in-Some-get.current.number c.in-Ok.cred c.in-Some-slot.slot sound
     c.args.room.swept (seen_state c.self-2.inside) leads
 
-pub acted-requires-clause-least : goal.acted-requires-clause-least
-acted-requires-clause-least c =
+pub act-requires-clause-least : goal.act-requires-clause-least
+act-requires-clause-least c =
     let s = seen_state c.self.inside in
     let sound = rw (← c.self.view_is) at c.requires.sound in
     let b = seen_cast c.cast.inside in
@@ -175,11 +175,11 @@ returns-clause-ok c =
     rw (← c.self.view_is)
     (steps_there s sound c.args.line task c.in-Some.cast_at b o old next c.in-Ok.cred
     c.in-Ok.ensures (seen_state c.self-2.inside) c.set_current_at.new.self
-    c.acted.new.casts.items _ c.differs-other.result c.args.room.swept c.in-Some-slot.slot
+    c.act.new.casts.items _ c.differs-other.result c.args.room.swept c.in-Some-slot.slot
     c.others-left.result c.in_ok-cred.cred c.in-Some-place.task_at
     (rw (← c.self.view_is) at (sym c.requires.slot ∙ c.in-Some-slot.is))
     (rw (← c.self.view_is) at c.requires.swept)
     (rw (← c.cast.view_is) at c.others-left.ensures)
     (rw (← c.self.view_is) at c.in_ok-cred.ensures.number)
-    c.in-Some-place.ensures.place leads c.set_current_at.ensures c.acted.ensures
+    c.in-Some-place.ensures.place leads c.set_current_at.ensures c.act.ensures
     c.differs-other.ensures c.renew.ensures)

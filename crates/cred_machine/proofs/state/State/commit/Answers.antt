@@ -1,6 +1,6 @@
 use Rattle.cred_event.specs.declared.answer.Answer.TheVariants.{Busy, Overridden}
 use Rattle.cred_machine.proofs.Leads.{busy_at}
-use Rattle.cred_machine.proofs.Committing.{can_commit, commit_busy, commit_does, commit_overridden, finds}
+use Rattle.cred_machine.proofs.CommitParts.{can_commit, commit_busy, commit_does, commit_overridden, finds}
 use Rattle.cred_machine.proofs.Seen.{seen_prepared, seen_state}
 use Rattle.cred_machine.proofs.state.State.commit.Goals as goal
 

@@ -1,7 +1,7 @@
 use Rattle.std.proofs.Common.{List, ◌++◌, ◌∷◌, [], sym, ap, ◌∙◌}
 use Rattle.cred_event.specs.declared.answer.Answer.TheVariants.{Busy, Overridden}
 use Rattle.cred_model.specs.State.{Task, ProcessFlag}
-use Rattle.cred_model.specs.Dumpable.{flag_in, with_flag}
+use Rattle.cred_model.specs.Dumpable.{flag_in, with_process_flag}
 use Rattle.cred_sound.specs.Sound.{IsSound}
 use Rattle.cred_plain.specs.Creds.{seen_numbered}
 use Rattle.cred_model.proofs.Places.{none_by_test}
@@ -46,7 +46,7 @@ returns-clause-ok c =
     (fork_leads s c.args.task c.args.child c.args.process o parent _ _ c.is_dumpable-dumpable.result can
     (none_by_test _ c.has_process.result c.has_process.ensures c.if-has_process.false)
     (c.in_ok-begin_process.ensures.tasks ∙ ap (λ (n : Task). s.tasks ++ n ∷ []) c.first-thread.ensures)
-    (c.in_ok-begin_process.ensures.flags ∙ ap (λ (n : Task). with_flag s.dumpable n.process c.is_dumpable-dumpable.result) c.first-thread.ensures)
+    (c.in_ok-begin_process.ensures.flags ∙ ap (λ (n : Task). with_process_flag s.dumpable n.process c.is_dumpable-dumpable.result) c.first-thread.ensures)
     c.is_dumpable-dumpable.ensures)
 
 pub begin_process-requires-clause-unused : goal.begin_process-requires-clause-unused

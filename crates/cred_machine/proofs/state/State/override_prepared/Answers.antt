@@ -3,8 +3,8 @@ use Rattle.std.proofs.lemmas.Option.{slice_get_within}
 use Rattle.cred_model.specs.State.{Changed, Prepared, SealedCred}
 use Rattle.cred_plain.proofs.Places.{found_is}
 use Rattle.cred_machine.proofs.Refusals.{some_of}
-use Rattle.cred_machine.proofs.Committing.{some_by}
-use Rattle.cred_machine.proofs.Lending.{access_deep, access_lends, is_deep, lend_other, not_deep, said_of}
+use Rattle.cred_machine.proofs.CommitParts.{some_by}
+use Rattle.cred_machine.proofs.Overrides.{access_deep, access_lends, is_deep, lend_other, not_deep, said_of}
 use Rattle.cred_machine.proofs.Seen.{placed, seen_state}
 use Rattle.cred_machine.proofs.Unchanged.{on_err}
 use Rattle.cred_machine.proofs.state.State.override_prepared.Goals as goal

@@ -1,6 +1,6 @@
 use Rattle.std.proofs.Common.{sym}
 use Rattle.cred_plain.specs.Creds.{seen_numbered}
-use Rattle.cred_machine.proofs.Lending.{lends, not_deep, said_of}
+use Rattle.cred_machine.proofs.Overrides.{lends, not_deep, said_of}
 use Rattle.cred_machine.proofs.Seen.{seen_state}
 use Rattle.cred_machine.proofs.state.State.override_with.Goals as goal
 

@@ -2,7 +2,7 @@ use Rattle.std.proofs.Common.{◌≡◌, ℕ, List, [], ◌∷◌, ◌++◌, Opt
 use Rattle.cred_model.specs.State.{Changed, Prepared, SealedCred, task_of}
 use Rattle.cred_machine.specs.Labels.{CanCommit, IsChanged}
 use Rattle.cred_plain.proofs.Places.{found_is}
-use Rattle.cred_machine.proofs.Committing.{commits, is_within, own_is, read_is, some_by}
+use Rattle.cred_machine.proofs.CommitParts.{commits, is_within, own_is, read_is, some_by}
 use Rattle.cred_machine.proofs.Seen.{seen_prepared, seen_state, seen_task}
 use Rattle.cred_machine.proofs.Unchanged.{on_err}
 use Rattle.cred_machine.proofs.state.State.settle.Goals as goal

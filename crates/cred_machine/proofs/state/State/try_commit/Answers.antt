@@ -4,7 +4,7 @@ use Rattle.cred_model.specs.Moves.{given_up}
 use Rattle.cred_machine.specs.Labels.{CanCommit}
 use Rattle.cred_model.proofs.Places.{if_some}
 use Rattle.cred_plain.proofs.Places.{found_is}
-use Rattle.cred_machine.proofs.Committing.{commits_stale, is_within, on_current, own_is, read_is, some_by}
+use Rattle.cred_machine.proofs.CommitParts.{commits_stale, is_within, on_current, own_is, read_is, some_by}
 use Rattle.cred_machine.proofs.Seen.{seen_prepared, seen_state, seen_task}
 use Rattle.cred_machine.proofs.state.State.try_commit.Goals as goal
 

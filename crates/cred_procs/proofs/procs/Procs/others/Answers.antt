@@ -1,8 +1,8 @@
 use Rattle.std.proofs.Common.{◌≡◌, ℕ, ◌∙◌, List, refl, sym, ap, Option, None, Some, filter}
 use Rattle.std.specs.Option.{option_map, IfSome}
-use Rattle.cred_model.specs.State.{Task, opening}
+use Rattle.cred_model.specs.State.{Task}
 use Rattle.cred_model.specs.Ends.{is_beside}
-use Rattle.cred_model.proofs.Numbers.{owner_number}
+use Rattle.cred_model.proofs.Numbers.{found_number}
 use Rattle.cred_procs.specs.Kept.{tasks_of}
 use Rattle.cred_procs.specs.Tasks.{task_in, those, members}
 use Rattle.cred_procs.proofs.Ends.{is_other}
@@ -15,7 +15,7 @@ by_process : (task process : ℕ) (ts : List Task) (tasks : List ℕ) (found : O
 by_process task process ts tasks None at is these = cc
 by_process task process ts tasks (Some owner) at is these =
     let same : process ≡ owner.process = cc in
-    let number = owner_number (record opening { tasks = ts }) task owner at in
+    let number = found_number ts task owner at in
     these
     ∙ ap (λ (p : ℕ). filter (is_other task) (members ts p)) same
     ∙ ap (λ (n : ℕ). filter (is_other n) (members ts owner.process)) (sym number)

@@ -1,6 +1,6 @@
 use Rattle.std.proofs.Common.{sym, ap, ◌∙◌, arith, is_some}
 use Rattle.cred_slots.specs.declared.row.Row.{Row}
-use Rattle.cred_slots.specs.Table.{least_free}
+use Rattle.cred_slots.specs.Table.{least_free_in}
 use Rattle.cred_slots.proofs.Live.{next-is}
 use Rattle.cred_slots.proofs.Sound.{row_read}
 use Rattle.cred_slots.proofs.Tables.{room-free, room-full}
@@ -23,7 +23,7 @@ returns-then-late-gt0-clause-slot c =
     let next = next-is c.self.invariant c.args.slot (rw (← c.self.view_is) at c.requires) in
     let row = row_read c.self.inside.rows.items c.args.slot c.index.result.now c.self.invariant.all_rows next.within c.index.ensures in
     let live = next.all_live (rw (← row) c.if-late-gt0.true) in
-    ap least_free c.sweep.ensures ∙ rw (← c.self.view_is) live.1
+    ap least_free_in c.sweep.ensures ∙ rw (← c.self.view_is) live.1
 
 pub returns-else-late-gt0-clause-room : goal.returns-else-late-gt0-clause-room
 returns-else-late-gt0-clause-room c =

@@ -4,7 +4,7 @@ use Rattle.std.proofs.lemmas.List.Elements.{Contains-push}
 use Rattle.cred_event.specs.declared.event.Event.TheVariants.{Ask}
 use Rattle.cred_hold.specs.Tokens.{Held}
 use Rattle.cred_work.specs.declared.lent.Lent.TheVariants.{Asking}
-use Rattle.cred_state.specs.Lending.{with_lent}
+use Rattle.cred_state.specs.TokensOut.{with_lent}
 use Rattle.cred_state.proofs.Asking.{were_asked}
 use Rattle.cred_state.proofs.Deciding.{back_one, lent_are, lent_sound}
 use Rattle.cred_state.proofs.Returns.{holds_apart}
@@ -14,8 +14,8 @@ use Rattle.cred_state.proofs.state.State.ask.Goals as goal
 pub lend_found-hold-requires-clause-used : goal.lend_found-hold-requires-clause-used
 lend_found-hold-requires-clause-used c = held-in_use c.args.self.now.state c.args.label _ (sym c.in-Some.ensures)
 
-pub give_back-requires-clause-apart : goal.give_back-requires-clause-apart
-give_back-requires-clause-apart c =
+pub take_hold_back-requires-clause-apart : goal.take_hold_back-requires-clause-apart
+take_hold_back-requires-clause-apart c =
     let s = c.args.self.now in
     let hold = c.lend_found-hold.result in
     let lent = c.lend_found-hold.ensures in
@@ -27,10 +27,10 @@ give_back-requires-clause-apart c =
 pub returns-clause-same : goal.returns-clause-same
 returns-clause-same c =
     let lent = c.lend_found-hold.ensures in
-    let back = c.give_back.ensures in
+    let back = c.take_hold_back.ensures in
     let label = c.args.label in
     let hold = c.lend_found-hold.result in
     let its : hold.label ≡ label = ap (λ (h : Held). h.label) lent.hold in
-    back_one c.args.self.now c.lend_found-hold.new.self c.lend_found-hold.new.self c.give_back.new.self hold (Ask label c.args.query) c.requires.home
+    back_one c.args.self.now c.lend_found-hold.new.self c.lend_found-hold.new.self c.take_hold_back.new.self hold (Ask label c.args.query) c.requires.home
     (subst (λ n. Contains (label ∷ []) n) (sym its) (Contains-push [] label)) lent.lent
     back.state back.places back.id (rw c.decide-told.ensures.same at back.taken)

@@ -4,11 +4,11 @@ use Rattle.cred_model.specs.Dumpable.{renewed}
 use Rattle.cred_model.proofs.Places.{if_some}
 use Rattle.cred_setid.specs.Parts.{changed}
 use Rattle.cred_procs.specs.Tasks.{task_in}
-use Rattle.cred_tables.specs.Kept.{cred_under, parts_of, state_of}
+use Rattle.cred_tables.specs.Kept.{cred_under, as_parts, state_of}
 use Rattle.cred_tables.proofs.Bags.{bag-keeps}
 use Rattle.cred_tables.proofs.Free.{full_swept}
 use Rattle.cred_tables.proofs.Sealing.{current-held, drops, none_spare, roomy_spare, seals_spare}
-use Rattle.cred_state.proofs.Begins.{may_wait, begin_full, replaced_kept, begin_sealed}
+use Rattle.cred_state.proofs.Begins.{broadcast_may_begin, begin_full, replaced_kept, begin_sealed}
 use Rattle.cred_tables.proofs.Outs.{free_alone, free_apart}
 use Rattle.cred_tables.proofs.Puts.{put_free}
 use Rattle.cred_state.proofs.Reading.{found-place, found-sealed, found-slot, found-there, is_found, some_spare, stands_apart}
@@ -22,12 +22,12 @@ returns-in_default-clause-ok c =
     let may = rw (← c.self.view_is) at c.requires.may in
     let rule = rw (← c.self.view_is) at c.requires.made in
     let none = sym c.in_default.ensures in
-    let s = state_of (parts_of t.tasks t.casts t.files t.holds t.prepared t.dump) t.master.slots t.slots in
+    let s = state_of (as_parts t.tasks t.casts t.files t.holds t.prepared t.dump t.infos) t.master.slots t.slots in
     let new = changed (cred_under s.creds c.args.now.number) c.args.parts.now c.args.groups.now in
     rw (← c.self.view_is)
     (begin_full c.self.invariant.0 c.sweep.new.self c.args.task _ new may.has c.args.line c.args.call.now may rule
     (none_spare t.slots c.in_ok-reserve.ensures.ok none)
-    (roomy_spare (parts_of t.tasks t.casts t.files t.holds t.prepared t.dump) t.master.slots t.slots _ _ _ c.in_ok-reserve.ensures.ok
+    (roomy_spare (as_parts t.tasks t.casts t.files t.holds t.prepared t.dump t.infos) t.master.slots t.slots _ _ _ c.in_ok-reserve.ensures.ok
     (c.sweep.ensures ∙ sym (full_swept c.reserve.new.self none))))
 
 pub begin_in-requires : goal.begin_in-requires
@@ -35,7 +35,7 @@ begin_in-requires c =
     let t = c.self.inside in
     let may = rw (← c.self.view_is) at c.requires.may in
     let sound = rw (← c.self.view_is) at c.requires.sound in
-    may_wait (state_of (parts_of t.tasks t.casts t.files t.holds t.prepared t.dump) t.master.slots t.slots) c.args.line c.args.task _ may sound
+    broadcast_may_begin (state_of (as_parts t.tasks t.casts t.files t.holds t.prepared t.dump t.infos) t.master.slots t.slots) c.args.line c.args.task _ may sound
 
 pub renew_in-requires : goal.renew_in-requires
 renew_in-requires c =
@@ -45,14 +45,14 @@ renew_in-requires c =
 pub set_like-requires-clause-sealed : goal.set_like-requires-clause-sealed
 set_like-requires-clause-sealed c =
     let t = c.self.inside in
-    let s = state_of (parts_of t.tasks t.casts t.files t.holds t.prepared t.dump) t.master.slots t.slots in
+    let s = state_of (as_parts t.tasks t.casts t.files t.holds t.prepared t.dump t.infos) t.master.slots t.slots in
     let may = rw (← c.self.view_is) at c.requires.may in
     found-sealed c.self.invariant.0 c.args.now (is_found s.creds (λ (t : Task). t.current) (task_of s c.args.task) _ may.has) (current-in_use s c.args.task _ may.has)
 
 pub set_like-requires-clause-apart : goal.set_like-requires-clause-apart
 set_like-requires-clause-apart c =
     let t = c.self.inside in
-    let s = state_of (parts_of t.tasks t.casts t.files t.holds t.prepared t.dump) t.master.slots t.slots in
+    let s = state_of (as_parts t.tasks t.casts t.files t.holds t.prepared t.dump t.infos) t.master.slots t.slots in
     let may = rw (← c.self.view_is) at c.requires.may in
     let seals = seals_spare {t = t.slots} c.in_ok-reserve.ensures.ok c.seal_next-number.ensures in
     stands_apart seals c.args.now.number c.args.now.slot
@@ -62,7 +62,7 @@ set_like-requires-clause-apart c =
 pub set_like-requires-clause-valid : goal.set_like-requires-clause-valid
 set_like-requires-clause-valid c =
     let t = c.self.inside in
-    let s = state_of (parts_of t.tasks t.casts t.files t.holds t.prepared t.dump) t.master.slots t.slots in
+    let s = state_of (as_parts t.tasks t.casts t.files t.holds t.prepared t.dump t.infos) t.master.slots t.slots in
     let may = rw (← c.self.view_is) at c.requires.may in
     let there = is_found s.creds (λ (t : Task). t.current) (task_of s c.args.task) _ may.has in
     λ x at. rw (found-there t.master.slots t.slots.sealed c.args.now there x at) (rw (← c.self.view_is) at c.requires.valid)
@@ -91,7 +91,7 @@ invariant_of-self-2 c =
     let may = rw (← c.self.view_is) at c.requires.may in
     let sound = rw (← c.self.view_is) at c.requires.sound in
     let t = c.self.inside in
-    let s = state_of (parts_of t.tasks t.casts t.files t.holds t.prepared t.dump) t.master.slots t.slots in
+    let s = state_of (as_parts t.tasks t.casts t.files t.holds t.prepared t.dump t.infos) t.master.slots t.slots in
     let new = changed (cred_under s.creds c.args.now.number) c.args.parts.now c.args.groups.now in
     let made = c.set_like.ensures.made _ (found-place c.self.invariant.0 c.args.now (is_found s.creds (λ (t : Task). t.current) (task_of s c.args.task) _ may.has) (current-in_use s c.args.task _ may.has)) in
     rw (c.set_current.ensures.tasks, made) (
@@ -108,7 +108,7 @@ returns-clause-ok c =
     let may = rw (← c.self.view_is) at c.requires.may in
     let sound = rw (← c.self.view_is) at c.requires.sound in
     let rule = rw (← c.self.view_is) at c.requires.made in
-    let s = state_of (parts_of t.tasks t.casts t.files t.holds t.prepared t.dump) t.master.slots t.slots in
+    let s = state_of (as_parts t.tasks t.casts t.files t.holds t.prepared t.dump t.infos) t.master.slots t.slots in
     let new = changed (cred_under s.creds c.args.now.number) c.args.parts.now c.args.groups.now in
     let made = c.set_like.ensures.made _ (found-place c.self.invariant.0 c.args.now (is_found s.creds (λ (t : Task). t.current) (task_of s c.args.task) _ may.has) (current-in_use s c.args.task _ may.has)) in
     let begun = if_some _ (task_in t.tasks c.args.task) may.owner may.lives c.in_ok-left.ensures.ok in
@@ -123,7 +123,7 @@ returns-clause-ok c =
 pub returns-clause-words : goal.returns-clause-words
 returns-clause-words c =
     let t = c.self.inside in
-    let s = state_of (parts_of t.tasks t.casts t.files t.holds t.prepared t.dump) t.master.slots t.slots in
+    let s = state_of (as_parts t.tasks t.casts t.files t.holds t.prepared t.dump t.infos) t.master.slots t.slots in
     let may = rw (← c.self.view_is) at c.requires.may in
     let made = c.set_like.ensures.made _ (found-place c.self.invariant.0 c.args.now (is_found s.creds (λ (t : Task). t.current) (task_of s c.args.task) _ may.has) (current-in_use s c.args.task _ may.has)) in
     rw (← c.self.view_is, made) refl

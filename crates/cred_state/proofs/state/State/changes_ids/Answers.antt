@@ -10,14 +10,14 @@ use Rattle.cred_state.proofs.Standing.{current-in_use}
 use Rattle.cred_state.proofs.Traces.{differs_current, differs_none, ids_are}
 use Rattle.cred_state.proofs.state.State.changes_ids.Goals as goal
 
-pub look_parts-old-requires-clause-found : goal.look_parts-old-requires-clause-found
-look_parts-old-requires-clause-found c =
+pub read_parts-old-requires-clause-found : goal.read_parts-old-requires-clause-found
+read_parts-old-requires-clause-found c =
     let s = c.args.self.now.state in
     is_found s.creds (λ (t : Task). t.current) (task_of s c.args.task) _
     (sym c.in-Some-current.ensures)
 
-pub look_parts-old-requires-clause-used : goal.look_parts-old-requires-clause-used
-look_parts-old-requires-clause-used c =
+pub read_parts-old-requires-clause-used : goal.read_parts-old-requires-clause-used
+read_parts-old-requires-clause-used c =
     current-in_use c.args.self.now.state c.args.task _ (sym c.in-Some-current.ensures)
 
 pub returns-in_default-clause-other : goal.returns-in_default-clause-other
@@ -36,7 +36,7 @@ returns-clause-other c = λ last is.
     let s = c.args.self.now.state in
     let now = seen_in s.creds c.in-Some-current.now in
     let ids = ids_are last (changed_of s.prepared c.args.label) _ _ c.in-Some.ensures is in
-    let parts = c.look_parts-old.ensures.parts.0 in
+    let parts = c.read_parts-old.ensures.parts.0 in
     differs_current s c.args.task last now c.differs_by.result (sym c.in-Some-current.ensures)
     (c.differs_by.ensures now.cred last.cred (sym (ap (λ (p : Parts). p.uid) parts))
     (sym (ap (λ (p : Parts). p.gid) parts)) ids.0 ids.1)

@@ -7,7 +7,7 @@ use Rattle.cred_model.specs.Step.{is_access}
 use Rattle.cred_model.proofs.Places.{find-at}
 use Rattle.cred_slots.specs.Table.{Table}
 use Rattle.cred_procs.specs.Tasks.{task_in}
-use Rattle.cred_tables.specs.Kept.{SealsKept, casts_left, parts_of, state_of}
+use Rattle.cred_tables.specs.Kept.{SealsKept, casts_left, as_parts, state_of}
 use Rattle.cred_tables.specs.Prepared.{changed_of}
 use Rattle.cred_state.proofs.Commits.{goes_on, owner-held, base-held_still, slot-kept_still, commit_kept, commit_done}
 use Rattle.cred_tables.proofs.Ending.{EndsWith, ends_so, ended-held}
@@ -107,7 +107,7 @@ invariant_of-self-2 c =
     let process = owner_process t.tasks c.args.task c.unwrap-process.result e.owner e.lives c.unwrap-process.ensures c.process_of.ensures in
     let casts : c.drop_cast.new.casts ≡ casts_left c.args.change e.owner.process t.casts
     = c.drop_cast.ensures ∙ ap (λ (x : Change). casts_left x c.unwrap-process.result t.casts) change ∙ ap (λ (n : ℕ). casts_left c.args.change n t.casts) process in
-    let s = state_of (parts_of t.tasks t.casts t.files t.holds t.prepared t.dump) t.master.slots
+    let s = state_of (as_parts t.tasks t.casts t.files t.holds t.prepared t.dump t.infos) t.master.slots
     t.slots in
     let changed : changed_of t.prepared c.args.label ≡ Some c.finish-last.result.1
     = ap (option_and_then (λ (p : Prepared). p.changed))
@@ -151,7 +151,7 @@ returns-clause-ok c =
     let process = owner_process t.tasks c.args.task c.unwrap-process.result e.owner e.lives c.unwrap-process.ensures c.process_of.ensures in
     let casts : c.drop_cast.new.casts ≡ casts_left c.args.change e.owner.process t.casts
     = c.drop_cast.ensures ∙ ap (λ (x : Change). casts_left x c.unwrap-process.result t.casts) change ∙ ap (λ (n : ℕ). casts_left c.args.change n t.casts) process in
-    let s = state_of (parts_of t.tasks t.casts t.files t.holds t.prepared t.dump) t.master.slots
+    let s = state_of (as_parts t.tasks t.casts t.files t.holds t.prepared t.dump t.infos) t.master.slots
     t.slots in
     let changed : changed_of t.prepared c.args.label ≡ Some c.finish-last.result.1
     = ap (option_and_then (λ (p : Prepared). p.changed))
@@ -164,7 +164,7 @@ returns-clause-ok c =
     rw (← c.self.view_is, tasks, casts, gives.gives.left, flags, c.committed_by.ensures, gains, change)
     (commit_done c.self.invariant.0 gives.gives.place _ gives.gives.there c.args.change now own less c.seal_kept-number.new.slots
     c.finish-last.result.1 words seals sound.tasks sound.slots.own c.args.label (length c.items-2.result.now) gives.gives.found refl
-    (ap is_access same.2 ∙ ready.for_task) (rw same.0 idle) (own_owner (state_of (parts_of t.tasks t.casts t.files t.holds t.prepared t.dump) t.master.slots t.slots) gives.task own.owner own.lives (rw same.0 allowed)) same.2 (sym same.1)
+    (ap is_access same.2 ∙ ready.for_task) (rw same.0 idle) (own_owner (state_of (as_parts t.tasks t.casts t.files t.holds t.prepared t.dump t.infos) t.master.slots t.slots) gives.task own.owner own.lives (rw same.0 allowed)) same.2 (sym same.1)
     (ap length c.items-2.ensures))
 
 pub invariant_of-self : goal.invariant_of-self

@@ -3,7 +3,7 @@ use Rattle.std.specs.Option.{option_map_or}
 use Rattle.cred_model.specs.State.{Task}
 use Rattle.cred_model.specs.Moves.{first_task}
 use Rattle.cred_model.proofs.Numbers.{current_is}
-use Rattle.cred_tables.specs.Kept.{parts_of, state_of}
+use Rattle.cred_tables.specs.Kept.{as_parts, state_of}
 use Rattle.cred_tables.proofs.Sealing.{current-held, referred_to}
 use Rattle.cred_sound.proofs.Flags.{unflagged}
 use Rattle.cred_state.proofs.Broadcasts.{kept_beside}
@@ -49,7 +49,7 @@ invariant_of-self-in_err-fork_in c =
 pub invariant_of-self-2 : goal.invariant_of-self-2
 invariant_of-self-2 c =
     let t = c.self.inside in
-    let s = state_of (parts_of t.tasks t.casts t.files t.holds t.prepared t.dump) t.master.slots t.slots in
+    let s = state_of (as_parts t.tasks t.casts t.files t.holds t.prepared t.dump t.infos) t.master.slots t.slots in
     let may = rw (← c.self.view_is) at c.in-Ok.ensures in
     let u = current_is s c.args.task _ may.0.has in
     let grown = c.in_ok-fork_in.ensures.tasks
@@ -67,5 +67,5 @@ returns-clause-ok c =
     let may = rw (← c.self.view_is) at c.in-Ok.ensures in
     let t = c.self.inside in
     rw (← c.self.view_is)
-    (fork_done (parts_of t.tasks t.casts t.files t.holds t.prepared t.dump) t.master.slots t.slots c.in_ok-reserve.ensures.ok c.add.ensures.table c.args.task c.args.child _ may.0 c.args.process may.1
+    (fork_done (as_parts t.tasks t.casts t.files t.holds t.prepared t.dump t.infos) t.master.slots t.slots c.in_ok-reserve.ensures.ok c.add.ensures.table c.args.task c.args.child _ may.0 c.args.process may.1
     c.in_ok-fork_in.ensures.tasks c.in_ok-fork_in.ensures.flags)

@@ -2,7 +2,7 @@ use Rattle.std.proofs.Common.{[], refl, sym}
 use Rattle.std.proofs.lemmas.List.Elements.{Contains-push}
 use Rattle.cred_event.specs.declared.event.Event.TheVariants.{Alter}
 use Rattle.cred_state.proofs.Keeping.{home_is}
-use Rattle.cred_state.proofs.Lends.{no_hold, some_hold}
+use Rattle.cred_state.proofs.LentForEvent.{no_hold, some_hold}
 use Rattle.cred_state.proofs.Standing.{held-in_use}
 use Rattle.cred_state.proofs.state.State.lend.Goals as goal
 

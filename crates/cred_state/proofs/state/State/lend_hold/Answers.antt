@@ -1,8 +1,8 @@
 use Rattle.std.proofs.Common.{◌∷◌, [], is_some, sym, ap, ◌∙◌}
 use Rattle.cred_hold.specs.Tokens.{Held}
-use Rattle.cred_state.specs.Lending.{held_entry}
+use Rattle.cred_state.specs.TokensOut.{hold_loan}
 use Rattle.cred_tables.proofs.Outs.{hold_token_is}
-use Rattle.cred_state.proofs.Lends.{no_hold, some_hold}
+use Rattle.cred_state.proofs.LentForEvent.{no_hold, some_hold}
 use Rattle.cred_state.proofs.Standing.{held-in_use}
 use Rattle.cred_state.proofs.state.State.lend_hold.Goals as goal
 
@@ -18,5 +18,5 @@ returns-clause-waits c = sym (some_hold c.args.self.now.state c.args.label _ (sy
 
 pub returns-clause-tokens : goal.returns-clause-tokens
 returns-clause-tokens c =
-    ap (λ (h : Held). held_entry h ∷ []) c.lend_found.ensures.hold
+    ap (λ (h : Held). hold_loan h ∷ []) c.lend_found.ensures.hold
     ∙ sym (hold_token_is c.args.self.now.state c.args.label _ (sym c.in_ok-found.ensures))

@@ -5,13 +5,13 @@ use Rattle.cred_ids.specs.Limits.{SLOTS}
 use Rattle.cred_record.specs.Credential.{Credential}
 use Rattle.cred_model.specs.State.{Prepared, numbered, prepared_of}
 use Rattle.cred_model.proofs.Lists.{found, All-unmap}
-use Rattle.cred_hold.specs.Tokens.{entry}
-use Rattle.cred_tables.specs.Kept.{creds_in, cred_under, parts_of, seen_in, state_of}
+use Rattle.cred_hold.specs.Tokens.{loan}
+use Rattle.cred_tables.specs.Kept.{creds_in, cred_under, as_parts, seen_in, state_of}
 use Rattle.cred_tables.specs.Prepared.{prepared_as}
 use Rattle.cred_tables.proofs.Back.{cleared_creds}
 use Rattle.cred_tables.proofs.Outs.{base_apart, kept_alone, kept_spare}
 use Rattle.cred_tables.proofs.Puts.{put_written}
-use Rattle.cred_state.proofs.Lends.{no_base}
+use Rattle.cred_state.proofs.LentForEvent.{no_base}
 use Rattle.cred_state.proofs.Reading.{found-place, found-sealed, is_found}
 use Rattle.cred_state.proofs.Standing.{base-in_use}
 use Rattle.cred_state.proofs.state.State.lend_kept.Goals as goal
@@ -23,7 +23,7 @@ returns-in_err-base-clause-none c =
 pub lend-hold-requires-clause-sealed : goal.lend-hold-requires-clause-sealed
 lend-hold-requires-clause-sealed c =
     let t = c.self.inside in
-    let s = state_of (parts_of t.tasks t.casts t.files t.holds t.prepared t.dump) t.master.slots t.slots in
+    let s = state_of (as_parts t.tasks t.casts t.files t.holds t.prepared t.dump t.infos) t.master.slots t.slots in
     let base = rw (← c.self.view_is) at c.in_ok-base.ensures in
     found-sealed c.self.invariant.0 c.in_ok-base.base (is_found s.creds (λ (p : Prepared). p.base) (prepared_of s c.args.label) _ (sym base))
     (base-in_use s c.args.label _ (sym base))
@@ -31,7 +31,7 @@ lend-hold-requires-clause-sealed c =
 pub lend_writer-writer-requires-clause-within : goal.lend_writer-writer-requires-clause-within
 lend_writer-writer-requires-clause-within c =
     let t = c.self.inside in
-    let s = state_of (parts_of t.tasks t.casts t.files t.holds t.prepared t.dump) t.master.slots t.slots in
+    let s = state_of (as_parts t.tasks t.casts t.files t.holds t.prepared t.dump t.infos) t.master.slots t.slots in
     let sound = rw (← c.self.view_is) at c.requires.sound in
     let each = All-unmap (λ n. n < SLOTS) (λ (p : Prepared). p.slot) s.prepared sound.slots.kept in
     (found (λ (p : Prepared). p.slot < SLOTS) (λ (p : Prepared). p.label == c.args.label) s.prepared _ (sym c.in_ok-slot.ensures) each).0
@@ -39,7 +39,7 @@ lend_writer-writer-requires-clause-within c =
 pub lend_writer-writer-requires-clause-alone : goal.lend_writer-writer-requires-clause-alone
 lend_writer-writer-requires-clause-alone c =
     let t = c.self.inside in
-    let s = state_of (parts_of t.tasks t.casts t.files t.holds t.prepared t.dump) t.master.slots t.slots in
+    let s = state_of (as_parts t.tasks t.casts t.files t.holds t.prepared t.dump t.infos) t.master.slots t.slots in
     let sound = rw (← c.self.view_is) at c.requires.sound in
     let are = rw (← c.self.view_is) at c.requires.out in
     let home = rw (← c.self.view_is) at c.requires.home in
@@ -55,12 +55,12 @@ lend_writer-writer-requires-clause-alone c =
 pub invariant_of-self : goal.invariant_of-self
 invariant_of-self c =
     let t = c.self.inside in
-    let s = state_of (parts_of t.tasks t.casts t.files t.holds t.prepared t.dump) t.master.slots t.slots in
+    let s = state_of (as_parts t.tasks t.casts t.files t.holds t.prepared t.dump t.infos) t.master.slots t.slots in
     let sound = rw (← c.self.view_is) at c.requires.sound in
     let p : Prepared = prepared_as c.args.label c.in_ok-slot.field-0.now in
     let prepared : prepared_of s c.args.label ≡ Some p = sym c.in_ok-slot.ensures in
     let label = c.args.label in
-    let lent = entry label p.slot None ∷ entry label c.in_ok-base.base.slot (Some c.lend-hold.result.cred) ∷ [] in
+    let lent = loan label p.slot None ∷ loan label c.in_ok-base.base.slot (Some c.lend-hold.result.cred) ∷ [] in
     rw (c.lend_writer-writer.ensures.slots, c.lend-hold.ensures.rest.1, c.lend_writer-writer.ensures.entries, c.lend-hold.ensures.entries) (
       kept_spare c.self.invariant.0 sound label p prepared None,
       put_written t.prepared lent t.master.entries t.master.slots p.slot (λ alone. alone.0 refl) c.self.invariant.1,
@@ -69,7 +69,7 @@ invariant_of-self c =
 pub returns-clause-kept : goal.returns-clause-kept
 returns-clause-kept c =
     let t = c.self.inside in
-    let s = state_of (parts_of t.tasks t.casts t.files t.holds t.prepared t.dump) t.master.slots t.slots in
+    let s = state_of (as_parts t.tasks t.casts t.files t.holds t.prepared t.dump t.infos) t.master.slots t.slots in
     let own = rw (← c.self.view_is) at c.requires.own in
     let base = rw (← c.self.view_is) at c.in_ok-base.ensures in
     let p : Prepared = prepared_as c.args.label c.in_ok-slot.field-0.now in
@@ -94,7 +94,7 @@ returns-clause-kept c =
 pub returns-clause-lent : goal.returns-clause-lent
 returns-clause-lent c =
     let t = c.self.inside in
-    let s = state_of (parts_of t.tasks t.casts t.files t.holds t.prepared t.dump) t.master.slots t.slots in
+    let s = state_of (as_parts t.tasks t.casts t.files t.holds t.prepared t.dump t.infos) t.master.slots t.slots in
     let slot = c.in_ok-slot.field-0.now.slot in
     let h = c.lend-hold.result in
     let w = c.lend_writer-writer.result in
@@ -107,8 +107,8 @@ returns-clause-lent c =
     let creds = ap (λ (st : List (Option Credential)). creds_in st t.slots.sealed) places ∙ cleared_creds t.master.slots w.slot t.slots.sealed in
     let id = c.lend_writer-writer.ensures.same ∙ c.lend-hold.ensures.rest.0 in
     let out = c.lend_writer-writer.ensures.entries
-    ∙ (λ k. entry (sym writer.1 k) (sym writer.2 k) None ∷ c.lend-hold.ensures.entries k)
-    ∙ (λ k. entry w.label w.slot None ∷ entry (sym hold.1 k) (sym hold.2 k) (Some h.cred) ∷ t.master.entries) in
+    ∙ (λ k. loan (sym writer.1 k) (sym writer.2 k) None ∷ c.lend-hold.ensures.entries k)
+    ∙ (λ k. loan w.label w.slot None ∷ loan (sym hold.1 k) (sym hold.2 k) (Some h.cred) ∷ t.master.entries) in
     rw (← c.self.view_is)
     (λ k. record { state = record s { creds = creds k }; words = record { id = id k; out = out k }; places = places k })
 

@@ -6,7 +6,7 @@ use Rattle.cred_event.specs.declared.event.Event.TheVariants.{OpenFile}
 use Rattle.cred_hold.specs.Tokens.{Held}
 use Rattle.cred_work.specs.declared.lent.Lent.TheVariants.{Opening}
 use Rattle.cred_tables.specs.Kept.{Standing}
-use Rattle.cred_state.specs.Lending.{with_lent}
+use Rattle.cred_state.specs.TokensOut.{with_lent}
 use Rattle.cred_state.proofs.Asking.{were_opened}
 use Rattle.cred_state.proofs.Deciding.{back_one, lent_are, lent_sound}
 use Rattle.cred_state.proofs.Returns.{holds_apart}
@@ -16,8 +16,8 @@ use Rattle.cred_state.proofs.state.State.open.Goals as goal
 pub lend_found-hold-requires-clause-used : goal.lend_found-hold-requires-clause-used
 lend_found-hold-requires-clause-used c = held-in_use c.args.self.now.state c.args.label _ (sym c.in-Some.ensures)
 
-pub give_back-requires-clause-apart : goal.give_back-requires-clause-apart
-give_back-requires-clause-apart c =
+pub take_hold_back-requires-clause-apart : goal.take_hold_back-requires-clause-apart
+take_hold_back-requires-clause-apart c =
     let s = c.args.self.now in
     let hold = c.lend_found-hold.result in
     let lent = c.lend_found-hold.ensures in
@@ -29,11 +29,11 @@ give_back-requires-clause-apart c =
 pub returns-in_err-may-clause-err : goal.returns-in_err-may-clause-err
 returns-in_err-may-clause-err c =
     let lent = c.lend_found-hold.ensures in
-    let back = c.give_back.ensures in
+    let back = c.take_hold_back.ensures in
     let label = c.args.label in
     let hold = c.lend_found-hold.result in
     let its : hold.label ≡ label = ap (λ (h : Held). h.label) lent.hold in
-    let same = back_one c.args.self.now c.lend_found-hold.new.self c.lend_found-hold.new.self c.give_back.new.self hold
+    let same = back_one c.args.self.now c.lend_found-hold.new.self c.lend_found-hold.new.self c.take_hold_back.new.self hold
     (OpenFile label c.args.file c.args.want c.args.fd) c.requires.home
     (subst (λ n. Contains (label ∷ []) n) (sym its) (Contains-push [] label)) lent.lent
     back.state back.places back.id (rw c.may_open-may.ensures.same at back.taken) in
@@ -43,11 +43,11 @@ returns-in_err-may-clause-err c =
 pub returns-in_err-may-clause-words : goal.returns-in_err-may-clause-words
 returns-in_err-may-clause-words c =
     let lent = c.lend_found-hold.ensures in
-    let back = c.give_back.ensures in
+    let back = c.take_hold_back.ensures in
     let label = c.args.label in
     let hold = c.lend_found-hold.result in
     let its : hold.label ≡ label = ap (λ (h : Held). h.label) lent.hold in
-    let same = back_one c.args.self.now c.lend_found-hold.new.self c.lend_found-hold.new.self c.give_back.new.self hold
+    let same = back_one c.args.self.now c.lend_found-hold.new.self c.lend_found-hold.new.self c.take_hold_back.new.self hold
     (OpenFile label c.args.file c.args.want c.args.fd) c.requires.home
     (subst (λ n. Contains (label ∷ []) n) (sym its) (Contains-push [] label)) lent.lent
     back.state back.places back.id (rw c.may_open-may.ensures.same at back.taken) in
@@ -56,11 +56,11 @@ returns-in_err-may-clause-words c =
 pub returns-clause-err : goal.returns-clause-err
 returns-clause-err c =
     let lent = c.lend_found-hold.ensures in
-    let back = c.give_back.ensures in
+    let back = c.take_hold_back.ensures in
     let label = c.args.label in
     let hold = c.lend_found-hold.result in
     let its : hold.label ≡ label = ap (λ (h : Held). h.label) lent.hold in
-    let same = back_one c.args.self.now c.lend_found-hold.new.self c.lend_found-hold.new.self c.give_back.new.self hold
+    let same = back_one c.args.self.now c.lend_found-hold.new.self c.lend_found-hold.new.self c.take_hold_back.new.self hold
     (OpenFile label c.args.file c.args.want c.args.fd) c.requires.home
     (subst (λ n. Contains (label ∷ []) n) (sym its) (Contains-push [] label)) lent.lent
     back.state back.places back.id (rw c.may_open-may.ensures.same at back.taken) in
@@ -69,11 +69,11 @@ returns-clause-err c =
 pub returns-clause-words : goal.returns-clause-words
 returns-clause-words c =
     let lent = c.lend_found-hold.ensures in
-    let back = c.give_back.ensures in
+    let back = c.take_hold_back.ensures in
     let label = c.args.label in
     let hold = c.lend_found-hold.result in
     let its : hold.label ≡ label = ap (λ (h : Held). h.label) lent.hold in
-    let same = back_one c.args.self.now c.lend_found-hold.new.self c.lend_found-hold.new.self c.give_back.new.self hold
+    let same = back_one c.args.self.now c.lend_found-hold.new.self c.lend_found-hold.new.self c.take_hold_back.new.self hold
     (OpenFile label c.args.file c.args.want c.args.fd) c.requires.home
     (subst (λ n. Contains (label ∷ []) n) (sym its) (Contains-push [] label)) lent.lent
     back.state back.places back.id (rw c.may_open-may.ensures.same at back.taken) in

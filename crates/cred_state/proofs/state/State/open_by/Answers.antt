@@ -1,5 +1,5 @@
 use Rattle.std.proofs.Common.{refl}
-use Rattle.cred_tables.specs.Kept.{parts_of, state_of}
+use Rattle.cred_tables.specs.Kept.{as_parts, state_of}
 use Rattle.cred_tables.proofs.Bags.{bag-at}
 use Rattle.cred_tables.proofs.InUse.{in_use-file}
 use Rattle.cred_tables.proofs.Sealing.{kept_more}
@@ -8,7 +8,7 @@ use Rattle.cred_state.proofs.state.State.open_by.Goals as goal
 pub invariant_of-self-2 : goal.invariant_of-self-2
 invariant_of-self-2 c =
     let t = c.self.inside in
-    let s = state_of (parts_of t.tasks t.casts t.files t.holds t.prepared t.dump) t.master.slots t.slots in
+    let s = state_of (as_parts t.tasks t.casts t.files t.holds t.prepared t.dump t.infos) t.master.slots t.slots in
     let used = rw (← c.self.view_is) at c.requires.used in
     rw c.in_ok-add.ensures.ok (
       kept_more c.self.invariant.0 c.in_ok-reserve.ensures.ok c.add-2.ensures.held c.add-2.ensures.table (in_use-file s _) refl

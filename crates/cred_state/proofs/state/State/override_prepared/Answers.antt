@@ -1,6 +1,6 @@
 use Rattle.std.proofs.Common.{◌≡◌, ◌<◌, ◌==◌, true, count_by, refl, sym, subst}
 use Rattle.cred_model.proofs.Likes.{does_same}
-use Rattle.cred_slots.specs.Table.{Table, is_kept}
+use Rattle.cred_slots.specs.Table.{Table, is_kept_in}
 use Rattle.cred_state.proofs.Labelling.{slot-kept, base-held}
 use Rattle.cred_state.proofs.Overrides.{alive_is, lends, is_deep, unprepared, access_deep, access_last, prepared_kept, prepared_done}
 use Rattle.cred_tables.proofs.Puts.{put_less}
@@ -27,7 +27,7 @@ returns-then-not-push_override-clause-ok c =
 pub seal_kept-number-requires-clause-slot : goal.seal_kept-number-requires-clause-slot
 seal_kept-number-requires-clause-slot c =
     let gives = c.finish.ensures.gives in
-    subst (λ (t : Table). is_kept t c.finish.result.0.slot ≡ true) (sym c.in_ok-reserve.ensures.ok) (slot-kept c.self.invariant.0 gives.place _ gives.there)
+    subst (λ (t : Table). is_kept_in t c.finish.result.0.slot ≡ true) (sym c.in_ok-reserve.ensures.ok) (slot-kept c.self.invariant.0 gives.place _ gives.there)
 
 pub seal_kept-number-requires-clause-base : goal.seal_kept-number-requires-clause-base
 seal_kept-number-requires-clause-base c =

@@ -1,5 +1,9 @@
+use Rattle.std.proofs.Common.{[]}
+use Rattle.std.proofs.lemmas.List.Elements.{All-head}
+use Rattle.cred_record.specs.File.{IsMode}
+use Rattle.cred_rules.specs.Files.{chmod, chown, set_attr}
 use Rattle.cred_model.proofs.Likes.{does_same}
-use Rattle.cred_model.specs.Step.{by_exit, by_fork, by_spawn, by_take, by_take_file}
+use Rattle.cred_model.specs.Step.{by_exit, by_file, by_fork, by_spawn, by_take, by_take_file}
 use Rattle.cred_state.proofs.Acts.{gives_ok}
 use Rattle.cred_state.proofs.state.State.step_any.Goals as goal
 
@@ -75,3 +79,40 @@ returns-in-Dumped-clause-ok c = rw c.in-Dumped.is (does_same _ _ _ c.dumped.ensu
 
 pub returns-in-Ptrace-clause-ok : goal.returns-in-Ptrace-clause-ok
 returns-in-Ptrace-clause-ok c = rw c.in-Ptrace.is (does_same _ _ _ c.trace.ensures.made)
+
+pub chmod-requires-clause-mode : goal.chmod-requires-clause-mode
+chmod-requires-clause-mode c =
+    All-head IsMode c.in-Chmod.mode [] (rw c.in-Chmod.is at c.requires.kind).modes
+
+pub returns-in-Chown-clause-ok : goal.returns-in-Chown-clause-ok
+returns-in-Chown-clause-ok c =
+    let s = c.args.self.now.state in
+    let to = c.in-Chown in
+    rw c.in-Chown.is
+    (gives_ok s c.chown.new.self.state
+    (by_file s to.hold to.file (λ cred file. chown cred file to.owner to.group)) c.chown.result
+    c.chown.ensures.ok)
+
+pub returns-in-Chmod-clause-ok : goal.returns-in-Chmod-clause-ok
+returns-in-Chmod-clause-ok c =
+    let s = c.args.self.now.state in
+    let to = c.in-Chmod in
+    rw c.in-Chmod.is
+    (gives_ok s c.chmod.new.self.state
+    (by_file s to.hold to.file (λ cred file. chmod cred file to.mode)) c.chmod.result
+    c.chmod.ensures.ok)
+
+pub returns-in-SetAttr-clause-ok : goal.returns-in-SetAttr-clause-ok
+returns-in-SetAttr-clause-ok c =
+    let s = c.args.self.now.state in
+    let to = c.in-SetAttr in
+    rw c.in-SetAttr.is
+    (gives_ok s c.set_attr.new.self.state
+    (by_file s to.hold to.file (λ cred file. set_attr cred file to.attr)) c.set_attr.result
+    c.set_attr.ensures.ok)
+
+pub returns-in-Stat-clause-ok : goal.returns-in-Stat-clause-ok
+returns-in-Stat-clause-ok c = rw c.in-Stat.is (does_same _ _ _ c.stat.ensures)
+
+pub returns-in-Raw-clause-ok : goal.returns-in-Raw-clause-ok
+returns-in-Raw-clause-ok c = rw c.in-Raw.is c.raw.ensures.ok

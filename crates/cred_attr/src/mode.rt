@@ -1,0 +1,102 @@
+//! chmod(2), and the bits of a mode.
+ghost use Rattle.std.specs.Prelude.{◌≡◌, ◌≤◌, IfOk};
+ghost use Rattle.cred_record.specs.Answer.{AnswersBy};
+ghost use Rattle.cred_record.specs.File.{IsMode};
+ghost use Rattle.cred_rules.specs.Files.{may_chmod, given_mode, chmod};
+ghost use Rattle.cred_rules.specs.Modes as modes;
+
+use crate::rights::{in_group, owns};
+use cred_access::capable;
+use cred_caps::Cap;
+use cred_ids::NoMemory;
+use cred_record::{Attr, Cred, FileInfo, Refusal};
+
+/// The set-user-ID bit.
+pub const SET_USER: u16 = 0o4000;
+
+/// The set-group-ID bit.
+pub const SET_GROUP: u16 = 0o2000;
+
+/// The execute bit of the group.
+pub const GROUP_EXECUTE: u16 = 0o0010;
+
+/// The three execute bits.
+pub const EXECUTE: u16 = 0o0111;
+
+/// The greatest mode.
+const LAST: u16 = 0o7777;
+
+/// Whether one of these bits of the mode is set.
+pub fn has_any(mode: u16, bits: u16) -> bool
+    ensures { result ≡ modes.has_any mode bits }
+{
+    mode & bits != 0
+}
+
+/// The mode with these bits unset.
+pub fn without(mode: u16, bits: u16) -> u16
+    requires { IsMode bits }
+    ensures value { result ≡ modes.without mode bits }
+    ensures small { result ≤ mode }
+{
+    mode & (LAST - bits)
+}
+
+/// An equal attribute in memory of its own.
+///
+/// # Errors
+///
+/// `NoMemory` if the allocation of the copy fails.
+pub fn copied(attr: &Option<Attr>) -> Result<Option<Attr>, NoMemory>
+    ensures { IfOk result (λ copy. copy ≡ attr.now) }
+{
+    match attr {
+        Some(bytes) => Ok(Some(bytes.copy()?)),
+        None => Ok(None),
+    }
+}
+
+/// Whether the task may change the file's mode.
+fn may_chmod(cred: &Cred, file: &FileInfo) -> bool
+    ensures { result ≡ may_chmod cred.now file.now }
+{
+    owns(cred, file) || capable(cred, Cap::FOWNER)
+}
+
+/// The mode that the file gets, where the caller gives this one.
+fn given_mode(cred: &Cred, file: &FileInfo, mode: u16) -> u16
+    requires { IsMode mode }
+    ensures value { result ≡ given_mode cred.now file.now mode }
+    ensures small { IsMode result }
+{
+    if capable(cred, Cap::FSETID) || in_group(cred, file.group) {
+        mode
+    } else {
+        without(mode, SET_GROUP)
+    }
+}
+
+/// The file with another mode, as chmod(2) gives it: the set-group-ID bit is left out where the
+/// task lacks CAP_FSETID and is not in the file's group.
+///
+/// # Errors
+///
+/// `Perm` unless the task is the file's owner, by its filesystem user id, or has CAP_FOWNER; then
+/// `Memory` if the attribute could not be copied.
+#[tactic(auto, unfolding(cred_rules::specs::Files::chmod))]
+pub fn chmod(cred: &Cred, file: &FileInfo, mode: u16) -> Result<FileInfo, Refusal>
+    requires { IsMode mode }
+    ensures { AnswersBy result (chmod cred.now file.now mode) }
+{
+    if !may_chmod(cred, file) {
+        return Err(Refusal::Perm);
+    }
+    Ok(FileInfo {
+        kind: file.kind,
+        owner: file.owner,
+        group: file.group,
+        mode: given_mode(cred, file, mode),
+        nosuid: file.nosuid,
+        attr: copied(&file.attr)?,
+    })
+}

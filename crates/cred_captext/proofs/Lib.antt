@@ -1,0 +1,12 @@
+pub mod Choices
+pub mod NameLemmas
+pub mod FrontLemmas
+pub mod Forward
+pub mod Places
+pub mod Tails
+pub mod Live
+pub mod Read
+pub mod Members
+pub mod Pieces
+pub mod ThreeSets
+pub mod Printed

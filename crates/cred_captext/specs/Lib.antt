@@ -1,0 +1,9 @@
+pub mod Names
+pub mod Grammar
+pub mod Meaning
+pub mod Reading
+pub mod Machine
+pub mod Laws
+pub mod Stops
+pub mod Printed
+pub mod Pieces

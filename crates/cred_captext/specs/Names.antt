@@ -1,0 +1,33 @@
+-- The names of capabilities as a text of file capabilities has them.
+use Rattle.std.specs.Prelude.{ℕ, ◌≤◌, Bool, List, [], map, take, length, slice_index_or}
+use Rattle.std.specs.Char.{to_ascii_lowercase}
+use Rattle.std.specs.List.{list_any, position}
+use Rattle.std.specs.Str.{bytes_eq}
+use Rattle.cred_caps.specs.Caps.{IsCap}
+use Rattle.cred_caps.specs.Names.{cap_names}
+use Rattle.std.specs.declared.option.Option.{Option}
+
+-- in small letters, by number
+abbrev pub names : List (List ℕ)
+names = map (map to_ascii_lowercase) cap_names
+
+-- the name of a capability
+abbrev pub name_of : ℕ → List ℕ
+name_of n = slice_index_or names n []
+
+-- the capability that has this name
+abbrev pub cap_named : List ℕ → Option ℕ
+cap_named word = position (bytes_eq word) names
+
+-- the name begins with these bytes
+abbrev pub begins_with : List ℕ → List ℕ → Bool
+begins_with name word = bytes_eq (take (length word) name) word
+
+-- some name does
+abbrev pub begins_name : List ℕ → Bool
+begins_name word = list_any (λ name. begins_with name word) names
+
+-- so many bytes are a front of the name of capability n
+pub record IsFront (n k : ℕ) : Type 0 where
+  pub cap : IsCap n
+  pub within : k ≤ length (name_of n)

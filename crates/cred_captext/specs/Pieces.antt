@@ -1,0 +1,48 @@
+-- The pieces of a text, as they are written one after another.
+use Rattle.std.specs.Prelude.{ℕ, Bool, true, false, List, [], ◌∷◌, ◌++◌, codes}
+use Rattle.std.specs.List.{flat_map}
+use Rattle.cred_caps.specs.Caps.{Caps}
+use Rattle.cred_captext.specs.Names.{name_of}
+use Rattle.cred_captext.specs.Printed.{members}
+
+-- names with a comma between two
+abbrev pub joined : List ℕ → List ℕ
+joined [] = []
+joined (n ∷ ns) = name_of n ++ flat_map (λ m. codes "," ++ name_of m) ns
+
+abbrev pub names_text : Caps → List ℕ
+names_text set = joined (members set)
+
+-- a space behind what stands there
+abbrev pub spaced : List ℕ → List ℕ
+spaced [] = []
+spaced (byte ∷ bytes) = (byte ∷ bytes) ++ codes " "
+
+-- there is one
+abbrev pub are_some : List ℕ → Bool
+are_some [] = false
+are_some (n ∷ ns) = true
+
+-- a comma, where a name stands before
+abbrev pub comma_text : Bool → List ℕ
+comma_text true = codes ","
+comma_text false = []
+
+-- `=` and letters, and `e` before them where the flag is set
+abbrev pub action_with : Bool → List ℕ → List ℕ
+action_with true letters = codes "=e" ++ letters
+action_with false letters = codes "=" ++ letters
+
+abbrev pub clause_with : List ℕ → List ℕ → Bool → List ℕ → List ℕ
+clause_with before [] effective letters = before
+clause_with before (n ∷ ns) effective letters =
+    (spaced before ++ joined (n ∷ ns)) ++ action_with effective letters
+
+-- a text and the clause of a set behind it, if the set has one
+abbrev pub with_clause : List ℕ → Caps → Bool → List ℕ → List ℕ
+with_clause before set effective letters = clause_with before (members set) effective letters
+
+-- `=` where nothing stands there
+abbrev pub or_none : List ℕ → List ℕ
+or_none [] = codes "="
+or_none (byte ∷ bytes) = byte ∷ bytes

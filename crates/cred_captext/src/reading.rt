@@ -1,0 +1,75 @@
+//! A text read.
+ghost use Rattle.std.specs.Prelude.{◌≡◌, IfOk, IfErr, Some};
+ghost use Rattle.cred_captext.specs.Grammar.{Clauses};
+ghost use Rattle.cred_captext.specs.Machine as machine;
+ghost use Rattle.cred_captext.specs.Meaning.{answer_of, sets_of};
+ghost use Rattle.cred_captext.specs.Reading.{Spells, Says, IsRefused};
+ghost use Rattle.cred_captext.specs.Stops.{Stops};
+
+use crate::reader::Reader;
+use crate::refusal::TextRefusal;
+use crate::sets::Sets;
+use cred_filecap::FileCaps;
+
+/// The version of an attribute that a text is written to.
+const VERSION: u8 = 2;
+
+/// The sets that a text says, or how many of its bytes some text begins with.
+fn sets_in(text: &[u8]) -> Result<Sets, usize>
+    ensures sets { IfOk result (λ s. machine.said machine.start text.now ≡ Some s) }
+    ensures stops { IfErr result (λ k. Stops text.now k) }
+{
+    let mut reader = Reader::start();
+    for (place, byte) in text.iter().enumerate() {
+        match reader.step(*byte) {
+            Some(next) => reader = next,
+            None => return Err(place),
+        }
+    }
+    reader.ended().ok_or(text.len())
+}
+
+/// What these sets are for a file, of which an effective set is a flag.
+fn caps_of(sets: &Sets) -> Result<FileCaps, TextRefusal>
+    ensures { result ≡ answer_of sets.now }
+{
+    let nothing = sets.effective.bits() == 0;
+    let either = sets.permitted.union(&sets.inheritable);
+    if !nothing && sets.effective.bits() != either.bits() {
+        return Err(TextRefusal::Mixed);
+    }
+    Ok(FileCaps {
+        version: VERSION,
+        perm: sets.permitted,
+        inh: sets.inheritable,
+        effective: !nothing,
+        root: 0,
+    })
+}
+
+/// What a text says of a file (cap_text_formats(7); profile): one or more clauses with one space
+/// between two. A clause is a list and one or more actions. A list is `all`, or names with `cap_`
+/// in small letters and a comma between two, or nothing, which means all and wants `=` as the first
+/// action. An action is `=` and any number of the letters `e`, `i` and `p`, or `+` or `-` and at
+/// least one of them. `=` takes the capabilities of the list out of all three sets, which start out
+/// empty, and puts them into those of its letters; `+` puts them in, and `-` takes them out. The
+/// attribute has version 2, and its effective flag is set exactly where the effective set is not
+/// empty. It takes no memory.
+///
+/// # Errors
+///
+/// - `Bad` where the bytes are no text, with the length of the longest of their prefixes with which
+///   some text begins.
+/// - `Mixed` where the effective set is neither empty nor all that is permitted or inheritable.
+pub fn read_text(text: &[u8]) -> Result<FileCaps, TextRefusal>
+    ensures value { IfOk result (λ a. Says text.now a) }
+
+    // No text is refused as none, or read as other clauses.
+    ensures each_value { (t : Clauses) → Spells text.now t → result ≡ answer_of (sets_of t) }
+    ensures refusal { IfErr result (λ e. IsRefused text.now e) }
+{
+    match sets_in(text) {
+        Ok(sets) => caps_of(&sets),
+        Err(place) => Err(TextRefusal::Bad(place)),
+    }
+}

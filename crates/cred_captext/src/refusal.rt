@@ -1,0 +1,12 @@
+//! Why bytes are not the text of a file's capabilities.
+
+/// Why bytes are not the text of a file's capabilities.
+#[derive(Clone, Copy, PartialEq, Eq, Debug)]
+pub enum TextRefusal {
+    /// They are outside the grammar, and the longest of their prefixes with which some text begins
+    /// has this length.
+    Bad(usize),
+    /// Some of the permitted and inheritable capabilities are effective, and some are not, where a
+    /// file has one flag for all.
+    Mixed,
+}

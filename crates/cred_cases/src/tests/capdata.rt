@@ -1,0 +1,34 @@
+//! Records of capset(2): those that are written are read as they were.
+use crate::tests::parts::ALL;
+use cred_capdata::{CapData, DataRefusal, read_data, write_data};
+use cred_caps::CapSet;
+use std::test::Fail;
+
+#[test]
+fn records_are_read_as_they_were_written(rt: HostRuntime) -> Result<(), Fail> {
+    for (version, perm, inh, eff, length) in [
+        (1, 0x8000_0401, 0xffff_ffff, 1, 20),
+        (2, ALL, 1 << 40, 1 << 32, 32),
+        (3, 1 << 40 | 1, 0, ALL, 32),
+    ] {
+        let caps = CapData {
+            version,
+            target: 7,
+            perm: CapSet::cut(perm),
+            inh: CapSet::cut(inh),
+            eff: CapSet::cut(eff),
+        };
+        let bytes = write_data(rt.alloc(), &caps)?;
+        assert_eq!(rt; bytes.items().len(), length);
+        assert!(rt; read_data(bytes.items()) == Ok(caps));
+    }
+    Ok(())
+}
+
+#[test]
+fn other_bytes_are_no_record(rt: HostRuntime) {
+    let header = [0x22, 5, 8, 0x20, 0, 0, 0, 0];
+    assert!(rt; read_data(&header[..7]).err() == Some(DataRefusal::BadLength(7)));
+    assert!(rt; read_data(&header).err() == Some(DataRefusal::BadLength(8)));
+    assert!(rt; read_data(&[0; 8]).err() == Some(DataRefusal::BadVersion(0)));
+}

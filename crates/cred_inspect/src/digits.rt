@@ -1,0 +1,15 @@
+//! Bytes in hexadecimal digits.
+ghost use Rattle.std.specs.Prelude.{◌≡◌, ◌++◌, OnOk};
+ghost use Rattle.hex.specs.Hex.{encode_lower};
+
+use cred_ids::NoMemory;
+use cred_pen::append_word;
+use std::alloc::Global;
+
+/// Appends the bytes, two digits each, in lower case.
+pub(crate) fn append_hex(alloc: Global, text: &mut Vec<u8>, bytes: &[u8]) -> Result<(), NoMemory>
+    ensures { OnOk result (text.new.items ≡ text.old.items ++ encode_lower bytes.now) }
+{
+    let digits = hex::encode(alloc, bytes)?;
+    append_word(text, &digits)
+}

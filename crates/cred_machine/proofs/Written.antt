@@ -1,0 +1,83 @@
+-- A file is changed, or asked about, by the credential that a label holds.
+use Rattle.std.proofs.Common.{◌≡◌, ℕ, Bool, true, List, slice_get, slice_set, is_some, Option, Some, None, Result, Ok, Err, inl, inr, refl, sym, ap, subst}
+use Rattle.cred_ids.specs.declared.arg.Arg.{Arg}
+use Rattle.cred_record.specs.Answer.{AnswersBy}
+use Rattle.cred_record.specs.Credential.{Credential}
+use Rattle.cred_record.specs.File.{File}
+use Rattle.cred_record.specs.declared.refusal.Denial.{Denial}
+use Rattle.cred_record.specs.declared.refusal.Denial.TheVariants as denial
+use Rattle.cred_record.specs.declared.refusal.Refusal.{Refusal}
+use Rattle.cred_record.specs.declared.refusal.Refusal.TheVariants as refusal
+use Rattle.cred_attr.specs.Exactly.{AnswersExactly}
+use Rattle.cred_event.specs.declared.event.Event.{Event}
+use Rattle.cred_event.specs.declared.event.Event.TheVariants.{Chown, Chmod, SetAttr}
+use Rattle.cred_event.specs.declared.answer.Answer.TheVariants.{Done, Told, Eperm, Einval, NoHold}
+use Rattle.cred_event.specs.declared.answer.Told.TheVariants as told
+use Rattle.cred_model.specs.Changing.{event_changes}
+use Rattle.cred_model.specs.State.{State, Numbered, held_by}
+use Rattle.cred_model.specs.Step.{by_file, by_stat, outcome}
+use Rattle.cred_machine.specs.Written.{IsMadeBy}
+
+-- ---- what was made
+
+-- by what a call answers
+pub made_by : (given : Result File Denial) (made : Result File Refusal) → AnswersBy made given → IsMadeBy given made
+made_by (Ok file) (Ok new) (inl is) = let same : new ≡ file = cc in ap Ok (sym same)
+made_by (Ok file) (Ok new) (inr memory) = cc
+made_by (Ok file) (Err refusal.Memory) is = tt
+made_by (Ok file) (Err refusal.Perm) (inl is) = cc
+made_by (Ok file) (Err refusal.Perm) (inr memory) = cc
+made_by (Ok file) (Err refusal.Invalid) (inl is) = cc
+made_by (Ok file) (Err refusal.Invalid) (inr memory) = cc
+made_by (Err denial.Perm) made is = subst (IsMadeBy (Err denial.Perm)) (sym is) refl
+made_by (Err denial.Invalid) made is = subst (IsMadeBy (Err denial.Invalid)) (sym is) refl
+
+pub made_exactly : (given : Result File Denial) (made : Result File Refusal) → AnswersExactly made given → IsMadeBy given made
+made_exactly (Ok file) made is = subst (IsMadeBy (Ok file)) (sym is) refl
+made_exactly (Err denial.Perm) made is = subst (IsMadeBy (Err denial.Perm)) (sym is) refl
+made_exactly (Err denial.Invalid) made is = subst (IsMadeBy (Err denial.Invalid)) (sym is) refl
+
+-- an event that changes a file is one of three
+pub no_other : (event : Event) → event_changes event ≡ true
+    → ((hold file : ℕ) (owner group : Arg) → event ≡ Chown hold file owner group → ⊥)
+    → ((hold file mode : ℕ) → event ≡ Chmod hold file mode → ⊥)
+    → ((hold file : ℕ) (attr : Option (List ℕ)) → event ≡ SetAttr hold file attr → ⊥) → ⊥
+no_other (Chown hold file owner group) is a b c = a hold file owner group refl
+no_other (Chmod hold file mode) is a b c = b hold file mode refl
+no_other (SetAttr hold file attr) is a b c = c hold file attr refl
+no_other event is a b c = cc
+
+-- ---- the file at a place
+
+module _ (s : State) (hold place : ℕ) (rule : Credential → File → Result File Denial) where
+  pub file_unheld : held_by s hold ≡ None → outcome s (by_file s hold place rule) ≡ (NoHold hold, s)
+  file_unheld none = rw none refl
+
+  module _ (held : Numbered) (has : held_by s hold ≡ Some held) where
+    pub file_none : slice_get s.infos place ≡ None → outcome s (by_file s hold place rule) ≡ (NoHold hold, s)
+    file_none none = rw (has, none) refl
+
+    module _ (old : File) (there : slice_get s.infos place ≡ Some old) where
+      pub file_written : (new : File) (infos : List File) → rule held.cred old ≡ Ok new → infos ≡ slice_set s.infos place new
+          → outcome s (by_file s hold place rule) ≡ (Done, record s { infos = infos })
+      file_written new infos ruled now = rw (has, there, ruled, now) refl
+
+      pub file_eperm : rule held.cred old ≡ Err denial.Perm → outcome s (by_file s hold place rule) ≡ (Eperm, s)
+      file_eperm ruled = rw (has, there, ruled) refl
+
+      pub file_einval : rule held.cred old ≡ Err denial.Invalid → outcome s (by_file s hold place rule) ≡ (Einval, s)
+      file_einval ruled = rw (has, there, ruled) refl
+
+-- ---- how it stands
+
+module _ (s : State) (hold place : ℕ) where
+  pub stat_unheld : held_by s hold ≡ None → outcome s (by_stat s hold place) ≡ (NoHold hold, s)
+  stat_unheld none = rw none refl
+
+  module _ (held : Numbered) (has : held_by s hold ≡ Some held) where
+    pub stat_none : slice_get s.infos place ≡ None → outcome s (by_stat s hold place) ≡ (NoHold hold, s)
+    stat_none none = rw (has, none) refl
+
+    pub stands : (file : File) (attr : Bool) → slice_get s.infos place ≡ Some file → attr ≡ is_some file.attr
+        → outcome s (by_stat s hold place) ≡ (Told (told.File file.owner file.group file.mode attr), s)
+    stands file attr there is = rw (has, there, is) refl

@@ -1,0 +1,49 @@
+use Rattle.std.proofs.Common.{sym}
+use Rattle.cred_event.specs.declared.answer.Answer.TheVariants.{Busy}
+use Rattle.cred_plain.specs.Creds.{seen_numbered}
+use Rattle.cred_machine.proofs.Alone.{can_call, calls, raw_busy, raw_einval, raw_eperm}
+use Rattle.cred_machine.proofs.Begins.{same_answer}
+use Rattle.cred_machine.proofs.Leads.{idle_in}
+use Rattle.cred_machine.proofs.Seen.{seen_state, seen_task}
+use Rattle.cred_machine.proofs.state.State.raw.Goals as goal
+
+pub returns-in-Some-open_in-clause-ok : goal.returns-in-Some-open_in-clause-ok
+returns-in-Some-open_in-clause-ok c =
+    let s = seen_state c.self.inside in
+    let o = seen_task c.owner.inside in
+    rw (← c.self.view_is)
+    (raw_busy s c.args.task c.args.call.now o (seen_numbered c.in-Some-get.old)
+    (rw (← c.owner.view_is) at (sym c.in-Some.ensures)) (sym c.in-Some-get.ensures) (Busy c.in-Some-open_in.cast)
+    (idle_in s _ o.process _ c.deref.ensures.value c.in-Some-open_in.ensures))
+
+pub returns-in-Err-Perm-clause-ok : goal.returns-in-Err-Perm-clause-ok
+returns-in-Err-Perm-clause-ok c =
+    let s = seen_state c.self.inside in
+    let o = seen_task c.owner.inside in
+    let old = seen_numbered c.in-Some-get.old in
+    let can = can_call s c.args.task o _ old _ c.in-Some.ensures c.owner.view_is c.in-Some-get.ensures c.deref.ensures.value
+    c.in_default-open_in.ensures c.in_default-overridden.ensures in
+    let rule = rw c.in-Err-Perm.field-0-is at c.in-Err-Perm.ensures in
+    rw (← c.self.view_is) (raw_eperm s c.args.task c.args.call.now o old can rule)
+
+pub returns-in-Err-Invalid-clause-ok : goal.returns-in-Err-Invalid-clause-ok
+returns-in-Err-Invalid-clause-ok c =
+    let s = seen_state c.self.inside in
+    let o = seen_task c.owner.inside in
+    let old = seen_numbered c.in-Some-get.old in
+    let can = can_call s c.args.task o _ old _ c.in-Some.ensures c.owner.view_is c.in-Some-get.ensures c.deref.ensures.value
+    c.in_default-open_in.ensures c.in_default-overridden.ensures in
+    let rule = rw c.in-Err-Invalid.field-0-is at c.in-Err-Invalid.ensures in
+    rw (← c.self.view_is) (raw_einval s c.args.task c.args.call.now o old can rule)
+
+pub returns-clause-ok : goal.returns-clause-ok
+returns-clause-ok c =
+    let s = seen_state c.self.inside in
+    let o = seen_task c.owner.inside in
+    let old = seen_numbered c.in-Some-get.old in
+    let can = can_call s c.args.task o _ old _ c.in-Some.ensures c.owner.view_is c.in-Some-get.ensures c.deref.ensures.value
+    c.in_default-open_in.ensures c.in_default-overridden.ensures in
+    rw (← c.self.view_is)
+    (same_answer _ _ c.replace_alone.result c.replace_alone.new.self
+    (calls s c.args.task c.args.call.now o old can c.in-Ok.cred c.differs-other.result c.in-Ok.ensures c.differs-other.ensures)
+    (rw (← c.self.view_is) at c.replace_alone.ensures.ok))

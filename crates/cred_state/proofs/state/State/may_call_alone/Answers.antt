@@ -1,0 +1,74 @@
+use Rattle.std.proofs.Common.{ℕ, Some, sym, ap, ◌∙◌}
+use Rattle.cred_model.specs.Casts.{not_busy}
+use Rattle.cred_model.proofs.Numbers.{current_is}
+use Rattle.cred_cast.specs.Casts.{cast_within}
+use Rattle.cred_tables.specs.Kept.{as_parts, state_of}
+use Rattle.cred_state.proofs.Raw.{raw_without, raw_busy, raw_overridden}
+use Rattle.cred_state.proofs.Broadcasts.{busy_by, none_open}
+use Rattle.cred_tables.proofs.Owners.{has_process, own_owner, over_owner, owner_process}
+use Rattle.cred_state.proofs.state.State.may_call_alone.Goals as goal
+
+pub returns-in_default : goal.returns-in_default
+returns-in_default c = λ call.
+    raw_without c.args.self.now.state c.args.task call (sym c.in_default.ensures)
+
+pub unwrap-process-requires : goal.unwrap-process-requires
+unwrap-process-requires c =
+    let t = c.self.inside in
+    let s = state_of (as_parts t.tasks t.casts t.files t.holds t.prepared t.dump t.infos) t.master.slots
+    t.slots in
+    let has = rw (← c.self.view_is) at c.in-Some.ensures in
+    let u = current_is s c.args.task _ (sym has) in
+    has_process u.owner u.is c.process_of.ensures
+
+pub returns-in-Some-open_in : goal.returns-in-Some-open_in
+returns-in-Some-open_in c = λ call.
+    let t = c.self.inside in
+    let s = state_of (as_parts t.tasks t.casts t.files t.holds t.prepared t.dump t.infos) t.master.slots
+    t.slots in
+    let has = rw (← c.self.view_is) at c.in-Some.ensures in
+    let u = current_is s c.args.task _ (sym has) in
+    let process = owner_process t.tasks c.args.task c.unwrap-process.result u.owner u.is
+    c.unwrap-process.ensures c.process_of.ensures in
+    let busy = busy_by (cast_within t.casts c.unwrap-process.result) (Some c.in-Some-open_in.cast)
+    c.in-Some-open_in.ensures.number in
+    rw (← c.self.view_is)
+    (raw_busy s c.args.task call _ (sym has) u.owner u.is c.in-Some-open_in.cast
+    (ap (λ (p : ℕ). not_busy (cast_within t.casts p)) (sym process) ∙ busy))
+
+pub returns-in-Some-overridden : goal.returns-in-Some-overridden
+returns-in-Some-overridden c = λ call.
+    let t = c.self.inside in
+    let s = state_of (as_parts t.tasks t.casts t.files t.holds t.prepared t.dump t.infos) t.master.slots
+    t.slots in
+    let has = rw (← c.self.view_is) at c.in-Some.ensures in
+    let u = current_is s c.args.task _ (sym has) in
+    let process = owner_process t.tasks c.args.task c.unwrap-process.result u.owner u.is
+    c.unwrap-process.ensures c.process_of.ensures in
+    let idle = ap (cast_within t.casts) (sym process)
+    ∙ none_open _ (cast_within t.casts c.unwrap-process.result) c.in_default-open_in.ensures.number in
+    let over = rw (← c.self.view_is) at c.in-Some-overridden.ensures in
+    rw (← c.self.view_is)
+    (raw_overridden s c.args.task call _ (sym has) u.owner u.is idle c.in-Some-overridden.depth
+    (over_owner s c.args.task c.in-Some-overridden.depth u.owner u.is over))
+
+pub returns : goal.returns
+returns c =
+    let t = c.self.inside in
+    let s = state_of (as_parts t.tasks t.casts t.files t.holds t.prepared t.dump t.infos) t.master.slots
+    t.slots in
+    let has = rw (← c.self.view_is) at c.in-Some.ensures in
+    let u = current_is s c.args.task _ (sym has) in
+    let process = owner_process t.tasks c.args.task c.unwrap-process.result u.owner u.is
+    c.unwrap-process.ensures c.process_of.ensures in
+    let idle = ap (cast_within t.casts) (sym process)
+    ∙ none_open _ (cast_within t.casts c.unwrap-process.result) c.in_default-open_in.ensures.number in
+    let own = rw (← c.self.view_is) at c.in_default-overridden.ensures in
+    rw (← c.self.view_is)
+    (record {
+      owner = u.owner;
+      lives = u.is;
+      has = sym has;
+      idle = idle;
+      own = own_owner s c.args.task u.owner u.is own;
+    })
