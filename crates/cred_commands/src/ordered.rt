@@ -22,6 +22,7 @@ use cred_pen::Pen;
 use cred_said::{Status, bad_line, finish, tell_said, write_entries, write_last};
 use cred_script::Script;
 use cred_state::State;
+use std::mem::forget;
 use std::alloc::Global;
 
 /// Writes the entries and drops them, as far as they fill whole writes. The others stay, and so
@@ -137,7 +138,8 @@ fn run_script_in_order<K: Sink>(alloc: Global, bytes: &[u8], sink: &mut K) -> St
     match read(alloc, bytes) {
         Ok(script) => {
             let status = report_in_order(alloc, sink, &script);
-            drop(script);
+            // The program ends next, and its memory goes with it: no line is taken apart.
+            forget(script);
             status
         }
         Err(refusal) => tell_said(sink, bad_line(alloc, refusal)),

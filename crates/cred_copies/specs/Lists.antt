@@ -5,7 +5,7 @@ use Rattle.cred_event.specs.declared.answer.Answer.{Answer}
 use Rattle.cred_event.specs.declared.answer.Answer.TheVariants.{Told}
 use Rattle.cred_event.specs.declared.answer.Told.TheVariants.{Groups}
 use Rattle.cred_event.specs.declared.event.Event.{Event}
-use Rattle.cred_event.specs.declared.event.Event.TheVariants.{Begin, SetAttr, Raw}
+use Rattle.cred_event.specs.declared.event.Event.TheVariants.{Begin, Chown, Chmod, SetAttr, Stat, Raw}
 
 -- the answer to a question about groups: a list
 abbrev pub HoldsList : Answer → Type 0
@@ -30,3 +30,11 @@ MayHoldList (Begin task call) = ⊤
 MayHoldList (Raw task call) = ⊤
 MayHoldList (SetAttr hold file attr) = ⊤
 MayHoldList event = ⊥
+
+-- a call on a file
+abbrev pub IsOnFile : Event → Type 0
+IsOnFile (Chown hold file owner group) = ⊤
+IsOnFile (Chmod hold file mode) = ⊤
+IsOnFile (SetAttr hold file attr) = ⊤
+IsOnFile (Stat hold file) = ⊤
+IsOnFile event = ⊥

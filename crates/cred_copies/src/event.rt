@@ -1,6 +1,6 @@
 //! Events.
 ghost use Rattle.std.specs.Prelude.{◌≡◌, IfOk, OnErr, IsSome};
-ghost use Rattle.cred_copies.specs.Lists.{EventHoldsList, MayHoldList};
+ghost use Rattle.cred_copies.specs.Lists.{EventHoldsList, IsOnFile, MayHoldList};
 
 use cred_event::Event;
 use cred_ids::NoMemory;
@@ -26,13 +26,48 @@ pub fn copy_event(e: &Event) -> Result<Event, NoMemory>
             task: *task,
             call: call.copy()?,
         }),
-        Event::SetAttr { hold, file, attr } => Ok(Event::SetAttr {
+        Event::Chown { .. } | Event::Chmod { .. } | Event::SetAttr { .. } | Event::Stat { .. } => {
+            copy_on_file(e)
+        }
+        _ => Ok(copy_plain(e)),
+    }
+}
+
+/// An equal event, of a call on a file: these are rare, and are made apart from the others.
+#[inline(never)]
+fn copy_on_file(e: &Event) -> Result<Event, NoMemory>
+    requires { IsOnFile e.now }
+    ensures equal { IfOk result (λ copied. copied ≡ e.now) }
+    ensures refusal { OnErr result (EventHoldsList e.now) }
+{
+    Ok(match e {
+        Event::Chown {
+            hold,
+            file,
+            owner,
+            group,
+        } => Event::Chown {
+            hold: *hold,
+            file: *file,
+            owner: *owner,
+            group: *group,
+        },
+        Event::Chmod { hold, file, mode } => Event::Chmod {
+            hold: *hold,
+            file: *file,
+            mode: *mode,
+        },
+        Event::SetAttr { hold, file, attr } => Event::SetAttr {
             hold: *hold,
             file: *file,
             attr: copy_attr(attr)?,
-        }),
-        _ => Ok(copy_plain(e)),
-    }
+        },
+        Event::Stat { hold, file } => Event::Stat {
+            hold: *hold,
+            file: *file,
+        },
+        _ => unreachable!(),
+    })
 }
 
 /// An equal attribute, or none.
@@ -50,10 +85,11 @@ pub fn copy_attr(attr: &Option<Attr>) -> Result<Option<Attr>, NoMemory>
     }
 }
 
-/// An equal event, of one that holds no list.
+/// An equal event, of one that is no id call and no call on a file.
 #[inline(always)]
 fn copy_plain(e: &Event) -> Event
-    requires { MayHoldList e.now → ⊥ }
+    requires calls { MayHoldList e.now → ⊥ }
+    requires files { IsOnFile e.now → ⊥ }
     ensures { result ≡ e.now }
 {
     match *e {
@@ -91,7 +127,12 @@ fn copy_plain(e: &Event) -> Event
         Event::Abort { label } => Event::Abort { label },
         Event::Override { task, label } => Event::Override { task, label },
         Event::Revert { task } => Event::Revert { task },
-        Event::Begin { .. } | Event::Raw { .. } | Event::SetAttr { .. } => unreachable!(),
+        Event::Begin { .. }
+        | Event::Raw { .. }
+        | Event::Chown { .. }
+        | Event::Chmod { .. }
+        | Event::SetAttr { .. }
+        | Event::Stat { .. } => unreachable!(),
         Event::Act { cast } => Event::Act { cast },
         Event::OpenFile {
             hold,
@@ -132,18 +173,5 @@ fn copy_plain(e: &Event) -> Event
             target,
             mode,
         },
-        Event::Chown {
-            hold,
-            file,
-            owner,
-            group,
-        } => Event::Chown {
-            hold,
-            file,
-            owner,
-            group,
-        },
-        Event::Chmod { hold, file, mode } => Event::Chmod { hold, file, mode },
-        Event::Stat { hold, file } => Event::Stat { hold, file },
     }
 }

@@ -1,11 +1,28 @@
 //! An entry of the journal.
 use crate::answer::Answer;
 use crate::event::Event;
+use std::mem::forget;
 
 /// One event with its answer, and the number of the line that made it, from 1.
-#[derive(Drop)]
 pub struct Entry {
     pub line: u32,
     pub event: Event,
     pub answer: Answer,
+}
+
+impl Drop for Entry {
+    /// Most events hold no list and have nothing to give back: of these nothing is asked but that.
+    #[inline(always)]
+    fn drop(self) {
+        let Entry {
+            line: _,
+            event,
+            answer,
+        } = self;
+        match event {
+            Event::Begin { .. } | Event::Raw { .. } | Event::SetAttr { .. } => drop(event),
+            _ => forget(event),
+        }
+        drop(answer)
+    }
 }
