@@ -9,7 +9,7 @@ from __future__ import annotations
 from collections.abc import Callable
 from dataclasses import dataclass, replace
 
-from .rows import CHANGED
+from .kept import CHANGED
 from .script import Line
 
 # How often a script is run again without the first such line; then all like it stand aside.

@@ -14,9 +14,12 @@ from pathlib import Path
 
 from . import filerows
 from .calls import ID_CALLS
+from .kept import CAPS, CHANGED, FILE, FILE_IDS, GROUP_IDS, IDS, NEEDED, USERS, Kept, Known
+from .kept import reason
 from .probe import Probe, Values
 from .refusals import by_capability, has_kill
 from .script import Line
+from .spaces import GID_WORDS, UID_WORDS
 
 PAGE = Path(__file__).resolve().parents[2] / "docs" / "LINUX.md"
 
@@ -44,12 +47,11 @@ ALL = (
     OUTER, LOOKS, EXECVE_FLAG, *filerows.ALL,
 )  # fmt: skip
 
-# What a kept row may have changed.
-IDS, CAPS, FILE_IDS = "ids", "caps", "file ids"
-BOUNDING, BITS, GROUPS, FILE = "bounding", "bits", "groups", "file"
-
 # The forms of which a file's state decides, or tells.
 OF_FILES = (*filerows.FORMS, "stat", "exec", "open", "check", "access")
+
+# What an execve makes of a credential.
+ALL_PARTS = (IDS, FILE_IDS, CAPS)
 
 # CAP_DAC_OVERRIDE and CAP_DAC_READ_SEARCH, by which any file may be read.
 READS = 0b110
@@ -70,58 +72,6 @@ def row(begins: str) -> tuple[str, str]:
     return next(found, (begins, ""))
 
 
-@dataclass(frozen=True)
-class Kept:
-    """A row that may explain a later difference: in what, and whether the kernel then has more."""
-
-    row: str
-    part: str
-    number: int
-    text: str
-    more: bool | None = None
-    sure: bool = True
-
-
-@dataclass
-class Known:
-    """What is known of a task besides its credential."""
-
-    kept: list[Kept] = field(default_factory=list)
-    # The execve by which its process isn't dumpable in Linux, though it is in the program.
-    flag: Kept | None = None
-
-    def copy(self) -> Known:
-        """The same for a child."""
-        return Known(self.kept[:], self.flag)
-
-    def keep(self, *kept: Kept) -> None:
-        """These rows may explain what comes; the newest is asked first."""
-        new = {(one.row, one.part) for one in kept}
-        self.kept = [*kept, *(old for old in self.kept if (old.row, old.part) not in new)]
-
-
-# What the answer of each form depends on. Of the others no kept row explains any.
-DEPENDS: dict[str, tuple[str, ...]] = (
-    {"ids": (IDS,), "bset": (BOUNDING,), "bits": (BITS,), "groups": (GROUPS,)}
-    | dict.fromkeys(("caps", "ambis", "capdrop"), (CAPS,))
-    | dict.fromkeys(("capsetraw", "ambraise"), (CAPS, BOUNDING, BITS))
-    | dict.fromkeys(("securebits", "keepcaps"), (CAPS, BITS))
-    | dict.fromkeys((*ID_CALLS, "signal"), (IDS, CAPS))
-    | dict.fromkeys(("setfsuid", "setfsgid", "exec", "ptrace"), (FILE_IDS, CAPS, IDS))
-    | dict.fromkeys(("open", "check", "access"), (FILE_IDS, CAPS, IDS, GROUPS))
-    | dict.fromkeys(filerows.FORMS, (FILE_IDS, CAPS, GROUPS))
-)
-
-# What each form changes, where the kernel makes it and the program refuses it, or the reverse.
-CHANGED: dict[str, tuple[str, ...]] = (
-    {"capdrop": (BOUNDING,), "setgroups": (GROUPS,), "exec": (IDS, CAPS, FILE_IDS)}
-    | dict.fromkeys(("ambraise", "amblower", "ambclear", "capsetraw"), (CAPS,))
-    | dict.fromkeys(("securebits", "keepcaps"), (BITS, CAPS))
-    | dict.fromkeys(set(ID_CALLS) - {"setgroups"}, (IDS, FILE_IDS, CAPS))
-    | {"setfsuid": (FILE_IDS, CAPS), "setfsgid": (FILE_IDS,), "nonewprivs": (BITS, IDS, CAPS)}
-    | dict.fromkeys(filerows.FORMS, ())
-)
-
 # The answers that rules give. Another one, as that a task isn't there, no row explains.
 RULED = ("ok", "eperm", "einval", "eacces")
 
@@ -134,6 +84,8 @@ class Explainer:
     tracer: bool | None = None
     files: dict[str, str] = field(default_factory=dict)
     tasks: dict[str, Known] = field(default_factory=dict)
+    # The first task of each task's process: an id call of libc is every thread's of it.
+    firsts: dict[str, str] = field(default_factory=dict)
     # By which rows a file may be another one than the program says.
     changed: dict[str, list[Kept]] = field(default_factory=dict)
     _told: set[str] = field(default_factory=set)
@@ -154,6 +106,30 @@ class Explainer:
         """What is known of a task."""
         return self.tasks.setdefault(task, Known())
 
+    def threads(self, line: Line) -> list[str]:
+        """The tasks whose credentials a line changes: an id call that isn't raw is all threads'."""
+        task = line.words[0]
+        if line.words[1] not in ID_CALLS or line.text.split()[1] == "raw":
+            return [task]
+        first = self.firsts.get(task, task)
+        return [task, *(one for one, its in self.firsts.items() if its == first and one != task)]
+
+    def changes(self, line: Line, *kept: Kept) -> None:
+        """These rows may explain what comes of the tasks whose credentials a line changes."""
+        for task in self.threads(line):
+            self.known(task).keep(*kept)
+
+    def makes(self, line: Line, kept: Kept) -> None:
+        """The kernel makes a call by a row that the program refuses: what it leaves is another."""
+        form = line.words[1]
+        only = USERS if form in UID_WORDS else GROUP_IDS if form in GID_WORDS else None
+        parts = [replace(kept, part=part, more=None, bits=None, ids=only)
+                 for part in CHANGED.get(form, ())]  # fmt: skip
+        self.changes(line, *parts)
+        if form in filerows.FORMS:
+            name = line.words[2]
+            self.changed[name] = [replace(kept, part=FILE), *self.changed.get(name, [])]
+
     def goes_on_as(self, before: str, after: str) -> None:
         """A task is in another namespace from here on, under another name, or a child of it is.
 
@@ -161,6 +137,7 @@ class Explainer:
         """
         kept = [one for one in self.known(before).kept if one.part in (IDS, FILE_IDS, GROUPS)]
         self.tasks[after] = Known(kept, self.known(before).flag)
+        self.firsts[after] = after
 
     def see(self, number: int, line: Line) -> None:
         """Keeps what a line means for later ones."""
@@ -174,11 +151,15 @@ class Explainer:
         succeeds = line.answer is None or line.answer.startswith("ok")
         if words[1] in ("spawn", "fork"):
             self.tasks[words[2]] = known.copy()
+            first = self.firsts.setdefault(words[0], words[0])
+            self.firsts[words[2]] = first if words[1] == "spawn" else words[2]
+        elif words[1] == "exit":
+            self.firsts.pop(words[0], None)
         elif not succeeds:
             return
         elif words[1] in ("setresuid", "setresgid") and words[3] == "-1":
             if keeps_filesystem_id(words, self.probe.before(number)):
-                known.keep(Kept(FILESYSTEM_IDS, FILE_IDS, number, line.text))
+                self.changes(line, Kept(FILESYSTEM_IDS, FILE_IDS, number, line.text))
         elif words[1] == "dumpable":
             known.flag = None
         elif words[1] == "exec":
@@ -204,32 +185,53 @@ class Explainer:
 
     def executed(self, number: int, line: Line, file: str) -> list[Kept]:
         """What an execve may have made of the credential otherwise."""
-        words = file.split()
-        mode = int(words[5], 8) if len(words) > 5 else 0
-        set_id, counts = mode & 0o6000, mode & 0o6000 or " caps " in file
         before = self.probe.before(number)
-        found: list[tuple[str, str, bool | None]] = []
+        sure = before is not None and self.tracer is not None
+        kept = Kept("", "", number, line.text)
         if " nosuid" in file:
             return []
-        if before is None or before.no_new_privs:
-            if " caps " in file:
-                found.append((NO_NEW_PRIVS_FILE, CAPS, None))
-            if before is None or before.users[0] != before.users[1] or " caps " in file:
-                found += [(NO_NEW_PRIVS_IDS, part, None) for part in (IDS, FILE_IDS, CAPS)]
+        found = self.under_no_new_privs(before, file, kept)
         if before is None or not before.no_new_privs:
-            if set_id and line.facts.unmapped:
-                found += [(UNMAPPED_OWNER, part, None) for part in (IDS, FILE_IDS, CAPS)]
-            if set_id and (before is None or keeps_ambient(before, words)):
-                found.append((SET_ID, CAPS, True))
-            if counts and not self.tracer:
-                found += [(TRACED, IDS, None), (TRACED, FILE_IDS, None), (TRACED, CAPS, None)]
-            if not counts and (before is None or loses_ambient(before)):
-                found.append((PLAIN_FILE, CAPS, False))
-        sure = before is not None and self.tracer is not None
-        return [
-            Kept(one, part, number, line.text, more, sure or one == UNMAPPED_OWNER)
-            for one, part, more in found
-        ]
+            found += self.in_force(before, line, file, kept)
+        return [replace(one, sure=sure or one.row == UNMAPPED_OWNER) for one in found]
+
+    def under_no_new_privs(self, before: Values | None, file: str, kept: Kept) -> list[Kept]:
+        """What it may have made otherwise of a task that may gain nothing."""
+        if before is not None and not before.no_new_privs:
+            return []
+        found = [replace(kept, row=NO_NEW_PRIVS_FILE, part=CAPS)] if " caps " in file else []
+        if before is None or differ(before) or " caps " in file:
+            found += [replace(kept, row=NO_NEW_PRIVS_IDS, part=part) for part in ALL_PARTS]
+        return found
+
+    def in_force(
+        self, before: Values | None, line: Line, file: str, kept: Kept
+    ) -> list[Kept]:
+        """What it may have made otherwise by set-id bits and an attribute that are in force."""
+        words = file.split()
+        mode = int(words[5], 8) if len(words) > 5 else 0
+        # The set-group-ID bit has effect with the group's execute bit alone.
+        of_user, of_group = mode & 0o4000, mode & 0o2010 == 0o2010
+        set_id, counts = of_user or of_group, of_user or of_group or " caps " in file
+        only = None if of_user and of_group else USERS if of_user else GROUP_IDS
+        ambient = before.sets[4] if before else None
+        found = []
+        if set_id and line.facts.unmapped:
+            found += [replace(kept, row=UNMAPPED_OWNER, part=IDS, ids=only)]
+            found += [replace(kept, row=UNMAPPED_OWNER, part=FILE_IDS, ids=only)]
+            found += [replace(kept, row=UNMAPPED_OWNER, part=CAPS)]
+        if set_id and (before is None or keeps_ambient(before, words)):
+            found += [replace(kept, row=SET_ID, part=CAPS, more=True, bits=ambient)]
+        if not self.tracer and (before is None or is_reset(before)):
+            # Then the effective ids become the real ones, whatever the file is.
+            found += [replace(kept, row=TRACED, part=part) for part in (IDS, FILE_IDS)]
+        elif not self.tracer and set_id:
+            found += [replace(kept, row=TRACED, part=part, ids=only) for part in (IDS, FILE_IDS)]
+        if counts and not self.tracer:
+            found += [replace(kept, row=TRACED, part=CAPS)]
+        if not counts and (before is None or loses_ambient(before)):
+            found += [replace(kept, row=PLAIN_FILE, part=CAPS, more=False, bits=ambient)]
+        return found
 
     def explain(self, number: int, line: Line, report: str) -> str | None:
         """The reason why the kernel's answer is another one than the report's."""
@@ -244,18 +246,14 @@ class Explainer:
         if own is not None:
             begins, text = own
             if begins and kernel == "ok":
-                parts = CHANGED.get(words[1], ())
-                known.keep(*(Kept(begins, part, number, line.text) for part in parts))
+                self.makes(line, Kept(begins, "", number, line.text))
             return text
-        depends = DEPENDS.get(words[1], ())
-        more = has_more(words[1], line.answer or "", report)
-        for kept in known.kept:
-            if kept.part in depends and (more is None or kept.more in (None, more)):
-                if kernel == "ok" and told != "ok":
-                    parts = CHANGED.get(words[1], ())
-                    known.keep(*(Kept(kept.row, part, kept.number, kept.text) for part in parts))
-                return self.text(kept.row, kept.sure, f"line {kept.number}: {kept.text}")
-        for kept in self.changed.get(words[2], []) if words[1] in OF_FILES else []:
+        kept = reason(known.kept, words, line.answer or "", report)
+        if kept is None and words[1] in OF_FILES:
+            kept = next(iter(self.changed.get(words[2], [])), None)
+        if kept is not None:
+            if kernel == "ok" and told != "ok":
+                self.makes(line, kept)
             return self.text(kept.row, kept.sure, f"line {kept.number}: {kept.text}")
         flag = self.known(words[3] if words[1] == "ptrace" else words[0]).flag
         if flag and (words[1] == "dumped" or (words[1], kernel) == ("ptrace", "eperm")):
@@ -342,6 +340,16 @@ def keeps_filesystem_id(words: list[str], before: Values | None) -> bool:
     return kept and effective != filesystem
 
 
+def differ(before: Values) -> bool:
+    """Whether the effective user or group isn't the real one."""
+    return before.users[0] != before.users[1] or before.group_ids[0] != before.group_ids[1]
+
+
+def is_reset(before: Values) -> bool:
+    """Whether an execve that may gain nothing makes the effective ids the real ones."""
+    return differ(before) and not before.sets[2] & NEEDED["setuid"]
+
+
 def stays_dumpable(before: Values, words: list[str]) -> bool:
     """Whether Linux has a process dumpable after the execve of this file: its new effective ids are
     the real ones, and it may read the file."""
@@ -367,16 +375,3 @@ def keeps_ambient(before: Values, words: list[str]) -> bool:
 def loses_ambient(before: Values) -> bool:
     """Whether execve of a plain file empties the ambient set, by the filesystem group."""
     return bool(before.sets[4]) and before.group_ids[3] != before.group_ids[1]
-
-
-def has_more(form: str, kernel: str, report: str) -> bool | None:
-    """Whether the kernel's task has more capabilities than the report's; None if untold."""
-    words, others = kernel.split(), report.split()
-    if form == "caps" and len(words) == len(others):
-        pairs = list(zip(words[1:4], others[1:4], strict=True))
-        return any(int(one.split("=")[-1], 16) & ~int(other, 16) for one, other in pairs)
-    if form in ("ambis", "bset") and len(words) == len(others) == 2:
-        return words[1] == "1"
-    if form in ("ids", "bits", "groups", "setfsuid", "setfsgid"):
-        return None
-    return words[0] == "ok" if words[0] != others[0] else None
