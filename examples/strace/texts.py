@@ -238,6 +238,7 @@ FILES = """/bin/sh reg 0 0 0755
 /srv/prober before reg 0 0 0755 caps 0100000200200000000000000000000000000000
 /srv/prober reg 1000 1000 0755
 /srv/link -> /srv/prober
+/bin/own reg 1000 1000 4755
 /srv/kept before reg 0 0 4755
 /srv/kept reg 0 0 0755
 """
@@ -258,6 +259,13 @@ OWNED = '7 chown("/srv/prober", 1000, 1000) = 0\n'
 STAT = '7 newfstatat(AT_FDCWD, "{}", {{st_mode=S_IFREG|{}, st_uid={}, st_gid={}, ...}}, 0) = 0\n'
 THREAD = "7 clone(child_stack=NULL, flags=CLONE_VM|CLONE_FS|CLONE_FILES|CLONE_THREAD) = {}\n"
 DENIED = "-1 EPERM (Operation not permitted)"
+# Bit 8 makes it a call that the program refuses, and then setuid leaves the sets.
+FIXED = "7 prctl(PR_SET_SECUREBITS, SECBIT_NO_SETUID_FIXUP|0x100) = 0\n"
+SETS = ("7 capget({{version=_LINUX_CAPABILITY_VERSION_3, pid=0}}, "
+        "{{effective={0}, permitted={0}, inheritable=1<<CAP_KILL}}) = 0\n")
+AMBIENT = "".join(f"Cap{name}:\t20\n" for name in ("Inh", "Prm", "Eff", "Amb"))
+AMBIENT = USER.split("CapInh")[0] + AMBIENT + "CapBnd:\t1ffffffffff\n"
+OWN = "a set-id bit in force makes a file privileged"
 
 # A log with where it begins, the status of credtrace-compare, what it says and what it mustn't.
 DIFFERENCES = [
@@ -453,6 +461,20 @@ DIFFERENCES = [
     ("a file that isn't mapped", ROOT, BEGINS + "7 setuid(1000) = 0\n7 unshare(CLONE_NEWUSER) = 0\n"
      '7 chmod("/home/tool", 0777) = ' + DENIED + "\n", 0,
      ["chown, chmod and setxattr ask for their capability alone"], [NO_ROW]),
+    ("a row that holds for all threads", ROOT, BEGINS + FIXED + THREAD.format(8)
+     + "".join(f"{one} {call} = 0\n" for call in ("setuid(5)", "setgid(6)") for one in (8, 7))
+     + "8 getgid() = 6\n", 0, [BITS], [NO_ROW]),
+    ("a file that only the kernel changes", ROOT, BEGINS + FIXED + "7 setuid(5) = 0\n"
+     '7 chmod("/srv/kept", 0700) = 0\n' + STAT.format("/srv/kept", "0700", 0, 0), 0,
+     [BITS], [NO_ROW]),
+    ("what an execve leaves in the ambient set", AMBIENT, RUNS.format("/bin/own", 0)
+     + SETS.format("1<<CAP_KILL"), 0, [OWN], [NO_ROW]),
+    ("more than an execve leaves in the ambient set", AMBIENT, RUNS.format("/bin/own", 0)
+     + SETS.format("1<<CAP_KILL|1<<CAP_CHOWN"), 1, [NO_ROW], [OWN]),
+    ("a set-user-ID bit, and a group id", USER, RUNS.format("/bin/su", 0) + "7 getegid() = 7\n", 1,
+     [NO_ROW], [TRACED]),
+    ("a user's strace, and a plain file", USER.replace("Uid:\t1000\t1000", "Uid:\t1000\t1001"),
+     RUNS.format("/bin/sh", 0) + "7 geteuid() = 1000\n", 0, [TRACED], [NO_ROW]),
     ("another process changes a file, and the list tells what it was", ROOT, BEGINS
      + "7 fork() = 8\n7 fork() = 9\n8 setuid(1000) = 0\n"
      + RUNS.replace("7 ", "8 ").format("/srv/prober", 0)

@@ -35,17 +35,20 @@ class Kept:
 
     def what(self) -> tuple[object, ...]:
         """The row, and what it may have changed."""
-        return self.row, self.part, self.bits, self.ids
+        return self.row, self.part, self.more, self.bits, self.ids
+
+    def covers(self, gains: int, losses: int) -> tuple[int, int]:
+        """Which capabilities the kernel's task may have more by this row, and which less."""
+        mask = -1 if self.bits is None else self.bits
+        gained, lost = self.more is not False, self.more is not True
+        return gains & mask if gained else 0, losses & mask if lost else 0
 
     def explains(self, words: list[str], kernel: str, report: str) -> bool:
         """Whether this part of a task decides the answer of a line, and as the kernel has it."""
         if self.part not in DEPENDS.get(words[1], ()):
             return False
-        more = has_more(words[1], kernel, report)
-        if more is not None and self.more not in (None, more):
-            return False
-        if self.part == CAPS and self.bits is not None:
-            return bool(self.bits & capabilities_of(words, kernel, report))
+        if self.part == CAPS:
+            return any(self.covers(*capabilities_of(words, kernel, report)))
         if self.part in (IDS, FILE_IDS) and self.ids is not None:
             return self.ids in ids_of(words, kernel, report)
         return True
@@ -94,18 +97,21 @@ CHANGED: dict[str, tuple[str, ...]] = (
 
 
 def reason(kept: list[Kept], words: list[str], kernel: str, report: str) -> Kept | None:
-    """The newest of the rows that explains the whole of a difference, or each a part of it."""
+    """The newest row that explains the whole of a difference, or the newest of several that do."""
     found = [one for one in kept if one.explains(words, kernel, report)]
-    told = [one for one in found if one.part == CAPS and one.bits is not None]
-    if words[1] != "caps" or not told:
+    if words[1] != "caps":
         return found[0] if found else None
-    differ = capabilities_of(words, kernel, report)
-    together = 0
+    gains, losses = capabilities_of(words, kernel, report)
+    covered: dict[object, tuple[int, int]] = {}
     for one in found:
-        together |= -1 if one.bits is None else one.bits
-        if one.bits is None or not differ & ~one.bits:
+        # What a row makes more and what it makes less stand apart, but for all rows together.
+        for key in ((one.row, one.number), None):
+            pairs = zip(covered.get(key, (0, 0)), one.covers(gains, losses), strict=True)
+            covered[key] = tuple(old | new for old, new in pairs)
+    for one in found:
+        if covered[one.row, one.number] == (gains, losses):
             return one
-    return found[0] if not differ & ~together else None
+    return found[0] if covered.get(None) == (gains, losses) else None
 
 
 def capability(name: str) -> int:
@@ -126,20 +132,25 @@ NEEDED = (
 )  # fmt: skip
 
 
-def capabilities_of(words: list[str], kernel: str, report: str) -> int:
-    """In which capabilities the answers differ, or which ones decide them."""
+def capabilities_of(words: list[str], kernel: str, report: str) -> tuple[int, int]:
+    """Which capabilities the kernel's task has more and less, or those that decide the answer."""
     ours, others = kernel.split(), report.split()
     if words[1] == "caps" and len(ours) == len(others):
-        pairs = zip(ours[1:4], others[1:4], strict=True)
-        masked = ((one.split("&="), int(other, 16)) for one, other in pairs)
-        differ = 0
-        for one, other in masked:
-            differ |= (int(one[-1], 16) ^ other) & (int(one[0], 16) if one[1:] else -1)
-        return differ
+        gains = losses = 0
+        for one, other in zip(ours[1:4], others[1:4], strict=True):
+            *mask, text = one.split("&=")
+            value, told = int(text, 16), int(other, 16)
+            gains |= value & ~told
+            losses |= told & ~value & (int(mask[0], 16) if mask else -1)
+        return gains, losses
+    needed = NEEDED.get(words[1], -1)
     if words[1] in ("ambis", "ambraise"):
         named = words[2].removeprefix("CAP_")
-        return capability(named) if named in CAPABILITIES else 0
-    return NEEDED.get(words[1], -1)
+        needed = capability(named) if named in CAPABILITIES else 0
+    more = ours[1] == "1" if words[1] == "ambis" and len(ours) == 2 else ours[0] == "ok"
+    if ours[0] == others[0] and words[1] != "ambis":
+        return needed, needed
+    return (needed, 0) if more else (0, needed)
 
 
 def ids_of(words: list[str], kernel: str, report: str) -> tuple[str, ...]:
@@ -151,16 +162,3 @@ def ids_of(words: list[str], kernel: str, report: str) -> tuple[str, ...]:
     if words[1] in UID_WORDS | {"signal"}:
         return (USERS,)
     return (GROUP_IDS,) if words[1] in GID_WORDS else (USERS, GROUP_IDS)
-
-
-def has_more(form: str, kernel: str, report: str) -> bool | None:
-    """Whether the kernel's task has more capabilities than the report's; None if untold."""
-    words, others = kernel.split(), report.split()
-    if form == "caps" and len(words) == len(others):
-        pairs = list(zip(words[1:4], others[1:4], strict=True))
-        return any(int(one.split("=")[-1], 16) & ~int(other, 16) for one, other in pairs)
-    if form in ("ambis", "bset") and len(words) == len(others) == 2:
-        return words[1] == "1"
-    if form in ("ids", "bits", "groups", "setfsuid", "setfsgid"):
-        return None
-    return words[0] == "ok" if words[0] != others[0] else None

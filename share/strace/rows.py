@@ -50,9 +50,6 @@ ALL = (
 # The forms of which a file's state decides, or tells.
 OF_FILES = (*filerows.FORMS, "stat", "exec", "open", "check", "access")
 
-# What an execve makes of a credential.
-ALL_PARTS = (IDS, FILE_IDS, CAPS)
-
 # CAP_DAC_OVERRIDE and CAP_DAC_READ_SEARCH, by which any file may be read.
 READS = 0b110
 
@@ -199,9 +196,12 @@ class Explainer:
         """What it may have made otherwise of a task that may gain nothing."""
         if before is not None and not before.no_new_privs:
             return []
-        found = [replace(kept, row=NO_NEW_PRIVS_FILE, part=CAPS)] if " caps " in file else []
+        found = []
+        if " caps " in file:
+            found += gains_nothing(before, replace(kept, row=NO_NEW_PRIVS_FILE))
         if before is None or differ(before) or " caps " in file:
-            found += [replace(kept, row=NO_NEW_PRIVS_IDS, part=part) for part in ALL_PARTS]
+            found += [replace(kept, row=NO_NEW_PRIVS_IDS, part=part) for part in (IDS, FILE_IDS)]
+            found += gains_nothing(before, replace(kept, row=NO_NEW_PRIVS_IDS))
         return found
 
     def in_force(
@@ -228,7 +228,7 @@ class Explainer:
         elif not self.tracer and set_id:
             found += [replace(kept, row=TRACED, part=part, ids=only) for part in (IDS, FILE_IDS)]
         if counts and not self.tracer:
-            found += [replace(kept, row=TRACED, part=CAPS)]
+            found += gains_nothing(before, replace(kept, row=TRACED))
         if not counts and (before is None or loses_ambient(before)):
             found += [replace(kept, row=PLAIN_FILE, part=CAPS, more=False, bits=ambient)]
         return found
@@ -343,6 +343,13 @@ def keeps_filesystem_id(words: list[str], before: Values | None) -> bool:
 def differ(before: Values) -> bool:
     """Whether the effective user or group isn't the real one."""
     return before.users[0] != before.users[1] or before.group_ids[0] != before.group_ids[1]
+
+
+def gains_nothing(before: Values | None, kept: Kept) -> list[Kept]:
+    """A row by which an execve leaves less, or of what was permitted before more."""
+    permitted = before.sets[0] if before else None
+    return [replace(kept, part=CAPS, more=False),
+            replace(kept, part=CAPS, more=True, bits=permitted)]  # fmt: skip
 
 
 def is_reset(before: Values) -> bool:
