@@ -15,7 +15,7 @@ from pathlib import Path
 from . import filerows
 from .calls import ID_CALLS
 from .kept import CAPS, CHANGED, FILE, FILE_IDS, GROUP_IDS, IDS, NEEDED, USERS, Kept, Known
-from .kept import reason
+from .kept import GROUPS, reason
 from .probe import Probe, Values
 from .refusals import by_capability, has_kill
 from .script import Line
