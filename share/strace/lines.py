@@ -54,7 +54,7 @@ DETACHED = "<detached ...>"
 # Calls of which only some are read: write(2) where it may be of a map of ids or the beginning of a
 # script file, the others where they make a descriptor.
 ASKED = {
-    "write": re.compile(r'\d+(?:<[^>]*>(?:\(deleted\))?)?, "(?:(?:[0-9 ]|\\[nt])+"|deny|allow|#!)'),
+    "write": re.compile(r'\d+(?:<[^>]*>(?:\(deleted\))?)?, "(?:(?:[0-9 ]|\\[nt0])+"|deny|allow|#!)'),
     "fcntl": re.compile(r"\d+(?:<.*>)?, F_DUPFD"),
     "ioctl": re.compile(r"\d+(?:<.*>)?, NS_GET_"),
     "recvmsg": re.compile(r".*(?:SCM_RIGHTS|<unfinished \.\.\.>$)"),

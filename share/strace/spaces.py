@@ -70,7 +70,8 @@ class Space:
         return self is other or (self.parent is not None and self.parent.is_within(other))
 
     def write(self, name: str, text: str) -> None:
-        """A map is written, or `deny` into setgroups."""
+        """A map is written, or `deny` into setgroups; runc writes the end of its string too."""
+        text = text.partition("\0")[0]
         if name == "setgroups":
             self.denied = text.strip() == "deny"
             return
