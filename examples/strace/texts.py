@@ -319,6 +319,11 @@ DIFFERENCES = [
      "7 setresuid(0, -1, 0) = 0\n7 setfsuid(-1) = 5\n", 0, ["setreuid has no such"], []),
     ("no --start", "", BEGINS + "7 getuid() = 1000\n7 geteuid() = 1000\n", 1,
      ["since no --start was given", "line 2 is the first of 2 calls"], [NO_ROW]),
+    ("another --start", USER, BEGINS + "7 getuid() = 5\n7 setuid(5) = 0\n7 getuid() = 5\n", 1,
+     ["line 2 is the first of 3 calls that differ, and no call before it changed a credential: the "
+      "log begins with another one than "], [NO_ROW]),
+    ("paths as addresses", ROOT, BEGINS + "7 execve(0x7ff, 0x7ff, 0x7ff) = 0\n", 3,
+     ["line 2: execve: its arguments are addresses: record without -e verbose=none and -e raw"], []),
     ("addresses", ROOT, BEGINS + "7 capset(0x7ffd0, 0x7ffd8) = 0\n", 3,
      ["line 2: capset: its arguments are addresses: record without -e verbose=none"], []),
     ("numbers", ROOT, BEGINS + "7 prctl(0x8, 0x1) = 0\n", 3,

@@ -5,7 +5,7 @@ from __future__ import annotations
 from collections.abc import Callable, Iterable
 
 from . import asks, changes, filecalls, moves, traces
-from .calls import ID_CALLS, OWN_CALLS, SET_CALLS, Said, Unheld, answer
+from .calls import ADDRESSES, ID_CALLS, OWN_CALLS, SET_CALLS, Said, Unheld, answer
 from .changes import Changes, Known
 from .enters import Entries, is_map
 from .files import Files, Found, Missing
@@ -203,7 +203,7 @@ class Converter(Sayer):
         text = next((arg[6:] for arg in call.args if arg.startswith("flags=")), "")
         if call.name == "clone3":
             if not argument(call, 0).startswith("{"):
-                raise Unheld("its flags are an address: record without -e verbose=none")
+                raise Unheld(ADDRESSES)
             text = fields(call.args[0]).get("flags", "")
         flags = clone_flags(text)
         if call.context:

@@ -8,13 +8,14 @@ from collections.abc import Callable
 from dataclasses import replace
 
 from . import lines
-from .calls import Unheld
+from .calls import ADDRESSES, Unheld, is_address
 from .files import CUT, SCRIPTS, Files, Found, Missing
 from .log import Call
 from .opened import FILE, told
 from .places import Located, Where, no_link
 from .tasks import Task
 
+NO_PATH = "its path can't be read: strace writes the whole with -s 4096"
 NO_DESCRIPTOR = "what its descriptor is of isn't known: strace writes it with -y"
 
 OWN_DESCRIPTOR = re.compile(r"/(?:proc/(?:self|thread-self|(?P<pid>\d+))|dev)/fd/(?P<fd>\d{1,9})$")
@@ -81,9 +82,10 @@ class Paths:
         self, task: Task, call: Call, place: int, at: int | None
     ) -> tuple[str, Located | None]:
         """The path of an argument, and the folder of the descriptor before it, if there is one."""
-        path = lines.string(call.args[place]) if place < len(call.args) else None
+        given = call.args[place] if place < len(call.args) else ""
+        path = lines.string(given)
         if path is None:
-            raise Unheld("its path can't be read: strace writes the whole with -s 4096")
+            raise Unheld(ADDRESSES if is_address(given) else NO_PATH)
         if at is None:
             return path, None
         base = self.base(task, call.args[at])
