@@ -379,6 +379,13 @@ DIFFERENCES = [
      '7 openat(AT_FDCWD, "/proc/9/maps", O_RDONLY) = 3\n'
      "7 process_vm_readv(8, [{iov_base=0x7ff, iov_len=1}], 1, [], 1, 0) = 1\n"
      '8 readlink("/proc/self/exe", "/bin/sh", 64) = 7\n', 0, ["agree: 10"], []),
+    ("a number in the host's /proc", ROOT, BEGINS + "7 unshare(CLONE_NEWPID) = 0\n7 fork() = 8\n"
+     "8 setuid(5) = 0\n8 fork() = 2\n"
+     '9 readlink("/proc/1/exe", 0x7ffe, 64) = -1 EACCES (Permission denied)\n', 0, ["agree: 4"],
+     ["one rule for each look"]),
+    ("a number in a /proc of its own", ROOT, BEGINS + "7 unshare(CLONE_NEWPID) = 0\n7 fork() = 8\n"
+     '8 mount("proc", "/proc", "proc", 0, NULL) = 0\n8 fork() = 2\n8 setuid(5) = 0\n'
+     '9 readlink("/proc/1/exe", "/bin/sh", 64) = 7\n', 0, ["agree: 5"], []),
     ("what a filter refused changes nothing", ROOT, BEGINS
      + "7 prctl(PR_SET_SECCOMP, SECCOMP_MODE_FILTER, {len=1}) = 0\n"
      "7 setuid(5) = -1 EPERM (Operation not permitted)\n7 getuid() = 0\n", 0,

@@ -53,7 +53,7 @@ class Converter(Sayer):
         self.notes: list[str] = []
         self.stopped: Stop | None = None
         self.strangers: set[int] = set()
-        self.paths = Paths(files, folder is not None, self.tasks.find)
+        self.paths = Paths(files, folder is not None, self.tasks)
         self.changes = Changes(self.paths, known or Known())
         self.entries = Entries(self.tasks)
         self.most = 1
@@ -322,7 +322,10 @@ class Converter(Sayer):
     def looks(self, task: Task, call: Call) -> bool:
         """Whether the call asks to look into another task of the log: then the script says it."""
         mode, targets, said = traces.look(call) or ("", [], "")
-        tasks = [self.tasks.find(target, task) for target in targets]
+        if mode == "fs":
+            tasks = [self.paths.owner(task, target) for target in targets]
+        else:
+            tasks = [self.tasks.find(target, task) for target in targets]
         others = [one for one in tasks if one is None or one.process is not task.process]
         if len(others) != 1 or others[0] is None:
             return False

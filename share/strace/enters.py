@@ -140,7 +140,8 @@ class Entries:
     def map_written(self, task: Task, call: Call, place: Located) -> None:
         """write(2) into uid_map, gid_map or setgroups of a process."""
         _, _, pid, name = (place.place.split("/") + ["", "", ""])[:4]
-        owner = self._tasks.find(pid, task)
+        pids = place.mount.pids if place.mount else None
+        owner = self._tasks.in_proc(pid, pids) if re.fullmatch(r"@?\d{1,9}", pid) else None
         if owner is None or owner.process.space.parent is None:
             return
         text = lines.string(argument(call, 1))

@@ -129,7 +129,7 @@ class Moves:
                 mounts.is_seen(place, kind.pop(), "MS_REC" in flags)
             return
         target = self.paths.locate(task, call, 1)
-        kept = Mount(target.place, "MS_NOSUID" in flags, "MS_NOEXEC" in flags)
+        kept = Mount(target.place, "MS_NOSUID" in flags, "MS_NOEXEC" in flags, proc_of(target))
         if "MS_REMOUNT" in flags:
             # The flags of a mount are its own, whoever else sees it.
             mounts.over[point_of(target, mounts.over) or target.place] = kept
@@ -140,7 +140,7 @@ class Moves:
                 self.unmounts(mounts, source.point, call)
             kept = bound(source)
         elif lines.string(argument(call, 2)) == "proc":
-            kept = replace(kept, source="/proc")
+            kept = replace(kept, source="/proc", pids=task.process.pids)
         else:
             kept = replace(kept, source=f"@{call.first}:/")
         self.mounts(mounts, target.place, kept, call)
@@ -236,7 +236,7 @@ class Moves:
     def opened(self, task: Task, number: int | None, found: Located) -> None:
         """A descriptor of a file, or of a namespace of a process."""
         match = re.fullmatch(r"/proc/(@?\d+)(?:/task/\d+)?/ns/(\w+)", found.place)
-        owner = self.paths.of_pid(match[1], task) if match else None
+        owner = self.paths.tasks.in_proc(match[1], proc_of(found)) if match else None
         if match and owner and match[2] == "user":
             task.descriptors.opens(number, NAMESPACE, owner.process.space)
         elif match and owner and match[2] == "mnt":
@@ -272,7 +272,7 @@ class Moves:
 
     def pidfd_open(self, task: Task, call: Call) -> None:
         """pidfd_open(2)."""
-        self.is_of(task, call.result.value, self.paths.of_pid(argument(call, 0), task))
+        self.is_of(task, call.result.value, self.paths.tasks.find(argument(call, 0), task))
 
     def with_pidfd(self, task: Task, call: Call, child: Task) -> None:
         """clone(2) or clone3(2) with CLONE_PIDFD: where the log says which descriptor it is."""
@@ -325,4 +325,9 @@ def own_process(found: Located, task: Task) -> Located:
 def bound(source: Located) -> Mount:
     """A mount of what lies there, with the flags that it has there."""
     flags = source.mount or Mount("")
-    return Mount(source.place, flags.nosuid, flags.noexec)
+    return Mount(source.place, flags.nosuid, flags.noexec, flags.pids)
+
+
+def proc_of(found: Located) -> Pids | None:
+    """The PID namespace that /proc was mounted for, where the path leads through one."""
+    return found.mount.pids if found.mount else None

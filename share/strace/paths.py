@@ -4,7 +4,6 @@ from __future__ import annotations
 
 import os
 import re
-from collections.abc import Callable
 from dataclasses import replace
 
 from . import lines
@@ -13,7 +12,7 @@ from .files import CUT, SCRIPTS, Files, Found, Missing
 from .log import Call
 from .opened import FILE, told
 from .places import Located, Where, no_link
-from .tasks import Task
+from .tasks import Task, Tasks
 
 NO_PATH = "its path can't be read: strace writes the whole with -s 4096"
 NO_DESCRIPTOR = "what its descriptor is of isn't known: strace writes it with -y"
@@ -44,14 +43,14 @@ def link_of(place: str) -> str | None:
 class Paths:
     """Where the paths of calls lead."""
 
-    def __init__(self, files: Files, known: bool, find: Callable[[str, Task], Task | None]) -> None:
+    def __init__(self, files: Files, known: bool, tasks: Tasks) -> None:
         self.files = files
         # Whether the folder where the log begins is known.
         self.known = known
         # Where in the log it is, and the lines at which symbolic links were others.
         self.line = 0
         self.relinked: dict[str, int] = {}
-        self.of_pid = find
+        self.tasks = tasks
 
     def base(self, task: Task, text: str) -> Located | None:
         """What a descriptor is of, a folder or a file; None for AT_FDCWD or where nobody knows."""
@@ -148,10 +147,16 @@ class Paths:
         is_whole = found.place.startswith(("/", "@", "memfd:"))
         return is_whole or self.known or self.files.lists(found.place)
 
+    def owner(self, task: Task, pid: str | None) -> Task | None:
+        """Whose folder of /proc it is: the task's own, or of the number that it has there."""
+        found = task.where.locate("/proc")
+        mount = found.mount if found else None
+        return self.tasks.in_proc(pid, mount.pids if mount else None) if pid else task
+
     def special(self, task: Task, path: str) -> Located | None:
         """The place of a path that /proc or /dev/fd has of a process."""
         if match := OWN_DESCRIPTOR.match(path):
-            owner = self.of_pid(match["pid"], task) if match["pid"] else task
+            owner = self.owner(task, match["pid"])
             found = owner.descriptors.get(match["fd"], FILE) if owner else None
             if isinstance(found, Located):
                 return found
@@ -159,7 +164,7 @@ class Paths:
         match = PROCESS.match(path)
         if match is None or match["what"] is None:
             return None
-        owner = self.of_pid(match["pid"], task) if match["pid"] else task
+        owner = self.owner(task, match["pid"])
         if owner is None:
             raise Unheld(f"{path} is of a process that the log doesn't have")
         known = {

@@ -59,12 +59,14 @@ class Tasks:
         self.told: list[str] = []
         self._tasks = 0
         self._processes = 0
+        self._begin = Process(0)
 
     def first(self, pid: int) -> Task:
         """The first task, with its process."""
         self._processes += 1
         own = Pids(is_log=True)
-        return self._add(Task(0, pid, Process(self._processes, pids=own, below=own)))
+        self._begin = Process(self._processes, pids=own, below=own)
+        return self._add(Task(0, pid, self._begin))
 
     def fork(self, pid: int, parent: Task, flags: frozenset[str] = frozenset()) -> Task:
         """A task of a process of its own."""
@@ -129,6 +131,13 @@ class Tasks:
         if number is None:
             return None
         return self.by_pid.get(number if told else asker.process.pids.of(number))
+
+    def in_proc(self, text: str, pids: Pids | None) -> Task | None:
+        """The task that a folder of /proc is of: by its number in the PID namespace that /proc was
+        mounted for, which else is the one where the log begins; or by `@` and the log's."""
+        number = int(text.removeprefix("@"))
+        known = pids or self._begin.pids
+        return self.by_pid.get(number if text.startswith("@") else known.of(number))
 
     def lives(self, task: Task) -> bool:
         """Whether the task hasn't ended."""
