@@ -486,7 +486,10 @@ DIFFERENCES = [
     ("a set-user-ID bit, and a group id", USER, RUNS.format("/bin/su", 0) + "7 getegid() = 7\n", 1,
      [NO_ROW], [TRACED]),
     ("a user's strace, and a plain file", USER.replace("Uid:\t1000\t1000", "Uid:\t1000\t1001"),
-     RUNS.format("/bin/sh", 0) + "7 geteuid() = 1000\n", 0, [TRACED], [NO_ROW]),
+     RUNS.format("/bin/sh", 0) + "7 geteuid() = 1000\n", 1, ["the log begins with another one"],
+     [TRACED]),
+    ("a user's strace, and a group id", USER.replace("Gid:\t1000\t1000", "Gid:\t1000\t1001"),
+     RUNS.format("/bin/su", 0) + "7 getegid() = 1000\n", 0, [TRACED], [NO_ROW]),
     ("another process changes a file, and the list tells what it was", ROOT, BEGINS
      + "7 fork() = 8\n7 fork() = 9\n8 setuid(1000) = 0\n"
      + RUNS.replace("7 ", "8 ").format("/srv/prober", 0)

@@ -222,12 +222,11 @@ class Explainer:
             found += [replace(kept, row=UNMAPPED_OWNER, part=CAPS)]
         if set_id and (before is None or keeps_ambient(before, words)):
             found += [replace(kept, row=SET_ID, part=CAPS, more=True, bits=ambient)]
-        if not self.tracer and (before is None or is_reset(before)):
-            # Then the effective ids become the real ones, whatever the file is.
-            found += [replace(kept, row=TRACED, part=part) for part in (IDS, FILE_IDS)]
-        elif not self.tracer and set_id:
-            found += [replace(kept, row=TRACED, part=part, ids=only) for part in (IDS, FILE_IDS)]
         if counts and not self.tracer:
+            reset = before is None or is_reset(before)
+            kept = replace(kept, ids=None if reset else only)
+            parts = (IDS, FILE_IDS) if reset or set_id else ()
+            found += [replace(kept, row=TRACED, part=part) for part in parts]
             found += gains_nothing(before, replace(kept, row=TRACED))
         if not counts and (before is None or loses_ambient(before)):
             found += [replace(kept, row=PLAIN_FILE, part=CAPS, more=False, bits=ambient)]
