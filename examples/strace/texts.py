@@ -473,6 +473,17 @@ DIFFERENCES = [
     ("a file that isn't mapped", ROOT, BEGINS + "7 setuid(1000) = 0\n7 unshare(CLONE_NEWUSER) = 0\n"
      '7 chmod("/home/tool", 0777) = ' + DENIED + "\n", 0,
      ["chown, chmod and setxattr ask for their capability alone"], [NO_ROW]),
+    ("a saved id by CAP_SETUID, in a namespace", ROOT, BEGINS
+     + "7 prctl(PR_SET_SECUREBITS, SECBIT_NO_SETUID_FIXUP) = 0\n7 setresuid(0, 100, 100) = 0\n"
+     "7 setuid(0) = 0\n7 unshare(CLONE_NEWUSER) = 0\n"
+     '7 openat(AT_FDCWD, "/proc/self/uid_map", O_WRONLY) = 3\n7 write(3, "0 0 1", 5) = 5\n'
+     "7 getresuid([0], [0], [0]) = 0\n", 0, ["agree: 5"], []),
+    ("a saved id without it", ROOT, BEGINS + "7 prctl(PR_SET_SECUREBITS, SECBIT_NO_SETUID_FIXUP) = 0"
+     "\n7 setresuid(0, 100, 100) = 0\n7 capset({version=_LINUX_CAPABILITY_VERSION_3, pid=0}, "
+     "{effective=0, permitted=0, inheritable=0}) = 0\n7 setuid(0) = 0\n"
+     "7 unshare(CLONE_NEWUSER) = 0\n"
+     '7 openat(AT_FDCWD, "/proc/self/uid_map", O_WRONLY) = 3\n7 write(3, "5 100 1", 7) = 7\n'
+     "7 getresuid([65534], [65534], [5]) = 0\n", 0, ["agree: 6"], []),
     ("a row that holds for all threads", ROOT, BEGINS + FIXED + THREAD.format(8)
      + "".join(f"{one} {call} = 0\n" for call in ("setuid(5)", "setgid(6)") for one in (8, 7))
      + "8 getgid() = 6\n", 0, [BITS], [NO_ROW]),

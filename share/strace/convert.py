@@ -294,11 +294,11 @@ class Converter(Sayer):
         """The task has executed a program: it is the only one of its process."""
         process = task.process
         process.program = program
-        acting = task.ids.acting()
-        task.ids.executes(words.split())
-        process.dumpable = task.ids.acting() == acting
-        if process.space.parent is not None and process.space.uids is None:
-            process.space.early.append((line, *task.ids.users[:2]))
+        space = process.space
+        traced = self.script.tracer is False and space.parent is None
+        process.dumpable = task.ids.executes(words.split(), space, traced)
+        if space.parent is not None and space.uids is None:
+            space.early.append((line, *task.ids.users[:2]))
         task.descriptors = task.descriptors.copy()
         for other in [one for one in task.process.threads if one is not task]:
             self.tasks.end(other)

@@ -19,7 +19,8 @@ from .opened import NAMESPACE, PIDFD
 from .pids import Pids, foreign
 from .places import Located, Mounts
 from .script import Script
-from .spaces import GREATEST, SPACES, Ids, Space
+from .ids import Ids
+from .spaces import GREATEST, SPACES, Space
 from .start import NO_SETUID_FIXUP
 from .tasks import Task, Tasks
 
@@ -76,6 +77,7 @@ class Entries:
         """The task is a first task of the namespace now."""
         task.process.space = space
         self.seats.append(Seat(task.name, task.process.number, space, task.ids.copy()))
+        task.ids = task.ids.in_new_space()
 
     def enter(self, task: Task, space: Space) -> str:
         """A task enters a namespace; its name before, which ends in the script."""

@@ -222,7 +222,8 @@ class Explainer:
             found += [replace(kept, row=UNMAPPED_OWNER, part=CAPS)]
         if set_id and (before is None or keeps_ambient(before, words)):
             found += [replace(kept, row=SET_ID, part=CAPS, more=True, bits=ambient)]
-        if counts and not self.tracer:
+        # Over a user namespace that its own user made a user's strace has every capability.
+        if counts and not self.tracer and not line.facts.inside:
             reset = before is None or is_reset(before)
             kept = replace(kept, ids=None if reset else only)
             parts = (IDS, FILE_IDS) if reset or set_id else ()

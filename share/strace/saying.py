@@ -59,7 +59,7 @@ class Sayer:
             all_threads = words[0] in ID_CALLS and not raw
             acting = task.ids.acting()
             for one in task.process.threads if all_threads else [task]:
-                one.ids.after(words)
+                one.ids.after(words, one.process.space.root())
             if words[0] == "dumpable" or task.ids.acting() != acting:
                 task.process.dumpable = words == ["dumpable", "1"]
         space = task.process.space

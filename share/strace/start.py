@@ -6,7 +6,7 @@ import re
 from dataclasses import dataclass, field
 
 from .calls import ALL_CAPABILITIES, CAPABILITIES, GROUPS
-from .spaces import Ids
+from .ids import Ids
 
 # setuid(2) and its kin leave the sets as they are while this flag is set (capabilities(7)).
 NO_SETUID_FIXUP = 4
@@ -86,7 +86,9 @@ class Status:
 
     def ids(self) -> Ids:
         """The ids, as calls change them."""
-        return Ids(self.users[:], self.groups[:], self.others[:], self.no_new_privs)
+        sets = self.permitted, self.inheritable, self.effective, self.bounding, self.ambient
+        ids = Ids(self.users[:], self.groups[:], self.others[:], self.no_new_privs)
+        return ids.with_sets(*sets, self.securebits or 0)
 
     def set_ids(self) -> tuple[list[int], list[int], list[int]]:
         """The ids that libc sets in all threads of a process alike."""

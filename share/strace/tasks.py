@@ -5,10 +5,11 @@ from __future__ import annotations
 from dataclasses import dataclass, field
 
 from . import lines
+from .ids import Ids
 from .opened import Descriptors
 from .pids import Pids, foreign
 from .places import Located, Where
-from .spaces import Ids, Space
+from .spaces import Space
 
 
 @dataclass
