@@ -8,7 +8,7 @@ from . import asks, changes, filecalls, moves, traces
 from .calls import ADDRESSES, ID_CALLS, OWN_CALLS, SET_CALLS, Said, Unheld, answer
 from .changes import Changes, Known
 from .enters import Entries, is_map
-from .files import Files, Found, Missing
+from .files import Files, Missing
 from .lines import fields
 from .log import CREATIONS, EXECUTIONS, Call, Gone, Item, Renamed
 from .moves import Moves, argument, clone_flags
