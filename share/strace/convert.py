@@ -297,6 +297,7 @@ class Converter(Sayer):
         space = process.space
         traced = self.script.tracer is False and space.parent is None
         process.dumpable = task.ids.executes(words.split(), space, traced)
+        process.executed = space
         if space.parent is not None and space.uids is None:
             space.early.append((line, *task.ids.users[:2]))
         task.descriptors = task.descriptors.copy()
@@ -314,8 +315,7 @@ class Converter(Sayer):
             facts = Facts(
                 apart=sender.session != target.session,
                 outside=not target.space.is_within(sender.space),
-                maker=target.space.parent is sender.space
-                and target.space.owner == task.ids.users[1],
+                maker=target.space.is_made_by(task.ids.users[1], sender.space),
             )
             self.say(task, call, Said(f"signal {other.name}", said), facts)
 
@@ -329,8 +329,8 @@ class Converter(Sayer):
         others = [one for one in tasks if one is None or one.process is not task.process]
         if len(others) != 1 or others[0] is None:
             return False
-        facts = Facts(inside=others[0].process.space.parent is not None)
-        self.say(task, call, Said(f"ptrace {mode} {others[0].name}", said), facts)
+        said = Said(f"ptrace {mode} {others[0].name}", said)
+        self.say(task, call, said, traces.facts(task, others[0].process))
         return True
 
     def trace(self, task: Task, call: Call) -> None:

@@ -79,7 +79,7 @@ DEPENDS: dict[str, tuple[str, ...]] = (
     | dict.fromkeys(("capsetraw", "ambraise"), (CAPS, BOUNDING, BITS))
     | dict.fromkeys(("securebits", "keepcaps"), (CAPS, BITS))
     | dict.fromkeys({*ID_CALLS, "signal"} - {"setgroups"}, (IDS, CAPS))
-    | dict.fromkeys(("setfsuid", "setfsgid", "exec", "ptrace"), (FILE_IDS, CAPS, IDS))
+    | dict.fromkeys(("setfsuid", "setfsgid", "exec", "ptrace", "dumped"), (FILE_IDS, CAPS, IDS))
     | dict.fromkeys(("open", "check", "access"), (FILE_IDS, CAPS, IDS, GROUPS))
     | dict.fromkeys(filerows.FORMS, (FILE_IDS, CAPS, GROUPS))
 )

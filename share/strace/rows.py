@@ -14,8 +14,11 @@ from pathlib import Path
 
 from . import filerows
 from .calls import ID_CALLS
-from .kept import CAPS, CHANGED, FILE, FILE_IDS, GROUP_IDS, IDS, NEEDED, USERS, Kept, Known
-from .kept import GROUPS, reason
+from .kept import CAPS, CHANGED, FILE, FILE_IDS, GROUP_IDS, GROUPS, IDS, USERS, Kept, Known
+from .kept import reason
+from .leaves import differ, gains_nothing, is_reset, keeps_ambient, keeps_filesystem_id
+from .leaves import loses_ambient, stays_dumpable
+from .moves import OPENS
 from .probe import Probe, Values
 from .refusals import by_capability, has_kill
 from .script import Line
@@ -49,9 +52,6 @@ ALL = (
 
 # The forms of which a file's state decides, or tells.
 OF_FILES = (*filerows.FORMS, "stat", "exec", "open", "check", "access")
-
-# CAP_DAC_OVERRIDE and CAP_DAC_READ_SEARCH, by which any file may be read.
-READS = 0b110
 
 # What the log explains itself.
 LOG = "the log:"
@@ -108,6 +108,10 @@ class Explainer:
         task = line.words[0]
         if line.words[1] not in ID_CALLS or line.text.split()[1] == "raw":
             return [task]
+        return self.process(task)
+
+    def process(self, task: str) -> list[str]:
+        """The threads of a task's process."""
         first = self.firsts.get(task, task)
         return [task, *(one for one, its in self.firsts.items() if its == first and one != task)]
 
@@ -158,7 +162,8 @@ class Explainer:
             if keeps_filesystem_id(words, self.probe.before(number)):
                 self.changes(line, Kept(FILESYSTEM_IDS, FILE_IDS, number, line.text))
         elif words[1] == "dumpable":
-            known.flag = None
+            for one in self.process(words[0]):
+                self.known(one).flag = None
         elif words[1] == "exec":
             known.flag = self.flag(number, line)
             changed = self.changed.get(words[2], [])
@@ -248,25 +253,39 @@ class Explainer:
             if begins and kernel == "ok":
                 self.makes(line, Kept(begins, "", number, line.text))
             return text
+        if words[1] in ("dumped", "ptrace") and (flag := self.flagged(line)):
+            return self.text(flag.row, flag.sure, f"line {flag.number}: {flag.text}")
         kept = reason(known.kept, words, line.answer or "", report)
+        if kept is None and words[1] == "ptrace":
+            return self.looked(line, kernel, report)
         if kept is None and words[1] in OF_FILES:
             kept = next(iter(self.changed.get(words[2], [])), None)
         if kept is not None:
             if kernel == "ok" and told != "ok":
                 self.makes(line, kept)
             return self.text(kept.row, kept.sure, f"line {kept.number}: {kept.text}")
-        flag = self.known(words[3] if words[1] == "ptrace" else words[0]).flag
-        if flag and (words[1] == "dumped" or (words[1], kernel) == ("ptrace", "eperm")):
-            return self.text(flag.row, flag.sure, f"line {flag.number}: {flag.text}")
-        if words[1] == "ptrace" and kernel == "eperm" and line.facts.inside:
-            return self.text(OUTER, sure=False)
-        if words[1] == "ptrace":
-            return self.text(LOOKS if kernel == "eperm" else CREATOR, sure=False)
-        if words[1] == "dumped":
-            return self.text(EXECVE_FLAG, sure=False)
         # A log that was recorded inside a user namespace doesn't tell what that denies.
         denied = words[1] == "setgroups" and (kernel, told) == ("eperm", "ok")
         return self.text(DENIED_GROUPS, sure=False) if denied else None
+
+    def flagged(self, line: Line) -> Kept | None:
+        """The execve since which a process isn't dumpable in Linux, where the line shows that."""
+        words, answer = line.words, line.answer
+        if words[1] == "dumped":
+            return self.known(words[0]).flag if answer == "ok 0" else None
+        return self.known(words[3]).flag if answer == "eperm" else None
+
+    def looked(self, line: Line, kernel: str, report: str) -> str | None:
+        """Why one task may look into another, or may not."""
+        facts = line.facts
+        target = reason(self.known(line.words[3]).kept, line.words, line.answer or "", report)
+        if target is not None:
+            return self.text(target.row, target.sure, f"line {target.number}: {target.text}")
+        if kernel == "ok":
+            opens = line.call is not None and line.call.name in OPENS
+            begins = CREATOR if facts.maker else LOOKS if opens else None
+            return self.text(begins, sure=facts.maker) if begins else None
+        return self.text(OUTER if facts.outside else LOOKS, sure=facts.outside)
 
     def own(self, number: int, line: Line, kernel: str, told: str) -> tuple[str, str] | None:
         """The row that explains an answer by itself, with its text; the log may explain it too."""
@@ -327,58 +346,3 @@ class Explainer:
         if searched and len(searched) == count:
             return "", self.text(NOT_MODE, why="every directory of the path may be searched")
         return "", self.text(DIRECTORIES, sure=False)
-
-
-def keeps_filesystem_id(words: list[str], before: Values | None) -> bool:
-    """Whether setresuid(2) or setresgid(2) changes nothing, and so leaves the filesystem id."""
-    if before is None:
-        return True
-    real, effective, saved, filesystem = (
-        before.users if words[1] == "setresuid" else before.group_ids
-    )
-    kept = words[2] in ("-1", str(real)) and words[4] in ("-1", str(saved))
-    return kept and effective != filesystem
-
-
-def differ(before: Values) -> bool:
-    """Whether the effective user or group isn't the real one."""
-    return before.users[0] != before.users[1] or before.group_ids[0] != before.group_ids[1]
-
-
-def gains_nothing(before: Values | None, kept: Kept) -> list[Kept]:
-    """A row by which an execve leaves less, or of what was permitted before more."""
-    permitted = before.sets[0] if before else None
-    return [replace(kept, part=CAPS, more=False),
-            replace(kept, part=CAPS, more=True, bits=permitted)]  # fmt: skip
-
-
-def is_reset(before: Values) -> bool:
-    """Whether an execve that may gain nothing makes the effective ids the real ones."""
-    return differ(before) and not before.sets[2] & NEEDED["setuid"]
-
-
-def stays_dumpable(before: Values, words: list[str]) -> bool:
-    """Whether Linux has a process dumpable after the execve of this file: its new effective ids are
-    the real ones, and it may read the file."""
-    mode, owner, group = int(words[5], 8), int(words[3]), int(words[4])
-    in_force = not before.no_new_privs and "nosuid" not in words
-    user = owner if in_force and mode & 0o4000 else before.users[1]
-    group_id = group if in_force and mode & 0o2010 == 0o2010 else before.group_ids[1]
-    shift = 6 if owner == before.users[3] else 0
-    if not shift and group in (before.group_ids[3], *before.groups):
-        shift = 3
-    reads = bool(mode >> shift & 4) or bool(before.sets[2] & READS)
-    return (user, group_id) == (before.users[0], before.group_ids[0]) and reads
-
-
-def keeps_ambient(before: Values, words: list[str]) -> bool:
-    """Whether Linux leaves the ambient set over the execve of a file with set-id bits."""
-    mode, owner, group = int(words[5], 8), int(words[3]), int(words[4])
-    user_stays = not mode & 0o4000 or owner == before.users[1]
-    group_stays = mode & 0o2010 != 0o2010 or group in (before.group_ids[3], *before.groups)
-    return bool(before.sets[4]) and user_stays and group_stays
-
-
-def loses_ambient(before: Values) -> bool:
-    """Whether execve of a plain file empties the ambient set, by the filesystem group."""
-    return bool(before.sets[4]) and before.group_ids[3] != before.group_ids[1]

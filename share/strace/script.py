@@ -34,7 +34,8 @@ class Facts:
     # Whether the file's owner or group has no number in the task's user namespace.
     unmapped: bool = False
     # Whether sender and target of a signal are in different sessions; whether the target is outside
-    # of the sender's user namespace and those below; whether it is in one of the sender's making.
+    # of the sender's user namespace and those below, or of a look isn't dumpable and has executed
+    # its program there; whether it is in one of the sender's making.
     apart: bool = False
     outside: bool = False
     maker: bool = False

@@ -69,6 +69,13 @@ class Space:
         """Who is root here, and in the namespaces above."""
         return [self.root(), *(self.parent.roots() if self.parent else ())]
 
+    def is_made_by(self, user: int, space: Space) -> bool:
+        """Whether that user of another namespace made it, or the one that it is below of."""
+        if self.parent is None:
+            return False
+        mine = self.parent is space and self.owner == user
+        return mine or self.parent.is_made_by(user, space)
+
     def is_within(self, other: Space) -> bool:
         """Whether it is the other one, or below it."""
         return self is other or (self.parent is not None and self.parent.is_within(other))

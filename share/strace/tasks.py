@@ -22,8 +22,9 @@ class Process:
     # Its session, and the line of the log at which it installed a seccomp filter.
     session: int = 0
     filtered: int = 0
-    # Its user namespace.
+    # Its user namespace, and the one where it executed its program.
     space: Space = field(default_factory=Space)
+    executed: Space = field(default_factory=Space)
     # Its PID namespace, and that of its children.
     pids: Pids = field(default_factory=Pids)
     below: Pids = field(default_factory=Pids)
@@ -67,13 +68,14 @@ class Tasks:
         self._processes += 1
         own = Pids(is_log=True)
         self._begin = Process(self._processes, pids=own, below=own)
+        self._begin.executed = self._begin.space
         return self._add(Task(0, pid, self._begin))
 
     def fork(self, pid: int, parent: Task, flags: frozenset[str] = frozenset()) -> Task:
         """A task of a process of its own."""
         self._processes += 1
         process = Process(self._processes, program=parent.process.program)
-        process.space = parent.process.space
+        process.space, process.executed = parent.process.space, parent.process.executed
         process.session, process.filtered = parent.process.session, parent.process.filtered
         process.dumpable = parent.process.dumpable
         process.pids = Pids() if "CLONE_NEWPID" in flags else parent.process.below
