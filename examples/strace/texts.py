@@ -473,6 +473,9 @@ DIFFERENCES = [
     ("a file that isn't mapped", ROOT, BEGINS + "7 setuid(1000) = 0\n7 unshare(CLONE_NEWUSER) = 0\n"
      '7 chmod("/home/tool", 0777) = ' + DENIED + "\n", 0,
      ["chown, chmod and setxattr ask for their capability alone"], [NO_ROW]),
+    ("who enters a namespace stays dumpable", USER, BEGINS + "7 unshare(CLONE_NEWUSER) = 0\n"
+     "7 prctl(PR_GET_DUMPABLE) = 1\n7 prctl(PR_SET_DUMPABLE, SUID_DUMP_DISABLE) = 0\n"
+     "7 unshare(CLONE_NEWUSER) = 0\n7 prctl(PR_GET_DUMPABLE) = 0\n", 0, ["agree: 4"], []),
     ("a saved id by CAP_SETUID, in a namespace", ROOT, BEGINS
      + "7 prctl(PR_SET_SECUREBITS, SECBIT_NO_SETUID_FIXUP) = 0\n7 setresuid(0, 100, 100) = 0\n"
      "7 setuid(0) = 0\n7 unshare(CLONE_NEWUSER) = 0\n"

@@ -50,7 +50,8 @@ def lead(seat: Seat, root: int) -> tuple[str, list[str]]:
             calls.append(f"setres{name}id {real} {effective} {saved}")
             if filesystem != effective:
                 calls.append(f"setfs{name}id {filesystem}")
-        calls.append("securebits 0")
+        # What leads to the ids isn't the log's: the task isn't less dumpable by it.
+        calls += ["securebits 0", "dumpable 1"]
     if ids.no_new_privs:
         calls.append("nonewprivs 1")
     return init, [f"{seat.task} {call}" for call in calls]
