@@ -323,7 +323,8 @@ DIFFERENCES = [
      ["line 2 is the first of 3 calls that differ, and no call before it changed a credential: the "
       "log begins with another one than "], [NO_ROW]),
     ("paths as addresses", ROOT, BEGINS + "7 execve(0x7ff, 0x7ff, 0x7ff) = 0\n", 3,
-     ["line 2: execve: its arguments are addresses: record without -e verbose=none and -e raw"], []),
+     ["line 2: execve: its arguments are addresses: record without -e verbose=none and -e raw"],
+     []),
     ("addresses", ROOT, BEGINS + "7 capset(0x7ffd0, 0x7ffd8) = 0\n", 3,
      ["line 2: capset: its arguments are addresses: record without -e verbose=none"], []),
     ("numbers", ROOT, BEGINS + "7 prctl(0x8, 0x1) = 0\n", 3,
@@ -481,8 +482,8 @@ DIFFERENCES = [
      "7 setuid(0) = 0\n7 unshare(CLONE_NEWUSER) = 0\n"
      '7 openat(AT_FDCWD, "/proc/self/uid_map", O_WRONLY) = 3\n7 write(3, "0 0 1", 5) = 5\n'
      "7 getresuid([0], [0], [0]) = 0\n", 0, ["agree: 5"], []),
-    ("a saved id without it", ROOT, BEGINS + "7 prctl(PR_SET_SECUREBITS, SECBIT_NO_SETUID_FIXUP) = 0"
-     "\n7 setresuid(0, 100, 100) = 0\n7 capset({version=_LINUX_CAPABILITY_VERSION_3, pid=0}, "
+    ("a saved id without it", ROOT, BEGINS
+     + "7 prctl(PR_SET_SECUREBITS, SECBIT_NO_SETUID_FIXUP) = 0\n7 setresuid(0, 100, 100) = 0\n7 capset({version=_LINUX_CAPABILITY_VERSION_3, pid=0}, "
      "{effective=0, permitted=0, inheritable=0}) = 0\n7 setuid(0) = 0\n"
      "7 unshare(CLONE_NEWUSER) = 0\n"
      '7 openat(AT_FDCWD, "/proc/self/uid_map", O_WRONLY) = 3\n7 write(3, "5 100 1", 7) = 7\n'

@@ -150,8 +150,8 @@ def left_out(reader: Reader, items: list[Item]) -> list[str]:
     if names & {*EVERYWHERE, *LEADING}:
         return []
     return [
-        "the log has only what -e trace named, and no call of chroot, pivot_root, mount, unshare or "
-        "setns: where these weren't named another root or namespace isn't seen"
+        "the log has only what -e trace named, and no call of chroot, pivot_root, mount, unshare "
+        "or setns: where these weren't named another root or namespace isn't seen"
     ]
 
 

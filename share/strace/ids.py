@@ -43,7 +43,7 @@ class Ids:
         return replace(self, users=self.users[:], groups=self.groups[:], others=self.others[:])
 
     def with_sets(self, *sets: int) -> Ids:
-        """The same with these sets: permitted, inheritable, effective, bounding, ambient; and bits."""
+        """The same with these: permitted, inheritable, effective, bounding, ambient, securebits."""
         names = ("permitted", "inheritable", "effective", "bounding", "ambient", "securebits")
         return replace(self, **dict(zip(names, sets, strict=True)))
 
@@ -112,8 +112,8 @@ class Ids:
     def executes(self, words: list[str], space: Space, traced: bool) -> bool:
         """What an execve of this file leaves: kind, owner, group, mode, nosuid, attribute.
 
-        `traced` is whether the tracer may not let a task gain anything. Whether others may look into
-        the process then is returned, but for a file that the task may not read (prctl(2)).
+        `traced` is whether the tracer may not let a task gain anything. Whether others may look
+        into the process then is returned, but for a file that the task may not read (prctl(2)).
         """
         acting, had = self.acting(), self.permitted
         mode, owner, group = int(words[3], 8), int(words[1]), int(words[2])

@@ -2,7 +2,7 @@
 
 from __future__ import annotations
 
-from dataclasses import dataclass, field
+from dataclasses import dataclass, field, replace
 
 from capabilities import CAPABILITIES
 
@@ -13,6 +13,8 @@ from .spaces import GID_WORDS, UID_WORDS
 # What a kept row may have changed.
 IDS, CAPS, FILE_IDS = "ids", "caps", "file ids"
 BOUNDING, BITS, GROUPS, FILE = "bounding", "bits", "groups", "file"
+# Whether others may look into the process.
+DUMPABLE = "dumpable"
 
 
 # Which ids, where only the user's or only the group's may be others.
@@ -66,6 +68,11 @@ class Known:
         """The same for a child."""
         return Known(self.kept[:], self.flag)
 
+    def sets_dumpable(self, *kept: Kept) -> None:
+        """Whether it is dumpable is decided anew; by these rows it may be otherwise in Linux."""
+        self.kept = [one for one in self.kept if one.part != DUMPABLE]
+        self.kept += {one.row: replace(one, part=DUMPABLE) for one in kept}.values()
+
     def keep(self, *kept: Kept) -> None:
         """These rows may explain what comes; the newest is asked first."""
         new = {one.what() for one in kept}
@@ -75,11 +82,12 @@ class Known:
 # What the answer of each form depends on. Of the others no kept row explains any.
 DEPENDS: dict[str, tuple[str, ...]] = (
     {"ids": (IDS,), "bset": (BOUNDING,), "bits": (BITS,), "groups": (GROUPS,)}
+    | {"dumped": (DUMPABLE,)}
     | dict.fromkeys(("caps", "ambis", "capdrop", "setgroups"), (CAPS,))
     | dict.fromkeys(("capsetraw", "ambraise"), (CAPS, BOUNDING, BITS))
     | dict.fromkeys(("securebits", "keepcaps"), (CAPS, BITS))
     | dict.fromkeys({*ID_CALLS, "signal"} - {"setgroups"}, (IDS, CAPS))
-    | dict.fromkeys(("setfsuid", "setfsgid", "exec", "ptrace", "dumped"), (FILE_IDS, CAPS, IDS))
+    | dict.fromkeys(("setfsuid", "setfsgid", "exec", "ptrace"), (FILE_IDS, CAPS, IDS))
     | dict.fromkeys(("open", "check", "access"), (FILE_IDS, CAPS, IDS, GROUPS))
     | dict.fromkeys(filerows.FORMS, (FILE_IDS, CAPS, GROUPS))
 )
@@ -89,9 +97,10 @@ CHANGED: dict[str, tuple[str, ...]] = (
     {"capdrop": (BOUNDING,), "setgroups": (GROUPS,), "exec": (IDS, CAPS, FILE_IDS)}
     | dict.fromkeys(("ambraise", "amblower", "ambclear", "capsetraw"), (CAPS,))
     | dict.fromkeys(("securebits", "keepcaps"), (BITS, CAPS))
-    | dict.fromkeys(UID_WORDS, (IDS, FILE_IDS, CAPS))
-    | dict.fromkeys(GID_WORDS - {"setgroups"}, (IDS, FILE_IDS))
-    | {"setfsuid": (FILE_IDS, CAPS), "setfsgid": (FILE_IDS,), "nonewprivs": (BITS, IDS, CAPS)}
+    | dict.fromkeys(UID_WORDS, (IDS, FILE_IDS, CAPS, DUMPABLE))
+    | dict.fromkeys(GID_WORDS - {"setgroups"}, (IDS, FILE_IDS, DUMPABLE))
+    | {"setfsuid": (FILE_IDS, CAPS, DUMPABLE), "setfsgid": (FILE_IDS, DUMPABLE)}
+    | {"nonewprivs": (BITS, IDS, CAPS)}
     | dict.fromkeys(filerows.FORMS, ())
 )
 

@@ -51,8 +51,8 @@ def paired(
     found = dict(zip(strangers, order, strict=True))
     if any(call.first > seen[pid] for pid, call in found.items()):
         return {}
-    # Of creations that are under way at the same time their numbers tell which one came first, where
-    # they are of one PID namespace.
+    # Of creations that are under way at the same time their numbers tell which one came first,
+    # where they are of one PID namespace.
     kin = Kin(items, found)
     if any(len({kin.space(call.pid) for call in group}) > 1 for group in groups):
         return {}
@@ -86,7 +86,8 @@ class Kin:
 
     def __init__(self, items: list[Item], supposed: dict[int, Call]) -> None:
         calls = [item for item in items if isinstance(item, Call)]
-        self._made = {call.result.value or 0: call for call in calls if is_creation(call)} | supposed
+        made = [call for call in calls if is_creation(call)]
+        self._made = {call.result.value or 0: call for call in made} | supposed
         self._enters: dict[int, list[int]] = {}
         for call in calls:
             if call.name == "setns" or (call.name == "unshare" and makes_space(call)):

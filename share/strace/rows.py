@@ -14,8 +14,8 @@ from pathlib import Path
 
 from . import filerows
 from .calls import ID_CALLS
-from .kept import CAPS, CHANGED, FILE, FILE_IDS, GROUP_IDS, GROUPS, IDS, USERS, Kept, Known
-from .kept import reason
+from .kept import CAPS, CHANGED, DUMPABLE, FILE, FILE_IDS, GROUP_IDS, IDS, USERS
+from .kept import Kept, Known, reason
 from .leaves import differ, gains_nothing, is_reset, keeps_ambient, keeps_filesystem_id
 from .leaves import loses_ambient, stays_dumpable
 from .moves import OPENS
@@ -134,10 +134,9 @@ class Explainer:
     def goes_on_as(self, before: str, after: str) -> None:
         """A task is in another namespace from here on, under another name, or a child of it is.
 
-        Its sets and bits are new there, and its ids are what they were.
+        Its sets and bits are new there, and its ids are those that the kernel has.
         """
-        kept = [one for one in self.known(before).kept if one.part in (IDS, FILE_IDS, GROUPS)]
-        self.tasks[after] = Known(kept, self.known(before).flag)
+        self.tasks[after] = Known(flag=self.known(before).flag)
         self.firsts[after] = after
 
     def see(self, number: int, line: Line) -> None:
@@ -164,11 +163,14 @@ class Explainer:
         elif words[1] == "dumpable":
             for one in self.process(words[0]):
                 self.known(one).flag = None
+                self.known(one).sets_dumpable()
         elif words[1] == "exec":
             known.flag = self.flag(number, line)
             changed = self.changed.get(words[2], [])
             known.keep(*(replace(one, part=part) for one in changed for part in (IDS, CAPS)))
-            known.keep(*self.executed(number, line, self.file(line)))
+            executed = self.executed(number, line, self.file(line))
+            known.keep(*executed)
+            known.sets_dumpable(*executed)
         elif words[1] in filerows.FORMS:
             rows_of = [Kept(one, FILE, number, line.text) for one in filerows.kept(line)]
             self.changed[words[2]] = rows_of + self.changed.get(words[2], [])
@@ -257,7 +259,7 @@ class Explainer:
             return self.text(flag.row, flag.sure, f"line {flag.number}: {flag.text}")
         kept = reason(known.kept, words, line.answer or "", report)
         if kept is None and words[1] == "ptrace":
-            return self.looked(line, kernel, report)
+            return self.looked(line, kernel)
         if kept is None and words[1] in OF_FILES:
             kept = next(iter(self.changed.get(words[2], [])), None)
         if kept is not None:
@@ -275,10 +277,11 @@ class Explainer:
             return self.known(words[0]).flag if answer == "ok 0" else None
         return self.known(words[3]).flag if answer == "eperm" else None
 
-    def looked(self, line: Line, kernel: str, report: str) -> str | None:
+    def looked(self, line: Line, kernel: str) -> str | None:
         """Why one task may look into another, or may not."""
         facts = line.facts
-        target = reason(self.known(line.words[3]).kept, line.words, line.answer or "", report)
+        kept = self.known(line.words[3]).kept
+        target = next((one for one in kept if one.part in (DUMPABLE, IDS, CAPS)), None)
         if target is not None:
             return self.text(target.row, target.sure, f"line {target.number}: {target.text}")
         if kernel == "ok":
