@@ -380,6 +380,14 @@ DIFFERENCES = [
      '7 openat(AT_FDCWD, "/proc/9/maps", O_RDONLY) = 3\n'
      "7 process_vm_readv(8, [{iov_base=0x7ff, iov_len=1}], 1, [], 1, 0) = 1\n"
      '8 readlink("/proc/self/exe", "/bin/sh", 64) = 7\n', 0, ["agree: 10"], []),
+    ("creations of a PID namespace that are under way at a time", ROOT, BEGINS
+     + "7 unshare(CLONE_NEWPID) = 0\n7 fork() = 8\n" + THREAD.replace("7 ", "8 ", 1).format(2)
+     + "8 fork( <unfinished ...>\n9 fork() = 3\n8 <... fork resumed>) = 4\n10 setuid(5) = 0\n"
+     "11 getuid() = 0\n10 getuid() = 5\n", 0, ["agree: 8"], ["left: "]),
+    ("a map with the end of its string", ROOT, BEGINS
+     + "7 clone(flags=CLONE_NEWUSER|SIGCHLD) = 8\n"
+     '7 openat(AT_FDCWD, "/proc/8/uid_map", O_RDWR) = 3\n7 write(3, "0 5 1\\n\\0", 7) = 7\n'
+     "8 setuid(0) = 0\n8 getuid() = 0\n", 0, ["agree: 3"], []),
     ("a number in the host's /proc", ROOT, BEGINS + "7 unshare(CLONE_NEWPID) = 0\n7 fork() = 8\n"
      "8 setuid(5) = 0\n8 fork() = 2\n"
      '9 readlink("/proc/1/exe", 0x7ffe, 64) = -1 EACCES (Permission denied)\n', 0, ["agree: 4"],
