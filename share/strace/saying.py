@@ -104,6 +104,12 @@ class Sayer:
             said = capset(call.args, call.result, 0 if nobody else task.number)
         self.say(task, call, said if mine else None)
 
+    def is_racing(self, other: Task, task: Task, call: Call) -> bool:
+        """Whether another process changes while a call asks about it, so that nobody knows which of
+        the two comes first."""
+        apart = other.process is not task.process
+        return apart and self.together.is_changing(other.process, call)
+
     def id_call(self, task: Task, call: Call) -> None:
         """A call that is one line where every thread of the process makes it, else the thread's."""
         process = task.process
