@@ -308,7 +308,7 @@ class Converter(Sayer):
         """kill(2), tkill(2), tgkill(2), where the target is a task of the log."""
         other = self.tasks.find(argument(call, 1 if call.name == "tgkill" else 0), task)
         said = answer(call.result)
-        if other is None or said not in ("ok", "eperm") or self.is_racing(other, task, call):
+        if other is None or said not in ("ok", "eperm"):
             self.passed.call(call)
         else:
             sender, target = task.process, other.process
@@ -317,6 +317,7 @@ class Converter(Sayer):
                 outside=not target.space.is_within(sender.space),
                 maker=target.space.is_made_by(task.ids.users[1], sender.space),
             )
+            facts = self.with_race(facts, task, target, call)
             self.say(task, call, Said(f"signal {other.name}", said), facts)
 
     def looks(self, task: Task, call: Call) -> bool:
@@ -327,10 +328,11 @@ class Converter(Sayer):
         else:
             tasks = [self.tasks.find(target, task) for target in targets]
         others = [one for one in tasks if one is None or one.process is not task.process]
-        if len(others) != 1 or others[0] is None or self.is_racing(others[0], task, call):
+        if len(others) != 1 or others[0] is None:
             return False
         said = Said(f"ptrace {mode} {others[0].name}", said)
-        self.say(task, call, said, traces.facts(task, others[0].process))
+        facts = traces.facts(task, others[0].process)
+        self.say(task, call, said, self.with_race(facts, task, others[0].process, call))
         return True
 
     def trace(self, task: Task, call: Call) -> None:

@@ -297,6 +297,8 @@ class Explainer:
         if pair == ("eperm", "ok") and facts.filtered:
             where = f"{LOG} line {facts.filtered} of it installs a seccomp filter"
             return where, f"{where}, which can refuse so (seccomp(2))"
+        if facts.meanwhile:
+            return "", f"{LOG} line {facts.meanwhile} changes {words[-1]} while this call is under way"
         if form == "securebits" and int(words[2]) > 255:
             return SECUREBITS, self.text(SECUREBITS)
         if form == "setgroups" and pair == ("eperm", "ok") and facts.denied:

@@ -11,7 +11,7 @@ from .moves import argument
 from .passed import Passed
 from .script import NO_FACTS, Facts, Line, Script
 from .spaces import led
-from .tasks import Task, Tasks
+from .tasks import Process, Task, Tasks
 from .together import Joined, Together
 
 NO_MAP = (
@@ -104,11 +104,10 @@ class Sayer:
             said = capset(call.args, call.result, 0 if nobody else task.number)
         self.say(task, call, said if mine else None)
 
-    def is_racing(self, other: Task, task: Task, call: Call) -> bool:
-        """Whether another process changes while a call asks about it, so that nobody knows which of
-        the two comes first."""
-        apart = other.process is not task.process
-        return apart and self.together.is_changing(other.process, call)
+    def with_race(self, facts: Facts, task: Task, other: Process, call: Call) -> Facts:
+        """The same with where another process changes while the call asks about it."""
+        line = 0 if other is task.process else self.together.meanwhile(other, call)
+        return replace(facts, meanwhile=line)
 
     def id_call(self, task: Task, call: Call) -> None:
         """A call that is one line where every thread of the process makes it, else the thread's."""

@@ -39,6 +39,8 @@ class Facts:
     apart: bool = False
     outside: bool = False
     maker: bool = False
+    # The line at which the process that is asked about begins to change, while the call asks.
+    meanwhile: int = 0
     # Whether the task is in a namespace of the log that takes no groups.
     denied: bool = False
     # The file as it is there, and whether the task, or one that is looked into, is in a user

@@ -86,15 +86,15 @@ class Together:
             return None
         return Joined(min(after, max(one.place for one in made)), made, leaving)
 
-    def is_changing(self, process: Process, call: Call) -> bool:
-        """Whether a thread of the process changes its credential while another task's call is under
-        way: which of the two comes first the log doesn't tell."""
+    def meanwhile(self, process: Process, call: Call) -> int:
+        """The line at which a thread of the process begins to change its credential, while another
+        task's call is under way: which of the two comes first the log doesn't tell. 0 for none."""
         for thread in process.threads:
             found = self._changes.get(thread.pid, [])
             last = bisect_right(found, (call.last, call.last))
             if last and found[last - 1][1] > call.first:
-                return True
-        return False
+                return found[last - 1][0]
+        return 0
 
     def call(self, place: int) -> Call:
         """The call at a place."""

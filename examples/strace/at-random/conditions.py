@@ -96,7 +96,7 @@ def unfounded(out: str, logs: list[str], user: bool) -> str | None:
 def holds(found: re.Match[str], reason: str, log: str, since: str, user: bool) -> bool:
     """Whether a reason holds."""
     if reason.startswith(rows.LOG):
-        return "SECCOMP_MODE_FILTER" in log
+        return "SECCOMP_MODE_FILTER" in log or "is under way" in reason
     told = re.sub(r"^docs/LINUX\.md(, it may be)?: ", "", reason)
     for begins, condition in CONDITIONS.items():
         if told.startswith(begins):
