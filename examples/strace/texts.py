@@ -392,7 +392,7 @@ DIFFERENCES = [
      '7 prctl(PR_SET_DUMPABLE, SUID_DUMP_USER) = 0\n7 fork() = 8\n8 execve("/bin/su", [], 0x7 /* 9 vars */ <unfinished ...>\n'
      "7 kcmp(7, 8, KCMP_VM, 0, 0) = -1 EPERM (Operation not permitted)\n"
      "8 <... execve resumed>) = 0\n8 geteuid() = 0\n", 0,
-     ["agree: 5", "the log: line 5 changes t2 while this call is under way"],
+     ["agree: 6", "the log: line 5 changes t2 while this call is under way"],
      ["one rule for each look"]),
     ("a number in the host's /proc", ROOT, BEGINS + "7 unshare(CLONE_NEWPID) = 0\n7 fork() = 8\n"
      "8 setuid(5) = 0\n8 fork() = 2\n"
