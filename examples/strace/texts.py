@@ -508,6 +508,13 @@ DIFFERENCES = [
     ("a file that only the kernel changes", ROOT, BEGINS + FIXED + "7 setuid(5) = 0\n"
      '7 chmod("/srv/kept", 0700) = 0\n' + STAT.format("/srv/kept", "0700", 0, 0), 0,
      [BITS], [NO_ROW]),
+    ("what CAP_SETGID decides", ROOT, BEGINS + FIXED + "7 setresuid(0, 5, 0) = 0\n7 setgid(6) = 0\n"
+     "7 setresuid(5, 5, 5) = 0\n7 setgid(7) = 0\n7 getgid() = 7\n", 0, [BITS], [NO_ROW]),
+    ("threads that only the program ends", ROOT, BEGINS + FIXED + THREAD.format(8)
+     + "8 setresuid(5, 5, 5) = 0\n7 setresuid(5, 5, 5) = 0\n8 capset({version="
+     "_LINUX_CAPABILITY_VERSION_3, pid=0}, {effective=1<<CAP_SETUID, permitted=1<<CAP_SETUID, "
+     "inheritable=0}) = 0\n8 setuid(7) = 0\n7 setuid(7) = 0\n8 getuid() = 7\n7 getuid() = 7\n", 0,
+     [BITS], [NO_ROW]),
     ("what an execve leaves in the ambient set", AMBIENT, RUNS.format("/bin/own", 0)
      + SETS.format("1<<CAP_KILL"), 0, [OWN], [NO_ROW]),
     ("more than an execve leaves in the ambient set", AMBIENT, RUNS.format("/bin/own", 0)

@@ -71,7 +71,22 @@ class Known:
     def sets_dumpable(self, *kept: Kept) -> None:
         """Whether it is dumpable is decided anew; by these rows it may be otherwise in Linux."""
         self.kept = [one for one in self.kept if one.part != DUMPABLE]
-        self.kept += {one.row: replace(one, part=DUMPABLE) for one in kept}.values()
+        self.kept += [replace(one, part=DUMPABLE, ids=None) for one in kept]
+
+    def leads_on(self, form: str) -> None:
+        """What a call decided by others leads to, where it is made here and in Linux."""
+        ids = USERS if form in UID_WORDS else GROUP_IDS if form in GID_WORDS else None
+        needed = NEEDED.get(form, -1)
+        for parts, after in FOLLOWS.get(form, ()):
+            found = [one for one in self.kept if one.part in parts]
+            found = [one for one in found if one.bits is None or one.bits & needed]
+            self.keep(*(replace(one, part=part, more=None, bits=None,
+                                ids=ids if part in (IDS, FILE_IDS) else None)
+                        for one in found for part in after))  # fmt: skip
+
+    def of_ids(self) -> list[Kept]:
+        """The rows by which ids may be others."""
+        return [one for one in self.kept if one.part in (IDS, FILE_IDS)]
 
     def keep(self, *kept: Kept) -> None:
         """These rows may explain what comes; the newest is asked first."""
@@ -94,7 +109,8 @@ DEPENDS: dict[str, tuple[str, ...]] = (
 
 # What each form changes, where the kernel makes it and the program refuses it, or the reverse.
 CHANGED: dict[str, tuple[str, ...]] = (
-    {"capdrop": (BOUNDING,), "setgroups": (GROUPS,), "exec": (IDS, CAPS, FILE_IDS)}
+    {"capdrop": (BOUNDING,), "setgroups": (GROUPS,)}
+    | {"exec": (IDS, CAPS, FILE_IDS, BITS, DUMPABLE)}
     | dict.fromkeys(("ambraise", "amblower", "ambclear", "capsetraw"), (CAPS,))
     | dict.fromkeys(("securebits", "keepcaps"), (BITS, CAPS))
     | dict.fromkeys(UID_WORDS, (IDS, FILE_IDS, CAPS, DUMPABLE))
@@ -103,6 +119,20 @@ CHANGED: dict[str, tuple[str, ...]] = (
     | {"nonewprivs": (BITS, IDS, CAPS)}
     | dict.fromkeys(filerows.FORMS, ())
 )
+
+
+# What a call leaves that is made here and in Linux: which part of a task it looks at, and which part
+# is another one by that afterwards.
+FOLLOWS = (
+    dict.fromkeys(UID_WORDS, [((IDS, FILE_IDS), (CAPS, DUMPABLE)), ((BITS,), (CAPS,))])
+    | dict.fromkeys(GID_WORDS, [((IDS, FILE_IDS), (DUMPABLE,))])
+    | {"exec": [((IDS, FILE_IDS, BITS), (CAPS,))], "setgroups": []}
+)
+# setuid(2) sets all ids with CAP_SETUID, and setfsuid(2) another one with it alone.
+for _form, _parts in (("setuid", (IDS, FILE_IDS, DUMPABLE)), ("setfsuid", (FILE_IDS, DUMPABLE))):
+    FOLLOWS[_form] = [*FOLLOWS[_form], ((CAPS, IDS), _parts)]
+    _group = _form.replace("uid", "gid")
+    FOLLOWS[_group] = [*FOLLOWS[_group], ((CAPS, IDS), _parts)]
 
 
 def reason(kept: list[Kept], words: list[str], kernel: str, report: str) -> Kept | None:

@@ -48,6 +48,12 @@ ATTACHED = re.compile(r"strace: Process (\d{1,9}) attached(?: with \d+ threads)?
 UNFINISHED = "<unfinished ...>"
 PID_CHANGED = re.compile(r"<pid changed to \d{1,9} \.\.\.>$")
 
+# Behind a call of the first thread of a process, without an end: another one has executed a program.
+SUPERSEDED = re.compile(
+    r"(?:\[pid +\d{1,9}\] +|\d{1,9} +)?(?:\d\d:\d\d:\d\d(?:\.\d+)? +|\d+\.\d+ +)?"
+    r"\+\+\+ superseded by execve in pid \d{1,9} \+\+\+$"
+)
+
 # A call in which strace detached from its task.
 DETACHED = "<detached ...>"
 

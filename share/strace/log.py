@@ -229,7 +229,10 @@ class Reader:
             self.first_pid = self.first_pid or int(match[1])
 
     def cut_by_message(self, text: str) -> None:
-        """A message stands in the middle of a line, which the next line ends."""
+        """A message stands in the middle of a line, which the next line ends, or nothing does."""
+        if ended := lines.SUPERSEDED.search(text):
+            self.told_by_task(text[ended.start() :])
+            return
         match = lines.ATTACHED.search(text)
         if match is None or self._attached is not None:
             raise BadLog(self.count, NO_END)

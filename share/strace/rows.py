@@ -73,6 +73,16 @@ def row(begins: str) -> tuple[str, str]:
 RULED = ("ok", "eperm", "einval", "eacces")
 
 
+@dataclass(frozen=True)
+class Own:
+    """What explains an answer by itself: a row, with what holds here, or a text of the log."""
+
+    row: str = ""
+    sure: bool = True
+    why: str = ""
+    text: str = ""
+
+
 @dataclass
 class Explainer:
     """Goes through a script's lines in their order, and explains differences."""
@@ -85,6 +95,8 @@ class Explainer:
     firsts: dict[str, str] = field(default_factory=dict)
     # By which rows a file may be another one than the program says.
     changed: dict[str, list[Kept]] = field(default_factory=dict)
+    # Tasks that end in the program by a row, and their children, which aren't there.
+    ended: dict[str, Kept] = field(default_factory=dict)
     _told: set[str] = field(default_factory=set)
 
     def text(self, begins: str, sure: bool = True, since: str = "", why: str = "") -> str:
@@ -151,6 +163,8 @@ class Explainer:
         succeeds = line.answer is None or line.answer.startswith("ok")
         if words[1] in ("spawn", "fork"):
             self.tasks[words[2]] = known.copy()
+            if words[0] in self.ended:
+                self.ended[words[2]] = self.ended[words[0]]
             first = self.firsts.setdefault(words[0], words[0])
             self.firsts[words[2]] = first if words[1] == "spawn" else words[2]
         elif words[1] == "exit":
@@ -160,6 +174,9 @@ class Explainer:
         elif words[1] in ("setresuid", "setresgid") and words[3] == "-1":
             if keeps_filesystem_id(words, self.probe.before(number)):
                 self.changes(line, Kept(FILESYSTEM_IDS, FILE_IDS, number, line.text))
+            self.leads_on(line)
+        elif words[1] in UID_WORDS | GID_WORDS:
+            self.leads_on(line)
         elif words[1] == "dumpable":
             for one in self.process(words[0]):
                 self.known(one).flag = None
@@ -168,12 +185,18 @@ class Explainer:
             known.flag = self.flag(number, line)
             changed = self.changed.get(words[2], [])
             known.keep(*(replace(one, part=part) for one in changed for part in (IDS, CAPS)))
+            known.leads_on("exec")
             executed = self.executed(number, line, self.file(line))
             known.keep(*executed)
-            known.sets_dumpable(*executed)
+            known.sets_dumpable(*executed, *known.of_ids())
         elif words[1] in filerows.FORMS:
             rows_of = [Kept(one, FILE, number, line.text) for one in filerows.kept(line)]
             self.changed[words[2]] = rows_of + self.changed.get(words[2], [])
+
+    def leads_on(self, line: Line) -> None:
+        """A call that is made here and in Linux leaves what it decided by, where that differs."""
+        for task in self.threads(line):
+            self.known(task).leads_on(line.words[1])
 
     def file(self, line: Line) -> str:
         """The file of a line, as a line that declares it."""
@@ -243,32 +266,43 @@ class Explainer:
     def explain(self, number: int, line: Line, report: str) -> str | None:
         """The reason why the kernel's answer is another one than the report's."""
         words = line.words
-        known = self.known(words[0])
         kernel, told = (line.answer or "").split()[0], report.split()[0]
+        if told == "no":
+            return self.since(self.ended.get(words[0]) or self.ended.get(words[-1]))
         # Then the thread that makes the call first may, and another one may not.
-        told = "ok" if told == "aborted" else told
+        aborted, told = told == "aborted", "ok" if told == "aborted" else told
         if told not in RULED:
             return None
         own = self.own(number, line, kernel, told)
-        if own is not None:
-            begins, text = own
-            if begins and kernel == "ok":
-                self.makes(line, Kept(begins, "", number, line.text))
-            return text
-        if words[1] in ("dumped", "ptrace") and (flag := self.flagged(line)):
-            return self.text(flag.row, flag.sure, f"line {flag.number}: {flag.text}")
-        kept = reason(known.kept, words, line.answer or "", report)
+        kept = self.kept(line, report)
+        if own is not None and (own.sure or kept is None):
+            if own.row and kernel == "ok":
+                self.makes(line, Kept(own.row, "", number, line.text))
+            return own.text or self.text(own.row, own.sure, why=own.why)
         if kept is None and words[1] == "ptrace":
             return self.looked(line, kernel)
-        if kept is None and words[1] in OF_FILES:
-            kept = next(iter(self.changed.get(words[2], [])), None)
-        if kept is not None:
-            if kernel == "ok" and told != "ok":
-                self.makes(line, kept)
-            return self.text(kept.row, kept.sure, f"line {kept.number}: {kept.text}")
-        # A log that was recorded inside a user namespace doesn't tell what that denies.
-        denied = words[1] == "setgroups" and (kernel, told) == ("eperm", "ok")
-        return self.text(DENIED_GROUPS, sure=False) if denied else None
+        if kept is not None and aborted:
+            self.ended |= dict.fromkeys(self.process(words[0]), kept)
+        if kept is not None and kernel == "ok" and told != "ok":
+            self.makes(line, kept)
+        return self.since(kept)
+
+    def since(self, kept: Kept | None) -> str | None:
+        """What is told of a row that comes from an earlier line."""
+        return kept and self.text(kept.row, kept.sure, f"line {kept.number}: {kept.text}")
+
+    def kept(self, line: Line, report: str) -> Kept | None:
+        """The row of an earlier line by which the task, or the file, is another one in Linux."""
+        words = line.words
+        if words[1] in ("dumped", "ptrace") and (flag := self.flagged(line)):
+            return flag
+        found = reason(self.known(words[0]).kept, words, line.answer or "", report)
+        if found is None and words[1] in OF_FILES:
+            return next(iter(self.changed.get(words[2], [])), None)
+        if found is None and words[1] == "ptrace":
+            target = self.known(words[3]).kept
+            return next((one for one in target if one.part in (DUMPABLE, IDS, CAPS)), None)
+        return found
 
     def flagged(self, line: Line) -> Kept | None:
         """The execve since which a process isn't dumpable in Linux, where the line shows that."""
@@ -280,47 +314,43 @@ class Explainer:
     def looked(self, line: Line, kernel: str) -> str | None:
         """Why one task may look into another, or may not."""
         facts = line.facts
-        kept = self.known(line.words[3]).kept
-        target = next((one for one in kept if one.part in (DUMPABLE, IDS, CAPS)), None)
-        if target is not None:
-            return self.text(target.row, target.sure, f"line {target.number}: {target.text}")
         if kernel == "ok":
             opens = line.call is not None and line.call.name in OPENS
             begins = CREATOR if facts.maker else LOOKS if opens else None
             return self.text(begins, sure=facts.maker) if begins else None
         return self.text(OUTER if facts.outside else LOOKS, sure=facts.outside)
 
-    def own(self, number: int, line: Line, kernel: str, told: str) -> tuple[str, str] | None:
-        """The row that explains an answer by itself, with its text; the log may explain it too."""
+    def own(self, number: int, line: Line, kernel: str, told: str) -> Own | None:
+        """What explains an answer by itself: a row, or the log."""
         words, facts = line.words, line.facts
         form, pair = words[1], (kernel, told)
         if pair == ("eperm", "ok") and facts.filtered:
             where = f"{LOG} line {facts.filtered} of it installs a seccomp filter"
-            return where, f"{where}, which can refuse so (seccomp(2))"
+            return Own(where, text=f"{where}, which can refuse so (seccomp(2))")
         if facts.meanwhile:
-            return "", f"{LOG} line {facts.meanwhile} changes {words[-1]} while this call is under way"
+            text = f"{LOG} line {facts.meanwhile} changes {words[-1]} while this call is under way"
+            return Own(text=text)
         if form == "securebits" and int(words[2]) > 255:
-            return SECUREBITS, self.text(SECUREBITS)
-        if form == "setgroups" and pair == ("eperm", "ok") and facts.denied:
-            return DENIED_GROUPS, self.text(DENIED_GROUPS)
+            return Own(SECUREBITS)
+        if form == "setgroups" and pair == ("eperm", "ok"):
+            # A log that was recorded inside a user namespace doesn't tell what that denies.
+            return Own(DENIED_GROUPS, sure=facts.denied)
         if form in ID_CALLS and pair == ("einval", "ok"):
-            return UNMAPPED, self.text(UNMAPPED)
+            return Own(UNMAPPED)
         if form == "signal":
             return self.signal(number, line, pair)
         if form == "exec" and kernel in ("eperm", "einval") and told == "ok":
             before = self.probe.before(number)
-            under = before is None or before.no_new_privs
-            holds = under and " caps " in self.file(line)
-            text = self.text(NO_NEW_PRIVS_FILE, before is not None) if holds else ""
-            return (NO_NEW_PRIVS_FILE, text) if holds else None
+            holds = (before is None or before.no_new_privs) and " caps " in self.file(line)
+            return Own(NO_NEW_PRIVS_FILE, before is not None) if holds else None
         if form in filerows.FORMS:
             begins = filerows.refused(line, pair)
-            return (begins, self.text(begins)) if begins else None
+            return Own(begins) if begins else None
         if form in ("exec", "open", "check", "access"):
             return self.refused(number, line, pair)
         return None
 
-    def signal(self, number: int, line: Line, pair: tuple[str, str]) -> tuple[str, str] | None:
+    def signal(self, number: int, line: Line, pair: tuple[str, str]) -> Own | None:
         """Why a signal is allowed or refused otherwise."""
         facts = line.facts
         if pair == ("ok", "eperm"):
@@ -329,25 +359,23 @@ class Explainer:
         else:
             outside = facts.outside and has_kill(self.probe.before(number))
             begins = COUNTS if pair == ("eperm", "ok") and outside else None
-        return (begins, self.text(begins)) if begins else None
+        return Own(begins) if begins else None
 
-    def refused(self, number: int, line: Line, pair: tuple[str, str]) -> tuple[str, str] | None:
+    def refused(self, number: int, line: Line, pair: tuple[str, str]) -> Own | None:
         """Why the kernel refuses a file that the program allows."""
         if pair == ("eperm", "ok") and not line.words[1] == "exec":
-            return "", self.text(NOT_MODE)
+            return Own(NOT_MODE)
         if pair != ("eacces", "ok"):
             return None
         if line.facts.noexec:
-            return "", self.text(NOT_MODE, why="the file's mount has noexec")
+            return Own(NOT_MODE, why="the file's mount has noexec")
         before = self.probe.before(number)
         if by_capability(before, line):
-            why = "the file's owner or group isn't mapped in the namespace"
-            return "", self.text(COUNTS, why=why)
+            return Own(COUNTS, why="the file's owner or group isn't mapped in the namespace")
         searched = before.searched if before else {}
         closed = [place for place, may in searched.items() if not may]
         if closed:
-            return "", self.text(DIRECTORIES, why=f"{closed[0]} may not be searched")
-        count = line.facts.place.count("/")
-        if searched and len(searched) == count:
-            return "", self.text(NOT_MODE, why="every directory of the path may be searched")
-        return "", self.text(DIRECTORIES, sure=False)
+            return Own(DIRECTORIES, why=f"{closed[0]} may not be searched")
+        if searched and len(searched) == line.facts.place.count("/"):
+            return Own(NOT_MODE, why="every directory of the path may be searched")
+        return Own(DIRECTORIES, sure=False)
