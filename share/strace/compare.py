@@ -172,7 +172,7 @@ def compare(script: Script, run: Ran) -> Comparison:
                 reason = explainer.explain(number, line, report)
                 comparison.differs(number, line, report, reason)
             before = line.call
-        explainer.see(number, line)
+        explainer.see(number, line, found.get(number, "ok"))
         if comparison.begins_otherwise is None and line.call is not None:
             comparison.begins(line)
     return comparison

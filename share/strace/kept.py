@@ -31,7 +31,7 @@ class Kept:
     text: str
     more: bool | None = None
     sure: bool = True
-    # Which capabilities, or which ids, may be others; None where any may.
+    # Which capabilities or securebits, or which ids, may be others; None where any may.
     bits: int | None = None
     ids: str | None = None
 
@@ -78,11 +78,30 @@ class Known:
         ids = USERS if form in UID_WORDS else GROUP_IDS if form in GID_WORDS else None
         needed = NEEDED.get(form, -1)
         for parts, after in FOLLOWS.get(form, ()):
-            found = [one for one in self.kept if one.part in parts]
-            found = [one for one in found if one.bits is None or one.bits & needed]
+            found = [
+                one
+                for one in self.kept
+                if one.part in parts
+                and (one.bits is None or one.bits & (needed if one.part == CAPS else -1))
+            ]
             self.keep(*(replace(one, part=part, more=None, bits=None,
                                 ids=ids if part in (IDS, FILE_IDS) else None)
                         for one in found for part in after))  # fmt: skip
+
+    def settles(self, words: list[str]) -> None:
+        """A call that sets something whole leaves the same here and in Linux."""
+        if words[1] == "securebits":
+            self.kept = [one for one in self.kept if one.part != BITS]
+        elif words[1] == "setgroups":
+            self.kept = [one for one in self.kept if one.part != GROUPS]
+        elif words[1] in ("setresuid", "setresgid") and "-1" not in words[2:]:
+            mine = USERS if words[1] == "setresuid" else GROUP_IDS
+            other = GROUP_IDS if mine == USERS else USERS
+            self.kept = [
+                replace(one, ids=other) if one.part in (IDS, FILE_IDS) else one
+                for one in self.kept
+                if one.part not in (IDS, FILE_IDS) or one.ids != mine
+            ]
 
     def of_ids(self) -> list[Kept]:
         """The rows by which ids may be others."""
@@ -112,7 +131,7 @@ CHANGED: dict[str, tuple[str, ...]] = (
     {"capdrop": (BOUNDING,), "setgroups": (GROUPS,)}
     | {"exec": (IDS, CAPS, FILE_IDS, BITS, DUMPABLE)}
     | dict.fromkeys(("ambraise", "amblower", "ambclear", "capsetraw"), (CAPS,))
-    | dict.fromkeys(("securebits", "keepcaps"), (BITS, CAPS))
+    | dict.fromkeys(("securebits", "keepcaps"), (BITS,))
     | dict.fromkeys(UID_WORDS, (IDS, FILE_IDS, CAPS, DUMPABLE))
     | dict.fromkeys(GID_WORDS - {"setgroups"}, (IDS, FILE_IDS, DUMPABLE))
     | {"setfsuid": (FILE_IDS, CAPS, DUMPABLE), "setfsgid": (FILE_IDS, DUMPABLE)}

@@ -53,6 +53,9 @@ ALL = (
 # The forms of which a file's state decides, or tells.
 OF_FILES = (*filerows.FORMS, "stat", "exec", "open", "check", "access")
 
+# The securebits that decide something (capabilities(7)).
+LOW_BITS = 0xFF
+
 # What the log explains itself.
 LOG = "the log:"
 
@@ -138,6 +141,11 @@ class Explainer:
         only = USERS if form in UID_WORDS else GROUP_IDS if form in GID_WORDS else None
         parts = [replace(kept, part=part, more=None, bits=None, ids=only)
                  for part in CHANGED.get(form, ())]  # fmt: skip
+        if form == "securebits":
+            # The bits above the eighth decide nothing here.
+            before = self.probe.before(kept.number)
+            bits = int(line.words[2]) ^ before.securebits if before else LOW_BITS
+            parts = [replace(one, bits=bits & LOW_BITS) for one in parts]
         self.changes(line, *parts)
         if form in filerows.FORMS:
             name = line.words[2]
@@ -151,7 +159,7 @@ class Explainer:
         self.tasks[after] = Known(flag=self.known(before).flag)
         self.firsts[after] = after
 
-    def see(self, number: int, line: Line) -> None:
+    def see(self, number: int, line: Line, report: str) -> None:
         """Keeps what a line means for later ones."""
         words = line.words
         if words[0] == "file":
@@ -174,9 +182,9 @@ class Explainer:
         elif words[1] in ("setresuid", "setresgid") and words[3] == "-1":
             if keeps_filesystem_id(words, self.probe.before(number)):
                 self.changes(line, Kept(FILESYSTEM_IDS, FILE_IDS, number, line.text))
-            self.leads_on(line)
-        elif words[1] in UID_WORDS | GID_WORDS:
-            self.leads_on(line)
+            self.leads_on(line, report)
+        elif words[1] in UID_WORDS | GID_WORDS | {"securebits"}:
+            self.leads_on(line, report)
         elif words[1] == "dumpable":
             for one in self.process(words[0]):
                 self.known(one).flag = None
@@ -193,10 +201,11 @@ class Explainer:
             rows_of = [Kept(one, FILE, number, line.text) for one in filerows.kept(line)]
             self.changed[words[2]] = rows_of + self.changed.get(words[2], [])
 
-    def leads_on(self, line: Line) -> None:
+    def leads_on(self, line: Line, report: str) -> None:
         """A call that is made here and in Linux leaves what it decided by, where that differs."""
-        for task in self.threads(line):
+        for task in self.threads(line) if report.startswith("ok") else ():
             self.known(task).leads_on(line.words[1])
+            self.known(task).settles(line.words)
 
     def file(self, line: Line) -> str:
         """The file of a line, as a line that declares it."""
