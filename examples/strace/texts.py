@@ -77,6 +77,14 @@ ENDS = [
     ),
 ]
 
+# Eight lines of what long logs are full of.
+LONG = (
+    '7 openat(AT_FDCWD, "/usr/share/doc", O_RDONLY) = 3\n'
+    '7 newfstatat(3, "", {st_mode=S_IFDIR|0755, st_size=4096, ...}, AT_EMPTY_PATH) = 0\n'
+    + '7 read(3, "text"..., 1024) = 1024\n' * 3 + "7 getdents64(3, [], 32768) = 0\n"
+    "7 close(3) = 0\n7 futex(0x7f0, FUTEX_WAKE_PRIVATE, 1) = 0\n"
+)  # fmt: skip
+
 # A line of a script, the test that it fails, and what is told of its form.
 BAD_LINES = [
     ("t1 setresuid 5 5", "count", "T setresuid ARG ARG ARG", "Word 5, the ARG, lacks."),
