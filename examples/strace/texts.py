@@ -138,6 +138,14 @@ PLACES = [
     ("a nosuid mount",
      '7 mount("none", "FOLDER/usr", NULL, MS_REMOUNT|MS_BIND|MS_NOSUID, NULL) = 0\n'
      + TOOL.format("FOLDER/usr/bin/tool"), "0755 nosuid"),
+    ("a mount of other owners", '7 open_tree(AT_FDCWD, "FOLDER/jail", OPEN_TREE_CLONE) = 3\n'
+     '7 mount_setattr(3, "", AT_EMPTY_PATH, {attr_set=MOUNT_ATTR_IDMAP, attr_clr=0, propagation=0, '
+     'userns_fd=4}, 32) = 0\n7 move_mount(3, "", AT_FDCWD, "FOLDER/usr", MOVE_MOUNT_F_EMPTY_PATH) '
+     "= 0\n" + TOOL.format("FOLDER/usr/usr/bin/tool"), "through the mount that line 2 changes"),
+    ("a mount that isn't nosuid any more",
+     '7 mount("none", "FOLDER/usr", NULL, MS_REMOUNT|MS_BIND|MS_NOSUID|MS_NOEXEC, NULL) = 0\n'
+     '7 mount_setattr(AT_FDCWD, "FOLDER/usr", 0, {attr_set=0, attr_clr=MOUNT_ATTR_NOSUID, '
+     'propagation=0, userns_fd=0}, 32) = 0\n' + TOOL.format("FOLDER/usr/bin/tool"), "0755"),
     ("a tmpfs", '7 mount("none", "FOLDER/usr", "tmpfs", 0, NULL) = 0\n'
      + TOOL.format("FOLDER/usr/bin/tool"), "lies on what line 1 mounts or enters"),
     ("another mount namespace", "7 setns(3, CLONE_NEWNS) = 0\n" + TOOL.format("/bin/tool"),

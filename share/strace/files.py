@@ -244,6 +244,11 @@ class Files:
         fs/namespace.c).
         """
         mount, place = named.mount or Mount(""), named.real or named.place
+        if mount.mapped:
+            raise Missing(
+                f"{named.place} is of another owner through the mount that line {mount.mapped} "
+                "changes (mount_setattr(2), MOUNT_ATTR_IDMAP)"
+            )
         file = self._before(named.place, place)
         noexec = file.noexec if mount.noexec is None else mount.noexec
         words = file.words

@@ -129,10 +129,12 @@ class Moves:
                 mounts.is_seen(place, kind.pop(), "MS_REC" in flags)
             return
         target = self.paths.locate(task, call, 1)
-        kept = Mount(target.place, "MS_NOSUID" in flags, "MS_NOEXEC" in flags, proc_of(target))
+        kept = Mount(target.place, "MS_NOSUID" in flags, "MS_NOEXEC" in flags)
         if "MS_REMOUNT" in flags:
             # The flags of a mount are its own, whoever else sees it.
-            mounts.over[point_of(target, mounts.over) or target.place] = kept
+            old = replace(target.mount or kept, source=kept.source)
+            again = replace(old, nosuid=kept.nosuid, noexec=kept.noexec)
+            mounts.over[point_of(target, mounts.over) or target.place] = again
             return
         if flags & {"MS_BIND", "MS_MOVE"}:
             source = self.paths.locate(task, call, 0)
@@ -189,15 +191,15 @@ class Moves:
     def mount_setattr(self, task: Task, call: Call) -> None:
         """mount_setattr(2): other flags."""
         fields = lines.fields(argument(call, 3))
-        given, kind = fields.get("attr_set", ""), fields.get("propagation", "")
+        kind = fields.get("propagation", "")
         loose = task.descriptors.get(argument(call, 0), LOOSE)
         found = loose if isinstance(loose, Located) else self.paths.locate(task, call, 1, 0)
         if kind in PROPAGATION and found is not loose:
             task.where.mounts.is_seen(found.place, kind, "AT_RECURSIVE" in argument(call, 2))
-        if "MOUNT_ATTR_NOSUID" not in given and "MOUNT_ATTR_NOEXEC" not in given:
+        old = replace(found.mount or Mount(""), source=found.place)
+        mount = with_attributes(old, fields, call.first)
+        if mount == old:
             return
-        nosuid, noexec = "MOUNT_ATTR_NOSUID" in given, "MOUNT_ATTR_NOEXEC" in given
-        mount = Mount(found.place, nosuid, noexec)
         if found is loose:
             task.descriptors.opens(descriptor(call.args[0]), LOOSE, Located(found.place, mount))
         else:
@@ -325,7 +327,17 @@ def own_process(found: Located, task: Task) -> Located:
 def bound(source: Located) -> Mount:
     """A mount of what lies there, with the flags that it has there."""
     flags = source.mount or Mount("")
-    return Mount(source.place, flags.nosuid, flags.noexec, flags.pids)
+    return replace(flags, source=source.place)
+
+
+def with_attributes(mount: Mount, fields: dict[str, str], line: int) -> Mount:
+    """The same with what mount_setattr(2) sets and clears; it leaves all else."""
+    given, cleared = fields.get("attr_set", ""), fields.get("attr_clr", "")
+    for name in ("nosuid", "noexec"):
+        flag = f"MOUNT_ATTR_{name.upper()}"
+        if flag in given or flag in cleared:
+            mount = replace(mount, **{name: flag in given})
+    return replace(mount, mapped=line) if "MOUNT_ATTR_IDMAP" in given else mount
 
 
 def proc_of(found: Located) -> Pids | None:

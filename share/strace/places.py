@@ -33,6 +33,8 @@ class Mount:
     noexec: bool | None = None
     # Of /proc, the PID namespace that it was mounted for.
     pids: Pids | None = None
+    # The line of the log by which the owners of its files are others (mount_setattr(2)).
+    mapped: int = 0
 
 
 @dataclass(frozen=True)
