@@ -192,6 +192,10 @@ DIFFERENCES = [
     ("a number in a /proc of its own", ROOT, BEGINS + "7 unshare(CLONE_NEWPID) = 0\n7 fork() = 8\n"
      '8 mount("proc", "/proc", "proc", 0, NULL) = 0\n8 fork() = 2\n8 setuid(5) = 0\n'
      '9 readlink("/proc/1/exe", "/bin/sh", 64) = 7\n', 0, ["agree: 5"], []),
+    ("a number in a /proc of its own by fsmount", ROOT, BEGINS + "7 unshare(CLONE_NEWPID) = 0\n"
+     '7 fork() = 8\n8 fsopen("proc", FSOPEN_CLOEXEC) = 3\n8 fsmount(3, FSMOUNT_CLOEXEC, 0) = 4\n'
+     '8 move_mount(4, "", AT_FDCWD, "/proc", MOVE_MOUNT_F_EMPTY_PATH) = 0\n8 fork() = 2\n'
+     '8 setuid(5) = 0\n9 readlink("/proc/1/exe", "/bin/sh", 64) = 7\n', 0, ["agree: 5"], []),
     ("what a filter refused changes nothing", ROOT, BEGINS
      + "7 prctl(PR_SET_SECCOMP, SECCOMP_MODE_FILTER, {len=1}) = 0\n"
      "7 setuid(5) = -1 EPERM (Operation not permitted)\n7 getuid() = 0\n", 0,

@@ -10,7 +10,7 @@ from dataclasses import replace
 from . import lines
 from .calls import Unheld
 from .log import Call
-from .opened import FILE, LOOSE, NAMESPACE, PIDFD, descriptor
+from .opened import FILE, KIND, LOOSE, NAMESPACE, PIDFD, descriptor
 from .paths import Paths, link_of
 from .pids import NOBODY, Pids
 from .places import Located, Mount, Mounts, Where
@@ -87,6 +87,7 @@ class Moves:
             "umount2": self.umount,
             "umount": self.umount,
             "open_tree": self.open_tree,
+            "fsopen": self.fsopen,
             "fsmount": self.fsmount,
             "move_mount": self.move_mount,
             "mount_setattr": self.mount_setattr,
@@ -171,11 +172,18 @@ class Moves:
         kind = LOOSE if "OPEN_TREE_CLONE" in argument(call, 2) else FILE
         task.descriptors.opens(call.result.value, kind, found)
 
+    def fsopen(self, task: Task, call: Call) -> None:
+        """fsopen(2): a kind of file system."""
+        kind = lines.string(argument(call, 0)) or ""
+        task.descriptors.opens(call.result.value, KIND, kind)
+
     def fsmount(self, task: Task, call: Call) -> None:
         """fsmount(2): a new file system, which move_mount(2) mounts."""
         flags = argument(call, 2)
-        place = f"@{call.first}:/"
+        is_proc = task.descriptors.get(argument(call, 0), KIND) == "proc"
+        place = "/proc" if is_proc else f"@{call.first}:/"
         mount = Mount(place, "MOUNT_ATTR_NOSUID" in flags, "MOUNT_ATTR_NOEXEC" in flags)
+        mount = replace(mount, pids=task.process.pids if is_proc else None)
         task.descriptors.opens(call.result.value, LOOSE, Located(place, mount))
 
     def move_mount(self, task: Task, call: Call) -> None:
