@@ -283,6 +283,8 @@ DIFFERENCES = [
     ("a file that isn't mapped", ROOT, BEGINS + "7 setuid(1000) = 0\n7 unshare(CLONE_NEWUSER) = 0\n"
      '7 chmod("/home/tool", 0777) = ' + DENIED + "\n", 0,
      ["chown, chmod and setxattr ask for their capability alone"], [NO_ROW]),
+    ("who runs already is dumpable", USER, "7 prctl(PR_GET_DUMPABLE) = 1\n7 getuid() = 1000\n", 0,
+     ["agree: 2"], []),
     ("who enters a namespace stays dumpable", USER, BEGINS + "7 unshare(CLONE_NEWUSER) = 0\n"
      "7 prctl(PR_GET_DUMPABLE) = 1\n7 prctl(PR_SET_DUMPABLE, SUID_DUMP_DISABLE) = 0\n"
      "7 unshare(CLONE_NEWUSER) = 0\n7 prctl(PR_GET_DUMPABLE) = 0\n", 0, ["agree: 4"], []),

@@ -105,10 +105,10 @@ class Converter(Sayer):
         where.mounts = Mounts(where.root, outside=self._root.rstrip("/"))
         where.mounts.belongs(tasks[0].process.space)
         where.folder = self.begins(items, tasks[0])
-        self.script.begin_with(start.inits(), start.lines)
-        self.script.known = self.files
         begins = next((item for item in items if isinstance(item, Call)), None)
         traced = begins is not None and begins.name == "execve" and begins.pid == first
+        self.script.begin_with(start.inits(), start.lines if traced else start.in_the_middle())
+        self.script.known = self.files
         self.script.tracer = start.traces if traced else None
         if not traced and self.files.listed is None and self._root == "/":
             self.notes.append(

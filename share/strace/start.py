@@ -33,6 +33,12 @@ class Start:
         """One call more of the task."""
         self.lines.append(f"{self.task} {words}")
 
+    def in_the_middle(self) -> list[str]:
+        """The lines where a log begins with a task that runs already: what leads it to its ids isn't
+        the log's, and doesn't make it less dumpable."""
+        led = any(" setres" in line for line in self.lines)
+        return [*self.lines, *(["t1 dumpable 1"] if led else [])]
+
     def inits(self) -> list[str]:
         """The lines that create the first tasks, all of one process."""
         count = max(1, len(self.threads))
