@@ -283,6 +283,11 @@ DIFFERENCES = [
     ("a file that isn't mapped", ROOT, BEGINS + "7 setuid(1000) = 0\n7 unshare(CLONE_NEWUSER) = 0\n"
      '7 chmod("/home/tool", 0777) = ' + DENIED + "\n", 0,
      ["chown, chmod and setxattr ask for their capability alone"], [NO_ROW]),
+    ("a set-user-ID program of who isn't mapped", USER, BEGINS + "7 unshare(CLONE_NEWUSER) = 0\n"
+     '7 openat(AT_FDCWD, "/proc/self/uid_map", O_WRONLY) = 3\n7 write(3, "5 1000 1", 8) = 8\n'
+     + RUNS.format("/bin/su", 0) + "7 geteuid() = 5\n7 capget({version="
+     "_LINUX_CAPABILITY_VERSION_3, pid=0}, {effective=0, permitted=0, inheritable=0}) = 0\n", 0,
+     ["agree: 4 calls, explained by docs/LINUX.md: 0"], []),
     ("who runs already is dumpable", USER, "7 prctl(PR_GET_DUMPABLE) = 1\n7 getuid() = 1000\n", 0,
      ["agree: 2"], []),
     ("who enters a namespace stays dumpable", USER, BEGINS + "7 unshare(CLONE_NEWUSER) = 0\n"

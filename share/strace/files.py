@@ -265,6 +265,16 @@ class Files:
         file = File(words, file.interpreter, noexec)
         return Found(name, file, place, named.place, named, apart)
 
+    def without_set_id(self, found: Found) -> Found:
+        """The same file for a namespace that its owner or group isn't mapped in: there its set-id
+        bits have no effect (user_namespaces(7)). Where it changes it is one file for all."""
+        kind, owner, group, mode, *others = found.file.words.split()
+        if not int(mode, 8) & 0o6000 or self.one(found.place) in self._histories:
+            return found
+        words = " ".join([kind, owner, group, f"{int(mode, 8) & 0o1777:04o}", *others])
+        path = f"{found.path} of an owner who isn't mapped"
+        return replace(found, path=path, file=replace(found.file, words=words))
+
     def changed_after(self, time: float) -> list[str]:
         """The files that this machine has changed since then."""
         return [place for place, file in self.seen.items() if file.changed > time]

@@ -185,7 +185,11 @@ class Paths:
         if self.files.listed is None and found.place.startswith("/proc/"):
             raise Missing(f"{found.place} is another file for this program than for the log's")
         other = found.within not in (None, task.where.mounts.number)
-        return self.files.found(found, executes and other)
+        file = self.files.found(found, executes and other)
+        owner, group = (int(word) for word in file.file.words.split()[1:3])
+        space = task.process.space
+        mapped = space.inside(owner, False) and space.inside(group, True)
+        return self.files.without_set_id(file) if executes and not mapped else file
 
     def programs(self, task: Task, call: Call, place: int, at: int | None) -> list[Found]:
         """The file to execute; behind a script file its interpreter, which runs in its place."""
