@@ -16,7 +16,6 @@ BOUNDING, BITS, GROUPS, FILE = "bounding", "bits", "groups", "file"
 # Whether others may look into the process.
 DUMPABLE = "dumpable"
 
-
 # Which ids, where only the user's or only the group's may be others.
 USERS, GROUP_IDS = "users", "group ids"
 
@@ -139,19 +138,21 @@ CHANGED: dict[str, tuple[str, ...]] = (
     | dict.fromkeys(filerows.FORMS, ())
 )
 
-
-# What a call leaves that is made here and in Linux: which part of a task it looks at, and which part
-# is another one by that afterwards.
-FOLLOWS = (
-    dict.fromkeys(UID_WORDS, [((IDS, FILE_IDS), (CAPS, DUMPABLE)), ((BITS,), (CAPS,))])
-    | dict.fromkeys(GID_WORDS, [((IDS, FILE_IDS), (DUMPABLE,))])
-    | {"exec": [((IDS, FILE_IDS, BITS), (CAPS,))], "setgroups": []}
-)
+# What a call leaves that is made here and in Linux: which parts of a task it looks at, and which
+# are others by that afterwards.
+Follows = list[tuple[tuple[str, ...], tuple[str, ...]]]
+BY_USERS: Follows = [((IDS, FILE_IDS), (CAPS, DUMPABLE)), ((BITS,), (CAPS,))]
+BY_GROUPS: Follows = [((IDS, FILE_IDS), (DUMPABLE,))]
 # setuid(2) sets all ids with CAP_SETUID, and setfsuid(2) another one with it alone.
-for _form, _parts in (("setuid", (IDS, FILE_IDS, DUMPABLE)), ("setfsuid", (FILE_IDS, DUMPABLE))):
-    FOLLOWS[_form] = [*FOLLOWS[_form], ((CAPS, IDS), _parts)]
-    _group = _form.replace("uid", "gid")
-    FOLLOWS[_group] = [*FOLLOWS[_group], ((CAPS, IDS), _parts)]
+ALL_IDS: Follows = [((CAPS, IDS), (IDS, FILE_IDS, DUMPABLE))]
+ONE_ID: Follows = [((CAPS, IDS), (FILE_IDS, DUMPABLE))]
+FOLLOWS: dict[str, Follows] = (
+    dict.fromkeys(UID_WORDS, BY_USERS)
+    | dict.fromkeys(GID_WORDS - {"setgroups"}, BY_GROUPS)
+    | {"setuid": BY_USERS + ALL_IDS, "setgid": BY_GROUPS + ALL_IDS}
+    | {"setfsuid": BY_USERS + ONE_ID, "setfsgid": BY_GROUPS + ONE_ID}
+    | {"exec": [((IDS, FILE_IDS, BITS), (CAPS,))]}
+)
 
 
 def reason(kept: list[Kept], words: list[str], kernel: str, report: str) -> Kept | None:

@@ -135,7 +135,7 @@ class Explainer:
         for task in self.threads(line):
             self.known(task).keep(*kept)
 
-    def makes(self, line: Line, kept: Kept) -> None:
+    def makes(self, number: int, line: Line, kept: Kept) -> None:
         """The kernel makes a call by a row that the program refuses: what it leaves is another."""
         form = line.words[1]
         only = USERS if form in UID_WORDS else GROUP_IDS if form in GID_WORDS else None
@@ -143,7 +143,7 @@ class Explainer:
                  for part in CHANGED.get(form, ())]  # fmt: skip
         if form == "securebits":
             # The bits above the eighth decide nothing here.
-            before = self.probe.before(kept.number)
+            before = self.probe.before(number)
             bits = int(line.words[2]) ^ before.securebits if before else LOW_BITS
             parts = [replace(one, bits=bits & LOW_BITS) for one in parts]
         self.changes(line, *parts)
@@ -286,14 +286,14 @@ class Explainer:
         kept = self.kept(line, report)
         if own is not None and (own.sure or kept is None):
             if own.row and kernel == "ok":
-                self.makes(line, Kept(own.row, "", number, line.text))
+                self.makes(number, line, Kept(own.row, "", number, line.text))
             return own.text or self.text(own.row, own.sure, why=own.why)
         if kept is None and words[1] == "ptrace":
             return self.looked(line, kernel)
         if kept is not None and aborted:
             self.ended |= dict.fromkeys(self.process(words[0]), kept)
         if kept is not None and kernel == "ok" and told != "ok":
-            self.makes(line, kept)
+            self.makes(number, line, kept)
         return self.since(kept)
 
     def since(self, kept: Kept | None) -> str | None:
