@@ -12,6 +12,7 @@ use cred_work::{Pause, Work, perform};
 use std::alloc::Global;
 
 /// The place in the decision of a lane's line at a gate.
+#[derive(Drop)]
 struct InDecision<'g, G: Gate> {
     gate: &'g G,
     lane: u32,
