@@ -1,4 +1,4 @@
-"""A running kernel that is held to the cases: `cases/check --kernel`."""
+"""A running kernel that is checked against the cases: `cases/check --kernel`."""
 import os
 import re
 import signal
@@ -231,7 +231,7 @@ def given_by(words, outcome, place):
 
 
 def check(words, workers):
-    """Holds the running kernel to the cases, and says what came of it."""
+    """Checks the running kernel against the cases, and says what came of it."""
     built = Built(words.via)
     try:
         machine = Machine(built, words.seconds, ids=words.ids)
@@ -258,7 +258,7 @@ def finds(what):
 
 
 def misses(task):
-    """In a worker: whether the rules that kernels are held to give a case another report."""
+    """In a worker: whether the rules that kernels are checked against give a case another report."""
     name, text, wanted, _ = task
     script = parse(text)
     answers, _ = expected(script, Place(), MANUAL)
@@ -266,7 +266,7 @@ def misses(task):
 
 
 def check_wrong(words, workers):
-    """Holds the rules to the cases, and then each wrong kernel, the smallest cases first: one has
+    """Checks the rules against the cases, and then each wrong kernel, the smallest cases first: one has
     to find it.
     """
     given = given_by(words, Outcome(), Place())

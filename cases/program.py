@@ -1,4 +1,4 @@
-"""A program that is held to the cases."""
+"""A program that is checked against the cases."""
 import difflib
 import re
 import subprocess
@@ -33,7 +33,7 @@ def lacks(entries, report):
 
 
 def beside(entry, report):
-    """An entry that is lacking, and those that the report has of its line."""
+    """An entry that is missing, and those that the report has of its line."""
     line = entry.split(b" ")[0]
     found = [it for it in report.splitlines() if it.split(b" ")[0] == line]
     return b"\n".join([b"-" + entry, *(b"+" + it for it in found)]).decode(errors="replace")
@@ -110,7 +110,7 @@ class Program:
                 self.finds_legal(case.given, it)
 
     def check(self, case):
-        """Holds the program to a case."""
+        """Checks the program against a case."""
         if case.words == ("run",):
             self.check_script(case)
         else:

@@ -333,7 +333,7 @@ DIFFERENCES = [
      + '7 mount("/mnt", "/home", NULL, MS_BIND, NULL) = 0\n'
      '7 mount(NULL, "/home", NULL, MS_REMOUNT|MS_BIND, NULL) = 0\n7 setuid(5) = 0\n'
      + RUNS.format("/home/su", 0) + "7 geteuid() = 0\n", 0, ["agree: 4"], []),
-    ("strace lets go", ROOT, BEGINS + "7 setuid(5) = 0\n7 vfork( <unfinished ...>\n"
+    ("strace detaches", ROOT, BEGINS + "7 setuid(5) = 0\n7 vfork( <unfinished ...>\n"
      "8 getuid() = 5\n7 <... vfork resumed> <detached ...>\n8 vfork( <detached ...>\n", 0,
      ["agree: 4"], ["left: "]),
     ("strace is killed in a fork", ROOT, BEGINS + "7 clone(child_stack=NULL, flags=SIGCHLD "

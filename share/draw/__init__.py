@@ -1,6 +1,6 @@
 """From a report to one page that shows it: rows of tasks and of slots, entries from left to right.
 
-    report       the entries of a report, each held to the form that docs/FORMATS.md gives it
+    report       the entries of a report, each compared with the form that docs/FORMATS.md gives it
     spans        what lasts from one entry to another: a current credential, a hold, an open file
     story        the entries one after another: which spans begin and end by each
     told         what a report tells of credentials, and which changes of sets can be seen from that
@@ -12,7 +12,7 @@
     browser      a browser that runs without a window, for check
     expected     what a page must have, for check
     looks        the page's script and pages in a browser, looked at for check
-    check        holds the pages to their reports; where a browser is, they are looked at in it
+    check        compares the pages with their reports; where a browser is, they are looked at in it
 
 The page's own files are page.html, page.css and the parts of its script, in this order: names,
 model (the data as rows and spans), layout (where rows stand), text (what is said of an entry),

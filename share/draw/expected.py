@@ -123,7 +123,7 @@ def check_bands(name: str, lines: list[str], data: dict) -> None:
         elif words[0] == "act":
             expected.add((place, told[1], told[2]))
     if begins != expected:
-        wrong(f"{name}: bands that lack or are too many: {sorted(begins ^ expected)[:3]}")
+        wrong(f"{name}: bands that are missing or too many: {sorted(begins ^ expected)[:3]}")
 
 
 def named_ends(lines: list[str]) -> dict[tuple[str, int], int]:

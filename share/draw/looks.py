@@ -62,7 +62,7 @@ def check_script(script: str, wrong: Wrong) -> None:
 def check_names(texts: list[str], filter_names: Path, wrong: Wrong) -> None:
     """The page's script writes sets as names just as share/credtrace-names does."""
     if shutil.which("node") is None:
-        print("no node is here: the names in a page weren't held to those of credtrace-names")
+        print("no node is here: the names in a page weren't compared with those of credtrace-names")
         return
     tables = names.tables()
     code = page.part("names.js") + f"""
@@ -80,7 +80,7 @@ process.stdout.write(text.split("\\n").map((line) => line && named(line)).join("
         if mine != other:
             wrong(f"an entry with names is {mine!r} in the page, {other!r} by credtrace-names")
     if any(done.returncode for done in results) or results[0].stdout != results[1].stdout:
-        wrong(f"the names couldn't be held to each other: {results[0].stderr[:300]}")
+        wrong(f"the names couldn't be compared: {results[0].stderr[:300]}")
     print("the page writes sets as credtrace-names does")
 
 

@@ -1,4 +1,4 @@
-"""The entries of a report, each held to the form that docs/FORMATS.md gives it."""
+"""The entries of a report, each compared with the form that docs/FORMATS.md gives it."""
 
 from __future__ import annotations
 

@@ -1,4 +1,4 @@
-"""A running kernel that is asked a script, and held to the cases.
+"""A running kernel that is asked a script, and checked against the cases.
 
     driver/      the program that makes the calls, in C without a C library
     apart        what is made in a mount namespace: the driver, and images
@@ -14,7 +14,7 @@
     cred, files  the rules, by the manual and by Linux: on a credential, and on files and execve
     rows         the rows of docs/LINUX.md that the rules have
     model        what a script must be answered, by those rules
-    hold         holds a machine to a script
+    hold         compares a machine with a script
     shrink       cuts a script down to the fewest lines that still differ
     chance       random scripts
     wrong        wrong kernels, which the cases must find

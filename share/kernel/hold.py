@@ -1,4 +1,4 @@
-"""Holds a kernel to scripts: what it answers, what it must, and which row explains a difference."""
+"""Checks a kernel against scripts: what it answers, what it must, and which row explains a difference."""
 
 from __future__ import annotations
 
@@ -44,7 +44,7 @@ class Difference:
 
 
 class Holder:
-    """Holds a machine to scripts. Where it is strict, to the manual alone."""
+    """Checks a machine against scripts. Where it is strict, against the manual alone."""
 
     def __init__(self, machine, strict: bool = False) -> None:
         self.machine = machine
@@ -114,7 +114,7 @@ class Holder:
         return "\n".join([said, *(f"    {line}" for line in lines)])
 
     def held(self, script: Script, wanted: str | None = None) -> Verdict:
-        """Holds the kernel to a script; `wanted` is the report, where there is one."""
+        """Checks the kernel against a script; `wanted` is the report, where there is one."""
         if reason := why_not(script, self.place):
             return Verdict(NOT_ASKED, told=reason)
         calls = len(script.lines)

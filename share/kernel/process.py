@@ -22,7 +22,7 @@ def compiler() -> str:
     """The C compiler."""
     found = os.environ.get("CC") or shutil.which("cc") or shutil.which("gcc") or ""
     if not found:
-        raise Fault("no C compiler: the driver is a small C program, and wants cc")
+        raise Fault("no C compiler: the driver is a small C program, and needs cc")
     return found
 
 

@@ -1,7 +1,7 @@
 """Wrong kernels: each breaks one sentence of a manual page, and `cases/check --kernel` must see it.
 
 A wrong kernel answers by the rules of cred.py and files.py with one of them changed, as a plausible
-bug would change it. `--wrong` holds each to the cases, until one finds it.
+bug would change it. `--wrong` checks each against the cases, until one finds it.
 """
 
 from __future__ import annotations

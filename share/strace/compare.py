@@ -134,7 +134,7 @@ def differing(lines: list[Line], found: dict[int, str]) -> list[int]:
 
 
 def compare(script: Script, run: Ran) -> Comparison:
-    """Holds each answer beside the kernel's."""
+    """Compares each answer with the kernel's."""
     found = run.found
     comparison = Comparison()
     lines = script.lines()

@@ -48,7 +48,7 @@ ATTACHED = re.compile(r"strace: Process (\d{1,9}) attached(?: with \d+ threads)?
 UNFINISHED = "<unfinished ...>"
 PID_CHANGED = re.compile(r"<pid changed to \d{1,9} \.\.\.>$")
 
-# A call in which strace let go of its task.
+# A call in which strace detached from its task.
 DETACHED = "<detached ...>"
 
 # Calls of which only some are read: write(2) where it may be of a map of ids or the beginning of a

@@ -15,5 +15,5 @@
     life         the life of a capability in a task
     command      the command
     logs         the refusals of a log of strace, for credtrace-compare
-    check        holds the sentences to every script of cases/ and examples/
+    check        compares the sentences with every script of cases/ and examples/
 """

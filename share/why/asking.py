@@ -236,7 +236,7 @@ class Copy:
         self.marks |= {place: (number, kind) for place, kind in places.items()}
         self.number[number] = number - self.left_out
         self.asked.append(number)
-        # What was dropped to have room for a question is lacking behind it.
+        # What was dropped to have room for a question is missing behind it.
         self.closed = home.full
 
     def any_hold(self) -> str:

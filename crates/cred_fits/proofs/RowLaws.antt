@@ -388,7 +388,7 @@ of_dumped s task = some_case (Tells rows.dumped_row s) (task_of s task) _ _ refl
 -- 0 and 1 are done, and no other value is
 of_value : (s : State) (process value : ℕ) (zero one : Bool) → (value == 0) ≡ zero → (value == 1) ≡ one
     → Tells (rows.dumpable_row value) s (ok_or (cond zero (Some false) (cond one (Some true) None)) answer.Einval >>=
-      λ flag. Ok (answer.Done, record s { dumpable = set_flag s.dumpable process flag }))
+    λ flag. Ok (answer.Done, record s { dumpable = set_flag s.dumpable process flag }))
 of_value s process value true one z o = grind (arith, nat_tests)
 of_value s process value false true z o = grind (arith, nat_tests)
 of_value s process value false false z o = grind (arith, nat_tests)

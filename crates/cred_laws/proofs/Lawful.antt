@@ -225,11 +225,11 @@ cleared_by script journal k task owner before after (Some entry) is found was no
     (ap (λ (s : State). current_of s task) (sym (step_at script journal k entry is)) ∙ now) differ
 cleared_by script journal k task owner before after None is found was now differ =
     absurd (
-      let both : Some before ≡ Some after = sym was ∙ ap (λ (s : State). current_of s task) (sym (past_end script journal k is)) ∙ now in
-      let same : before ≡ after = cc in
-      let no = differs_itself before.cred in
-      let yes = ap (λ (n : Numbered). differs before.cred n.cred) same ∙ differ in
-      cc)
+    let both : Some before ≡ Some after = sym was ∙ ap (λ (s : State). current_of s task) (sym (past_end script journal k is)) ∙ now in
+    let same : before ≡ after = cc in
+    let no = differs_itself before.cred in
+    let yes = ap (λ (n : Numbered). differs before.cred n.cred) same ∙ differ in
+    cc)
 
 kept_clear : (script : Script) (journal : List Entry) (i process : ℕ) (o : Option Entry) → slice_get journal i ≡ o
     → IfSome o (λ entry. entry.answer ≡ (step script (state_at script journal i) entry.line entry.event).0)
@@ -257,14 +257,14 @@ clear_until script journal k zero process answered before clear leaves = absurd 
 clear_until script journal k (suc i) process answered before clear leaves =
     elim (cases_lt k i) [
       | inl later ↦
-      let one = leaves i later (omega arith) in
-      let next : i + 1 ≡ suc i = omega arith in
-      ap (λ n. is_dumpable (state_at script journal n).dumpable process) (sym next)
-      ∙ kept_clear script journal i process (slice_get journal i) refl (answered_at script journal answered i) one.has one.unasked one.unexecuted
-      (clear_until script journal k i process answered later clear (λ j above below. leaves j above (omega (arith, below))))
+          let one = leaves i later (omega arith) in
+          let next : i + 1 ≡ suc i = omega arith in
+          ap (λ n. is_dumpable (state_at script journal n).dumpable process) (sym next)
+          ∙ kept_clear script journal i process (slice_get journal i) refl (answered_at script journal answered i) one.has one.unasked one.unexecuted
+          (clear_until script journal k i process answered later clear (λ j above below. leaves j above (omega (arith, below))))
       | inr first ↦
-      let same : k + 1 ≡ suc i = omega (arith, first, before) in
-      ap (λ n. is_dumpable (state_at script journal n).dumpable process) (sym same) ∙ clear
+          let same : k + 1 ≡ suc i = omega (arith, first, before) in
+          ap (λ n. is_dumpable (state_at script journal n).dumpable process) (sym same) ∙ clear
     ]
 
 pub stays_undumpable : (script : Script) (journal : List Entry) → IsAnswered script journal → StaysUndumpable script journal

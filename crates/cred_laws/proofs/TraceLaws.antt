@@ -211,10 +211,10 @@ set_stays : (flags : List ProcessFlag) (other process : ℕ) (dumpable : Bool) �
 set_stays flags other process dumpable clears clear =
     elim (other == process) as (λ b. (other == process) ≡ b → is_dumpable (set_flag flags other dumpable) process ≡ false) [
       | true ↦ λ test.
-      let same = eqb-true other process test in
-      ap (λ d. is_dumpable (set_flag flags other d) process) (clears same)
-      ∙ ap (λ p. is_dumpable (set_flag flags p false) process) same
-      ∙ set_clear flags process
+          let same = eqb-true other process test in
+          ap (λ d. is_dumpable (set_flag flags other d) process) (clears same)
+          ∙ ap (λ p. is_dumpable (set_flag flags p false) process) same
+          ∙ set_clear flags process
       | false ↦ λ test. set_other flags other process dumpable (eqb-false other process test) ∙ clear
     ] refl
 
@@ -244,10 +244,10 @@ find_kept test p (x ∷ xs) keeps =
     elim (p x) as (λ b. (test x ≡ true → b ≡ true) → find test (cond b (x ∷ filter p xs) (filter p xs)) ≡ cond (test x) (Some x) (find test xs)) [
       | true ↦ λ keep. ap (cond (test x) (Some x)) (find_kept test p xs keeps)
       | false ↦ λ keep.
-      elim (test x) as (λ a. (a ≡ true → false ≡ true) → find test (filter p xs) ≡ cond a (Some x) (find test xs)) [
-        | true ↦ λ passes. absurd (let no : false ≡ true = passes refl in cc)
-        | false ↦ λ passes. find_kept test p xs keeps
-      ] keep
+          elim (test x) as (λ a. (a ≡ true → false ≡ true) → find test (filter p xs) ≡ cond a (Some x) (find test xs)) [
+            | true ↦ λ passes. absurd (let no : false ≡ true = passes refl in cc)
+            | false ↦ λ passes. find_kept test p xs keeps
+          ] keep
     ] (keeps x)
 
 gone_clear : (flags : List ProcessFlag) (process : ℕ) → is_dumpable (without_flag flags process) process ≡ false
@@ -261,15 +261,15 @@ gone_stays : (flags : List ProcessFlag) (other process : ℕ) → is_dumpable fl
 gone_stays flags other process clear =
     elim (other == process) as (λ b. (other == process) ≡ b → is_dumpable (without_flag flags other) process ≡ false) [
       | true ↦ λ test.
-      let same = eqb-true other process test in
-      ap (λ p. is_dumpable (without_flag flags p) process) same ∙ gone_clear flags process
+          let same = eqb-true other process test in
+          ap (λ p. is_dumpable (without_flag flags p) process) same ∙ gone_clear flags process
       | false ↦ λ test.
-      let apart : other ≢ process = eqb-false other process test in
-      ap told (find_kept (λ (f : ProcessFlag). f.process == process) (λ f. not (f.process == other)) flags
-      (λ f is.
-      let own : f.process ≡ process = eqb-true f.process process is in
-      let no : (f.process == other) ≡ false = grind (arith, nat_tests) in ap not no))
-      ∙ clear
+          let apart : other ≢ process = eqb-false other process test in
+          ap told (find_kept (λ (f : ProcessFlag). f.process == process) (λ f. not (f.process == other)) flags
+          (λ f is.
+          let own : f.process ≡ process = eqb-true f.process process is in
+          let no : (f.process == other) ≡ false = grind (arith, nat_tests) in ap not no))
+          ∙ clear
     ] refl
 
 -- ---- a task whose ids change

@@ -17,7 +17,7 @@ pub(crate) fn script_of(alloc: Global, text: &str) -> Result<Script, Fail> {
 /// A script, and what each of its lines holds, as `text_of` says it, with its lane before it.
 type Row = (&'static str, &'static [&'static str]);
 
-const ROWS: [Row; 29] = [
+const ROWS: [Row; 30] = [
     (
         "init t1 p2 5 6 n0\n#\nt3 setresuid 1 -1 2\nt4 ids\ntakereal h5 t6\nask h7 caps\n",
         &[
@@ -118,6 +118,16 @@ const ROWS: [Row; 29] = [
             "0 One(Act 20000)",
         ],
     ),
+    (
+        // Who may look into whom, and whether a process is dumpable.
+        "t1 ptrace fs t2\nt3 ptrace real t4\nt5 dumpable 2\nt6 dumped\n",
+        &[
+            "0 Ptrace 1 2 Fs",
+            "0 Ptrace 3 4 Real",
+            "0 One(Dumpable 5 2)",
+            "0 One(Dumped 6)",
+        ],
+    ),
     ("", &[]),
     ("t1 ids", &["0 Question 1 Ids"]),
     // A lane line belongs to the lane that it opens.
@@ -174,6 +184,8 @@ fn event_text(alloc: Global, event: &Event) -> Result<String, NoMemory> {
         } => format!(in alloc; "Fork {task} {child} {process}"),
         Event::Exit { task } => format!(in alloc; "Exit {task}"),
         Event::Sweep => format!(in alloc; "Sweep"),
+        Event::Dumpable { task, value } => format!(in alloc; "Dumpable {task} {value}"),
+        Event::Dumped { task } => format!(in alloc; "Dumped {task}"),
         _ => format!(in alloc; "another event"),
     };
     Ok(text?)
@@ -199,6 +211,7 @@ fn text_of(alloc: Global, content: &Content) -> Result<String, NoMemory> {
         } => format!(in alloc; "Open {task} {file} {want:?} {fd}"),
         Content::Fcap { task, fd, cap } => format!(in alloc; "Fcap {task} {fd} {cap}"),
         Content::Signal { task, to } => format!(in alloc; "Signal {task} {to}"),
+        Content::Ptrace { task, to, mode } => format!(in alloc; "Ptrace {task} {to} {mode:?}"),
         Content::Change { task, change } => format!(in alloc; "Change {task} {change:?}"),
         Content::Access { task, file, want } => format!(in alloc; "Access {task} {file} {want:?}"),
     };
