@@ -16,7 +16,7 @@
 #![tactic(auto)]
 
 pub mod cells;
-mod deciding;
+mod decision;
 mod gate;
 pub mod guard;
 pub mod kernel;
@@ -27,7 +27,7 @@ mod passes;
 pub mod token;
 
 pub use cells::KernelCells;
-pub use deciding::decide;
+pub use decision::decide;
 pub use gate::{Gate, NoGate, Place};
 pub use guard::KernelGuard;
 pub use kernel::Kernel;
