@@ -29,8 +29,8 @@ const NAP: u64 = 500;
 const NAPS: u32 = 100;
 
 /// A book and a roll behind one lock, and the book's cells beside it, which the threads of all
-/// lanes share. Whenever the lock is free, the book is of the name's script and cells and the roll
-/// is the name's.
+/// lanes share. Whenever the lock is free, the book is of the name's script and cells, its files
+/// stand as the name's do, and the roll is the name's.
 pub struct Kernel<K: Name> {
     cells: KernelCells<K>,
     lock: Mutex<Locked<K>>,
@@ -56,6 +56,7 @@ impl<K: Name> Kernel<K> {
         requires script { parts.script ≡ K.script }
         requires roll { parts.roll ≡ K.roll }
         requires cells { parts.cells ≡ K.cells }
+        requires infos { parts.infos ≡ K.infos }
         ensures { IfOk result (λ made. AreFresh K.script made.1) }
     {
         let Parts {

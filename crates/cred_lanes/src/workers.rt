@@ -101,8 +101,8 @@ fn go_on<K: Name, R: Wait>(
     turn: Turn<K>,
     last: Step,
 ) -> Result<(Turn<K>, Step), NoMemory>
-    requires { IsReturn K.script K.cells turn last }
-    ensures { IfOk result (λ gone. HasGoneOn K.script K.cells turn gone.0 gone.1) }
+    requires { IsReturn K.script K.infos K.cells turn last }
+    ensures { IfOk result (λ gone. HasGoneOn K.script K.infos K.cells turn gone.0 gone.1) }
 {
     let mut guard = kernel.lock(rt, turn);
     if let Step::Work(work) = last {
@@ -119,7 +119,7 @@ fn go_on<K: Name, R: Wait>(
 /// `NoMemory` if an allocation of the state or of an entry fails.
 fn enter<K: Name>(guard: &mut KernelGuard<'_, K>, work: Work) -> Result<(), NoMemory>
     requires out { guard.old.numbers.out ≡ Some work.line }
-    requires work { IsWorkOf K.script K.cells work }
+    requires work { IsWorkOf K.script K.infos K.cells work }
     requires decided { IsDecided work }
     ensures { IfOk result (λ _. (guard.new.lane ≡ guard.old.lane) × (guard.new.numbers.out ≡ None)) }
 {
@@ -144,7 +144,7 @@ fn enter<K: Name>(guard: &mut KernelGuard<'_, K>, work: Work) -> Result<(), NoMe
 /// it stay.
 fn advance_some<K: Name>(guard: &mut KernelGuard<'_, K>) -> Result<Step, NoMemory>
     requires { guard.old.numbers.out ≡ None }
-    ensures { IfOk result (HasGoneOn K.script K.cells guard.old guard.new) }
+    ensures { IfOk result (HasGoneOn K.script K.infos K.cells guard.old guard.new) }
 {
     let most = 1 + guard.entered() / PART;
     for _ in 0..most {
