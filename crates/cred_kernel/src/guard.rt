@@ -91,7 +91,7 @@ impl<K: Name> KernelGuard<'_, K> {
 
     /// Releases the lock, and gives the turn back.
     pub fn release(self) -> Turn<K>
-        ensures { result ≡ self }
+        ensures { result ≡ self.entry }
     {
         let KernelGuard {
             cells: _,

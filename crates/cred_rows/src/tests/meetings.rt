@@ -1,5 +1,6 @@
 //! Meetings of lanes at a gate: scripts, where their lanes wait for each other, and what their
 //! reports must have then, whatever else the threads do.
+use crate::tests::crowd::SIXTEEN_STOPS;
 use crate::tests::gate::{At, Stop};
 use cred_lanes::Place::{AfterDecision, BeforeDecision, InDecision};
 
@@ -17,7 +18,7 @@ pub(crate) struct Meeting {
     pub(crate) apart: Option<(&'static str, &'static str)>,
 }
 
-pub(crate) const MEETINGS: [Meeting; 13] = [
+pub(crate) const MEETINGS: [Meeting; 15] = [
     Meeting {
         name: "over a broadcast",
         head: "init t1 p1 0 0 n0\nt1 spawn t2\nlane 1\nt1 ids\nlane 2\nt2 ids\n\
@@ -378,44 +379,4 @@ pub(crate) const MEETINGS: [Meeting; 13] = [
         ],
         apart: Some(("take", "ask")),
     },
-];
-
-/// The places before the decisions of sixteen lanes.
-const SIXTEEN: [At; 16] = [
-    At(1, 18, BeforeDecision),
-    At(2, 20, BeforeDecision),
-    At(3, 22, BeforeDecision),
-    At(4, 24, BeforeDecision),
-    At(5, 26, BeforeDecision),
-    At(6, 28, BeforeDecision),
-    At(7, 30, BeforeDecision),
-    At(8, 32, BeforeDecision),
-    At(9, 34, BeforeDecision),
-    At(10, 36, BeforeDecision),
-    At(11, 38, BeforeDecision),
-    At(12, 40, BeforeDecision),
-    At(13, 42, BeforeDecision),
-    At(14, 44, BeforeDecision),
-    At(15, 46, BeforeDecision),
-    At(16, 48, BeforeDecision),
-];
-
-/// Each of sixteen lanes stands before its decision until all do.
-const SIXTEEN_STOPS: [Stop; 16] = [
-    Stop(At(1, 18, BeforeDecision), &SIXTEEN),
-    Stop(At(2, 20, BeforeDecision), &SIXTEEN),
-    Stop(At(3, 22, BeforeDecision), &SIXTEEN),
-    Stop(At(4, 24, BeforeDecision), &SIXTEEN),
-    Stop(At(5, 26, BeforeDecision), &SIXTEEN),
-    Stop(At(6, 28, BeforeDecision), &SIXTEEN),
-    Stop(At(7, 30, BeforeDecision), &SIXTEEN),
-    Stop(At(8, 32, BeforeDecision), &SIXTEEN),
-    Stop(At(9, 34, BeforeDecision), &SIXTEEN),
-    Stop(At(10, 36, BeforeDecision), &SIXTEEN),
-    Stop(At(11, 38, BeforeDecision), &SIXTEEN),
-    Stop(At(12, 40, BeforeDecision), &SIXTEEN),
-    Stop(At(13, 42, BeforeDecision), &SIXTEEN),
-    Stop(At(14, 44, BeforeDecision), &SIXTEEN),
-    Stop(At(15, 46, BeforeDecision), &SIXTEEN),
-    Stop(At(16, 48, BeforeDecision), &SIXTEEN),
 ];
