@@ -52,7 +52,7 @@ no_other event is a b c = cc
 -- and what it does is to change the file that it names, by the label that it names
 pub done_so : (script : Script) (s : State) (line : ℕ) (event : Event) (hold file : ℕ)
     → ((owner : Arg) × (group : Arg) × event ≡ Chown hold file owner group)
-        ⊎ (((mode : ℕ) × event ≡ Chmod hold file mode) ⊎ ((attr : Option (List ℕ)) × event ≡ SetAttr hold file attr))
+    ⊎ (((mode : ℕ) × event ≡ Chmod hold file mode) ⊎ ((attr : Option (List ℕ)) × event ≡ SetAttr hold file attr))
     → ◌≡◌ {A = Result (Answer × State) Answer} (by_file s hold file (changed_by event)) (done script s line event)
 done_so script s line event hold file (inl (owner, group, is)) = rw is refl
 done_so script s line event hold file (inr (inl (mode, is))) = rw is refl
