@@ -3,7 +3,6 @@ use Rattle.std.proofs.lemmas.List.Elements.{All-head}
 use Rattle.cred_attr.specs.Exactly.{AnswersExactly}
 use Rattle.cred_record.specs.File.{IsMode}
 use Rattle.cred_rules.specs.Files.{set_attr}
-use Rattle.cred_model.specs.Named.{AreModes, event_modes}
 use Rattle.cred_machine.proofs.Written.{made_by, made_exactly, no_other}
 use Rattle.cred_machine.proofs.on_infos.changed.Goals as goal
 
