@@ -34,7 +34,8 @@ const NAPS: u32 = 100;
 
 /// A book and a roll behind one lock, and the book's cells beside it, which the threads of all
 /// lanes share. The cells are the name's, and whenever the lock is free, the book is of the name's
-/// script and cells and the roll is the name's. Contracts see the identity of the cells.
+/// script and cells, its files stand as the name's do, and the roll is the name's. Contracts see
+/// the identity of the cells.
 pub struct Kernel<K: Name> {
     cells: Cells,
     lock: Mutex<Locked<K>>,
@@ -71,6 +72,7 @@ impl<K: Name> Kernel<K> {
         requires script { parts.script ≡ K.script }
         requires roll { parts.roll ≡ K.roll }
         requires cells { parts.cells ≡ K.cells }
+        requires infos { parts.infos ≡ K.infos }
         ensures { IfOk result (λ made. AreFresh K.script made.1) }
     {
         let Parts {
@@ -140,7 +142,7 @@ impl<K: Name> Kernel<K> {
     /// is as it was.
     pub fn advance<R: Wait>(&self, rt: &R, turn: &mut Turn<K>) -> Result<Step, NoMemory>
         requires out { turn.old.numbers.out ≡ None }
-        ensures step { IfOk result (Advanced K.script K.cells turn.old turn.new) }
+        ensures step { IfOk result (Advanced K.script K.infos K.cells turn.old turn.new) }
         ensures err { OnErr result (turn.new ≡ turn.old) }
     {
         self.lock(rt).advance(turn)
@@ -153,10 +155,10 @@ impl<K: Name> Kernel<K> {
     ///
     /// `NoMemory` if an allocation of the decision fails: the work is as it was.
     pub fn do_work(&self, alloc: Global, work: &mut Work) -> Result<(), NoMemory>
-        requires { IsWorkOf K.script K.cells work.old }
+        requires { IsWorkOf K.script K.infos K.cells work.old }
         ensures decided { OnOk result (IsDecided work.new) }
         ensures line { work.new.line ≡ work.old.line }
-        ensures work { IsWorkOf K.script K.cells work.new }
+        ensures work { IsWorkOf K.script K.infos K.cells work.new }
         ensures err { OnErr result (work.new ≡ work.old) }
     {
         perform(alloc, &self.cells, work)
@@ -176,7 +178,7 @@ impl<K: Name> Kernel<K> {
         work: Work,
     ) -> Result<Step, Unfinished>
         requires out { turn.old.numbers.out ≡ Some work.line }
-        requires work { IsWorkOf K.script K.cells work }
+        requires work { IsWorkOf K.script K.infos K.cells work }
         requires decided { IsDecided work }
         ensures more { IfOk result (λ step. step ≡ More) }
         ensures entered { OnOk result (TurnHasEntered K.script 1 turn.old turn.new) }
@@ -223,7 +225,7 @@ impl<K: Name> KernelGuard<'_, K> {
     /// is as it was.
     pub fn advance(&mut self, turn: &mut Turn<K>) -> Result<Step, NoMemory>
         requires out { turn.old.numbers.out ≡ None }
-        ensures step { IfOk result (Advanced K.script K.cells turn.old turn.new) }
+        ensures step { IfOk result (Advanced K.script K.infos K.cells turn.old turn.new) }
         ensures err { OnErr result (turn.new ≡ turn.old) }
     {
         let kernel = self.kernel;
@@ -238,7 +240,7 @@ impl<K: Name> KernelGuard<'_, K> {
     /// was.
     pub fn finish(&mut self, turn: &mut Turn<K>, work: Work) -> Result<Step, Unfinished>
         requires out { turn.old.numbers.out ≡ Some work.line }
-        requires work { IsWorkOf K.script K.cells work }
+        requires work { IsWorkOf K.script K.infos K.cells work }
         requires decided { IsDecided work }
         ensures more { IfOk result (λ step. step ≡ More) }
         ensures entered { OnOk result (TurnHasEntered K.script 1 turn.old turn.new) }

@@ -26,11 +26,17 @@ pub struct Parts {
 
 impl Model for Parts {
     ghost use Rattle.std.specs.Prelude.{◌≡◌};
+    ghost use Rattle.cred_book.specs.Book.{infos_in};
     ghost use Rattle.cred_kernel.specs.Locks.{IsNewKernel, KernelParts};
 
     ghost Value = { KernelParts };
 
-    ghost view = { λ p. record { script = p.book.script; roll = p.roll.id; cells = p.cells } };
+    ghost view = { λ p. record {
+      script = p.book.script;
+      roll = p.roll.id;
+      cells = p.cells;
+      infos = infos_in p.book;
+    } };
 
     ghost invariant = { λ p. IsNewKernel p.book p.roll × (p.book.words.id ≡ p.cells) };
 }

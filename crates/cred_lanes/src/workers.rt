@@ -102,8 +102,8 @@ fn go_on<K: Name, R: Wait>(
     turn: &mut Turn<K>,
     last: Step,
 ) -> Result<Step, NoMemory>
-    requires { IsReturn K.script K.cells turn.old last }
-    ensures { IfOk result (HasGoneOn K.script K.cells turn.old turn.new) }
+    requires { IsReturn K.script K.infos K.cells turn.old last }
+    ensures { IfOk result (HasGoneOn K.script K.infos K.cells turn.old turn.new) }
 {
     let mut kernel = kernel.lock(rt);
     if let Step::Work(work) = last {
@@ -123,7 +123,7 @@ fn enter<K: Name>(
     work: Work,
 ) -> Result<(), NoMemory>
     requires out { turn.old.numbers.out ≡ Some work.line }
-    requires work { IsWorkOf K.script K.cells work }
+    requires work { IsWorkOf K.script K.infos K.cells work }
     requires decided { IsDecided work }
     ensures { IfOk result (λ _. (turn.new.lane ≡ turn.old.lane) × (turn.new.numbers.out ≡ None)) }
 {
@@ -151,7 +151,7 @@ fn advance_some<K: Name>(
     turn: &mut Turn<K>,
 ) -> Result<Step, NoMemory>
     requires { turn.old.numbers.out ≡ None }
-    ensures { IfOk result (HasGoneOn K.script K.cells turn.old turn.new) }
+    ensures { IfOk result (HasGoneOn K.script K.infos K.cells turn.old turn.new) }
 {
     let most = 1 + turn.entered() / PART;
     for _ in 0..most {
@@ -176,8 +176,8 @@ fn decide<K: Name, G: Gate>(
     lane: u32,
     work: &mut Work,
 ) -> Result<(), NoMemory>
-    requires { IsWorkOf K.script K.cells work.old }
-    ensures { OnOk result (IsDue K.script K.cells work.old work.new) }
+    requires { IsWorkOf K.script K.infos K.cells work.old }
+    ensures { OnOk result (IsDue K.script K.infos K.cells work.old work.new) }
 {
     let line = work.line();
     gate.pause(lane, line, Place::BeforeDecision);
