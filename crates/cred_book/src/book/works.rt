@@ -1,6 +1,6 @@
 //! Works that go out, and that come back decided.
-ghost use Rattle.std.specs.Prelude.{◌≡◌, ◌≢◌, ◌<◌, [], length, set, true, is_some, None, IfOk, IfErr};
-ghost use Rattle.std.specs.Prelude.{IfNone, IfSome, OnOk, OnErr};
+ghost use Rattle.std.specs.Prelude.{◌≡◌, ◌≢◌, ◌<◌, [], length, set, true, is_some, None, IfOk};
+ghost use Rattle.std.specs.Prelude.{IfErr, IfNone, IfSome, OnOk, OnErr};
 ghost use Rattle.std.specs.Option.{option_map};
 ghost use Rattle.cred_model.specs.Course as course_model;
 ghost use Rattle.cred_model.specs.Journal as model;
