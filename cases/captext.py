@@ -176,7 +176,7 @@ def names_of(caps):
 
 
 def printed(permitted, inheritable, effective):
-    """The text of an attribute, of at most three clauses (docs/FORMATS.md)."""
+    """The text of an attribute, of at most three clauses (docs/RULES.md)."""
     parts = (
         (permitted & ~inheritable, "p"),
         (permitted & inheritable, "ip"),

@@ -22,8 +22,8 @@ use cred_pen::Pen;
 use cred_said::{Status, bad_line, finish, tell_said, write_entries, write_last};
 use cred_script::Script;
 use cred_state::State;
-use std::mem::forget;
 use std::alloc::Global;
+use std::mem::forget;
 
 /// Writes the entries and drops them, as far as they fill whole writes. The others stay, and so
 /// does the list's room.

@@ -4,13 +4,14 @@ use Rattle.std.proofs.lemmas.List.{get_or-set_same, get_or-set_other, length-set
 use mathlib.Core.Logic.{dite}
 use native.Mathlib.Decide.{ℕ_discrete}
 use Rattle.atomic_table.specs.Seated.{TableId}
+use Rattle.cred_record.specs.File.{File}
 use Rattle.cred_model.specs.Script.{Script}
 use Rattle.cred_script.specs.Lanes.{lanes}
 use Rattle.cred_turn.specs.declared.numbers.Numbers.{Numbers}
 use Rattle.cred_turn.specs.declared.view.Row.{Row}
 use Rattle.cred_turn.specs.Rows.{fresh, home_row, lent_row, with_row, HasRow, row_of}
 use Rattle.cred_turn.specs.Seen.{Passed, Rolled, pass}
-use Rattle.cred_book.specs.Book.{Recorded}
+use Rattle.cred_book.specs.Book.{Recorded, infos_in}
 use Rattle.cred_book.specs.Cursor.{BookStands}
 use Rattle.cred_kernel.specs.Locks.{AreLent, IsLocked, numbers_in}
 use Rattle.cred_kernel.proofs.Stepping.{IsMoved}
@@ -55,17 +56,19 @@ abbrev pub relent : Rolled → ℕ → Row → Rolled
 relent roll lane row = record { id = roll.id; rows = with_row roll.rows lane row }
 
 -- A pass came back, a step was made, and the row was lent again: all is as it must be where the lock is free.
-pub locked_after : (script : Script) (id cells : TableId) (before after : Recorded) (roll taken lent : Rolled) (back : Passed) (lane : ℕ) (was now : Numbers)
-    → IsLocked script id cells before roll → IsMoved before after lane now → after.script ≡ before.script → after.words.id ≡ before.words.id
-    → BookStands after → back ≡ pass id lane was → HasRow roll.rows back.lane → taken ≡ relent roll back.lane (home_row back.numbers)
-    → lent ≡ relent taken lane (lent_row now) → IsLocked script id cells after lent
-locked_after script id cells before after roll taken lent back lane was now is moved same own stands its here took gave =
+pub locked_after : (script : Script) (id cells : TableId) (infos : List File) (before after : Recorded) (roll taken lent : Rolled) (back : Passed)
+    (lane : ℕ) (was now : Numbers)
+    → IsLocked script id cells infos before roll → IsMoved before after lane now → after.script ≡ before.script → after.words.id ≡ before.words.id
+    → infos_in after ≡ infos_in before → BookStands after → back ≡ pass id lane was → HasRow roll.rows back.lane → taken ≡ relent roll back.lane (home_row back.numbers)
+    → lent ≡ relent taken lane (lent_row now) → IsLocked script id cells infos after lent
+locked_after script id cells infos before after roll taken lent back lane was now is moved same own files stands its here took gave =
     let there : HasRow roll.rows lane = subst (λ (p : Passed). HasRow roll.rows p.lane) its here in
     let again : lent ≡ relent (relent roll lane (home_row was)) lane (lent_row now)
     = gave ∙ ap (λ (r : Rolled). relent r lane (lent_row now)) (took ∙ ap (λ (p : Passed). relent roll p.lane (home_row p.numbers)) its) in
     record {
       script_is = same ∙ is.script_is;
       cells_are = own ∙ is.cells_are;
+      infos_are = files ∙ is.infos_are;
       roll_is = ap (λ (r : Rolled). r.id) again ∙ is.roll_is;
       stands = stands;
       set_up = moved.set_up is.set_up;

@@ -38,7 +38,7 @@ tallied_within script lane (entry ∷ entries) tally =
     omega (arith, rest, one)
 
 decided_within : (script : Script) (journal : List Entry) (lane : ℕ) → decided_of script journal lane ≤ length journal
-decided_within script journal lane = let within = tallied_within script lane journal first_tally in omega (arith, within)
+decided_within script journal lane = let within = tallied_within script lane journal (first_tally script) in omega (arith, within)
 
 -- The lane has no more entries than the journal.
 pub entered_few : (book : Recorded) (lane : ℕ) (numbers : Numbers) → numbers ≡ numbers_in book lane → numbers.entered ≤ length book.journal

@@ -1,6 +1,7 @@
 -- What a call did to a turn.
-use Rattle.std.specs.Prelude.{◌≡◌, ℕ, ◌+◌, ◌<◌, Some, None, Result, Ok, Err}
+use Rattle.std.specs.Prelude.{◌≡◌, ℕ, ◌+◌, ◌<◌, List, Some, None, Result, Ok, Err}
 use Rattle.atomic_table.specs.Seated.{TableId}
+use Rattle.cred_record.specs.File.{File}
 use Rattle.cred_model.specs.Script.{Script}
 use Rattle.cred_turn.specs.declared.numbers.Numbers.{Numbers}
 use Rattle.cred_work.specs.Work.{Work}
@@ -22,24 +23,25 @@ pub record TurnHasEntered (script : Script) (works : ℕ) (old new : Seen) : Typ
   pub left : old.numbers.ended < lines_in script old.lane
   pub ended : IsSameOrNext old.numbers.ended new.numbers.ended
 
--- The turn had a line left, whose next event has gone out as a work of the script and of these
--- cells. It is not decided yet, and nothing was entered.
-pub record HasGiven (script : Script) (cells : TableId) (old new : Seen) (work : Work) : Type 0
-  where
-    pub turn : new ≡ record {
-      lane = old.lane;
-      numbers = record old.numbers { out = Some work.line };
-    }
-    pub left : old.numbers.ended < lines_in script old.lane
-    pub work_is : IsWorkOf script cells work
-    pub waits : IsUndecided work
+-- The turn had a line left, whose next event has gone out as a work of the script, of these files
+-- and of these cells. It is not decided yet, and nothing was entered.
+pub record HasGiven
+    (script : Script) (infos : List File) (cells : TableId)
+    (old new : Seen) (work : Work) : Type 0 where
+  pub turn : new ≡ record {
+    lane = old.lane;
+    numbers = record old.numbers { out = Some work.line };
+  }
+  pub left : old.numbers.ended < lines_in script old.lane
+  pub work_is : IsWorkOf script infos cells work
+  pub waits : IsUndecided work
 
 -- What a step made of the turn. It was Ended exactly if no line of the lane was left, and what was
 -- entered was no work's.
-abbrev pub Advanced : Script → TableId → Seen → Seen → Step → Type 0
-Advanced script cells old new More = TurnHasEntered script 0 old new
-Advanced script cells old new (step.Work work) = HasGiven script cells old new work
-Advanced script cells old new Ended = (new ≡ old) × LaneHasEnded script new
+abbrev pub Advanced : Script → List File → TableId → Seen → Seen → Step → Type 0
+Advanced script infos cells old new More = TurnHasEntered script 0 old new
+Advanced script infos cells old new (step.Work work) = HasGiven script infos cells old new work
+Advanced script infos cells old new Ended = (new ≡ old) × LaneHasEnded script new
 
 -- the numbers of a lane after a step, by which so many of its lines have ended
 abbrev pub after_step : {E : Type 0} → Numbers → ℕ → Result Step E → Numbers

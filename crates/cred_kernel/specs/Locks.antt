@@ -1,6 +1,7 @@
 -- What a kernel is made of, and what holds of it whenever its lock is free.
 use Rattle.std.specs.Prelude.{◌≡◌, ℕ, ◌+◌, ◌<◌, List, length, replicate, None}
 use Rattle.atomic_table.specs.Seated.{TableId}
+use Rattle.cred_record.specs.File.{File}
 use Rattle.cred_event.specs.declared.entry.Entry.{Entry}
 use Rattle.cred_model.specs.Script.{Script}
 use Rattle.cred_script.specs.Lanes.{lanes}
@@ -8,16 +9,18 @@ use Rattle.cred_turn.specs.declared.numbers.Numbers.{Numbers}
 use Rattle.cred_turn.specs.declared.view.Row.{Row}
 use Rattle.cred_turn.specs.Rows.{fresh, home_row, lent_row, HasRow, row_of}
 use Rattle.cred_turn.specs.Seen.{Rolled}
-use Rattle.cred_book.specs.Book.{Recorded, out_of}
+use Rattle.cred_book.specs.Book.{Recorded, infos_in, out_of}
 use Rattle.cred_book.specs.Counts.{IsSetUp, decided_of, ended_of, entered_of}
 use Rattle.cred_book.specs.Cursor.{BookStands}
 use Rattle.cred_kernel.specs.Turns.{Seen, turn_at}
 
--- the parts of a kernel: the book's script, and the identities of the roll and of the cells
+-- the parts of a kernel: the book's script, the identities of the roll and of the cells, and the
+-- files as they stand
 pub record KernelParts : Type 0 where
   pub script : Script
   pub roll : TableId
   pub cells : TableId
+  pub infos : List File
 
 -- the numbers of a lane in a book, and the line of it whose work is out
 abbrev pub numbers_in : Recorded → ℕ → Numbers
@@ -56,12 +59,14 @@ pub record AreLent (book : Recorded) (rows : List Row) : Type 0 where
   pub each : (lane : ℕ) → HasRow rows lane → row_of rows lane ≡ lent_row (numbers_in book lane)
 
 -- The book is of this script and of these cells, and the roll is this one. The journal is one that
--- the script may have so far, and the setup has ended. Each lane's row has the lane's numbers in
--- the book.
+-- the script may have so far, and the setup has ended: the files stand as it left them. Each lane's
+-- row has the lane's numbers in the book.
 pub record IsLocked
-    (script : Script) (roll_id cells : TableId) (book : Recorded) (roll : Rolled) : Type 0 where
+    (script : Script) (roll_id cells : TableId) (infos : List File)
+    (book : Recorded) (roll : Rolled) : Type 0 where
   pub script_is : book.script ≡ script
   pub cells_are : book.words.id ≡ cells
+  pub infos_are : infos_in book ≡ infos
   pub roll_is : roll.id ≡ roll_id
   pub stands : BookStands book
   pub set_up : IsSetUp book

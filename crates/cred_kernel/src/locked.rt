@@ -31,7 +31,7 @@ impl<K: Name> Model for Locked<K> {
 
     ghost view = { λ s. record { journal = s.book.journal; rows = s.roll.rows } };
 
-    ghost invariant = { λ s. IsLocked K.script K.roll K.cells s.book s.roll };
+    ghost invariant = { λ s. IsLocked K.script K.roll K.cells K.infos s.book s.roll };
 }
 
 impl<K: Name> Locked<K> {
@@ -46,7 +46,7 @@ impl<K: Name> Locked<K> {
     pub(crate) fn step(&mut self, cells: &Cells, turn: &mut Turn<K>) -> Result<Step, NoMemory>
         requires own { cells.now ≡ K.cells }
         requires out { turn.old.numbers.out ≡ None }
-        ensures step { IfOk result (Advanced K.script K.cells turn.old turn.new) }
+        ensures step { IfOk result (Advanced K.script K.infos K.cells turn.old turn.new) }
         ensures err { OnErr result (turn.new ≡ turn.old) }
     {
         let Some(pass) = turn.pass.take() else {
@@ -75,7 +75,7 @@ impl<K: Name> Locked<K> {
     ) -> Result<Step, Unfinished>
         requires own { cells.now ≡ K.cells }
         requires out { turn.old.numbers.out ≡ Some work.line }
-        requires work { IsWorkOf K.script K.cells work }
+        requires work { IsWorkOf K.script K.infos K.cells work }
         requires decided { IsDecided work }
         ensures more { IfOk result (λ step. step ≡ More) }
         ensures entered { OnOk result (TurnHasEntered K.script 1 turn.old turn.new) }

@@ -11,7 +11,7 @@ use cred_hold::Cells;
 use cred_ids::NoMemory;
 use cred_script::Script;
 use cred_turn::Roll;
-use cred_work::{Work, perform};
+use cred_work::{NoPause, Work, perform};
 use std::alloc::Global;
 use std::marker::Model;
 
@@ -26,11 +26,17 @@ pub struct Parts {
 
 impl Model for Parts {
     ghost use Rattle.std.specs.Prelude.{◌≡◌};
+    ghost use Rattle.cred_book.specs.Book.{infos_in};
     ghost use Rattle.cred_kernel.specs.Locks.{IsNewKernel, KernelParts};
 
     ghost Value = { KernelParts };
 
-    ghost view = { λ p. record { script = p.book.script; roll = p.roll.id; cells = p.cells } };
+    ghost view = { λ p. record {
+      script = p.book.script;
+      roll = p.roll.id;
+      cells = p.cells;
+      infos = infos_in p.book;
+    } };
 
     ghost invariant = { λ p. IsNewKernel p.book p.roll × (p.book.words.id ≡ p.cells) };
 }
@@ -115,7 +121,7 @@ fn decide_and_enter(
     ensures counts { OnOk result (HasEntered book.old book.new lane 1) }
 {
     let mut work = work;
-    let Ok(()) = perform(alloc, cells, &mut work) else {
+    let Ok(()) = perform(alloc, cells, &NoPause, &mut work) else {
         drop(work);
         return Err(NoMemory);
     };

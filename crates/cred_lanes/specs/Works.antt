@@ -2,13 +2,14 @@
 use Rattle.std.specs.Prelude.{◌≡◌, ℕ, ◌+◌, ◌<◌, List, length, slice_index_or, Result, IfOk}
 use Rattle.std.specs.Prelude.{Some, None}
 use Rattle.atomic_table.specs.Seated.{TableId}
+use Rattle.cred_record.specs.File.{File}
 use Rattle.cred_model.specs.Script.{Script}
 use Rattle.cred_work.specs.Work.{Work}
-use Rattle.cred_work.specs.DecidedWorks.{IsDecided}
 use Rattle.cred_book.specs.Works.{IsWorkOf}
 use Rattle.cred_book.specs.declared.step.Step.{Step}
 use Rattle.cred_book.specs.declared.step.Step.TheVariants.{More, Ended}
 use Rattle.cred_book.specs.declared.step.Step.TheVariants as step
+use Rattle.cred_kernel.specs.Deciding.{IsDue}
 use Rattle.cred_kernel.specs.Turns.{Seen, LaneHasEnded}
 
 -- the turn of the same lane, which has ended
@@ -21,24 +22,18 @@ AllFinished {E} script done =
     (k : ℕ) (d : Result Seen E) → k < length done
     → IfOk (slice_index_or done k d) (λ turn. (turn.lane ≡ k + 1) × LaneHasEnded script turn)
 
--- the work, decided, of the same line and of the same kernel
-pub record IsDue (script : Script) (cells : TableId) (work decided : Work) : Type 0 where
-  pub line : decided.line ≡ work.line
-  pub work_is : IsWorkOf script cells decided
-  pub right : IsDecided decided
-
 -- What a worker comes back to the lock with, by what its last step came to: the work of its lane
 -- that is out, which is decided, or nothing where none is out.
-abbrev pub IsReturn : Script → TableId → Seen → Step → Type 0
-IsReturn script cells turn More = turn.numbers.out ≡ None
-IsReturn script cells turn (step.Work work) =
-    (turn.numbers.out ≡ Some work.line) × IsDue script cells work work
-IsReturn script cells turn Ended = turn.numbers.out ≡ None
+abbrev pub IsReturn : Script → List File → TableId → Seen → Step → Type 0
+IsReturn script infos cells turn More = turn.numbers.out ≡ None
+IsReturn script infos cells turn (step.Work work) =
+    (turn.numbers.out ≡ Some work.line) × IsDue script infos cells work work
+IsReturn script infos cells turn Ended = turn.numbers.out ≡ None
 
 -- How a worker leaves the lock: no work of its lane is out; or one is, and it has it; or its lane
 -- has ended.
-abbrev pub HasGoneOn : Script → TableId → Seen → Seen → Step → Type 0
-HasGoneOn script cells old new More = (new.lane ≡ old.lane) × (new.numbers.out ≡ None)
-HasGoneOn script cells old new (step.Work work) =
-    (new.lane ≡ old.lane) × (new.numbers.out ≡ Some work.line) × IsWorkOf script cells work
-HasGoneOn script cells old new Ended = (new.lane ≡ old.lane) × LaneHasEnded script new
+abbrev pub HasGoneOn : Script → List File → TableId → Seen → Seen → Step → Type 0
+HasGoneOn script infos cells old new More = (new.lane ≡ old.lane) × (new.numbers.out ≡ None)
+HasGoneOn script infos cells old new (step.Work work) =
+    (new.lane ≡ old.lane) × (new.numbers.out ≡ Some work.line) × IsWorkOf script infos cells work
+HasGoneOn script infos cells old new Ended = (new.lane ≡ old.lane) × LaneHasEnded script new

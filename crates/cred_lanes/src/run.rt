@@ -2,11 +2,10 @@
 ghost use Rattle.std.specs.Prelude.{◌≡◌, IfOk};
 ghost use Rattle.cred_model.specs.Journal.{IsLegal};
 
-use crate::gate::Gate;
 use crate::workers::drive;
 use cred_book::Journal;
 use cred_ids::NoMemory;
-use cred_kernel::{Kernel, Name, Parts};
+use cred_kernel::{Gate, Kernel, Name, Parts};
 use cred_script::Script;
 use std::alloc::Global;
 use std::marker::Brand;
@@ -35,7 +34,7 @@ pub fn lanes<G: Gate + Sync, R: Threads + Wait + Sync>(
     run_named::<Brand, G, R>(rt, alloc, parts, gate)
 }
 
-/// The same under a name that stands for this script, this roll and these cells.
+/// The same under a name that stands for this script, this roll, these cells and these files.
 fn run_named<K: Name + Send + Sync, G: Gate + Sync, R: Threads + Wait + Sync>(
     rt: &R,
     alloc: Global,
@@ -45,6 +44,7 @@ fn run_named<K: Name + Send + Sync, G: Gate + Sync, R: Threads + Wait + Sync>(
     requires script { parts.script ≡ K.script }
     requires roll { parts.roll ≡ K.roll }
     requires cells { parts.cells ≡ K.cells }
+    requires infos { parts.infos ≡ K.infos }
     ensures script { IfOk result (λ journal. journal.script ≡ K.script) }
     ensures legal { IfOk result (λ journal. IsLegal K.script journal.entries.items) }
 {

@@ -1,5 +1,6 @@
 pub mod Words
 pub mod Numbers
+pub mod OneFile
 pub mod Sets
 pub mod WordsBack
 pub mod Ids

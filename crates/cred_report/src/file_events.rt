@@ -24,7 +24,6 @@ fn digit(number: u8) -> u8
 }
 
 /// Writes the bytes in hexadecimal digits, and makes room for the entry's other parts.
-#[tactic(auto, using(crate::proofs::Hex::encode_push))]
 fn prepend_hex(out: &mut Pen, bytes: &[u8]) -> Result<(), NoMemory>
     ensures text { OnOk result (out.new.text ≡ encode_lower bytes.now ++ out.old.text) }
     ensures room { OnOk result (PARTS ≤ out.new.room) }

@@ -1,9 +1,8 @@
-use Rattle.std.proofs.Common.{Option, List, ℕ, subst}
+use Rattle.std.proofs.Common.{Option, List, [], ℕ, subst}
 use Rattle.std.proofs.lemmas.List.Elements.{All-head}
 use Rattle.cred_attr.specs.Exactly.{AnswersExactly}
 use Rattle.cred_record.specs.File.{IsMode}
 use Rattle.cred_rules.specs.Files.{set_attr}
-use Rattle.cred_model.specs.Named.{AreModes, event_modes}
 use Rattle.cred_machine.proofs.Written.{made_by, made_exactly, no_other}
 use Rattle.cred_machine.proofs.on_infos.changed.Goals as goal
 
@@ -16,12 +15,13 @@ returns-in-Chmod c = rw c.in-Chmod.is (made_by _ _ c.chmod.ensures)
 pub chmod-requires : goal.chmod-requires
 chmod-requires c = All-head (λ (mode : ℕ). IsMode mode) _ [] (rw c.in-Chmod.is at c.requires.modes)
 
-pub returns-in-SetAttr : goal.returns-in-SetAttr
-returns-in-SetAttr c =
+pub returns-in_ok-copy_attr-in-SetAttr : goal.returns-in_ok-copy_attr-in-SetAttr
+returns-in_ok-copy_attr-in-SetAttr c =
     rw c.in-SetAttr.is
     (made_exactly _ _
-    (subst (λ (a : Option (List ℕ)). AnswersExactly c.set_attr.result (set_attr c.args.cred.now c.args.file.now a)) c.in_ok-copy_attr.ensures.equal c.set_attr.ensures))
+    (subst (λ (a : Option (List ℕ)). AnswersExactly c.set_attr.result (set_attr c.args.cred.now c.args.file.now a))
+    c.in_ok-copy_attr-in-SetAttr.ensures.equal c.set_attr.ensures))
 
-pub prove-unreachable-requires : goal.prove-unreachable-requires
-prove-unreachable-requires c =
+pub unreachable-requires : goal.unreachable-requires
+unreachable-requires c =
     no_other c.args.event.now c.requires.changes c.in_default.not-Chown c.in_default.not-Chmod c.in_default.not-SetAttr

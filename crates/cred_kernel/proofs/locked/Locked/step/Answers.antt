@@ -1,4 +1,4 @@
-use Rattle.std.proofs.Common.{◌≡◌, ◌<◌, ◌^◌, ℕ, length, sym, ap, ◌∙◌, subst, arith}
+use Rattle.std.proofs.Common.{◌≡◌, ◌≢◌, ◌<◌, ◌^◌, ℕ, length, sym, ap, ◌∙◌, subst, arith}
 use Rattle.std.specs.Prelude.{IfOk}
 use Rattle.cred_model.specs.Script.{Script}
 use Rattle.cred_model.specs.Journal.{next}
@@ -44,8 +44,9 @@ invariant_of-self g c =
     = subst (λ (n : Numbers). IsMoved book after lane n) (sym (c.after_step-turn-inside.ensures ∙ ap (λ (e : ℕ). after_step numbers e step) c.ended.ensures))
     (moved book after lane numbers (next book.script book.journal lane) step was home c.next-step.ensures.script
     c.next-step.ensures.made c.next-step.ensures.counts c.next-step.ensures.err) in
-    locked_after g.K.Name.script g.K.Name.roll g.K.Name.cells book after c.self.inside.roll c.take-2.new.self c.lend.new.self c.in-Some.pass lane numbers now
-    c.self.invariant its c.next-step.ensures.script c.next-step.ensures.cells c.next-step.ensures.stands back
+    let not_setup : lane ≢ 0 = λ zero. omega (arith, zero, c.turn.invariant.is_lane.0) in
+    locked_after g.K.Name.script g.K.Name.roll g.K.Name.cells g.K.Name.infos book after c.self.inside.roll c.take-2.new.self c.lend.new.self c.in-Some.pass lane numbers now
+    c.self.invariant its c.next-step.ensures.script c.next-step.ensures.cells (c.next-step.ensures.files not_setup) c.next-step.ensures.stands back
     c.take-2.ensures.lane c.take-2.ensures.roll c.lend.ensures.roll
 
 pub returns-clause-step : goal.returns-clause-step
@@ -58,6 +59,7 @@ returns-clause-step g c =
     let step = c.next-step.result in
     let script = g.K.Name.script in
     let cells = g.K.Name.cells in
+    let infos = g.K.Name.infos in
     let back : c.in-Some.pass ≡ pass g.K.Name.roll lane numbers
     = is_back c.take.result c.in-Some.pass _ c.in-Some.is (c.take.ensures.value ∙ c.turn.invariant.pass_is) in
     let was : numbers ≡ numbers_in book lane
@@ -65,9 +67,11 @@ returns-clause-step g c =
     c.take-2.ensures.lane c.take-2.ensures.was in
     let home = ap (λ (t : Seen). t.numbers.out) c.turn.view_is ∙ c.requires.out in
     let own = c.next-step.ensures.cells ∙ c.self.invariant.cells_are in
-    let made = advanced cells book after lane numbers (next book.script book.journal lane) step was home c.next-step.ensures.script own
+    let not_setup : lane ≢ 0 = λ zero. omega (arith, zero, c.turn.invariant.is_lane.0) in
+    let files = c.next-step.ensures.files not_setup ∙ c.self.invariant.infos_are in
+    let made = advanced infos cells book after lane numbers (next book.script book.journal lane) step was home c.next-step.ensures.script own files
     c.self.invariant.set_up c.next-step.ensures.made c.next-step.ensures.counts c.next-step.ensures.err in
-    subst (λ (t : Seen). IfOk step (Advanced script cells t (seen lane now))) c.turn.view_is
-    (subst (λ (s : Script). IfOk step (Advanced s cells (seen lane numbers) (seen lane now))) c.self.invariant.script_is
-    (subst (λ (n : Numbers). IfOk step (Advanced book.script cells (seen lane numbers) (seen lane n)))
+    subst (λ (t : Seen). IfOk step (Advanced script infos cells t (seen lane now))) c.turn.view_is
+    (subst (λ (s : Script). IfOk step (Advanced s infos cells (seen lane numbers) (seen lane now))) c.self.invariant.script_is
+    (subst (λ (n : Numbers). IfOk step (Advanced book.script infos cells (seen lane numbers) (seen lane n)))
     (sym (c.after_step-turn-inside.ensures ∙ ap (λ (e : ℕ). after_step numbers e step) c.ended.ensures)) made))

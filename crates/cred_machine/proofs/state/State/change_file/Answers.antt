@@ -1,4 +1,5 @@
-use Rattle.std.proofs.Common.{sym, ◌∙◌, arith}
+use Rattle.std.proofs.Common.{sym, ap, ◌∙◌}
+use Rattle.std.specs.Option.{option_copied}
 use Rattle.std.proofs.lemmas.Option.{slice_get_within}
 use Rattle.cred_model.specs.Changing.{changed_by}
 use Rattle.cred_plain.specs.Creds.{seen_numbered}
@@ -19,7 +20,7 @@ returns-in_default-file-clause-ok c =
     let s = seen_state c.self.inside in
     rw (← c.self.view_is)
     (file_none s c.args.hold c.args.file (changed_by c.args.event.now) (seen_numbered c.in-Some.held)
-    (rw (← c.self.view_is) at (sym c.in-Some.ensures)) (sym c.file.ensures ∙ c.in_default-file.is))
+    (rw (← c.self.view_is) at (sym c.in-Some.ensures)) (sym c.file.ensures ∙ ap option_copied c.in_default-file.is))
 
 pub returns-in-Ok-clause-ok : goal.returns-in-Ok-clause-ok
 returns-in-Ok-clause-ok c =

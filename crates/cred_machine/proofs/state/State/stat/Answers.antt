@@ -1,4 +1,5 @@
 use Rattle.std.proofs.Common.{Some, sym, ap, ◌∙◌}
+use Rattle.std.specs.Option.{option_copied}
 use Rattle.cred_record.specs.File.{File}
 use Rattle.cred_plain.specs.Creds.{seen_numbered}
 use Rattle.cred_plain.proofs.Places.{none_is}
@@ -8,10 +9,7 @@ use Rattle.cred_machine.proofs.state.State.stat.Goals as goal
 
 pub returns-in_default : goal.returns-in_default
 returns-in_default c =
-    let s = seen_state c.self.inside in
-    rw (← c.self.view_is)
-    (stat_unheld s c.args.hold c.args.file
-    (rw (← c.self.view_is) at (none_is seen_numbered c.held.result _ c.held.ensures c.in_default.is)))
+    stat_unheld c.args.self.now c.args.hold c.args.file (none_is seen_numbered c.held.result _ c.held.ensures c.in_default.is)
 
 pub returns-in-Some-file : goal.returns-in-Some-file
 returns-in-Some-file c =
@@ -27,4 +25,4 @@ returns-in-None c =
     let s = seen_state c.self.inside in
     rw (← c.self.view_is)
     (stat_none s c.args.hold c.args.file (seen_numbered c.in-Some.field-0) (rw (← c.self.view_is) at (sym c.in-Some.ensures))
-    (sym c.file.ensures ∙ c.in-None.is))
+    (sym c.file.ensures ∙ ap option_copied c.in-None.is))

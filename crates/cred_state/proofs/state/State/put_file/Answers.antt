@@ -1,7 +1,6 @@
 use Rattle.cred_tables.specs.Kept.{as_parts, state_of}
-use Rattle.cred_state.proofs.FileCalls.{by_invalid, by_perm, by_value, file_changed, file_refused, kept_infos}
+use Rattle.cred_state.proofs.FileCalls.{by_value, file_changed, kept_infos}
 use Rattle.cred_state.proofs.state.State.put_file.Goals as goal
-use Rattle.cred_record.specs.declared.refusal.Denial.TheVariants.{Perm, Invalid}
 
 pub replace-requires : goal.replace-requires
 replace-requires c = rw (← c.self.view_is) at c.requires.there
