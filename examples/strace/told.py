@@ -86,7 +86,10 @@ DIFFERENCES = [
     ("clear all with a further argument", ROOT, BEGINS + "7 prctl(PR_CAP_AMBIENT, "
      "PR_CAP_AMBIENT_CLEAR_ALL, 0x5, 0, 0) = -1 EINVAL (Invalid argument)\n", 0, ["agree: 1"], []),
     ("noexec", ROOT, BEGINS + RUNS.format("/mnt/tool", REFUSED), 0,
-     ["the file's mount has noexec"], ["directories"]),
+     ["the log: the mount of /mnt/tool has noexec, which refuses so (execve(2))"], ["directories"]),
+    ("noexec, and a file that is read", ROOT, BEGINS
+     + '7 openat(AT_FDCWD, "/mnt/tool", O_RDONLY) = ' + REFUSED + "\n", 0, ["its directories are not"],
+     ["noexec, which"]),
     ("a folder that may not be searched", USER, BEGINS + RUNS.format("/home/tool", REFUSED), 0,
      ["its directories are not searched", "here: /home may not be searched"], ["noexec and"]),
     ("folders that may be searched", ROOT, BEGINS + RUNS.format("/home/tool", REFUSED), 0,

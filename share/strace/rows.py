@@ -20,7 +20,7 @@ from .leaves import differ, gains_nothing, is_reset, keeps_ambient, keeps_filesy
 from .leaves import loses_ambient, stays_dumpable
 from .moves import OPENS
 from .probe import Probe, Values
-from .refusals import by_capability, has_kill
+from .refusals import by_capability, has_kill, wanted
 from .script import Line
 from .spaces import GID_WORDS, UID_WORDS
 
@@ -376,8 +376,9 @@ class Explainer:
             return Own(NOT_MODE)
         if pair != ("eacces", "ok"):
             return None
-        if line.facts.noexec:
-            return Own(NOT_MODE, why="the file's mount has noexec")
+        if line.facts.noexec and wanted(line) & 1:
+            place = line.facts.place
+            return Own(text=f"{LOG} the mount of {place} has noexec, which refuses so (execve(2))")
         before = self.probe.before(number)
         if by_capability(before, line):
             return Own(COUNTS, why="the file's owner or group isn't mapped in the namespace")

@@ -47,9 +47,7 @@ CONDITIONS: dict[str, Condition] = {
     rows.UNMAPPED: lambda *_: False,
     rows.DENIED_GROUPS: since_is(r"setgroups", SPACE),
     rows.DIRECTORIES: lambda found, log, since, user: found["kernel"] == "eacces",
-    rows.NOT_MODE: lambda found, log, since, user: (
-        found["kernel"] == "eperm" or "MS_NOEXEC" in log or "noexec" not in since
-    ),
+    rows.NOT_MODE: lambda found, log, since, user: found["kernel"] in ("eperm", "eacces"),
     rows.COUNTS: has(SPACE),
     rows.CONTINUE: lambda found, log, since, user: "SIGCONT) = 0" in found["call"],
     rows.NO_NEW_PRIVS_FILE: has(NEW_PRIVS),
@@ -113,6 +111,8 @@ def holds(found: re.Match[str], reason: str, log: str, since: str, user: bool) -
 
 def is_told(reason: str, log: str) -> bool:
     """Whether the log itself says so, at the line that is named."""
+    if "has noexec" in reason:
+        return "MS_NOEXEC" in log
     line = int(re.search(r" line (\d+)", reason)[1])
     there = [*log.split("\n"), ""][line - 1 : line]
     changes = "is under way" in reason and re.search(r"set\w+\(|exec|prctl|capset", "".join(there))
