@@ -70,7 +70,7 @@ class Known:
     def sets_dumpable(self, *kept: Kept) -> None:
         """Whether it is dumpable is decided anew; by these rows it may be otherwise in Linux."""
         self.kept = [one for one in self.kept if one.part != DUMPABLE]
-        self.kept += [replace(one, part=DUMPABLE, ids=None) for one in kept]
+        self.keep(*(replace(one, part=DUMPABLE, ids=None) for one in kept))
 
     def leads_on(self, form: str) -> None:
         """What a call decided by others leads to, where it is made here and in Linux."""
@@ -108,8 +108,10 @@ class Known:
 
     def keep(self, *kept: Kept) -> None:
         """These rows may explain what comes; the newest is asked first."""
-        new = {one.what() for one in kept}
-        self.kept = [*kept, *(old for old in self.kept if old.what() not in new)]
+        found: dict[object, Kept] = {}
+        for one in (*kept, *self.kept):
+            found.setdefault(one.what(), one)
+        self.kept = list(found.values())
 
 
 # What the answer of each form depends on. Of the others no kept row explains any.
