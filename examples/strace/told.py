@@ -30,6 +30,7 @@ FILES = """/bin/sh reg 0 0 0755
 /srv/prober reg 1000 1000 0755
 /srv/link -> /srv/prober
 /bin/own reg 1000 1000 4755
+/bin/hex reg 0 0 0755 caps 0x0100000200200000000000000000000000000000
 /srv/kept before reg 0 0 4755
 /srv/kept reg 0 0 0755
 """
@@ -291,6 +292,8 @@ DIFFERENCES = [
      + RUNS.format("/bin/su", 0) + "7 geteuid() = 5\n7 capget({version="
      "_LINUX_CAPABILITY_VERSION_3, pid=0}, {effective=0, permitted=0, inheritable=0}) = 0\n", 0,
      ["agree: 4 calls, explained by docs/LINUX.md: 0"], []),
+    ("an attribute with 0x before it", ROOT, BEGINS + CHILD.format(8, "/bin/hex", HAS), 0,
+     ["agree: 5"], []),
     ("who runs already is dumpable", USER, "7 prctl(PR_GET_DUMPABLE) = 1\n7 getuid() = 1000\n", 0,
      ["agree: 2"], []),
     ("who enters a namespace stays dumpable", USER, BEGINS + "7 unshare(CLONE_NEWUSER) = 0\n"

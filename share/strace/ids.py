@@ -154,7 +154,7 @@ def attribute(words: list[str], roots: list[int | None]) -> Attribute | None:
     """What the attribute of a file says, where it has one that counts there."""
     if "caps" not in words or "nosuid" in words:
         return None
-    data = bytes.fromhex(words[words.index("caps") + 1])
+    data = bytes.fromhex(words[words.index("caps") + 1].removeprefix("0x"))
     if len(data) < 4 or LENGTHS.get(data[3]) != len(data):
         return None
     flags, *sets = (int.from_bytes(data[at : at + 4], "little") for at in range(0, len(data), 4))
