@@ -19,7 +19,8 @@ pub returns-in_ok-copy_attr-in-SetAttr : goal.returns-in_ok-copy_attr-in-SetAttr
 returns-in_ok-copy_attr-in-SetAttr c =
     rw c.in-SetAttr.is
     (made_exactly _ _
-    (subst (λ (a : Option (List ℕ)). AnswersExactly c.set_attr.result (set_attr c.args.cred.now c.args.file.now a)) c.in_ok-copy_attr-in-SetAttr.ensures.equal c.set_attr.ensures))
+    (subst (λ (a : Option (List ℕ)). AnswersExactly c.set_attr.result (set_attr c.args.cred.now c.args.file.now a))
+    c.in_ok-copy_attr-in-SetAttr.ensures.equal c.set_attr.ensures))
 
 pub unreachable-requires : goal.unreachable-requires
 unreachable-requires c =
