@@ -189,6 +189,11 @@ DIFFERENCES = [
      "8 <... execve resumed>) = 0\n8 geteuid() = 0\n", 0,
      ["agree: 6", "the log: line 5 changes t2 while this call is under way"],
      ["one rule for each look"]),
+    ("a look into a task whose execve fails meanwhile", ROOT, BEGINS + "7 setuid(1000) = 0\n"
+     '7 prctl(PR_SET_DUMPABLE, SUID_DUMP_USER) = 0\n7 fork() = 8\n8 execve("/bin/gone", [], 0x7 /* 9 vars */ <unfinished ...>\n'
+     "7 kcmp(7, 8, KCMP_VM, 0, 0) = -1 EPERM (Operation not permitted)\n"
+     "8 <... execve resumed>) = -1 ENOENT (No such file or directory)\n8 geteuid() = 1000\n", 0,
+     ["one rule for each look"], ["while this call is under way"]),
     ("a number in the host's /proc", ROOT, BEGINS + "7 unshare(CLONE_NEWPID) = 0\n7 fork() = 8\n"
      "8 setuid(5) = 0\n8 fork() = 2\n"
      '9 readlink("/proc/1/exe", 0x7ffe, 64) = -1 EACCES (Permission denied)\n', 0, ["agree: 4"],

@@ -124,9 +124,9 @@ class Together:
 
 
 def changes(call: Call) -> bool:
-    """Whether a call may change the credential of who makes it."""
+    """Whether a call may have changed the credential of who makes it: one that fails hasn't."""
     asks = "".join(call.args[:1]).startswith(("PR_GET", "PR_CAPBSET_READ"))
-    return call.name in CHANGING and not asks
+    return call.name in CHANGING and call.result.error is None and not asks
 
 
 def makes_thread(call: Call) -> bool:
